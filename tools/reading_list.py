@@ -1,10 +1,7 @@
 #!/usr/bin/env python3
-"""Prints what to read to believe contracts of public functions: the files, and how many lines of each.
+"""Prints what to read to believe public functions, as pd_cli::run, or clauses of them, as Book::show.current,scripts.
 
-    tools/reading_list.py FUNCTION..     as pd_cli::run, or with the clauses that are meant, as Book::show.current,scripts
-
-Each word is followed, by the imports of its file, to its definition in specs/ or its type in src/, and so on from there.
-A type with private fields counts by the value that contracts see. The kit's libraries aren't followed.
+Words are followed by imports, not into the kit's libraries. A type with private fields is the value that contracts see.
 """
 
 import re
@@ -19,7 +16,7 @@ FUNCTION = re.compile(r"^ *pub fn (\w+).*?(?=\n *\{)", re.M | re.S)
 OWNER = re.compile(r"^impl\b.*?(\w+)(?:<[^<>]*>)? \{$", re.M)
 IMPORT = re.compile(r"(pd\w+)\.specs\.(declared\.)?[a-z_.]*(\w+?)(?:\.TheVariants)?(?: as (\w+)|\.\{(.*?)\});?$", re.M)
 RUST_IMPORT = re.compile(r"^use (pd\w+|crate|super)::(.*?);$", re.M | re.S)
-WORD = re.compile(r">>=|\w+(?:\.\w+)*")
+WORD, TYPE = re.compile(r">>=|\w+(?:\.\w+)*"), re.compile(r"\b[A-Z]\w+")
 Name = tuple[str, str]  # a file or a crate, and a word there
 Index = dict[Name, "Place | Name"]  # where that is defined, or the name that it stands for
 
@@ -52,8 +49,7 @@ def imports_of(file: str, crate: str, text: str) -> Iterator[tuple[Name, Name]]:
             name = (library, head) if declared else (f"{library}/specs/{head}.antt", "" if alias else old.strip("◌"))
             yield (file, (new or old).strip("◌")), name
     for library, names in RUST_IMPORT.findall(text):
-        scope = library if library.startswith("pd") else crate
-        yield from (((file, name), (scope, name)) for name in re.findall(r"\b[A-Z]\w+", names))
+        yield from (((file, name), (library if library[:2] == "pd" else crate, name)) for name in TYPE.findall(names))
 
 
 def read_index() -> Index:
@@ -71,7 +67,6 @@ def meant(index: Index, file: str, word: str) -> list[Place]:
 
 
 def contract(index: Index, wanted: str) -> Place:
-    """The contract of a function, or the wanted clauses of it."""
     name, _, clauses = wanted.partition(".")
     found = [place for key in index if f"::{'::'.join(key)}".endswith(f"::{name}") for place in meant(index, *key)]
     head, *parts = re.split(r"\n(?= *ensures)", found[0].text if len(found) == 1 else "")
@@ -92,11 +87,10 @@ def reached(index: Index, functions: list[str]) -> list[Place]:
 
 
 def main(functions: list[str]) -> None:
-    crates = re.findall(r"^(\w+).*:", (CRATES.parent / "crates.txt").read_text(encoding="utf-8"), re.M)
     lines: dict[str, set[int]] = {}
     for place in reached(read_index(), functions):
         lines.setdefault(place.file, set()).update(range(place.start, place.start + place.text.count("\n") + 1))
-    for crate in reversed(crates):
+    for crate in reversed(re.findall(r"^(\w+).*:", (CRATES.parent / "crates.txt").read_text(encoding="utf-8"), re.M)):
         files = [f"`{file.split('/', 1)[1]}` {len(lines[file])}" for file in lines if file.startswith(f"{crate}/")]
         print(f"- `{crate}`: {', '.join(files)}\n" * bool(files), end="")
     print(f"\nIn all {sum(map(len, lines.values())):,} lines of {len(lines)} files.")

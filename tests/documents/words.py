@@ -16,7 +16,7 @@ LIMITS: dict[tuple[str, ...], int] = {
     ("docs/EXPLAIN.md",): 2_000,
     ("docs/SUITE.md",): 2_200,
     ("docs/EDITORS.md",): 500,
-    ("docs/LINUX.md",): 2_740,
+    ("docs/LINUX.md",): 2_940,
     ("docs/COVERAGE.md",): 2_300,
     ("docs/ARCHITECTURE.md",): 2_000,
     ("docs/PROMISES.md",): 4_000,
