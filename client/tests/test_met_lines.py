@@ -111,9 +111,9 @@ def test_what_is_not_recorded_says_why() -> None:
     assert told_by_keys(found) == "a.pkt:9: it ends"
 
 
-def test_by_the_programs_a_script_is_shown_to_its_end(programs: Path, tmp_path: Path, call: Call) -> None:
+def test_by_the_programs_a_script_is_shown_to_its_end(recording_programs: Path, tmp_path: Path, call: Call) -> None:
     write(tmp_path, a=f"{OPENED}{WRITE}\n+0 > P. 1:501(500) ack 1\n{WRITE}\n+0 > P. 501:1501(1000) ack 1\n".encode())
-    called = call(programs, "run", "--all-differences", ".")
+    called = call(recording_programs, "run", "--all-differences", ".")
     lines = called.out.splitlines()
     begin = lines.index("  line by line, to the end (- as the script has it, + as it came):")
     assert lines[begin + 8 : begin + 16] == [

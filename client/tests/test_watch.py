@@ -24,12 +24,14 @@ a.pkt:1: fail result: the call has another result
   expected result: 4
   actual result: 3
 """
+AWAITS_NONE = "passes, but awaits no packet"
 
 
-def total(**counts: int) -> str:
+def total(warnings: int = 0, **counts: int) -> str:
     """The line of totals, up to its time."""
     each = {"pass": 0, "fail": 0, "syntax": 0, "unsupported": 0, "limit": 0, "error": 0, "not run": 0, **counts}
-    return f"total {sum(counts.values())} {' '.join(f'{verdict} {count}' for verdict, count in each.items())} in "
+    said = [f"{verdict} {count}" for verdict, count in each.items()] + [f"warnings {warnings}"] * bool(warnings)
+    return f"total {sum(counts.values())} {' '.join(said)} in "
 
 
 def without_times(out: str) -> list[str]:
@@ -52,18 +54,20 @@ def test_a_save_shows_its_row_and_a_signal_ends_it_with_the_last_status(
         assert len(runs) == 1
         write(tmp_path, a=FAILS)
         watching.await_out(ROW + BLOCK)
-        watching.await_out(total(**{"pass": 1, "fail": 1}))
+        watching.await_out(total(1, **{"pass": 1, "fail": 1}))
         write(tmp_path, b=PASSES)
         time.sleep(1)
         write(tmp_path, a=last + b"// and a comment\n")
         watching.await_out("a.pkt: pass 1\n" if last == PASSES else ROW)
         ended = watching.ends(number)
-    changed = ["a.pkt: pass 1", total(**{"pass": 2})] if last == PASSES else []
+    changed = ["a.pkt: pass 1", f"a.pkt: {AWAITS_NONE}", total(2, **{"pass": 2})] if last == PASSES else []
     assert heads(without_times(ended.out)) == [
-        total(**{"pass": 2}),
+        f"a.pkt: {AWAITS_NONE}",
+        f"b.pkt: {AWAITS_NONE}",
+        total(2, **{"pass": 2}),
         ROW.strip(),
         BLOCK.splitlines()[0],
-        total(**{"pass": 1, "fail": 1}),
+        total(1, **{"pass": 1, "fail": 1}),
         *changed,
     ]
     assert (ended.status, ended.err) == (0 if last == PASSES else 1, "")
@@ -81,12 +85,12 @@ def test_what_does_not_pass_comes_first_then_what_passes_and_what_went(programs:
         os.kill(watching.process, signal.SIGCONT)
         watching.await_truth(".")
         lines = without_times(watching.out)
-    first = lines.index(total(**{"pass": 2, "fail": 1}))
+    first = lines.index(total(2, **{"pass": 2, "fail": 1}))
     news = lines[first + 1 :]
     told = news.index("b.pkt:1: syntax: the text is no script")
     assert news[told + 1] == "  ?"
     rows = [it for it in heads([*news[:told], *news[told + 1 :]]) if not it.startswith("total ")]
-    assert rows == ["b.pkt:1: syntax", "a.pkt: pass 1", "c.pkt: gone"]
+    assert rows == ["b.pkt:1: syntax", "a.pkt: pass 1", f"a.pkt: {AWAITS_NONE}", "c.pkt: gone"]
 
 
 @pytest.mark.parametrize("seed", range(6))
@@ -223,7 +227,11 @@ def test_a_program_that_is_killed_is_begun_again_with_all_files(programs: Path, 
         write(tmp_path, a=FAILS)
         watching.await_truth(".")
         assert second != first and watching.err == said * 2
-        assert watching.out.count("b.pkt") == 2
+        assert [it for it in heads(watching.out.splitlines()) if it.startswith("b.pkt")] == [
+            BLOCK.splitlines()[0].replace("a.pkt", "b.pkt"),
+            "b.pkt: pass 1",
+            f"b.pkt: {AWAITS_NONE}",
+        ]
 
 
 def test_a_text_over_the_limits_is_a_row_that_the_next_save_mends(programs: Path, tmp_path: Path) -> None:
@@ -232,8 +240,7 @@ def test_a_text_over_the_limits_is_a_row_that_the_next_save_mends(programs: Path
         write(tmp_path, a=b"\n" * 4_097)
         watching.await_out("a.pkt: error: more than 4,096 lines\n" + total(error=1))
         write(tmp_path, a=b"\n" * 4_096)
-        said = f"a.pkt: pass 0\na.pkt: passes, but has no event\n{total(**{'pass': 1})}"
-        watching.await_out(said.replace(" in ", " warnings 1 in "))
+        watching.await_out(f"a.pkt: pass 0\na.pkt: passes, but has no event\n{total(1, **{'pass': 1})}")
         (tmp_path / "a.pkt").unlink()
         (tmp_path / "a.pkt").symlink_to("nowhere")
         watching.await_out("a.pkt: error: No such file or directory\n")
