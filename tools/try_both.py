@@ -3,9 +3,10 @@
 try_both.py [--seconds N] [--tree FOLDER] STARTS ANSWERS
 
 The tree is this one, or FOLDER. What is built is its both.rattle, or else this tree's, which starts the programs in
-memory, as often as its input says, or what comes through a named pipe. The folder STARTS has such inputs, which are run one after the other,
-and the folder ANSWERS gets for each file NAME.output, NAME.errors and NAME.status, as try_cases.py puts them. Where
-nothing was run, a line on standard error says why, with what was said, and the status is 2; else it is 0.
+memory, as often as its input says, or what comes through a named pipe. The folder STARTS has such inputs, which are run
+one after the other, and the folder ANSWERS gets for each file NAME.output, NAME.errors and NAME.status, as try_cases.py
+puts them. Where nothing was run, a line on standard error says why, with what was said, and the status is 2; else it is
+0.
 """
 from __future__ import annotations
 

@@ -12,6 +12,15 @@ from pathlib import Path
 TOP = Path(__file__).resolve().parents[2]
 PASSES = b"0 socket(..., SOCK_STREAM, IPPROTO_TCP) = 3\n"
 FAILS = b"0 socket(..., SOCK_STREAM, IPPROTO_TCP) = 4\n"
+# A connection is established and accepted.
+OPENED = b"""0 socket(..., SOCK_STREAM, 0) = 3
++0 bind(3, ..., ...) = 0
++0 listen(3, 1) = 0
++0.1 < S 0:0(0) win 32792 <mss 1000>
++0 > S. 0:0(0) ack 1 <...>
++0.1 < . 1:1(0) ack 1 win 32792
++0 accept(3, ..., ...) = 4
+"""
 # The seconds after which a test gives up what hangs: long, so that a busy machine fails none.
 HANGS = 300.0
 TOTALS = ("pass", "fail", "syntax", "unsupported", "limit", "error", "not run")

@@ -7,21 +7,13 @@ from pdsuite.programs.recorder import Recording
 from pdsuite.programs.rows import Row, Verdict
 from pdsuite.reports.met_text import met_text, told_by_keys
 from pdsuite.run.met_lines import Differences, differences_of
-from tests.helpers import Call, write
+from tests.helpers import OPENED, Call, write
 
-OPENED = """0 socket(..., SOCK_STREAM, 0) = 3
-+0 bind(3, ..., ...) = 0
-+0 listen(3, 1) = 0
-+0.1 < S 0:0(0) win 32792 <mss 1000>
-+0 > S. 0:0(0) ack 1 <...>
-+0.1 < . 1:1(0) ack 1 win 32792
-+0 accept(3, ..., ...) = 4
-"""
 STATE = "ESTABLISHED una:1"
 OPENED_RECORDED = "".join(
     f"{line}\n//= at {at} {STATE}\n"
     for line, at in zip(
-        OPENED.replace("<...>", "win 65535 <mss 1460>").splitlines(),
+        OPENED.decode().replace("<...>", "win 65535 <mss 1460>").splitlines(),
         ["0.000000"] * 3 + ["0.100000"] * 2 + ["0.200000"] * 2,
     )
 )
@@ -32,7 +24,7 @@ WRITE = "+0 write(4, ..., 1000) = 1000"
 def met(script: str, row: Row, *recorded: tuple[str, str], told: tuple[str, ...] = ()) -> Differences:
     """What the lines of a script after the opening were met by, where these were recorded, each at its moment."""
     text = OPENED_RECORDED + "".join(f"{line}\n//= at {at} {STATE}\n" for line, at in recorded)
-    return differences_of(row, told, OPENED + script, Recording(text), ())
+    return differences_of(row, told, OPENED.decode() + script, Recording(text), ())
 
 
 def shown(differences: Differences) -> list[str]:
@@ -106,13 +98,16 @@ def test_a_call_with_another_answer_and_a_packet_at_another_time_are_marked() ->
 
 
 def test_what_is_not_recorded_says_why() -> None:
-    found = differences_of(Row(Verdict.FAIL, 1, "result"), (), OPENED, Recording("", "a.pkt:9: it ends"), ())
+    found = differences_of(Row(Verdict.FAIL, 1, "result"), (), OPENED.decode(), Recording("", "a.pkt:9: it ends"), ())
     assert list(met_text(found)) == ["line by line: not known, since it isn't recorded: a.pkt:9: it ends"]
     assert told_by_keys(found) == "a.pkt:9: it ends"
 
 
 def test_by_the_programs_a_script_is_shown_to_its_end(recording_programs: Path, tmp_path: Path, call: Call) -> None:
-    write(tmp_path, a=f"{OPENED}{WRITE}\n+0 > P. 1:501(500) ack 1\n{WRITE}\n+0 > P. 501:1501(1000) ack 1\n".encode())
+    write(
+        tmp_path,
+        a=f"{OPENED.decode()}{WRITE}\n+0 > P. 1:501(500) ack 1\n{WRITE}\n+0 > P. 501:1501(1000) ack 1\n".encode(),
+    )
     called = call(recording_programs, "run", "--all-differences", ".")
     lines = called.out.splitlines()
     begin = lines.index("  line by line, to the end (- as the script has it, + as it came):")

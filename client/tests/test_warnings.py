@@ -7,7 +7,7 @@ from pathlib import Path
 import pytest
 from junitparser import Failure, JUnitXml
 
-from tests.helpers import PASSES, Call, write
+from tests.helpers import OPENED, PASSES, Call, write
 from tests.test_reports import parse_tap
 from tests.watching import Watching
 
@@ -191,16 +191,6 @@ def test_by_the_program_an_empty_script_and_one_of_comments_are_warned_of(
     assert called.warnings == [*warned[:2], "c.pkt: passes, but awaits no packet", warned[2]]
     assert called.status == 0
     assert call(programs, "run", "--strict", ".").status == 1
-
-
-OPENED = b"""0 socket(..., SOCK_STREAM, 0) = 3
-+0 bind(3, ..., ...) = 0
-+0 listen(3, 1) = 0
-+0.1 < S 0:0(0) win 32792 <mss 1000>
-+0 > S. 0:0(0) ack 1 <...>
-+0.1 < . 1:1(0) ack 1 win 32792
-+0 accept(3, ..., ...) = 4
-"""
 
 
 def test_by_the_program_a_script_that_was_cut_short_is_warned_of(programs: Path, tmp_path: Path, call: Call) -> None:

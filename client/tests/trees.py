@@ -65,7 +65,9 @@ class Tree:
         for name in ("changed_rules.py", "owed.py", "owed_sections.py"):
             shutil.copy(TOP / "tools" / name, self.top / "tools")
         for name in ("model", "rows"):
-            shutil.copytree(TOP / "tests" / name, self.top / "tests" / name, ignore=shutil.ignore_patterns("__pycache__"))
+            shutil.copytree(
+                TOP / "tests" / name, self.top / "tests" / name, ignore=shutil.ignore_patterns("__pycache__")
+            )
         cases = self.top / "tests/cases"
         cases.mkdir()
         (cases / "openings.cases").write_text("[none] opening\n< a\n")
