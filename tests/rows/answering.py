@@ -11,13 +11,17 @@ from dataclasses import dataclass
 from pathlib import Path
 
 from rows.asking import NO_STATUS, Call, Said, Sayings
+from rows.starting import is_startable, sayings_in, starts_of
 from rows.tables import TOP
 
 # What a call may take, in seconds; without proofs it is some ten times as slow.
 SECONDS = 60
 UNPROVED_SECONDS = 240
+# What all calls may take that one process answers, in seconds.
+STARTS_SECONDS = 3_600
 # A build takes as many processors.
 JOBS = 2
+TOOLS = TOP / "tools"
 
 
 Commands = Mapping[str, Sequence[str | Path]]
@@ -73,17 +77,24 @@ class Batch:
     process: "subprocess.Popen[bytes] | None" = None
     begun: float = 0.0
 
-    def start(self) -> None:
+    def put_calls(self) -> list[str | Path]:
+        """Puts the calls into the folder, and gives the tool that has them answered, with its words."""
         cases, answers = self.folder / "cases", self.folder / "answers"
         cases.mkdir(parents=True)
         answers.mkdir()
         for place, call in self.calls.items():
             (cases / f"{place}").write_bytes(call.given)
             (cases / f"{place}.args").write_bytes(b"".join(word + b"\n" for word in call.words))
-        tool: list[str | Path] = [sys.executable, "-B", TOP / "tools" / "try_cases.py"]
-        words: list[str | Path] = ["--seconds", str(UNPROVED_SECONDS), self.program, cases, answers]
+        return [TOOLS / "try_cases.py", "--seconds", str(UNPROVED_SECONDS), self.program, cases, answers]
+
+    def answers(self) -> dict[int, Said]:
+        """What was said of the calls."""
+        return {place: self.answer(place) for place in self.calls}
+
+    def start(self) -> None:
+        words: list[str | Path] = [sys.executable, "-B", *self.put_calls()]
         with (self.folder / "said").open("wb") as said:
-            self.process = subprocess.Popen([*tool, *words], stdin=subprocess.DEVNULL, stderr=said)
+            self.process = subprocess.Popen(words, stdin=subprocess.DEVNULL, stderr=said)
         self.begun = time.monotonic()
 
     def has_ended(self) -> bool:
@@ -116,24 +127,49 @@ class Batch:
         return Said(b"", self.said().partition("\n")[0].encode(), NO_STATUS)
 
 
+class Starts(Batch):
+    """Calls of both programs, which one process answers in memory: up to one that ends it."""
+
+    def put_calls(self) -> list[str | Path]:
+        starts, answers = self.folder / "starts", self.folder / "answers"
+        starts.mkdir(parents=True)
+        answers.mkdir()
+        (self.folder / "asks").write_bytes(starts_of(list(self.calls.values())))
+        (starts / "all").write_text(f"{self.folder / 'asks'}\n{self.folder / 'answered'}\n")
+        return [TOOLS / "try_both.py", "--seconds", str(STARTS_SECONDS), starts, answers]
+
+    def answers(self) -> dict[int, Said]:
+        with contextlib.suppress(FileNotFoundError):
+            return dict(zip(self.calls, sayings_in((self.folder / "answered").read_bytes())))
+        return {}
+
+
 def ask_unproved(calls: Sequence[Call]) -> Sayings:
-    """Lets the sources answer: all calls of a program after one build, two programs side by side if there is room."""
+    """Lets the sources answer: after one build what can be started in memory, and by a case each what else is asked."""
+    starts = {place: call for place, call in enumerate(calls) if is_startable(call)}
+    tellable = {place: call for place, call in enumerate(calls) if is_tellable(call)}
+    cases = {place: call for place, call in tellable.items() if place not in starts}
     with tempfile.TemporaryDirectory() as room:
-        batches: dict[str, Batch] = {}
-        for place, call in enumerate(calls):
-            if is_tellable(call):
-                batch = batches.setdefault(call.program, Batch(call.program, {}, Path(room, call.program)))
-                batch.calls[place] = call
-        # What takes longest begins first.
-        run_batches(sorted(batches.values(), key=lambda it: -len(it.calls)))
-        said: Sayings = [None] * len(calls)
-        for batch in batches.values():
-            for place in batch.calls:
-                said[place] = batch.answer(place)
-        return said
+        together = Starts("both programs", starts, Path(room, "both"))
+        batches = [*[together] * bool(starts), *batches_of(cases, Path(room, "first"))]
+        run_batches(batches)
+        said = {place: it for batch in batches for place, it in batch.answers().items()}
+        rest = batches_of({place: call for place, call in tellable.items() if place not in said}, Path(room, "again"))
+        run_batches(rest)
+        said |= {place: it for batch in rest for place, it in batch.answers().items()}
+    return [said.get(place) for place in range(len(calls))]
+
+
+def batches_of(calls: Mapping[int, Call], room: Path) -> list[Batch]:
+    """A batch for each program; what takes longest comes first."""
+    batches: dict[str, Batch] = {}
+    for place, call in calls.items():
+        batches.setdefault(call.program, Batch(call.program, {}, room / call.program)).calls[place] = call
+    return sorted(batches.values(), key=lambda it: -len(it.calls))
 
 
 def run_batches(batches: Sequence[Batch]) -> None:
+    """Has batches answered, two side by side if there is room."""
     waiting, running = list(batches), list[Batch]()
     most = max(1, min(2, len(os.sched_getaffinity(0)) // JOBS))
     try:
