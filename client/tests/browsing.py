@@ -14,14 +14,14 @@ from selenium.webdriver.common.by import By
 from selenium.webdriver.remote.webelement import WebElement
 
 from pdsuite.page.links import file_of
-from tests.helpers import FAILS, HANGS, TOP
+from tests.helpers import FAILS, HANGS, OPENED, TOP
 
 WORDS = ("--headless=new", "--no-sandbox", "--disable-gpu", "--disable-dev-shm-usage", "--hide-scrollbars")
 OPENING = (TOP / "examples/send.txt").read_bytes().split(b"\n", 1)[1].rsplit(b"\n", 2)[0] + b"\n"
 EVIL = b'<img src=x onerror="document.title=1"><b>&amp;'
 HTML = b"<script>document.title='x'</script>\n"
 SCRIPTS = {
-    b"pass": OPENING,
+    b"pass": OPENED,
     b"fail": FAILS,
     b"seq": OPENING + b"+0    > P. 1:501(500) ack 1\n",
     b"missing": OPENING + b"+0    > P. 1:1001(1000) ack 1\n+0 > . 1001:2001(1000) ack 1\n",
@@ -29,7 +29,7 @@ SCRIPTS = {
     EVIL: b"// " + HTML + b"0 <b>bold</b>\n",
     b"$\\frac{$": b"// $\\frac{$\n" + FAILS,
     b"\xff\x1b": b"// \xff\x1b[2J\n" + FAILS,
-    "grün".encode(): OPENING,
+    "grün".encode(): OPENED,
 }
 
 VISIBLE = """
