@@ -76,6 +76,7 @@ def test_both_packets_are_told_by_field() -> None:
         (Row(Verdict.LIMIT, 4), {"rule": "outbox"}, place(4, 0, 4, 16)),
         (Row(Verdict.SYNTAX, 1), {"column": 2}, place(1, 2, 1, 7)),
         (Row(Verdict.SYNTAX, 1), {"column": 41}, place(1, 35, 1, 36)),
+        (Row(Verdict.SYNTAX, 2), {"column": 2, "text_line": 1}, place(1, 2, 1, 7)),
         (Row(Verdict.SYNTAX, 1), {"column": None}, place(1, 0, 1, 36)),
         (Row(Verdict.FAIL, 3, "seq"), {}, place(3, 4, 3, 8)),
     ],

@@ -37,6 +37,9 @@ _FACTS = {
     "reason_words": "reason",
     "rule_words": "rule",
     "limit": "limit",
+    "found": "found",
+    "runs": "runs",
+    "mend": "mend",
     "expected": "expected",
 }
 _NULLS = {"awaited_until_us": "any time", "timer_us": "never, it doesn't run"}

@@ -65,10 +65,13 @@ def failing_event(row: Row, cause: Cause | None, layout: Layout) -> Event | None
 
 
 def _token(line: int, cause: Cause | None, layout: Layout, lines: TextLines) -> Extent:
-    """The token at which no script goes on; at the end of the text, what stands in its last line."""
-    column = (cause or {}).get("column")
+    """The token at which no script goes on, or where a line lacks something; at the end of the text its last line."""
+    told = cause or {}
+    column, number = told.get("column"), told.get("text_line")
     if not isinstance(column, int):
         return lines.whole_line(line)
+    if isinstance(number, int):
+        line = number - 1
     start = lines.start(line) + unshown(lines.content(line), column)
     found = _TOKEN.match(layout.text, start)
     return Extent(start, start + 1 if found is None else found.end())

@@ -15,7 +15,7 @@ from pdsuite.watch.run_changes import WantedScript
 # So many rows of a kind are shown, and so many blocks.
 _MOST = 10
 # What these begin are words and facts, which nobody pastes.
-_PROSE = ("  state: ", "  reason: ", "  rule: ", "  expected: ")
+_PROSE = ("  state: ", "  reason: ", "  rule: ", "  expected: ", "  found: ", "  runs: ", "  mend: ")
 _INDENT = "    "
 _LEAST = 20
 

@@ -1,4 +1,4 @@
--- Lemmas on rules, reasons, what is shown, explanations, ends of runs, and the lines of a block.
+-- Lemmas on rules, reasons, what is shown, explanations, ends of runs, parts of events, and the lines of a block.
 pub mod RuleLemmas
 pub mod ShownLemmas
 pub mod InputLemmas
@@ -7,3 +7,4 @@ pub mod WindowLemmas
 pub mod StopIsThere
 pub mod BlockLemmas
 pub mod EndLemmas
+pub mod PartLemmas

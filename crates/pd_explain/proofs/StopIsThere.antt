@@ -95,26 +95,26 @@ stops_within law settings parsed line stop h run found =
     some_is e = cc
 
 -- the cause of such a stop at an event is that of the run's verdict
-pub causes_in : (settings : Settings) (parsed : Parsed) (line : ℕ) (v : Verdict) (stop : Stopped) (e : Event) (told : Result Cause AllocError)
-    → not_run parsed.header.items ≡ None → StopsAt line settings parsed v e stop → IfOk told (IsCauseOf e stop)
-    → IfOk told (IsCauseIn line settings parsed v)
-causes_in settings parsed line v stop e (Ok cause) run at is = rw run (e, stop, at, is)
-causes_in settings parsed line v stop e (Err x) run at is = tt
+pub causes_in : (text : List (List ℕ)) (settings : Settings) (parsed : Parsed) (line : ℕ) (v : Verdict) (stop : Stopped) (e : Event) (told : Result Cause AllocError)
+    → not_run parsed.header.items ≡ None → StopsAt line settings parsed v e stop → IfOk told (IsCauseOf text parsed.header.end e stop)
+    → IfOk told (IsCauseIn text line settings parsed v)
+causes_in text settings parsed line v stop e (Ok cause) run at is = rw run (e, stop, at, is)
+causes_in text settings parsed line v stop e (Err x) run at is = tt
 
 some_line : {a b : ℕ} → Some a ≡ Some b → a ≡ b
 some_line e = cc
 
 -- such a cause is that of the row
 of_stop : (text : List (List ℕ)) (settings : Settings) (v : Verdict) (line : ℕ) (told : Cause)
-    → line_of v ≡ Some line → IsCauseIn line settings (script_of text) v told → IsCause text settings v told
+    → line_of v ≡ Some line → IsCauseIn text line settings (script_of text) v told → IsCause text settings v told
 of_stop text settings (verdict.Pass n) line told e is = cc
 of_stop text settings (verdict.Syntax l) line told e is = cc
-of_stop text settings (verdict.Fail l kind) line told e is = subst (λ (n : ℕ). IsCauseIn n settings (script_of text) (verdict.Fail l kind) told) (sym (some_line e)) is
-of_stop text settings (verdict.Unsupported l) line told e is = subst (λ (n : ℕ). IsCauseIn n settings (script_of text) (verdict.Unsupported l) told) (sym (some_line e)) is
-of_stop text settings (verdict.Limit l) line told e is = subst (λ (n : ℕ). IsCauseIn n settings (script_of text) (verdict.Limit l) told) (sym (some_line e)) is
+of_stop text settings (verdict.Fail l kind) line told e is = subst (λ (n : ℕ). IsCauseIn text n settings (script_of text) (verdict.Fail l kind) told) (sym (some_line e)) is
+of_stop text settings (verdict.Unsupported l) line told e is = subst (λ (n : ℕ). IsCauseIn text n settings (script_of text) (verdict.Unsupported l) told) (sym (some_line e)) is
+of_stop text settings (verdict.Limit l) line told e is = subst (λ (n : ℕ). IsCauseIn text n settings (script_of text) (verdict.Limit l) told) (sym (some_line e)) is
 
 pub causes_of : (text : List (List ℕ)) (settings : Settings) (v : Verdict) (line : ℕ) (told : Result Cause AllocError)
-    → line_of v ≡ Some line → IfOk told (IsCauseIn line settings (script_of text) v) → IfOk told (IsCause text settings v)
+    → line_of v ≡ Some line → IfOk told (IsCauseIn text line settings (script_of text) v) → IfOk told (IsCause text settings v)
 causes_of text settings v line (Ok cause) e is = of_stop text settings v line cause e is
 causes_of text settings v line (Err x) e is = tt
 

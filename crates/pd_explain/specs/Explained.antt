@@ -1,10 +1,12 @@
 -- Which rows are explained, and by which cause.
 use Rattle.std.specs.Prelude.{◌≡◌, ℕ, List, slice_get, find, is_none, Option, Some, None}
 use Rattle.pd_settings.specs.declared.fields.Settings.{Settings}
+use Rattle.pd_lex.specs.Places.{first_place}
 use Rattle.pd_script.specs.Script.{script_of}
 use Rattle.pd_script.specs.declared.parsing.Parsed.{Parsed}
 use Rattle.pd_script.specs.declared.script_events.Event.{Event}
 use Rattle.pd_script.specs.declared.script_header.HeaderItem.{HeaderItem}
+use Rattle.pd_script.specs.declared.script_header.HeaderKind.{HeaderKind}
 use Rattle.pd_run.specs.Run.{tolerance_in}
 use Rattle.pd_run.specs.Stops.{stop_in}
 use Rattle.pd_run.specs.Why.{verdict_at}
@@ -12,7 +14,9 @@ use Rattle.pd_run.specs.declared.stops.Stopped.{Stopped}
 use Rattle.pd_run.specs.declared.verdicts.Verdict.{Verdict}
 use Rattle.pd_run.specs.declared.verdicts.Verdict.TheVariants as verdict
 use Rattle.pd_explain.specs.Causes.{IsCauseOf}
+use Rattle.pd_explain.specs.Parts.{header_part}
 use Rattle.pd_explain.specs.Rules.{header_rule}
+use Rattle.pd_explain.specs.Rulings.{IsRuling}
 use Rattle.pd_explain.specs.declared.causes.Cause.{Cause}
 use Rattle.pd_explain.specs.declared.causes.Cause.TheVariants as cause
 
@@ -34,14 +38,19 @@ pub record StopsAt (line : ℕ) (settings : Settings) (parsed : Parsed) (v : Ver
   pub event : slice_get parsed.events stop.passed ≡ Some e
   pub gives : verdict_at line stop.why ≡ v
 
+-- what is reported of a header item that isn't run: its rule, with the item
+abbrev pub IsHeaderCause : List (List ℕ) → HeaderKind → Cause → Type 0
+IsHeaderCause lines kind (cause.Rule ruling) = IsRuling lines first_place (header_part kind) (header_rule kind) ruling
+IsHeaderCause lines kind _ = ⊥
+
 -- what is reported of a script whose run comes to a verdict at a line: the rule of the first header item that isn't run, or the
 -- cause of the stop
-abbrev pub IsCauseIn : ℕ → Settings → Parsed → Verdict → Cause → Type 0
-IsCauseIn line settings parsed v told = by_header (not_run parsed.header.items)
+abbrev pub IsCauseIn : List (List ℕ) → ℕ → Settings → Parsed → Verdict → Cause → Type 0
+IsCauseIn lines line settings parsed v told = by_header (not_run parsed.header.items)
   where
     by_header : Option HeaderItem → Type 0
-    by_header (Some item) = told ≡ cause.Rule (header_rule item.kind)
-    by_header None = (e : Event) × (stop : Stopped) × StopsAt line settings parsed v e stop × IsCauseOf e stop told
+    by_header (Some item) = IsHeaderCause lines item.kind told
+    by_header None = (e : Event) × (stop : Stopped) × StopsAt line settings parsed v e stop × IsCauseOf lines parsed.header.end e stop told
 
 -- a text is refused, and nothing else is reported
 abbrev pub IsRefused : Cause → Type 0
@@ -52,6 +61,6 @@ IsRefused _ = ⊥
 abbrev pub IsCause : List (List ℕ) → Settings → Verdict → Cause → Type 0
 IsCause text settings (verdict.Pass n) told = ⊥
 IsCause text settings (verdict.Syntax line) told = IsRefused told
-IsCause text settings (verdict.Fail line kind) told = IsCauseIn line settings (script_of text) (verdict.Fail line kind) told
-IsCause text settings (verdict.Unsupported line) told = IsCauseIn line settings (script_of text) (verdict.Unsupported line) told
-IsCause text settings (verdict.Limit line) told = IsCauseIn line settings (script_of text) (verdict.Limit line) told
+IsCause text settings (verdict.Fail line kind) told = IsCauseIn text line settings (script_of text) (verdict.Fail line kind) told
+IsCause text settings (verdict.Unsupported line) told = IsCauseIn text line settings (script_of text) (verdict.Unsupported line) told
+IsCause text settings (verdict.Limit line) told = IsCauseIn text line settings (script_of text) (verdict.Limit line) told

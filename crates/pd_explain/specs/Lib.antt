@@ -8,6 +8,11 @@ pub mod Pasted
 pub mod Shown
 pub mod Windows
 pub mod Rules
+pub mod Parts
+pub mod Runs
+pub mod Rulings
+pub mod Lacks
+pub mod Strays
 pub mod Explained
 pub mod Ends
 pub mod BlockLines

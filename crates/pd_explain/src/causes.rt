@@ -21,8 +21,10 @@ pub use self::reasons::Reason;
 pub(crate) use self::untaken::list_untaken;
 pub use self::window_laws::named_windows_hold;
 use self::writings::written_at;
+use crate::parts::place_of_event;
 use crate::refusals::Refusal;
-use crate::rules::{Rule, event_rule};
+use crate::rules::event_rule;
+use crate::rulings::{Ruling, ruling_at};
 use pd_lex::Place;
 use pd_run::Stopped;
 use pd_script::Event;
@@ -35,7 +37,7 @@ pub enum Cause {
     /// The text is no script.
     Syntax(Refusal),
     /// A rule by which the script isn't run.
-    Rule(Rule),
+    Rule(Ruling),
     /// An event didn't happen as written.
     Failed(Failure),
 }
@@ -51,11 +53,15 @@ pub fn cause_at(
     event: &Event,
     stop: &Stopped,
 ) -> Result<Cause, AllocError>
-    ensures { IfOk result (IsCauseOf event.now stop.now) }
+    ensures { IfOk result (IsCauseOf lines.now first event.now stop.now) }
 {
-    let writing = written_at(alloc, lines, first, stop.passed)?;
+    let place = place_of_event(alloc, lines, first, stop.passed)?;
+    let writing = written_at(alloc, lines, place)?;
     match failure_of(alloc, event, stop, writing)? {
         Some(failure) => Ok(Cause::Failed(failure)),
-        None => Ok(Cause::Rule(event_rule(event, stop))),
+        None => {
+            let rule = event_rule(event, stop);
+            Ok(Cause::Rule(ruling_at(alloc, lines, place, event, rule)?))
+        }
     }
 }

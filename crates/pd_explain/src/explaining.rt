@@ -8,7 +8,7 @@ ghost use Rattle.pd_explain.specs.Explained.{row_line, not_run, IsCauseIn, IsCau
 use crate::causes::{Cause, cause_at};
 use crate::explanations::Explanation;
 use crate::refusals::find_refusal;
-use crate::rules::header_rule;
+use crate::rulings::header_ruling;
 use pd_run::{Verdict, find_stop, verdicts_have_reasons};
 use pd_script::{Header, HeaderItem, HeaderKind, parse};
 use pd_settings::Settings;
@@ -80,13 +80,13 @@ fn cause_of_stop(
 ) -> Result<Cause, AllocError>
     requires verdict { verdict ≡ verdict_of lines.now settings.now }
     requires line { line_of verdict ≡ Some line }
-    ensures { IfOk result (IsCauseIn line settings.now (script_of lines.now) verdict) }
+    ensures { IfOk result (IsCauseIn lines.now line settings.now (script_of lines.now) verdict) }
 {
     // The law does no work: that a stop is found rests on it.
     verdicts_have_reasons();
     let parsed = parse(alloc, lines)?;
     if let Some(item) = item_not_run(&parsed.header) {
-        return Ok(Cause::Rule(header_rule(&item)));
+        return Ok(Cause::Rule(header_ruling(alloc, lines, &item)?));
     }
     let Some(stop) = find_stop(alloc, &parsed, settings, line)? else {
         unreachable!()

@@ -10,8 +10,11 @@ mod endings;
 mod event_ends;
 mod explaining;
 mod explanations;
+mod parts;
 mod refusals;
 mod rules;
+mod rulings;
+mod runs;
 mod shown;
 mod shown_laws;
 
@@ -23,7 +26,9 @@ pub use causes::{
 pub use endings::{Ending, find_ending, passes_have_ends};
 pub use explaining::explain;
 pub use explanations::Explanation;
+pub use parts::ShownPart;
 pub use refusals::{Refusal, find_refusal};
 pub use rules::{Input, Number, Rule, Shape, event_rule, header_rule, rules_are_lawful};
+pub use rulings::Ruling;
 pub use shown::{as_shown, cut_around, cut_line, put_shown};
 pub use shown_laws::shown_is_printable;

@@ -3,12 +3,15 @@ mod candidates;
 mod gaps;
 mod refused;
 mod remnant;
+mod strays;
 mod trying;
 
 use self::candidates::expected;
 pub use self::refused::Refusal;
 use self::remnant::Remnant;
-use crate::shown::{as_shown, part, shown_len};
+pub use self::strays::Stray;
+use crate::parts::{rest_at, shown_at};
+use pd_lex::Place;
 use pd_text::Lines;
 use std::alloc::{AllocError, Global};
 
@@ -19,16 +22,23 @@ use std::alloc::{AllocError, Global};
 pub fn find_refusal(alloc: Global, lines: &Lines, line: usize) -> Result<Refusal, AllocError> {
     let remnant = Remnant::read(alloc, lines, line)?;
     let taken = remnant.count_taken(alloc)?;
-    let octets = lines.line(line).unwrap_or(&[]);
-    let mark = match remnant.column_of(lines, line, taken) {
-        Some(column) => Some(shown_len(part(octets, 0, column))),
-        None => None,
-    };
+    let refused = remnant.refused_at(lines, line, taken);
+    let marked = remnant.marked_at(alloc, refused, taken)?;
+    let shown = shown_at(alloc, lines, marked.unwrap_or(Place::line_start(line)))?;
     let expected = expected(alloc, remnant.first(taken), remnant.difference(taken))?;
     Ok(Refusal {
-        line,
-        text: as_shown(alloc, octets)?,
-        mark,
+        line: shown.line,
+        text: shown.text,
+        mark: marked.map(|_| shown.column),
+        stray: stray_in(lines, refused, remnant.symbol_before(taken)),
         expected,
     })
+}
+
+/// What stands where no script goes on, after a token with this octet, if that is a symbol.
+fn stray_in(lines: &Lines, refused: Option<Place>, after: u8) -> Option<Stray> {
+    match refused {
+        Some(place) => Stray::at(rest_at(lines, place), after),
+        None => None,
+    }
 }

@@ -11,6 +11,7 @@ pub use self::inputs::Input;
 use self::inputs::input_rule;
 pub use self::laws::rules_are_lawful;
 pub use self::numbers::Number;
+pub(crate) use self::numbers::is_time_long;
 use self::numbers::number_over;
 pub use self::shapes::Shape;
 use self::shapes::shape_rule;
@@ -45,6 +46,26 @@ impl Rule {
             Rule::Over(number) => number.key(),
             Rule::NotRun(shape) => shape.key(),
             Rule::NotTaken(input) => input.key(),
+        }
+    }
+
+    /// How a script may be mended, in words, where no edit by hand is the way.
+    pub fn mend(self) -> Option<&'static str> {
+        match self {
+            Rule::NotRun(Shape::HeaderCommand | Shape::HeaderOption) => {
+                Some("`pdsuite import` takes a kernel's set-up over as settings")
+            }
+            _ => None,
+        }
+    }
+
+    /// What stands there, in words, where others know it by another name.
+    pub fn found(self) -> Option<&'static str> {
+        match self {
+            Rule::NotRun(Shape::Flag) => {
+                Some("E, W and C are flags of ECN (RFC 3168), and U is the urgent one")
+            }
+            _ => None,
         }
     }
 

@@ -56,7 +56,7 @@ pub fn facts_of<'a>(alloc: Global, cause: &'a Cause) -> Result<Facts<'a>, AllocE
     let mut facts = Vec::new(alloc);
     match cause {
         Cause::Syntax(_) => {}
-        Cause::Rule(rule) => put_rule(&mut facts, *rule)?,
+        Cause::Rule(ruling) => put_rule(&mut facts, ruling.rule)?,
         Cause::Failed(failure) => put_failed(&mut facts, &failure.failed)?,
     }
     Ok(facts)

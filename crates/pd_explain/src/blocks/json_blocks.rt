@@ -5,6 +5,7 @@ use crate::causes::{Cause, SenderSnapshot, Untaken};
 use crate::endings::Ending;
 use crate::explanations::Explanation;
 use crate::refusals::Refusal;
+use crate::rulings::Ruling;
 use crate::shown::as_shown;
 use pd_run::Verdict;
 use pd_text::Name;
@@ -101,7 +102,7 @@ fn put_cause(alloc: Global, object: &mut Members, cause: &Cause) -> Result<(), A
     put_facts(alloc, object, &facts_of(alloc, cause)?)?;
     match cause {
         Cause::Syntax(refusal) => put_refusal(alloc, object, refusal),
-        Cause::Rule(_) => Ok(()),
+        Cause::Rule(ruling) => put_ruling(alloc, object, ruling),
         Cause::Failed(failure) => put_left(alloc, object, &failure.untaken, &failure.standing),
     }
 }
@@ -143,18 +144,18 @@ fn put_left(
     untaken: &Untaken,
     standing: &SenderSnapshot,
 ) -> Result<(), AllocError> {
-    let packets = packets_of(alloc, &untaken.packets)?;
+    let packets = texts_of(alloc, &untaken.packets)?;
     put(object, alloc, "untaken_packets", packets)?;
     let more = Told::Number(untaken.more as u64);
     put_facts(alloc, object, &[named("", "more_untaken_packets", more)])?;
     put(object, alloc, "state", state_of(alloc, standing)?)
 }
 
-/// Packets as a list.
-fn packets_of(alloc: Global, packets: &[Vec<u8>]) -> Result<Value, AllocError> {
+/// Texts as a list.
+fn texts_of(alloc: Global, texts: &[Vec<u8>]) -> Result<Value, AllocError> {
     let mut list = Vec::new(alloc);
-    for packet in packets {
-        list.push(shown(alloc, packet)?)?;
+    for text in texts {
+        list.push(shown(alloc, text)?)?;
     }
     Ok(Value::Array(list))
 }
@@ -168,6 +169,38 @@ fn state_of(alloc: Global, standing: &SenderSnapshot) -> Result<Value, AllocErro
     Ok(Value::Object(state))
 }
 
+/// Adds the line of what a rule is about, the column of that, what is run in its place, and how the script may be mended.
+fn put_ruling(alloc: Global, object: &mut Members, ruling: &Ruling) -> Result<(), AllocError> {
+    let part = &ruling.part;
+    put(object, alloc, "text", letters(alloc, &part.text)?)?;
+    put_facts(
+        alloc,
+        object,
+        &[
+            named("", "text_line", Told::Number(part.line as u64)),
+            named("", "column", Told::Number(part.column as u64)),
+        ],
+    )?;
+    if !ruling.runs.is_empty() {
+        put(object, alloc, "runs", texts_of(alloc, &ruling.runs)?)?;
+    }
+    put_some(alloc, object, "found", ruling.rule.found())?;
+    put_some(alloc, object, "mend", ruling.rule.mend())
+}
+
+/// Adds words under a key, where there are any.
+fn put_some(
+    alloc: Global,
+    object: &mut Members,
+    key: &'static str,
+    words: Option<&'static str>,
+) -> Result<(), AllocError> {
+    match words {
+        Some(words) => put_facts(alloc, object, &[named("", key, Told::Words(words))]),
+        None => Ok(()),
+    }
+}
+
 /// Adds the line at which no script goes on, the column of its token, and what could be there.
 fn put_refusal(alloc: Global, object: &mut Members, refusal: &Refusal) -> Result<(), AllocError> {
     put(object, alloc, "text", letters(alloc, &refusal.text)?)?;
@@ -175,20 +208,17 @@ fn put_refusal(alloc: Global, object: &mut Members, refusal: &Refusal) -> Result
         Some(column) => Told::Number(column as u64),
         None => Told::Nothing(""),
     };
-    put_facts(alloc, object, &[named("", "column", column)])?;
+    let line = Told::Number(refusal.line as u64);
+    put_facts(
+        alloc,
+        object,
+        &[named("", "text_line", line), named("", "column", column)],
+    )?;
+    put_some(alloc, object, "found", refusal.found())?;
     put(
         object,
         alloc,
         "expected",
-        words_of(alloc, &refusal.expected)?,
+        texts_of(alloc, &refusal.expected)?,
     )
-}
-
-/// Words as a list.
-fn words_of(alloc: Global, words: &[&'static str]) -> Result<Value, AllocError> {
-    let mut list = Vec::new(alloc);
-    for each in words {
-        list.push(Value::try_from_str(alloc, each)?)?;
-    }
-    Ok(Value::Array(list))
 }

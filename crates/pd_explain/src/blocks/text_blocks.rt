@@ -10,6 +10,7 @@ use crate::causes::{Cause, SenderSnapshot, Untaken};
 use crate::endings::Ending;
 use crate::explanations::Explanation;
 use crate::refusals::Refusal;
+use crate::rulings::Ruling;
 use crate::shown::{as_shown, cut_around, cut_line};
 use crate::shown_laws::shown_is_printable;
 use pd_print::write_moment;
@@ -112,7 +113,7 @@ fn put_cause(alloc: Global, out: &mut Vec<u8>, cause: &Cause) -> Result<(), Allo
     put_facts(alloc, out, &facts_of(alloc, cause)?)?;
     match cause {
         Cause::Syntax(refusal) => put_refusal(alloc, out, refusal),
-        Cause::Rule(_) => Ok(()),
+        Cause::Rule(ruling) => put_ruling(alloc, out, ruling),
         Cause::Failed(failure) => put_left(alloc, out, &failure.untaken, &failure.standing),
     }
 }
@@ -274,6 +275,44 @@ fn put_figure(alloc: Global, out: &mut Vec<u8>, fact: &Fact<'_>) -> Result<(), A
     put_told(alloc, out, fact.value)
 }
 
+/// Adds the line of what a rule is about, marked, what is run in its place, and how the script may be mended.
+#[tactic(auto, using(crate::proofs::BlockLemmas::then_lines))]
+fn put_ruling(alloc: Global, out: &mut Vec<u8>, ruling: &Ruling) -> Result<(), AllocError>
+    ensures { OnOk result (AddsLines out.old.items out.new.items) }
+{
+    put_marked(alloc, out, &ruling.part.text, ruling.part.column)?;
+    put_some(alloc, out, "found", ruling.rule.found())?;
+    put_runs(alloc, out, &ruling.runs)?;
+    put_some(alloc, out, "mend", ruling.rule.mend())
+}
+
+/// Adds what is run, where that is told.
+#[tactic(auto, using(crate::proofs::BlockLemmas::no_lines))]
+fn put_runs(alloc: Global, out: &mut Vec<u8>, runs: &[Vec<u8>]) -> Result<(), AllocError>
+    ensures { OnOk result (AddsLines out.old.items out.new.items) }
+{
+    if runs.is_empty() {
+        return Ok(());
+    }
+    put_list(alloc, out, "runs:", runs)
+}
+
+/// Adds words after a label, where there are any.
+#[tactic(auto, using(crate::proofs::BlockLemmas::no_lines))]
+fn put_some(
+    alloc: Global,
+    out: &mut Vec<u8>,
+    label: &str,
+    words: Option<&'static str>,
+) -> Result<(), AllocError>
+    ensures { OnOk result (AddsLines out.old.items out.new.items) }
+{
+    match words {
+        Some(words) => put_fact(alloc, out, label, Told::Words(words)),
+        None => Ok(()),
+    }
+}
+
 /// Adds the line at which no script goes on, its token marked, and what could be there.
 #[tactic(auto, using(crate::proofs::BlockLemmas::then_lines))]
 fn put_refusal(alloc: Global, out: &mut Vec<u8>, refusal: &Refusal) -> Result<(), AllocError>
@@ -283,7 +322,8 @@ fn put_refusal(alloc: Global, out: &mut Vec<u8>, refusal: &Refusal) -> Result<()
         Some(mark) => put_marked(alloc, out, &refusal.text, mark)?,
         None => put_end(alloc, out, &refusal.text)?,
     }
-    put_expected(alloc, out, &refusal.expected)
+    put_some(alloc, out, "found", refusal.found())?;
+    put_list(alloc, out, "expected:", &refusal.expected)
 }
 
 /// Adds a line, and that it is the end of the text that is refused.
@@ -320,19 +360,20 @@ fn put_mark(alloc: Global, out: &mut Vec<u8>, column: usize) -> Result<(), Alloc
     put_line(alloc, out, &line)
 }
 
-/// Adds what could be there, as a list in a sentence.
-fn put_expected(
+/// Adds words after a label, as a list in a sentence.
+fn put_list(
     alloc: Global,
     out: &mut Vec<u8>,
-    expected: &[&'static str],
+    label: &str,
+    items: &[Vec<u8>],
 ) -> Result<(), AllocError>
     ensures { OnOk result (AddsLines out.old.items out.new.items) }
 {
     let mut line = Vec::new(alloc);
-    put_words(&mut line, "expected:")?;
-    for (place, words) in expected.iter().enumerate() {
-        put_words(&mut line, before_item(place, expected.len()))?;
-        put_words(&mut line, words)?;
+    put_words(&mut line, label)?;
+    for (place, words) in items.iter().enumerate() {
+        put_words(&mut line, before_item(place, items.len()))?;
+        line.extend_from_slice(words)?;
     }
     put_line(alloc, out, &line)
 }

@@ -1,5 +1,5 @@
 //! The octets of an event as they are written in its text.
-use crate::event_ends::end_of_event;
+use crate::parts::place_after;
 use pd_lex::{Lexed, Place, Token, TokenKind, next_token};
 use pd_text::{Lines, MAX_OCTETS};
 use std::alloc::{AllocError, Global};
@@ -22,34 +22,17 @@ struct Stretch {
     to: Place,
 }
 
-/// The octets of an event as written, where so many others are between a place and it.
+/// The octets of the event at a place as written.
 ///
 /// # Errors
 /// `AllocError` where a growth is refused.
-pub fn written_at(
-    alloc: Global,
-    lines: &Lines,
-    place: Place,
-    passed: usize,
-) -> Result<Writing, AllocError> {
-    let mut from = place;
-    for _ in 0..passed {
-        from = place_after(alloc, lines, from)?;
-    }
+pub fn written_at(alloc: Global, lines: &Lines, from: Place) -> Result<Writing, AllocError> {
     let parts = parts_of(lines, from, place_after(alloc, lines, from)?);
     Ok(Writing {
         event: octets_of(alloc, lines, parts.event)?,
         time: octets_of(alloc, lines, parts.time)?,
         result: octets_of(alloc, lines, parts.result)?,
     })
-}
-
-/// Where the event at a place is followed by something.
-fn place_after(alloc: Global, lines: &Lines, place: Place) -> Result<Place, AllocError> {
-    match end_of_event(alloc, lines, place)? {
-        Some((after, _)) => Ok(after),
-        None => Ok(place),
-    }
 }
 
 /// Where the parts of an event stand, as far as it was read.

@@ -1,4 +1,7 @@
 //! What could be where no script goes on: candidates, each tried by reading a text with it.
+ghost use Rattle.std.specs.Prelude.{◌≡◌, ◌++◌, codes, IfOk};
+ghost use Rattle.std.specs.Fmt.{decimal};
+
 use crate::refusals::trying::{goes_on, is_script};
 use itoa::Buffer;
 use std::alloc::{AllocError, Global};
@@ -68,7 +71,7 @@ struct Trials<'a> {
     /// The octets after which they are tried.
     before: &'a [u8],
     /// What those are called with which a script goes on.
-    expected: Vec<&'static str>,
+    expected: Vec<Vec<u8>>,
 }
 
 /// What could follow the octets of a script's first tokens, in the order of the tables. The end less the start is given
@@ -80,7 +83,7 @@ pub fn expected(
     alloc: Global,
     before: &[u8],
     difference: Option<u64>,
-) -> Result<Vec<&'static str>, AllocError> {
+) -> Result<Vec<Vec<u8>>, AllocError> {
     let mut trials = Trials {
         alloc,
         before,
@@ -99,7 +102,8 @@ impl Trials<'_> {
         goes_on(self.alloc, self.before, candidate)
     }
 
-    fn tell(&mut self, words: &'static str) -> Result<(), AllocError> {
+    fn tell(&mut self, words: &str) -> Result<(), AllocError> {
+        let words = Vec::from_slice(self.alloc, words.as_bytes())?;
         self.expected.push(words)?;
         Ok(())
     }
@@ -180,20 +184,23 @@ impl Trials<'_> {
             } else {
                 self.tell("seconds from the first number on, below 4,294,967,296")
             }
-        } else if self.is_length(difference)? {
-            self.tell("the end less the start")
         } else {
-            self.try_whole_number()
+            self.try_length(difference)
         }
     }
 
-    fn is_length(&self, difference: Option<u64>) -> Result<bool, AllocError> {
+    /// Where a packet's length comes, it is the only number.
+    fn try_length(&mut self, difference: Option<u64>) -> Result<(), AllocError> {
         let Some(octets) = difference else {
-            return Ok(false);
+            return self.try_whole_number();
         };
         let mut buffer = Buffer::new();
-        let digits = buffer.format(octets);
-        self.goes_on(digits.as_bytes())
+        if !self.goes_on(buffer.format(octets).as_bytes())? {
+            return self.try_whole_number();
+        }
+        let words = quoted_number(self.alloc, octets)?;
+        self.expected.push(words)?;
+        Ok(())
     }
 
     fn try_whole_number(&mut self) -> Result<(), AllocError> {
@@ -206,4 +213,16 @@ impl Trials<'_> {
             self.tell("a whole number from the start up to 4,294,967,295")
         }
     }
+}
+
+/// A number in backquotes.
+fn quoted_number(alloc: Global, number: u64) -> Result<Vec<u8>, AllocError>
+    ensures { IfOk result (λ words. words.items ≡ (codes "`" ++ decimal number) ++ codes "`") }
+{
+    let mut buffer = Buffer::new();
+    let mut words = Vec::new(alloc);
+    words.extend_from_slice(b"`")?;
+    words.extend_from_slice(buffer.format(number).as_bytes())?;
+    words.extend_from_slice(b"`")?;
+    Ok(words)
 }

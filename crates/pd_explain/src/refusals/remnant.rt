@@ -1,7 +1,10 @@
 //! What is left of a refused text from its last event on, up to the refused line.
+ghost use Rattle.std.specs.Prelude.{◌≡◌};
+ghost use Rattle.pd_explain.specs.Lacks.{place_marked};
+
 use crate::event_ends::end_of_event;
 use crate::refusals::gaps::bad_column;
-use crate::refusals::trying::is_refused;
+use crate::refusals::trying::{is_refused, is_script};
 use crate::shown::part;
 use pd_lex::{Lexed, Place, Token, TokenKind, next_token};
 use pd_script::{MAX_EVENTS, read_header};
@@ -16,8 +19,12 @@ const SOME_EVENT: &[u8] = b"*``";
 struct RemnantToken {
     /// Where it begins in the text.
     from: Place,
+    /// Where it ends in the text.
+    to: Place,
     /// Where it ends among the remnant's octets.
     end: usize,
+    /// Whether an event may begin with it.
+    begins_event: bool,
     /// Its octet, if it is a symbol, else 0.
     symbol: u8,
     /// The number, if it is a whole one.
@@ -70,6 +77,27 @@ fn octets_of<'a>(token: &Token<'a>) -> &'a [u8] {
     }
 }
 
+/// Whether an event may begin with a token.
+fn begins_event(token: &Token<'_>) -> bool {
+    match token.kind {
+        TokenKind::Int | TokenKind::Decimal => true,
+        TokenKind::Symbol => token.symbol == b'+' || token.symbol == b'*',
+        _ => false,
+    }
+}
+
+/// Where a refused token is marked, by where the token before it ends: there, where the next event begins in a later line and
+/// what is before it is no whole script; else at itself.
+fn place_marked(refused: Place, before: Place, begins_event: bool, is_whole: bool) -> Place
+    ensures { result ≡ place_marked refused before begins_event is_whole }
+{
+    if begins_event && !is_whole && before.line < refused.line {
+        before
+    } else {
+        refused
+    }
+}
+
 impl Remnant {
     /// The remnant of a text that is refused at a line.
     ///
@@ -107,7 +135,9 @@ impl Remnant {
         };
         let piece = RemnantToken {
             from: token.from,
+            to: token.to,
             end: self.octets.len(),
+            begins_event: begins_event(token),
             symbol: token.symbol,
             number,
         };
@@ -146,15 +176,50 @@ impl Remnant {
         Ok(low)
     }
 
-    /// How many octets of the refused line are before what is refused: a token, or what begins none; nothing at the end of
-    /// the text.
-    pub fn column_of(&self, lines: &Lines, line: usize, taken: usize) -> Option<usize> {
+    /// Where on the refused line stands what is refused: a token, or what begins none; nothing at the end of the text.
+    pub fn refused_at(&self, lines: &Lines, line: usize, taken: usize) -> Option<Place> {
         if let Some(piece) = self.pieces.get(taken) {
-            return Some(piece.from.at);
+            return Some(piece.from);
         }
         match next_token(lines, self.after) {
-            Lexed::Bad(_) => Some(bad_column(lines, self.after, line)),
+            Lexed::Bad(_) => Some(Place {
+                line,
+                at: bad_column(lines, self.after, line),
+            }),
             Lexed::Token(_) | Lexed::End => None,
+        }
+    }
+
+    /// Where what is refused is marked: at itself, or where the line before it lacks something.
+    ///
+    /// # Errors
+    /// `AllocError` where a growth is refused.
+    pub fn marked_at(
+        &self,
+        alloc: Global,
+        refused: Option<Place>,
+        taken: usize,
+    ) -> Result<Option<Place>, AllocError> {
+        let Some(before) = self.piece_before(taken) else {
+            return Ok(refused);
+        };
+        let Some(piece) = self.pieces.get(taken) else {
+            return Ok(refused);
+        };
+        let is_whole = is_script(alloc, self.first(taken))?;
+        Ok(Some(place_marked(piece.from, before.to, piece.begins_event, is_whole)))
+    }
+
+    /// The token before the one that is refused.
+    fn piece_before(&self, taken: usize) -> Option<&RemnantToken> {
+        self.pieces.get(taken.checked_sub(1)?)
+    }
+
+    /// The octet of that token, if it is a symbol, else 0.
+    pub fn symbol_before(&self, taken: usize) -> u8 {
+        match self.piece_before(taken) {
+            Some(piece) => piece.symbol,
+            None => 0,
         }
     }
 

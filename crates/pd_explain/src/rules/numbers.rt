@@ -124,7 +124,8 @@ pub fn number_over(event: &Event) -> Option<Number>
     action_over(&event.action)
 }
 
-fn is_time_long(time: Time) -> bool
+/// Whether a written time is over the limit.
+pub fn is_time_long(time: Time) -> bool
     ensures { result ≡ list_any is_long (written_times time) }
 {
     match time {

@@ -2,6 +2,7 @@
 use Rattle.std.proofs.Common.{◌≡◌, ◌<◌, List, length, slice_get, None, Some, IfOk, refl, sym, ap, subst, ◌∙◌, arith}
 use Rattle.std.proofs.Math.ListN.{get_or}
 use Rattle.std.proofs.lemmas.Option.{slice_get_read}
+use Rattle.pd_lex.specs.declared.token.Place.{Place}
 use Rattle.pd_settings.specs.declared.fields.Settings.{Settings}
 use Rattle.pd_script.specs.declared.parsing.Parsed.{Parsed}
 use Rattle.pd_script.specs.declared.script_events.Event.{Event}
@@ -9,6 +10,7 @@ use Rattle.pd_run.specs.Run.{verdict_in}
 use Rattle.pd_run.specs.Stops.{line_of, stop_in}
 use Rattle.pd_run.specs.Why.{verdict_at}
 use Rattle.pd_run.specs.declared.stops.Stopped.{Stopped}
+use Rattle.pd_explain.specs.Causes.{IsCauseOf}
 use Rattle.pd_explain.specs.Explained.{not_run, IsCauseIn}
 use Rattle.pd_explain.proofs.StopIsThere.{StopsWithin, stops_within, causes_in}
 use Rattle.pd_explain.proofs.explaining.cause_of_stop.Goals as goal
@@ -54,6 +56,7 @@ returns c =
     slice_get_read parsed.events (length parsed.events) stop.passed c.index-as_slice-stop.result refl there.0
     (subst (λ (events : List Event). c.index-as_slice-stop.result ≡ get_or events stop.passed c.index-as_slice-stop.result) c.as_slice.ensures
     c.index-as_slice-stop.is) in
-    subst (λ (p : Parsed). IfOk c.cause_at.result (IsCauseIn c.args.line settings p c.args.verdict)) c.in_ok-parsed.ensures.script
-    (causes_in settings parsed c.args.line c.args.verdict stop c.index-as_slice-stop.result c.cause_at.result run
-    (record { found = found; event = event; gives = gives }) c.cause_at.ensures)
+    subst (λ (p : Parsed). IfOk c.cause_at.result (IsCauseIn c.args.lines.now c.args.line settings p c.args.verdict)) c.in_ok-parsed.ensures.script
+    (causes_in c.args.lines.now settings parsed c.args.line c.args.verdict stop c.index-as_slice-stop.result c.cause_at.result run
+    (record { found = found; event = event; gives = gives })
+    (subst (λ (first : Place). IfOk c.cause_at.result (IsCauseOf c.args.lines.now first c.index-as_slice-stop.result stop)) c.end.ensures c.cause_at.ensures))

@@ -1,0 +1,348 @@
+-- Which part of an event, or of a header, a rule is about, and where it stands: the first token that begins such a part, by what
+-- it is and by what stands before it.
+use Rattle.std.specs.Prelude.{codes, ℕ, zero, suc, ◌+◌, ◌-◌, ◌≡◌, ◌==◌, nat_le, nat_lt, Bool, true, false, ◌&&◌, ◌||◌, List, [], ◌∷◌, length, take, slice_get, Option, Some, None, unwrap_or, if◌then◌else◌}
+use Rattle.std.specs.List.{list_any}
+use Rattle.std.specs.Str.{bytes_eq}
+use Rattle.pd_lex.specs.Lexing.{items}
+use Rattle.pd_lex.specs.Numbers.{capped_number}
+use Rattle.pd_lex.specs.Tokens.{Item, lexeme, ending, bad}
+use Rattle.pd_lex.specs.declared.token.Place.{Place}
+use Rattle.pd_lex.specs.declared.token.TokenKind.{TokenKind}
+use Rattle.pd_lex.specs.declared.token.TokenKind.TheVariants as kinds
+use Rattle.pd_script.specs.Header.{option_kind}
+use Rattle.pd_script.specs.Next.{next_in}
+use Rattle.pd_script.specs.Values.{sign}
+use Rattle.pd_script.specs.declared.deciding.NextEvent.{NextEvent}
+use Rattle.pd_script.specs.declared.deciding.NextEvent.TheVariants.{Got, End, Fault}
+use Rattle.pd_script.specs.declared.script_events.Event.{Event}
+use Rattle.pd_script.specs.declared.script_header.HeaderKind.{HeaderKind}
+use Rattle.pd_script.specs.declared.script_header.HeaderKind.TheVariants as header
+use Rattle.pd_run.specs.Limits.{is_long, written_times}
+use Rattle.pd_explain.specs.Rules.{limit_of}
+use Rattle.pd_explain.specs.Shown.{shown}
+use Rattle.pd_explain.specs.declared.parts.kinds.Part.{Part}
+use Rattle.pd_explain.specs.declared.parts.kinds.Part.TheVariants as part
+use Rattle.pd_explain.specs.declared.parts.places.ShownPart.{ShownPart}
+use Rattle.pd_explain.specs.declared.parts.signs.Sign.{Sign}
+use Rattle.pd_explain.specs.declared.parts.signs.Sign.TheVariants as sign_is
+use Rattle.pd_explain.specs.declared.parts.standings.Standing.{Standing}
+use Rattle.pd_explain.specs.declared.rules.Rule.{Rule}
+use Rattle.pd_explain.specs.declared.rules.Rule.TheVariants.{Over, NotRun, NotTaken}
+use Rattle.pd_explain.specs.declared.rules.inputs.Input.{Input}
+use Rattle.pd_explain.specs.declared.rules.inputs.Input.TheVariants as input
+use Rattle.pd_explain.specs.declared.rules.numbers.Number.{Number}
+use Rattle.pd_explain.specs.declared.rules.numbers.Number.TheVariants as number
+use Rattle.pd_explain.specs.declared.rules.shapes.Shape.{Shape}
+use Rattle.pd_explain.specs.declared.rules.shapes.Shape.TheVariants as shape
+
+-- ---- what tokens are
+
+-- a word
+abbrev pub word_sign : List ℕ → Sign
+word_sign text =
+    if bytes_eq text (codes "ack") then sign_is.Ack
+    else (if bytes_eq text (codes "win") then sign_is.Win
+    else (if bytes_eq text (codes "mss") then sign_is.Mss
+    else (if bytes_eq text (codes "wscale") then sign_is.Wscale
+    else (if bytes_eq text (codes "sack") then sign_is.Sack
+    else (if bytes_eq text (codes "sackOK") || (bytes_eq text (codes "nop") || (bytes_eq text (codes "eol") || bytes_eq text (codes "TS"))) then sign_is.OtherOption
+    else sign_is.Word)))))
+
+-- the symbol of an octet
+abbrev pub octet_sign : ℕ → Sign
+octet_sign octet =
+    if octet == sign ":" then sign_is.Colon
+    else (if octet == sign "," then sign_is.Comma
+    else (if octet == sign "<" then sign_is.Arrow
+    else (if (octet == sign ".") || (octet == sign "-") then sign_is.Point
+    else (if octet == sign "(" then sign_is.Parenthesis
+    else (if (octet == sign "[") || (octet == sign "{") then sign_is.Bracket
+    else (if (octet == sign ")") || ((octet == sign "]") || (octet == sign "}")) then sign_is.Closing
+    else sign_is.Other))))))
+
+-- a symbol is of one octet
+abbrev pub symbol_sign : List ℕ → Sign
+symbol_sign (octet ∷ []) = octet_sign octet
+symbol_sign _ = sign_is.Other
+
+-- an option of the header
+abbrev pub option_sign : HeaderKind → Sign
+option_sign (header.Tolerance n) = sign_is.Tolerance
+option_sign _ = sign_is.HeaderOption
+
+-- a token of a kind with these octets
+abbrev pub sign_of : TokenKind → List ℕ → Sign
+sign_of kinds.Int text = sign_is.Whole (capped_number text)
+sign_of kinds.Word text = word_sign text
+sign_of kinds.Symbol text = symbol_sign text
+sign_of kinds.Dots text = sign_is.Dots
+sign_of kinds.Cmd text = sign_is.Command
+sign_of kinds.Code text = sign_is.Code
+sign_of kinds.Opt text = option_sign (option_kind text)
+sign_of kinds.Hex text = sign_is.Other
+sign_of kinds.Decimal text = sign_is.Other
+sign_of kinds.Str text = sign_is.Other
+
+-- a whole number above a limit
+abbrev pub is_above : ℕ → Sign → Bool
+is_above limit (sign_is.Whole n) = nat_lt limit n
+is_above limit _ = false
+
+-- a whole number
+abbrev pub is_whole : Sign → Bool
+is_whole (sign_is.Whole n) = true
+is_whole _ = false
+
+-- a word that names a TCP option
+abbrev pub is_named_option : Sign → Bool
+is_named_option sign_is.Mss = true
+is_named_option sign_is.Wscale = true
+is_named_option sign_is.Sack = true
+is_named_option sign_is.OtherOption = true
+is_named_option _ = false
+
+-- a word
+abbrev pub is_word : Sign → Bool
+is_word sign_is.Ack = true
+is_word sign_is.Win = true
+is_word sign_is.Word = true
+is_word s = is_named_option s
+
+-- flags may end with it: letters, `.` or `-`
+abbrev pub ends_flags : Sign → Bool
+ends_flags sign_is.Word = true
+ends_flags sign_is.Point = true
+ends_flags _ = false
+
+-- an end of a SACK block may follow it: `sack`, `:` or the right end of the block before
+abbrev pub is_before_edge : Sign → Bool
+is_before_edge sign_is.Sack = true
+is_before_edge sign_is.Colon = true
+is_before_edge (sign_is.Whole n) = true
+is_before_edge _ = false
+
+-- `...`
+abbrev pub is_dots : Sign → Bool
+is_dots sign_is.Dots = true
+is_dots _ = false
+
+-- a command
+abbrev pub is_command : Sign → Bool
+is_command sign_is.Command = true
+is_command _ = false
+
+-- code
+abbrev pub is_code : Sign → Bool
+is_code sign_is.Code = true
+is_code _ = false
+
+-- an option of the header, but for a tolerance within its limit
+abbrev pub is_header_option : Sign → Bool
+is_header_option sign_is.HeaderOption = true
+is_header_option _ = false
+
+-- `<`
+abbrev pub is_arrow : Sign → Bool
+is_arrow sign_is.Arrow = true
+is_arrow _ = false
+
+-- `:`
+abbrev pub is_colon : Sign → Bool
+is_colon sign_is.Colon = true
+is_colon _ = false
+
+-- `,`
+abbrev pub is_comma : Sign → Bool
+is_comma sign_is.Comma = true
+is_comma _ = false
+
+-- `(`
+abbrev pub is_parenthesis : Sign → Bool
+is_parenthesis sign_is.Parenthesis = true
+is_parenthesis _ = false
+
+-- `ack`
+abbrev pub is_ack : Sign → Bool
+is_ack sign_is.Ack = true
+is_ack _ = false
+
+-- `win`
+abbrev pub is_win : Sign → Bool
+is_win sign_is.Win = true
+is_win _ = false
+
+-- `mss`
+abbrev pub is_mss : Sign → Bool
+is_mss sign_is.Mss = true
+is_mss _ = false
+
+-- `wscale`
+abbrev pub is_wscale : Sign → Bool
+is_wscale sign_is.Wscale = true
+is_wscale _ = false
+
+-- ---- what stands before a token
+
+-- before the first one
+abbrev pub at_first : Standing
+at_first = record { last = sign_is.Other; depth = 0; commas = 0; colons = 0 }
+
+-- one more; a count stops at 32
+abbrev pub one_more : ℕ → ℕ
+one_more n = if nat_lt n 32 then n + 1 else n
+
+-- how many brackets are open
+abbrev pub depth_after : ℕ → Sign → ℕ
+depth_after n sign_is.Parenthesis = one_more n
+depth_after n sign_is.Bracket = one_more n
+depth_after n sign_is.Closing = n - 1
+depth_after n _ = n
+
+-- how many commas came where one bracket was open
+abbrev pub commas_after : ℕ → ℕ → Sign → ℕ
+commas_after depth n sign_is.Comma = if depth == 1 then one_more n else n
+commas_after depth n _ = n
+
+-- how many colons came since the last `sack`
+abbrev pub colons_after : ℕ → Sign → ℕ
+colons_after n sign_is.Sack = 0
+colons_after n sign_is.Colon = one_more n
+colons_after n _ = n
+
+-- before the token after this one
+abbrev pub after_sign : Standing → Sign → Standing
+after_sign b s = record {
+  last = s;
+  depth = depth_after b.depth s;
+  commas = commas_after b.depth b.commas s;
+  colons = colons_after b.colons s;
+}
+
+-- ---- parts
+
+-- a part of an option or of a call begins with a token, where this stands before it
+abbrev pub begins_inside : Part → Standing → Sign → Bool
+begins_inside part.OfferedMss b s = is_mss b.last
+begins_inside part.LargeMss b s = is_mss b.last && is_above (limit_of number.Mss) s
+begins_inside part.LargeShift b s = is_wscale b.last && is_above (limit_of number.Shift) s
+begins_inside part.FifthBlock b s = (is_whole b.last && is_whole s) && (b.colons == 4)
+begins_inside part.LargeEdge b s = is_before_edge b.last && is_above (limit_of number.Edge) s
+begins_inside part.ThirdArgument b s = (is_comma b.last && (b.depth == 1)) && (b.commas == 2)
+begins_inside _ b s = false
+
+-- a part begins with a token, where this stands before it
+abbrev pub is_part : Part → Standing → Sign → Bool
+is_part part.First b s = true
+is_part part.Dots b s = is_dots s
+is_part part.Command b s = is_command s
+is_part part.Code b s = is_code s
+is_part part.HeaderOption b s = is_header_option s
+is_part part.Word b s = is_word s
+is_part part.Arrow b s = is_arrow s
+is_part part.Start b s = ends_flags b.last && is_whole s
+is_part part.End b s = is_colon b.last
+is_part part.Length b s = is_parenthesis b.last
+is_part part.AckNumber b s = is_ack b.last
+is_part part.Window b s = is_win b.last
+is_part part.Options b s = is_named_option s
+is_part part.OfferedMss b s = begins_inside part.OfferedMss b s
+is_part part.LargeMss b s = begins_inside part.LargeMss b s
+is_part part.LargeShift b s = begins_inside part.LargeShift b s
+is_part part.FifthBlock b s = begins_inside part.FifthBlock b s
+is_part part.LargeEdge b s = begins_inside part.LargeEdge b s
+is_part part.ThirdArgument b s = begins_inside part.ThirdArgument b s
+
+-- where the first of some tokens stands with which a part begins, where this stands before them
+abbrev pub found : Part → Standing → List Item → Option Place
+found p b [] = None
+found p b (lexeme x ∷ ts) = if is_part p b (sign_of x.kind x.text) then Some x.from else found p (after_sign b (sign_of x.kind x.text)) ts
+found p b (ending line ∷ ts) = None
+found p b (bad line ∷ ts) = None
+
+-- where the first such part from a place on begins; that place where there is none
+abbrev pub place_of_part : Part → List (List ℕ) → Place → Place
+place_of_part p lines from = unwrap_or (found p at_first (items lines from)) from
+
+-- ---- the parts that rules are about
+
+-- a time over its limit, or else the end of a blocking call
+abbrev pub time_part : Event → Part
+time_part e = if list_any is_long (written_times e.time) then part.First else part.Dots
+
+-- a number over its limit; a full outbox is about the event
+abbrev pub number_part : Number → Event → Part
+number_part number.Time e = time_part e
+number_part number.Start e = part.Start
+number_part number.End e = part.End
+number_part number.Ack e = part.AckNumber
+number_part number.Window e = part.Window
+number_part number.Options e = part.Options
+number_part number.Mss e = part.LargeMss
+number_part number.Shift e = part.LargeShift
+number_part number.Blocks e = part.FifthBlock
+number_part number.Edge e = part.LargeEdge
+number_part number.Write e = part.ThirdArgument
+number_part number.Outbox e = part.First
+
+-- a shape that isn't run
+abbrev pub shape_part : Shape → Part
+shape_part shape.HeaderOption = part.HeaderOption
+shape_part shape.HeaderCommand = part.Command
+shape_part shape.Blocking = part.Dots
+shape_part shape.Command = part.Command
+shape_part shape.Code = part.Code
+shape_part shape.InboundTime = part.First
+shape_part shape.CallTime = part.First
+shape_part shape.Flag = part.Word
+shape_part shape.CallName = part.Word
+shape_part shape.CallShape = part.Word
+
+-- an input that isn't run in the sender's state: the call's name, or of a packet what makes it so
+abbrev pub input_part : Input → Part
+input_part input.SecondSocket = part.Word
+input_part input.ListenerClose = part.Word
+input_part input.NotListening = part.Arrow
+input_part input.NotSyn = part.Arrow
+input_part input.SmallMss = part.OfferedMss
+input_part input.Payload = part.Length
+input_part input.SecondSyn = part.Word
+input_part input.StrayFin = part.Word
+input_part input.AfterReset = part.Arrow
+input_part input.AfterFins = part.Arrow
+
+-- what a rule that stops a script at an event is about
+abbrev pub part_of : Rule → Event → Part
+part_of (Over n) e = number_part n e
+part_of (NotRun s) e = shape_part s
+part_of (NotTaken i) e = input_part i
+
+-- what one that stops it at a header item is about
+abbrev pub header_part : HeaderKind → Part
+header_part header.Command = part.Command
+header_part _ = part.HeaderOption
+
+-- ---- places
+
+-- where the event at a place is followed by something
+abbrev pub after_event : List (List ℕ) → Place → Place
+after_event lines p = by (next_in (items lines p))
+  where
+    by : NextEvent → Place
+    by (Got e after reach) = after
+    by End = p
+    by (Fault line) = p
+
+-- where the event stands that comes after so many others, from a place on
+abbrev pub after_events : List (List ℕ) → ℕ → Place → Place
+after_events lines zero p = p
+after_events lines (suc n) p = after_event lines (after_events lines n p)
+
+-- a line of a text, counted from 1; nothing outside of it
+abbrev pub line_in : List (List ℕ) → ℕ → List ℕ
+line_in lines n = unwrap_or (if nat_le 1 n then slice_get lines (n - 1) else None) []
+
+-- a text is shown at a place: its line as it is shown, and how many octets of that are shown for those before the place
+pub record IsShownAt (lines : List (List ℕ)) (p : Place) (told : ShownPart) : Type 0 where
+  pub line : told.line ≡ p.line
+  pub text : told.text.items ≡ shown (line_in lines p.line)
+  pub column : told.column ≡ length (shown (take p.at (line_in lines p.line)))

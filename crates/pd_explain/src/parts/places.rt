@@ -1,0 +1,128 @@
+//! Where parts of a text stand, and how they are shown.
+ghost use Rattle.std.specs.Prelude.{◌≡◌, IfOk, take, drop};
+ghost use Rattle.pd_lex.specs.Lexing.{items};
+ghost use Rattle.pd_explain.specs.Parts.{after_event, after_events, at_first, found, place_of_part, line_in, IsShownAt};
+
+use crate::parts::kinds::Part;
+use crate::parts::signs::Sign;
+use crate::parts::standings::Standing;
+use crate::shown::as_shown;
+use pd_lex::{Lexed, Place, next_token};
+use pd_script::{NextEvent, next_event};
+use pd_text::Lines;
+use std::alloc::{AllocError, Global};
+
+/// Where a part of a text begins, in the line as it is shown.
+#[derive(Drop)]
+pub struct ShownPart {
+    /// The line in which it begins, counted from 1.
+    pub line: usize,
+    /// The octets of that line as they are shown, all of them.
+    pub text: Vec<u8>,
+    /// In which column of `text` it begins, counted from 0.
+    pub column: usize,
+}
+
+/// Where the event stands that comes after so many others, from a place on.
+///
+/// # Errors
+/// `AllocError` where a growth is refused.
+pub fn place_of_event(
+    alloc: Global,
+    lines: &Lines,
+    first: Place,
+    passed: usize,
+) -> Result<Place, AllocError>
+    ensures { IfOk result (λ place. place ≡ after_events lines.now passed first) }
+{
+    let mut place = first;
+    for _event in 0..passed {
+        place = place_after(alloc, lines, place)?;
+    }
+    Ok(place)
+}
+
+/// Where the event at a place is followed by something.
+///
+/// # Errors
+/// `AllocError` where a growth is refused.
+pub fn place_after(alloc: Global, lines: &Lines, place: Place) -> Result<Place, AllocError>
+    ensures { IfOk result (λ after. after ≡ after_event lines.now place) }
+{
+    match next_event(alloc, lines, place)? {
+        NextEvent::Got(_, after, _) => Ok(after),
+        NextEvent::End => Ok(place),
+        NextEvent::Fault(_) => Ok(place),
+    }
+}
+
+/// Where the first such part from a place on begins; that place where there is none.
+pub fn place_of_part(lines: &Lines, from: Place, part: Part) -> Place
+    ensures { result ≡ place_of_part part lines.now from }
+{
+    match find_part(lines, from, part) {
+        Some(place) => place,
+        None => from,
+    }
+}
+
+/// Where the first token from a place on stands with which a part begins.
+fn find_part(lines: &Lines, from: Place, part: Part) -> Option<Place>
+    ensures { result ≡ found part at_first (items lines.now from) }
+{
+    let mut place = from;
+    let mut before = Standing::at_first();
+    'tokens: loop {
+        let Lexed::Token(token) = next_token(lines, place) else {
+            return None;
+        };
+        let sign = Sign::of(&token);
+        if part.begins(before, sign) {
+            return Some(token.from);
+        }
+        before = before.after(sign);
+        place = token.to;
+    }
+}
+
+/// How a text is shown at a place.
+///
+/// # Errors
+/// `AllocError` where a growth is refused.
+pub fn shown_at(alloc: Global, lines: &Lines, place: Place) -> Result<ShownPart, AllocError>
+    ensures { IfOk result (IsShownAt lines.now place) }
+{
+    let line = line_in(lines, place.line);
+    let text = as_shown(alloc, line)?;
+    let front = as_shown(alloc, front_of(line, place.at))?;
+    Ok(ShownPart {
+        line: place.line,
+        text,
+        column: front.len(),
+    })
+}
+
+/// What is left of a line from a place on.
+pub fn rest_at(lines: &Lines, place: Place) -> &[u8]
+    ensures { result.now ≡ drop place.at (line_in lines.now place.line) }
+{
+    let line = line_in(lines, place.line);
+    &line[place.at.min(line.len())..]
+}
+
+/// A line of a text, counted from 1; nothing outside of it.
+fn line_in(lines: &Lines, number: usize) -> &[u8]
+    ensures { result.now ≡ line_in lines.now number }
+{
+    match lines.line(number) {
+        Some(line) => line,
+        None => &[],
+    }
+}
+
+/// The first octets of a line, so many.
+fn front_of(line: &[u8], count: usize) -> &[u8]
+    ensures { result.now ≡ take count line.now }
+{
+    &line[..count.min(line.len())]
+}
