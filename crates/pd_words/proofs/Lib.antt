@@ -8,4 +8,5 @@ pub mod Known
 pub mod Newlines
 pub mod Saying
 pub mod SettingsText
+pub mod Spending
 pub mod Together

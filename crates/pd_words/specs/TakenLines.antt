@@ -24,3 +24,9 @@ abbrev pub IsIo : ServeFault → Type 0
 IsIo Read = Unit {0}
 IsIo OutOfMemory = Unit {0}
 IsIo fault = ⊥
+
+-- there was a line
+abbrev pub IsLine : Taken → Type 0
+IsLine (Whole line) = Unit {0}
+IsLine Long = Unit {0}
+IsLine End = ⊥

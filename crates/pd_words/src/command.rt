@@ -1,18 +1,18 @@
 //! The commands of an input, one after another.
 ghost use Rattle.std.specs.Prelude.{◌≡◌, ◌≤◌, ◌<◌, ℕ, List, [], Option, IfOk, IfErr, IfSome, option_and_then};
-ghost use Rattle.pd_words.specs.Input.{IfKnown, to_come, work_left};
-ghost use Rattle.pd_words.specs.TakenLines.{TakesLine, IsOfLine, IsIo};
+ghost use Rattle.pd_words.specs.Input.{IfKnown, to_come, work_left, Spends, IsCaused};
+ghost use Rattle.pd_words.specs.TakenLines.{TakesLine, IsOfLine, IsLine, IsIo};
 ghost use Rattle.pd_words.specs.Commands.{fitted, edit_of, commands};
 ghost use Rattle.pd_words.specs.Taking.{TakesLines, LinesFault, AsksLine, HasRequest, Gives, FaultIn};
 
 use crate::faults::ServeFault;
 use crate::gathered::Gathered;
+use crate::input_stream::InputStream;
 use crate::intake::{Intake, Taken};
 use crate::requests::{MAX_COMMAND, Request};
 use pd_settings::Value;
 use pd_text::{LineEdit, LineList, Lines, MAX_OCTETS, Name};
 use std::alloc::{AllocError, Global};
-use std::io::Read;
 
 /// A command with its lines; these are `None` where they alone are over the limits of a text.
 #[derive(Drop)]
@@ -29,7 +29,7 @@ pub enum Command {
 ///
 /// # Errors
 /// `BadCommand` and `Truncated` where they come next in the input, `Read`, `OutOfMemory`.
-pub fn next_command<R: Read>(
+pub fn next_command<R: InputStream>(
     alloc: Global,
     intake: &mut Intake,
     reader: &mut R,
@@ -40,6 +40,8 @@ pub fn next_command<R: Read>(
     ensures less { IfOk result (λ _. work_left intake.new < work_left intake.old) }
     ensures err { let old = to_come intake.old (R.remaining reader.old) in
         IfErr result (λ fault. IfSome old (λ o. FaultIn fault (commands o))) }
+    ensures reads { IfOk result (λ c. IfSome c (λ _. IfKnown (Spends intake.old intake.new) (R.remaining reader.old) (R.remaining reader.new))) }
+    ensures cause { IfErr result (IsCaused (R.has_failed reader.new) intake.old intake.new (R.remaining reader.old)) }
 {
     match next_request(alloc, intake, reader)? {
         Some(Request::Add(name, count)) => {
@@ -60,7 +62,7 @@ pub fn next_command<R: Read>(
 }
 
 /// Takes lines up to one that asks for something.
-fn next_request<R: Read>(
+fn next_request<R: InputStream>(
     alloc: Global,
     intake: &mut Intake,
     reader: &mut R,
@@ -69,7 +71,9 @@ fn next_request<R: Read>(
         let new = to_come intake.new (R.remaining reader.new) in
         IfOk result (λ r. IfKnown (HasRequest r) old new) }
     ensures less { IfOk result (λ _. work_left intake.new < work_left intake.old) }
+    ensures reads { IfOk result (λ r. IfSome r (λ _. IfKnown (Spends intake.old intake.new) (R.remaining reader.old) (R.remaining reader.new))) }
     ensures only { IfErr result IsIo }
+    ensures cause { IfErr result (IsCaused (R.has_failed reader.new) intake.old intake.new (R.remaining reader.old)) }
 {
     loop {
         let taken = intake.next_line(alloc, reader, MAX_COMMAND)?;
@@ -88,6 +92,7 @@ fn line_asks(
 ) -> Result<Option<Request>, AllocError>
     ensures same { intake.new ≡ intake.old }
     ensures request { IfOk result (λ request. (old new : List ℕ) → TakesLine 256 taken old new → AsksLine request old new) }
+    ensures some { IfOk result (λ request. IfSome request (λ _. IsLine taken)) }
 {
     match taken {
         Taken::Whole(line) => {
@@ -101,7 +106,7 @@ fn line_asks(
 }
 
 /// Takes the lines of a command, to their end also where they are over the limits.
-fn take_lines<R: Read>(
+fn take_lines<R: InputStream>(
     alloc: Global,
     intake: &mut Intake,
     reader: &mut R,
@@ -113,6 +118,8 @@ fn take_lines<R: Read>(
     ensures less { IfOk result (λ _. work_left intake.new ≤ work_left intake.old) }
     ensures err { let old = to_come intake.old (R.remaining reader.old) in
         IfErr result (λ fault. IfSome old (LinesFault fault count)) }
+    ensures reads { IfOk result (λ _. IfKnown (Spends intake.old intake.new) (R.remaining reader.old) (R.remaining reader.new)) }
+    ensures cause { IfErr result (IsCaused (R.has_failed reader.new) intake.old intake.new (R.remaining reader.old)) }
 {
     let mut gathered = Gathered::new(alloc);
     for _turn in 0..count {

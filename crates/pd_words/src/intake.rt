@@ -1,16 +1,16 @@
 //! Lines off the front of a reader, which is read a block at a time.
-ghost use Rattle.std.specs.Prelude.{◌≡◌, ◌+◌, ◌≤◌, ◌<◌, ◌++◌, [], ℕ, List, length, take, drop, true, OnOk, IfOk, IfErr, IfSome, IfNone, if◌then◌else◌};
-ghost use Rattle.std.specs.Bool.{OnFalse};
+ghost use Rattle.std.specs.Prelude.{◌≡◌, ◌⊎◌, ◌+◌, ◌≤◌, ◌<◌, ◌++◌, [], ℕ, List, length, take, drop, true, OnOk, IfOk, IfErr, IfSome, IfNone, if◌then◌else◌};
+ghost use Rattle.std.specs.Bool.{OnTrue, OnFalse};
 ghost use Rattle.std.specs.Io.KnownBytes.{Consumes, IsAtEnd};
 ghost use Rattle.std.specs.Str.Lines.{strip_carriage_return};
-ghost use Rattle.pd_words.specs.Input.{IfKnown, to_come, work_left};
-ghost use Rattle.pd_words.specs.Pieces.{NoNewline, CutsPiece, Cuts, KeepsLine};
-ghost use Rattle.pd_words.specs.TakenLines.{TakesLine, IsOfLine, IsIo};
+ghost use Rattle.pd_words.specs.Input.{IfKnown, to_come, work_left, Spends, IsCaused};
+ghost use Rattle.pd_words.specs.Pieces.{NoNewline, CutsPiece, Cuts, KeepsLine, Gave, Stops};
+ghost use Rattle.pd_words.specs.TakenLines.{TakesLine, IsOfLine, IsLine, IsIo};
 
 use crate::faults::ServeFault;
+use crate::input_stream::InputStream;
 use memchr::memchr;
 use std::alloc::{AllocError, Global};
-use std::io::Read;
 use std::marker::Model;
 use std::mem::replace;
 
@@ -70,7 +70,7 @@ impl Intake {
     ///
     /// # Errors
     /// `Read` where a read fails or 1,048,576 were made; `OutOfMemory` where a growth is refused.
-    pub fn next_line<R: Read>(
+    pub fn next_line<R: InputStream>(
         &mut self,
         alloc: Global,
         reader: &mut R,
@@ -82,7 +82,10 @@ impl Intake {
             IfOk result (λ taken. IfKnown (TakesLine limit taken) old new) }
         ensures octets { IfOk result IsOfLine }
         ensures less { IfOk result (λ _. work_left self.new < work_left self.old) }
+        ensures reads { IfOk result (λ taken. IsLine taken → IfKnown (Spends self.old self.new) (R.remaining reader.old) (R.remaining reader.new)) }
         ensures only { IfErr result IsIo }
+        ensures held { IfErr result (λ fault. fault ≡ ServeFault.Read → NoNewline self.old.0) }
+        ensures cause { IfErr result (IsCaused (R.has_failed reader.new) self.old self.new (R.remaining reader.old)) }
     {
         let (line, found) = self.read_line(alloc, reader, limit + 2)?;
         Ok(taken_of(line, found, limit))
@@ -106,7 +109,7 @@ impl Intake {
     }
 
     /// Reads one line with its newline, or the last one; what is beyond so many octets is dropped.
-    fn read_line<R: Read>(
+    fn read_line<R: InputStream>(
         &mut self,
         alloc: Global,
         reader: &mut R,
@@ -116,7 +119,10 @@ impl Intake {
             let new = to_come self.new (R.remaining reader.new) in
             IfOk result (λ r. KeepsLine cap r.0.items r.1 old new) }
         ensures less { IfOk result (λ _. work_left self.new < work_left self.old) }
+        ensures gave { IfOk result (λ r. IfKnown (Gave r.1 self.old.1 self.new.1) (R.remaining reader.old) (R.remaining reader.new)) }
         ensures only { IfErr result IsIo }
+        ensures held { IfErr result (λ fault. fault ≡ ServeFault.Read → NoNewline self.old.0) }
+        ensures cause { IfErr result (IsCaused (R.has_failed reader.new) self.old self.new (R.remaining reader.old)) }
     {
         let mut line = self.empty_line(alloc);
         loop {
@@ -136,7 +142,7 @@ impl Intake {
         ensures reads { self.new.1 ≡ self.old.1 }
         ensures less { IfOk result (λ found. work_left self.new + (if found then 1 else 0) ≤ work_left self.old) }
         ensures room { length line.new.items ≤ cap }
-        ensures only { IfErr result IsIo }
+        ensures only { IfErr result (λ fault. fault ≡ ServeFault.OutOfMemory) }
     {
         let left = &self.block[self.used..];
         match newline_at(left) {
@@ -153,20 +159,23 @@ impl Intake {
         }
     }
 
-    /// Reads once more, where nothing is left. False says that the input has ended.
-    fn refill<R: Read>(&mut self, reader: &mut R) -> Result<bool, ServeFault>
+    /// Reads once more, where nothing is left, and so one read fewer may be made. False says that the input has ended.
+    fn refill<R: InputStream>(&mut self, reader: &mut R) -> Result<bool, ServeFault>
         requires { self.old.0 ≡ [] }
         ensures more { IfOk result (λ _. Consumes (R.remaining reader.old) (R.remaining reader.new) self.new.0) }
         ensures end { IfOk result (λ more. OnFalse more (IsAtEnd (R.remaining reader.new) × (self.new.0 ≡ []))) }
+        ensures some { IfOk result (λ more. OnTrue more (0 < length self.new.0)) }
+        ensures one { IfOk result (λ _. self.new.1 + 1 ≡ self.old.1) }
         ensures less { IfOk result (λ _. work_left self.new < work_left self.old) }
         ensures only { IfErr result IsIo }
+        ensures cause { IfErr result (Stops (R.has_failed reader.new) self.old.1 self.new.1) }
     {
         if self.reads == 0 {
             return Err(ServeFault::Read);
         }
         self.reads -= 1;
         let mut block = [0u8; MAX_READ];
-        let n = match reader.read(&mut block) {
+        let n = match reader.read_block(&mut block) {
             Ok(n) => n,
             Err(_) => return Err(ServeFault::Read),
         };

@@ -1,6 +1,7 @@
 //! Two workers that overlap: one is held at job 1 until the other has begun job 2, and an edit comes once job 1 has begun.
 use crate::progress::await_count;
 use crate::serving::Served;
+use pd_cli::InputStream;
 use pd_desk::Gate;
 use std::io;
 use std::io::Read;
@@ -130,5 +131,13 @@ impl<'a> Read for HeldReader<'a> {
         buf[..count].copy_from_slice(&self.now[..count]);
         self.now = &self.now[count..];
         Ok(count)
+    }
+}
+
+impl<'a> InputStream for HeldReader<'a> {
+    ghost has_failed = { λ _. Unit {0} };
+
+    fn read_block(&mut self, block: &mut [u8]) -> io::Result<usize> {
+        self.read(block)
     }
 }

@@ -1,11 +1,12 @@
 //! Serving: without threads, beside workers, and at a seat of a desk that can be closed.
 use crate::chairs::CACHE;
+use pd_cli::InputStream;
 use pd_desk::{Desk, Gate};
 use pd_seat::Seat;
 use pd_settings::Settings;
 use std::alloc::{AllocError, Global};
 use std::io;
-use std::io::{Read, Write};
+use std::io::Write;
 use std::sync::Wait;
 use std::thread::Threads;
 use test_rows::{Form, Said};
@@ -57,7 +58,7 @@ impl Served {
     }
 
     /// Serves what this reader gives, without threads.
-    pub fn serve_alone(&mut self, alloc: Global, reader: &mut impl Read) {
+    pub fn serve_alone(&mut self, alloc: Global, reader: &mut impl InputStream) {
         self.said.clear();
         let ended = pd_cli::serve_alone(alloc, Settings::new(), CACHE, reader, self);
         self.passes = ended.ok();
@@ -68,7 +69,7 @@ impl Served {
         &mut self,
         rt: &R,
         alloc: Global,
-        reader: &mut impl Read,
+        reader: &mut impl InputStream,
         workers: u8,
         gate: &(impl Gate + Sync),
     ) {
@@ -86,7 +87,7 @@ impl Served {
         alloc: Global,
         desk: &Desk,
         seat: &mut Seat,
-        reader: &mut impl Read,
+        reader: &mut impl InputStream,
     ) {
         self.said.clear();
         let ended = pd_cli::serve_seat(rt, alloc, desk, seat, Settings::new(), reader, self);

@@ -1,5 +1,6 @@
 //! A gate and a reader that delay.
 use crate::schedules::dice::Dice;
+use pd_cli::InputStream;
 use pd_desk::Gate;
 use std::io::Read;
 use std::{io, thread};
@@ -58,5 +59,13 @@ impl<'a> Read for SlowReader<'a> {
         buf[..count].copy_from_slice(&self.octets[..count]);
         self.octets = &self.octets[count..];
         Ok(count)
+    }
+}
+
+impl<'a> InputStream for SlowReader<'a> {
+    ghost has_failed = { λ _. Unit {0} };
+
+    fn read_block(&mut self, block: &mut [u8]) -> io::Result<usize> {
+        self.read(block)
     }
 }

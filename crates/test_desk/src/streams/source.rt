@@ -1,4 +1,5 @@
 //! A reader over memory that gives so many octets a call, and fails at a call.
+use pd_cli::InputStream;
 use std::io;
 use std::io::Read;
 
@@ -65,5 +66,13 @@ impl<'a> Read for Source<'a> {
             self.octets = &self.octets[count..];
         }
         Ok(count)
+    }
+}
+
+impl<'a> InputStream for Source<'a> {
+    ghost has_failed = { λ _. Unit {0} };
+
+    fn read_block(&mut self, block: &mut [u8]) -> io::Result<usize> {
+        self.read(block)
     }
 }

@@ -1,11 +1,12 @@
 use Rattle.std.proofs.Common.{ℕ, List, [], ◌∷◌, ◌++◌, option_and_then, ◌+◌, ◌∙◌, ◌≡◌, ap, arith}
 use Rattle.pd_words.specs.Commands.{fitted}
-use Rattle.pd_words.specs.Input.{IfKnown, to_come, work_left}
+use Rattle.pd_words.specs.Input.{IfKnown, to_come, work_left, Spends}
 use Rattle.pd_words.specs.TakenLines.{TakesLine}
 use Rattle.pd_words.specs.Taking.{TakesLines, LinesFault}
 use Rattle.pd_words.specs.declared.intake.Taken.TheVariants.{Whole, Long, End}
 use Rattle.pd_words.specs.declared.faults.ServeFault.TheVariants.{Truncated}
 use Rattle.pd_words.proofs.Known.{known_then, known_map, known_same, fact_then}
+use Rattle.pd_words.proofs.Spending.{spends_same, spends_then}
 use Rattle.pd_words.proofs.Gather.{SoFar, so_first, so_whole, so_long, so_done, so_short}
 use Rattle.pd_words.proofs.command.take_lines.Goals.{in-Whole+in_ok-add-in-Whole, in-Long}
 use Rattle.pd_words.proofs.command.take_lines.Goals as goal
@@ -35,15 +36,22 @@ loop-turn-preserved g c =
       | in-Long w ↦ known_then far (TakesLine 65536 Long) next old mid new
           (λ x y z s t. so_long c.loop-turn._turn c.loop-turn.gathered c.match-branch-2.gathered x y z (w.gathered-is ∙ w.add_long.ensures) s t) c.loop-turn.invariant.so_far (rw w.in-Long.is at c.in_ok-line.ensures.line)
     ] in
+    let spent : IfKnown (Spends c.loop-turn.intake c.next_line.new.self) (g.R.Read.remaining c.loop-turn.reader) (g.R.Read.remaining c.next_line.new.reader) =
+    elim c.match-branch-2.branch [
+      | in-Whole+in_ok-add-in-Whole w ↦ (rw w.in-Whole.is at c.in_ok-line.ensures.reads) tt
+      | in-Long w ↦ (rw w.in-Long.is at c.in_ok-line.ensures.reads) tt
+    ] in
     record {
       less = omega (arith, c.in_ok-line.ensures.less, c.loop-turn.invariant.less, ap work_left back);
       so_far = rw back so_far;
+      spent = rw back (spends_then c.args.intake.now c.loop-turn.intake c.next_line.new.self (g.R.Read.remaining c.args.reader.now) (g.R.Read.remaining c.loop-turn.reader) (g.R.Read.remaining c.next_line.new.reader) c.loop-turn.invariant.spent spent);
     }
 
 pub loop-turn-init : goal.loop-turn-init
 loop-turn-init g c = record {
   less = omega arith;
   so_far = known_same (SoFar 0 c.new-gathered.result) (to_come c.args.intake.now (g.R.Read.remaining c.args.reader.now)) (λ x. so_first c.new-gathered.result x c.new-gathered.ensures);
+  spent = spends_same c.args.intake.now (g.R.Read.remaining c.args.reader.now);
 }
 
 pub returns-clause-lines : goal.returns-clause-lines

@@ -1,5 +1,6 @@
-use Rattle.std.proofs.Common.{arith}
+use Rattle.std.proofs.Common.{arith, inr}
 use Rattle.pd_words.proofs.Fronts.{front_more, front_cut, front_end}
+use Rattle.pd_words.proofs.Spending.{gave_more, gave_last, held_none, stops_caused}
 use Rattle.pd_words.proofs.intake.Intake.read_line.Goals as goal
 
 pub returns-then-branch-clause-line : goal.returns-then-branch-clause-line
@@ -20,4 +21,6 @@ loop-line-preserved g c =
       room = c.take_piece.ensures.room;
       less = omega (arith, c.in_ok-take_piece.ensures.less, c.in_ok-refill.ensures.less, c.loop-line.invariant.less);
       front = front_more _ _ _ p.0 c.loop-line.self.0 c.take_piece.new.self.0 c.refill.new.self.0 _ (g.R.Read.remaining c.loop-line.reader) (g.R.Read.remaining c.refill.new.reader) c.loop-line.invariant.front (rw c.if-branch.false at p.1) p.2 c.in_ok-refill.ensures.more;
+      gave = gave_more _ _ _ _ _ _ _ c.loop-line.invariant.gave c.in_ok-refill.ensures.more (rw c.if-not-branch.false at c.in_ok-refill.ensures.some) (rw c.take_piece.ensures.reads at c.in_ok-refill.ensures.one);
+      held = inr (held_none _ _ _ _ c.loop-line.invariant.held (rw c.if-branch.false at p.1));
     }
