@@ -80,7 +80,7 @@ def reached(index: Index, functions: list[str]) -> list[Place]:
     """The contracts of functions and all that they rest on, what is nearer first."""
     places = [contract(index, wanted) for wanted in functions]
     for here in places:
-        words = WORD.findall(re.sub(r"(--|//).*|^ +pub \w+ :", "", here.text, flags=re.M))
+        words = WORD.findall(re.sub(r"(--|//).*|^ +pub \w+ :|^    [A-Z]\w*(?=[,(])", "", here.text, flags=re.M))
         beyond = dict.fromkeys(place for word in words for place in meant(index, here.file, word))
         places.extend(place for place in beyond if place not in places)
     return places

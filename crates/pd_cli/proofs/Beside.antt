@@ -12,8 +12,8 @@ use Rattle.pd_book.specs.declared.act.Act.{Act}
 use Rattle.pd_book.specs.declared.act.Act.TheVariants as act
 use Rattle.pd_book.specs.declared.faults.BookFault.{BookFault}
 use Rattle.pd_book.specs.declared.row.Row.{Row}
-use Rattle.pd_book.specs.Acts.{texts, now}
-use Rattle.pd_book.specs.Headline.{AreOrPending, pending}
+use Rattle.pd_book.specs.Acts.{Named, texts, now}
+use Rattle.pd_book.specs.Headline.{AreOrPending, ScratchIsOne, pending}
 use Rattle.pd_book.specs.Refusals.{or_else, value_refusal}
 use Rattle.pd_book.specs.Report.{ReportView, IsRunUnder, scratch_row, scratch}
 use Rattle.pd_book.specs.Story.{Story, told}
@@ -25,7 +25,7 @@ use Rattle.pd_words.specs.declared.faults.ServeFault.{ServeFault}
 use Rattle.pd_words.specs.declared.faults.ServeFault.TheVariants.{HistoryFull, NoWorkers, Differs, BadCommand, Truncated, Read, Write, OutOfMemory}
 use Rattle.pd_words.proofs.Known.{appends_none}
 use Rattle.pd_cli.specs.Output.{all_pass}
-use Rattle.pd_cli.specs.Beside.{from_scratch, IsPartOf, MayAct, MayPrint, MayPrintAll, StopsBefore, SettlesNext, DoesNext, MayAnswer, ServesBeside}
+use Rattle.pd_cli.specs.Beside.{from_scratch, IsScratchOf, IsPartOf, MayAct, MayPrint, MayPrintAll, StopsBefore, SettlesNext, DoesNext, MayAnswer, EndsBeside, ServesBeside}
 use Rattle.pd_cli.specs.BesideSteps.{Declines, scripts_of, IsOfSame, FailsBeside}
 use Rattle.pd_cli.specs.Sessions.{PrintsAll, PrintsFirst, StopsAt, EndsBy, ServesBy}
 
@@ -90,11 +90,12 @@ rows_whole settings (row ∷ rows) h s =
     cc
 
 -- a report of the scripts as they stand
-pub part_of : (story : Story) (report kept : ReportView) → IsOfSame report kept → kept.settings ≡ now story.opening story.past → scripts_of kept.rows ≡ texts story.past → All (IsRunUnder report.settings) report.rows → IsPartOf story report
-part_of story report kept same e t runs =
+pub part_of : ((scripts : List Named) → (settings : Settings) → ScratchIsOne scripts settings) → (story : Story) (report kept : ReportView) → IsOfSame report kept → kept.settings ≡ now story.opening story.past → scripts_of kept.rows ≡ texts story.past → All (IsRunUnder report.settings) report.rows → IsPartOf story report
+part_of one story report kept same e t runs =
     let settings : report.settings ≡ now story.opening story.past = same.0 ∙ e in
     let scripts : scripts_of report.rows ≡ texts story.past = same.1 ∙ t in
-    (settings, rw (← settings, ← scripts) (rows_part report.settings report.rows runs))
+    let parts : AreOrPending report.rows (from_scratch story).rows = rw (← settings, ← scripts) (rows_part report.settings report.rows runs) in
+    (settings, (from_scratch story, (one (texts story.past) (now story.opening story.past)).0, parts))
 
 pub whole_of : (story : Story) (report kept : ReportView) → IsOfSame report kept → kept.settings ≡ now story.opening story.past → scripts_of kept.rows ≡ texts story.past → All (IsRunUnder report.settings) report.rows
     → All (λ (row : Row). IsSome row.verdict) report.rows → report ≡ from_scratch story
@@ -104,6 +105,9 @@ whole_of story report kept same e t runs all =
     let rows : report.rows ≡ map (scratch_row report.settings) (scripts_of report.rows) = rows_whole report.settings report.rows runs all in
     let is : report ≡ scratch (scripts_of report.rows) report.settings = ap (λ (r : List Row). record { settings = report.settings; rows = r }) rows in
     is ∙ rw (settings, scripts) refl
+
+pub scratch_of : ((scripts : List Named) → (settings : Settings) → ScratchIsOne scripts settings) → (story : Story) (report : ReportView) → report ≡ from_scratch story → IsScratchOf story report
+scratch_of one story report is = subst (IsScratchOf story) (sym is) (one (texts story.past) (now story.opening story.past)).0
 
 -- ---- a session
 
@@ -124,11 +128,11 @@ all_may prints story may a b (does command ∷ items) octets h =
     let (printed, rest, next, p, q, e) = h in
     (printed, rest, story next, may a next command printed p, all_may prints story may next b items rest q, e)
 
-stops_may : {S : Type 0} (prints : S → Command → List ℕ → S → Type 0) (story : S → Story) → MayBe prints story → (P : List Item → Type 0) (a now : S) (items left : List Item) (octets : List ℕ) → PrintsFirst prints a items octets now left → P left → StopsBefore P (story a) items octets
+pub stops_may : {S : Type 0} (prints : S → Command → List ℕ → S → Type 0) (story : S → Story) → MayBe prints story → (P : List Item → Type 0) (a now : S) (items left : List Item) (octets : List ℕ) → PrintsFirst prints a items octets now left → P left → StopsBefore P (story a) items octets
 stops_may prints story may P a now items left octets h p = (h.0, left, story now, h.1, all_may prints story may a now h.0 octets h.2, p)
 
 -- a fault in the input, or while it is read
-fault_may : {S : Type 0} (prints : S → Command → List ℕ → S → Type 0) (story : S → Story) → MayBe prints story → (fault : ServeFault) (a now : S) (items left : List Item) (octets : List ℕ) → PrintsFirst prints a items octets now left → FaultIn fault left → MayAnswer (Err fault) octets (story a) items
+pub fault_may : {S : Type 0} (prints : S → Command → List ℕ → S → Type 0) (story : S → Story) → MayBe prints story → (fault : ServeFault) (a now : S) (items left : List Item) (octets : List ℕ) → PrintsFirst prints a items octets now left → FaultIn fault left → MayAnswer (Err fault) octets (story a) items
 fault_may prints story may BadCommand a now items left octets h f = stops_may prints story may (λ rest. rest ≡ stops BadCommand ∷ []) a now items left octets h f
 fault_may prints story may Truncated a now items left octets h f = stops_may prints story may (λ rest. rest ≡ stops Truncated ∷ []) a now items left octets h f
 fault_may prints story may Read a now items left octets h f = stops_may prints story may (λ rest. Unit {0}) a now items left octets h tt
@@ -150,31 +154,46 @@ fails_may prints story may Read a now items left octets command more h e f = abs
 fails_may prints story may Write a now items left octets command more h e f = absurd f
 fails_may prints story may HistoryFull a now items left octets command more h e f = absurd f
 
-beside_ends : {S : Type 0} (prints : S → Command → List ℕ → S → Type 0) (fails : ServeFault → S → Command → S → Type 0) (passes : S → Bool) (story : S → Story) → MayBe prints story → FailsBesideSo fails → PassesBeside passes story
+beside_ends : ((scripts : List Named) → (settings : Settings) → ScratchIsOne scripts settings) → {S : Type 0} (prints : S → Command → List ℕ → S → Type 0) (fails : ServeFault → S → Command → S → Type 0) (passes : S → Bool) (story : S → Story) → MayBe prints story → FailsBesideSo fails → PassesBeside passes story
     → (r : Result Bool ServeFault) (octets : List ℕ) (a last : S) (items : List Item) → EndsBy prints fails passes r octets a items last → MayAnswer r octets (story a) items
-beside_ends prints fails passes story may fails_so passed (Ok p) octets a last items h = (story last, all_may prints story may a last items octets h.0, h.1 ∙ passed last)
-beside_ends prints fails passes story may fails_so passed (Err fault) octets a last items (inl (here, left, first, inl h)) = fault_may prints story may fault a here items left octets first h.0
-beside_ends prints fails passes story may fails_so passed (Err fault) octets a last items (inl (here, left, first, inr h)) = fails_may prints story may fault a here items left octets h.0 h.1 first h.2 (fails_so fault here last h.0 h.3)
-beside_ends prints fails passes story may fails_so passed (Err fault) octets a last items (inr h) = rw h.0 (h.1, stops_may prints story may (λ rest. Unit {0}) a last items h.2 (octets ++ h.1) h.3 tt)
+beside_ends one prints fails passes story may fails_so passed (Ok p) octets a last items h =
+    (story last, from_scratch (story last), all_may prints story may a last items octets h.0, scratch_of one (story last) (from_scratch (story last)) refl, h.1 ∙ passed last)
+beside_ends one prints fails passes story may fails_so passed (Err fault) octets a last items (inl (here, left, first, inl h)) = fault_may prints story may fault a here items left octets first h.0
+beside_ends one prints fails passes story may fails_so passed (Err fault) octets a last items (inl (here, left, first, inr h)) = fails_may prints story may fault a here items left octets h.0 h.1 first h.2 (fails_so fault here last h.0 h.3)
+beside_ends one prints fails passes story may fails_so passed (Err fault) octets a last items (inr h) = rw h.0 (h.1, stops_may prints story may (λ rest. Unit {0}) a last items h.2 (octets ++ h.1) h.3 tt)
 
-if_some : (P Q : List ℕ → Type 0) (all : Option (List ℕ)) → ((input : List ℕ) → P input → Q input) → IfSome all P → IfSome all Q
+pub if_some : (P Q : List ℕ → Type 0) (all : Option (List ℕ)) → ((input : List ℕ) → P input → Q input) → IfSome all P → IfSome all Q
 if_some P Q None f h = tt
 if_some P Q (Some input) f h = f input h
 
+-- no settle ends for a full history
+ends_beside : {S : Type 0} (prints : S → Command → List ℕ → S → Type 0) (fails : ServeFault → S → Command → S → Type 0) (passes : S → Bool) → FailsBesideSo fails → (r : Result Bool ServeFault) (octets : List ℕ) (a last : S) (items : List Item) → EndsBy prints fails passes r octets a items last → EndsBeside r
+ends_beside prints fails passes fails_so (Ok p) octets a last items h = tt
+ends_beside prints fails passes fails_so (Err HistoryFull) octets a last items (inl (here, left, first, inl h)) = absurd h.0
+ends_beside prints fails passes fails_so (Err HistoryFull) octets a last items (inl (here, left, first, inr h)) = absurd (fails_so HistoryFull here last h.0 h.3)
+ends_beside prints fails passes fails_so (Err HistoryFull) octets a last items (inr h) = let e : HistoryFull ≡ Write = h.0 in absurd cc
+ends_beside prints fails passes fails_so (Err NoWorkers) octets a last items h = tt
+ends_beside prints fails passes fails_so (Err Differs) octets a last items h = tt
+ends_beside prints fails passes fails_so (Err BadCommand) octets a last items h = tt
+ends_beside prints fails passes fails_so (Err Truncated) octets a last items h = tt
+ends_beside prints fails passes fails_so (Err Read) octets a last items h = tt
+ends_beside prints fails passes fails_so (Err Write) octets a last items h = tt
+ends_beside prints fails passes fails_so (Err OutOfMemory) octets a last items h = tt
+
 -- whoever answers as a seat at a new desk does writes what may be written beside workers
-pub serves_beside : {S : Type 0} (prints : S → Command → List ℕ → S → Type 0) (fails : ServeFault → S → Command → S → Type 0) (passes : S → Bool) (r : Result Bool ServeFault) (a last : S) (input before after : Option (List ℕ)) → ServesBy prints fails passes r input before after a last
+pub serves_beside : ((scripts : List Named) → (settings : Settings) → ScratchIsOne scripts settings) → {S : Type 0} (prints : S → Command → List ℕ → S → Type 0) (fails : ServeFault → S → Command → S → Type 0) (passes : S → Bool) (r : Result Bool ServeFault) (a last : S) (input before after : Option (List ℕ)) → ServesBy prints fails passes r input before after a last
     → (story : S → Story) → MayBe prints story → FailsBesideSo fails → PassesBeside passes story → (settings : Settings) → story a ≡ record { opening = settings; past = [] } → ServesBeside r settings input before after
-serves_beside prints fails passes r a last input before after h story may fails_so passed settings e = (
+serves_beside one prints fails passes r a last input before after h story may fails_so passed settings e = (
   h.0,
   h.1,
-  if_some (λ octets. EndsBy prints fails passes r h.0 a (commands octets) last) (λ octets. MayAnswer r h.0 (record { opening = settings; past = [] }) (commands octets)) input
-      (λ octets k. subst (λ (s : Story). MayAnswer r h.0 s (commands octets)) e (beside_ends prints fails passes story may fails_so passed r h.0 a last (commands octets) k)) h.2,
+  if_some (λ octets. EndsBy prints fails passes r h.0 a (commands octets) last) (λ octets. MayAnswer r h.0 (record { opening = settings; past = [] }) (commands octets) × EndsBeside r) input
+      (λ octets k. (subst (λ (s : Story). MayAnswer r h.0 s (commands octets)) e (beside_ends one prints fails passes story may fails_so passed r h.0 a last (commands octets) k), ends_beside prints fails passes fails_so r h.0 a last (commands octets) k)) h.2,
 )
 
 -- want of memory before anything is read
-none_yet : (opening : Story) (all : Option (List ℕ)) → IfSome all (λ input. MayAnswer (Err OutOfMemory) [] opening (commands input))
+none_yet : (opening : Story) (all : Option (List ℕ)) → IfSome all (λ input. MayAnswer (Err OutOfMemory) [] opening (commands input) × EndsBeside (Err OutOfMemory))
 none_yet opening None = tt
-none_yet opening (Some input) = ([], commands input, opening, refl, (refl, refl), tt)
+none_yet opening (Some input) = (([], commands input, opening, refl, (refl, refl), tt), tt)
 
 pub beside_none : (settings : Settings) (all w : Option (List ℕ)) → ServesBeside (Err OutOfMemory) settings all w w
 beside_none settings all w = ([], appends_none w, none_yet (record { opening = settings; past = [] }) all)

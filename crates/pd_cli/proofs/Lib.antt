@@ -1,5 +1,8 @@
 -- The lemmas of the proofs.
+pub mod Alone
 pub mod Beside
+pub mod Causes
+pub mod Grammatical
 pub mod Chains
 mod Rows
 pub mod Sessions

@@ -84,7 +84,7 @@ lines_of_lines (x ∷ y ∷ parts) h =
     let both = and_parts (is_line x) (list_all is_line (y ∷ parts)) h in
     and_join (is_line (strip_carriage_return x)) (list_all is_line (lines_of_parts (y ∷ parts))) (line_strip x both.0) (lines_of_lines (y ∷ parts) both.1)
 
-lines_are_lines : (input : List ℕ) → AreLines (lines input)
+pub lines_are_lines : (input : List ℕ) → AreLines (lines input)
 lines_are_lines input = lines_of_lines (slice_split newline input) (parts_are_lines input)
 
 lines_take : (n : ℕ) (ls : List (List ℕ)) → AreLines ls → AreLines (take n ls)
@@ -96,15 +96,15 @@ lines_take (suc n) (x ∷ ls) h =
 
 -- ---- the texts and edits of the commands of an input
 
-abbrev FitsLines : Option (List (List ℕ)) → Type 0
+abbrev pub FitsLines : Option (List (List ℕ)) → Type 0
 FitsLines None = Unit {0}
 FitsLines (Some text) = IsText text
 
-abbrev FitsEdit : Option LineEdit → Type 0
+abbrev pub FitsEdit : Option LineEdit → Type 0
 FitsEdit None = Unit {0}
 FitsEdit (Some edit) = AreLines edit.insert
 
-abbrev FitsCommand : Command → Type 0
+abbrev pub FitsCommand : Command → Type 0
 FitsCommand (Add name text) = FitsLines text
 FitsCommand (Edit name edit) = FitsEdit edit
 FitsCommand (Remove name) = Unit {0}
@@ -112,15 +112,15 @@ FitsCommand (Set key value) = Unit {0}
 FitsCommand Show = Unit {0}
 FitsCommand Settle = Unit {0}
 
-abbrev FitsItem : Item → Type 0
+abbrev pub FitsItem : Item → Type 0
 FitsItem (does command) = FitsCommand command
 FitsItem (stops fault) = Unit {0}
 
-abbrev AllFit : List Item → Type 0
+abbrev pub AllFit : List Item → Type 0
 AllFit [] = Unit {0}
 AllFit (item ∷ rest) = FitsItem item × AllFit rest
 
-fit_front : (first rest : List Item) → AllFit (first ++ rest) → AllFit first
+pub fit_front : (first rest : List Item) → AllFit (first ++ rest) → AllFit first
 fit_front [] rest h = tt
 fit_front (item ∷ first) rest h = (h.0, fit_front first rest h.1)
 
@@ -158,7 +158,7 @@ at_fit (asks.Set key value) after rest h k = (tt, k 0)
 at_fit asks.Show after rest h k = (tt, k 0)
 at_fit asks.Settle after rest h k = (tt, k 0)
 
-items_fit : (ls : List (List ℕ)) (n : ℕ) → AreLines ls → AllFit (items n ls)
+pub items_fit : (ls : List (List ℕ)) (n : ℕ) → AreLines ls → AllFit (items n ls)
 items_fit [] n h = (tt, tt)
 items_fit (line ∷ ls) zero h =
     let both = and_parts (is_line line) (list_all is_line ls) h in
@@ -195,10 +195,10 @@ set_rest laws story name value None x q n r e = absurd cc
 set_rest laws story name value (Some key) x q n r e =
     subst (λ (a : Act). IsAtRest (told story a)) (same_act (act.Set key value) x e) (record { legal = laws.sets story q.legal name key value n r; none = q.none })
 
-settled_rest : (laws : BookLaws) (story after : Story) → IsAtRest story → settled story ≡ Ok after → IsSettled story after
+pub settled_rest : (laws : BookLaws) (story after : Story) → IsAtRest story → settled story ≡ Ok after → IsSettled story after
 settled_rest laws story after q e = laws.settles story q after e
 
-rest_after : (laws : BookLaws) (story next : Story) (command : Command) (octets : List ℕ) → IsAtRest story → FitsCommand command → effect story command ≡ Ok (octets, next) → IsAtRest next
+pub rest_after : (laws : BookLaws) (story next : Story) (command : Command) (octets : List ℕ) → IsAtRest story → FitsCommand command → effect story command ≡ Ok (octets, next) → IsAtRest next
 rest_after laws story next (Add name None) octets q f e = acted_rest story next (Some book.TooLarge) None octets q (λ r x n. absurd cc) (ok_same _ _ e)
 rest_after laws story next (Add name (Some text)) octets q f e =
     acted_rest story next (add_refusal story name) (Some (act.Add name text)) octets q
@@ -218,7 +218,7 @@ rest_after laws story next Settle octets q f e = (settled_rest laws story next q
 
 -- ---- items one after another
 
-rest_by : (laws : BookLaws) (first : List Item) (story next : Story) (octets : List ℕ) → AllFit first → IsAtRest story → PrintsAll PrintsAlone story first octets next → IsAtRest next
+pub rest_by : (laws : BookLaws) (first : List Item) (story next : Story) (octets : List ℕ) → AllFit first → IsAtRest story → PrintsAll PrintsAlone story first octets next → IsAtRest next
 rest_by laws [] story next octets f q h = subst IsAtRest (sym h.1) q
 rest_by laws (stops fault ∷ first) story next octets f q h = absurd h
 rest_by laws (does command ∷ first) story next octets f q h =
@@ -236,7 +236,7 @@ stories_legal laws settings input octets story rest reaches =
     let fit : AllFit (reaches.0 ++ rest) = subst AllFit reaches.1 (items_fit (lines input) 0 (lines_are_lines input)) in
     rest_by laws reaches.0 (record { opening = settings; past = [] }) story octets (fit_front reaches.0 rest fit) (record { legal = tt; none = refl }) reaches.2
 
-reported_ok : (r : Result Story BookFault) (printed : List ℕ) (after : Story) → reported r ≡ Ok (printed, after) → (r ≡ Ok after) × (printed ≡ rendered (report after))
+pub reported_ok : (r : Result Story BookFault) (printed : List ℕ) (after : Story) → reported r ≡ Ok (printed, after) → (r ≡ Ok after) × (printed ≡ rendered (report after))
 reported_ok (Err fault) printed after e = absurd cc
 reported_ok (Ok story) printed after e =
     let pair = ok_same (rendered (report story), story) (printed, after) e in

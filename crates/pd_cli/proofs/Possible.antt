@@ -10,7 +10,7 @@ use Rattle.pd_book.specs.declared.act.Act.TheVariants as act
 use Rattle.pd_book.specs.declared.faults.BookFault.{BookFault}
 use Rattle.pd_book.specs.declared.faults.BookFault.TheVariants as book
 use Rattle.pd_book.specs.Acts.{Named, texts, present, now, set_to, edited_at}
-use Rattle.pd_book.specs.Headline.{RowsAreOfScratch}
+use Rattle.pd_book.specs.Headline.{AreOrPending, RowsAreOfScratch, ScratchIsOne}
 use Rattle.pd_book.specs.Refusals.{full, taken_room, or_else, name_refusal, text_refusal, absence, value_refusal}
 use Rattle.pd_book.specs.Report.{shown, scratch}
 use Rattle.pd_book.specs.Story.{Story, told}
@@ -20,7 +20,7 @@ use Rattle.pd_words.specs.declared.command.Command.TheVariants.{Add, Edit, Remov
 use Rattle.pd_cli.specs.Report.{rendered}
 use Rattle.pd_cli.specs.Output.{refused, report, acted, effect, PrintsAlone}
 use Rattle.pd_cli.specs.Sessions.{PrintsAll}
-use Rattle.pd_cli.specs.Beside.{IsPartOf, MayAct, MayPrint}
+use Rattle.pd_cli.specs.Beside.{from_scratch, IsPartOf, MayAct, MayPrint}
 use Rattle.pd_cli.specs.Laws.{Reaches, HaveSame, SettlesPrintScratch, AloneIsPossibleBeside, SessionsArePossibleBeside}
 use Rattle.pd_cli.proofs.Sessions.{prints_then}
 use Rattle.pd_cli.proofs.Written.{ok_same}
@@ -68,36 +68,37 @@ set_some settings None value e = absurd cc
 set_some settings (Some k) value e = refl
 
 -- the law of one command
-possible : (story accepted after : Story) (command : Command) (printed : List ℕ) → HaveSame story accepted → RowsAreOfScratch story.opening story.past (report story)
+possible : ((scripts : List Named) → (settings : Settings) → ScratchIsOne scripts settings) → (story accepted after : Story) (command : Command) (printed : List ℕ) → HaveSame story accepted → RowsAreOfScratch story.opening story.past (report story)
     → (command ≡ Settle → (printed ≡ rendered (scratch (texts story.past) (now story.opening story.past))) × HaveSame after story) → effect story command ≡ Ok (printed, after) → Possible accepted command printed after
-possible story accepted after (Add name None) printed same rows settles e = possible_act story accepted after (Some book.TooLarge) None printed same (λ n. absurd cc) (same_told story accepted same) (ok_same _ _ e)
-possible story accepted after (Edit name None) printed same rows settles e = possible_act story accepted after (Some book.TooLarge) None printed same (λ n. absurd cc) (same_told story accepted same) (ok_same _ _ e)
-possible story accepted after (Add name (Some text)) printed same rows settles e =
+possible one story accepted after (Add name None) printed same rows settles e = possible_act story accepted after (Some book.TooLarge) None printed same (λ n. absurd cc) (same_told story accepted same) (ok_same _ _ e)
+possible one story accepted after (Edit name None) printed same rows settles e = possible_act story accepted after (Some book.TooLarge) None printed same (λ n. absurd cc) (same_told story accepted same) (ok_same _ _ e)
+possible one story accepted after (Add name (Some text)) printed same rows settles e =
     let here : name_refusal story.past name ≡ name_refusal accepted.past name = rw same.0 refl in
     rw (← here) (possible_act story accepted after (name_refusal story.past name) (Some (act.Add name text)) printed same (λ n. refl) (same_told story accepted same) (ok_same _ _ e))
-possible story accepted after (Edit name (Some edit)) printed same rows settles e =
+possible one story accepted after (Edit name (Some edit)) printed same rows settles e =
     let here : text_refusal (present story.past name) edit ≡ text_refusal (present accepted.past name) edit = rw same.0 refl in
     rw (← here) (possible_act story accepted after (text_refusal (present story.past name) edit) (Some (act.Edit name edit)) printed same (λ n. refl) (same_told story accepted same) (ok_same _ _ e))
-possible story accepted after (Remove name) printed same rows settles e =
+possible one story accepted after (Remove name) printed same rows settles e =
     let here : absence story.past name ≡ absence accepted.past name = rw same.0 refl in
     rw (← here) (possible_act story accepted after (absence story.past name) (Some (act.Remove name)) printed same (λ n. refl) (same_told story accepted same) (ok_same _ _ e))
-possible story accepted after (Set key value) printed same rows settles e =
+possible one story accepted after (Set key value) printed same rows settles e =
     let here : value_refusal (now story.opening story.past) (key_named key) value ≡ value_refusal (now accepted.opening accepted.past) (key_named key) value = rw same.1 refl in
     rw (← here)
     (possible_act story accepted after (value_refusal (now story.opening story.past) (key_named key) value) (option_map (λ k. act.Set k value) (key_named key)) printed same
     (set_some (now story.opening story.past) (key_named key) value) (same_told story accepted same) (ok_same _ _ e))
-possible story accepted after Show printed same rows settles e =
+possible one story accepted after Show printed same rows settles e =
     let pair = ok_same (rendered (report story), story) (printed, after) e in
     let is : after ≡ story = sym (ap (λ (p : List ℕ × Story). p.1) pair) in
-    let part : IsPartOf accepted (report story) = (same.1, rw (← same.0, ← same.1) rows) in
+    let parts : AreOrPending (report story).rows (from_scratch accepted).rows = rw (← same.0, ← same.1) rows in
+    let part : IsPartOf accepted (report story) = (same.1, (from_scratch accepted, (one (texts accepted.past) (now accepted.opening accepted.past)).0, parts)) in
     (accepted, ((report story, part, sym (ap (λ (p : List ℕ × Story). p.0) pair)), refl), rw is same)
-possible story accepted after Settle printed same rows settles e =
+possible one story accepted after Settle printed same rows settles e =
     let s = settles refl in
-    (accepted, (s.0 ∙ rw (same.0, same.1) refl, refl), (s.1.0 ∙ same.0, s.1.1 ∙ same.1))
+    (accepted, ((from_scratch accepted, (one (texts accepted.past) (now accepted.opening accepted.past)).0, s.0 ∙ rw (same.0, same.1) refl), refl), (s.1.0 ∙ same.0, s.1.1 ∙ same.1))
 
-pub alone_possible : ((opening : Settings) → (past : List Act) → RowsAreOfScratch opening past (shown opening past)) → SettlesPrintScratch → AloneIsPossibleBeside
-alone_possible rows settles settings input octets story rest command reaches printed after e accepted same =
-    possible story accepted after command printed same (rows story.opening story.past) settled e
+pub alone_possible : ((scripts : List Named) → (settings : Settings) → ScratchIsOne scripts settings) → ((opening : Settings) → (past : List Act) → RowsAreOfScratch opening past (shown opening past)) → SettlesPrintScratch → AloneIsPossibleBeside
+alone_possible one rows settles settings input octets story rest command reaches printed after e accepted same =
+    possible one story accepted after command printed same (rows story.opening story.past) settled e
   where
     settled : command ≡ Settle → (printed ≡ rendered (scratch (texts story.past) (now story.opening story.past))) × HaveSame after story
     settled c =

@@ -39,7 +39,7 @@ goes_on first story next g t = go g.0 g.1 g.2
 pub goes_less : (story next : Story) → Turns (Ok true) story next → owed next.opening next.past < owed story.opening story.past
 goes_less story next t = let less = t.4 in omega (arith, less)
 
-settled_end : (turns : ℕ) (story : Story) → next_job story ≡ None → settled_in turns story ≡ Ok story
+pub settled_end : (turns : ℕ) (story : Story) → next_job story ≡ None → settled_in turns story ≡ Ok story
 settled_end zero story h = refl
 settled_end (suc turns) story h = rw h refl
 

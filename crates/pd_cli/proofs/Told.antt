@@ -95,29 +95,29 @@ blocks_told only (job ∷ jobs) told (first, rest, e, m, r) = (first, rest, e, s
 
 -- the end of a run
 
-pub tells_end : (exit : Exit) (told : Bool) (end : Result Bool ProgramFault) (asked : Asked) (text : List ℕ) (all out out1 err err1 err2 : Option (List ℕ)) → exit.status ≡ status_of end
+pub tells_end : (failed : Type 0) (exit : Exit) (told : Bool) (end : Result Bool ProgramFault) (asked : Asked) (text : List ℕ) (all out out1 err err1 err2 : Option (List ℕ)) → exit.status ≡ status_of end
     → (jobs : List Counted) × (said : List ℕ) × AreNumbered 0 jobs × AreTold asked jobs said × Says told err err1 said
-    → SaysMore told exit.told err1 err2 (said_of end) → (octets : List ℕ) × Appends out out1 octets × IfSome all (Runs 0 (settings_in text) end octets) → Finishes exit 0 asked text all out out1 err err2
-tells_end exit told end asked text all out out1 err err1 err2 e s m h = (end, e, (s.0, s.1, s.2, s.3, says_more told exit.told err err1 err2 s.1 (said_of end) s.4 m), h)
+    → SaysMore told exit.told err1 err2 (said_of end) → (octets : List ℕ) × Appends out out1 octets × IfSome all (Runs failed 0 (settings_in text) end octets) → Finishes failed exit 0 asked text all out out1 err err2
+tells_end failed exit told end asked text all out out1 err err1 err2 e s m h = (end, e, (s.0, s.1, s.2, s.3, says_more told exit.told err err1 err2 s.1 (said_of end) s.4 m), h)
 
 -- of no job is anything told
-pub quiet_end : (exit : Exit) (end : Result Bool ProgramFault) (workers : ℕ) (asked : Asked) (text : List ℕ) (all out out1 err err1 : Option (List ℕ)) → exit.status ≡ status_of end → Says exit.told err err1 (said_of end)
-    → (octets : List ℕ) × Appends out out1 octets × IfSome all (Runs workers (settings_in text) end octets) → Finishes exit workers asked text all out out1 err err1
-quiet_end exit end workers asked text all out out1 err err1 e m h = (end, e, ([], [], tt, refl, m), h)
+pub quiet_end : (failed : Type 0) (exit : Exit) (end : Result Bool ProgramFault) (workers : ℕ) (asked : Asked) (text : List ℕ) (all out out1 err err1 : Option (List ℕ)) → exit.status ≡ status_of end → Says exit.told err err1 (said_of end)
+    → (octets : List ℕ) × Appends out out1 octets × IfSome all (Runs failed workers (settings_in text) end octets) → Finishes failed exit workers asked text all out out1 err err1
+quiet_end failed exit end workers asked text all out out1 err err1 e m h = (end, e, ([], [], tt, refl, m), h)
 
 -- settings that are no good
-pub settings_end : (exit : Exit) (fault : ProgramFault) (workers : ℕ) (asked : Asked) (text : List ℕ) (all out err err1 : Option (List ℕ)) → exit.status ≡ 2 → Says exit.told err err1 (fault_line fault) → (settings_in text ≡ Err fault) ⊎ (fault ≡ Serving OutOfMemory)
-    → Finishes exit workers asked text all out out err err1
-settings_end exit fault workers asked text all out err err1 e m h = quiet_end exit (Err fault) workers asked text all out out err err1 e m ([], appends_none out, settings_out workers fault (settings_in text) all h)
+pub settings_end : (failed : Type 0) (exit : Exit) (fault : ProgramFault) (workers : ℕ) (asked : Asked) (text : List ℕ) (all out err err1 : Option (List ℕ)) → exit.status ≡ 2 → Says exit.told err err1 (fault_line fault) → (settings_in text ≡ Err fault) ⊎ (fault ≡ Serving OutOfMemory)
+    → Finishes failed exit workers asked text all out out err err1
+settings_end failed exit fault workers asked text all out err err1 e m h = quiet_end failed exit (Err fault) workers asked text all out out err err1 e m ([], appends_none out, settings_out failed workers fault (settings_in text) all h)
 
 -- want of memory before anything is read
-pub memory_ends : (exit : Exit) (workers : ℕ) (asked : Asked) (text : List ℕ) (all out err err1 : Option (List ℕ)) → exit.status ≡ 2 → Says exit.told err err1 (fault_line (Serving OutOfMemory)) → Finishes exit workers asked text all out out err err1
-memory_ends exit workers asked text all out err err1 e h = (Err (Serving OutOfMemory), e, ([], [], tt, refl, h), ([], appends_none out, memory_runs workers (settings_in text) all))
+pub memory_ends : (failed : Type 0) (exit : Exit) (workers : ℕ) (asked : Asked) (text : List ℕ) (all out err err1 : Option (List ℕ)) → exit.status ≡ 2 → Says exit.told err err1 (fault_line (Serving OutOfMemory)) → Finishes failed exit workers asked text all out out err err1
+memory_ends failed exit workers asked text all out err err1 e h = (Err (Serving OutOfMemory), e, ([], [], tt, refl, h), ([], appends_none out, memory_runs failed workers (settings_in text) all))
 
 -- the same run, by equal words
-pub finishes_by : (exit : Exit) (n m : ℕ) (a b : Asked) (t u : List ℕ) (all out out1 err err1 : Option (List ℕ)) → n ≡ m → a ≡ b → t ≡ u → Finishes exit n a t all out out1 err err1 → Finishes exit m b u all out out1 err err1
-finishes_by exit n m a b t u all out out1 err err1 e f g h =
-    subst (λ (x : ℕ). Finishes exit x b u all out out1 err err1) e (subst (λ (x : Asked). Finishes exit n x u all out out1 err err1) f (subst (λ (x : List ℕ). Finishes exit n a x all out out1 err err1) g h))
+pub finishes_by : (failed : Type 0) (exit : Exit) (n m : ℕ) (a b : Asked) (t u : List ℕ) (all out out1 err err1 : Option (List ℕ)) → n ≡ m → a ≡ b → t ≡ u → Finishes failed exit n a t all out out1 err err1 → Finishes failed exit m b u all out out1 err err1
+finishes_by failed exit n m a b t u all out out1 err err1 e f g h =
+    subst (λ (x : ℕ). Finishes failed exit x b u all out out1 err err1) e (subst (λ (x : Asked). Finishes failed exit n x u all out out1 err err1) f (subst (λ (x : List ℕ). Finishes failed exit n a x all out out1 err err1) g h))
 
 -- what holds of a value holds of one that is the same
 pub tied : {V : Type 0} (P : V → Type 0) (a b : V) → a ≡ b → P a → P b

@@ -16,7 +16,7 @@ use Rattle.pd_words.specs.declared.command.Command.TheVariants.{Add, Edit, Remov
 use Rattle.pd_words.specs.declared.faults.ServeFault.{ServeFault}
 use Rattle.pd_words.specs.declared.faults.ServeFault.TheVariants.{HistoryFull, NoWorkers, Differs, BadCommand, Truncated, Read, Write, OutOfMemory}
 use Rattle.pd_cli.specs.Report.{rendered}
-use Rattle.pd_cli.specs.Output.{Session, output, outcome, ahead, follow, acted, effect, reported, report, all_pass, Answers, Serves}
+use Rattle.pd_cli.specs.Output.{Session, outcome, ahead, follow, acted, effect, reported, report, all_pass, Answers}
 use Rattle.pd_cli.specs.Sessions.{PrintsAll, PrintsFirst, StopsAt, EndsBy, ServesBy}
 use Rattle.pd_cli.specs.Steps.{IsQuiet, Fails}
 
@@ -115,7 +115,7 @@ FailsSo {S = S} fails story = (fault : ServeFault) → (a b : S) → (command : 
 abbrev pub PassesSo : {S : Type 0} → (S → Bool) → (S → Story) → Type 0
 PassesSo {S = S} passes story = (a : S) → passes a ≡ all_pass (report (story a))
 
-alone_ends : {S : Type 0} (prints : S → Command → List ℕ → S → Type 0) (fails : ServeFault → S → Command → S → Type 0) (passes : S → Bool) (story : S → Story) → IsEffect prints story → FailsSo fails story → PassesSo passes story
+pub alone_ends : {S : Type 0} (prints : S → Command → List ℕ → S → Type 0) (fails : ServeFault → S → Command → S → Type 0) (passes : S → Bool) (story : S → Story) → IsEffect prints story → FailsSo fails story → PassesSo passes story
     → (r : Result Bool ServeFault) (octets : List ℕ) (a last : S) (items : List Item) → EndsBy prints fails passes r octets a items last → Answers r octets (outcome (story a) items)
 alone_ends prints fails passes story is fails_so passed (Ok p) octets a last items h =
     let q : outcome (story a) items ≡ ahead octets (outcome (story last) []) = ap (outcome (story a)) (sym (append-nil items)) ∙ all_outcome prints story is a last items [] octets h.0 in
@@ -127,20 +127,6 @@ alone_ends prints fails passes story is fails_so passed (Err fault) octets a las
 alone_ends prints fails passes story is fails_so passed (Err fault) octets a last items (inr h) =
     let q = first_outcome prints story is a last items h.2 (octets ++ h.1) h.3 in
     rw h.0 (h.1 ++ (outcome (story last) h.2).written, ap (λ (o : Session). o.written) q ∙ append_assoc octets h.1 (outcome (story last) h.2).written)
-
-if_some : (P Q : List ℕ → Type 0) (all : Option (List ℕ)) → ((input : List ℕ) → P input → Q input) → IfSome all P → IfSome all Q
-if_some P Q None f h = tt
-if_some P Q (Some input) f h = f input h
-
--- whoever answers as a new book does writes the output of the input
-pub serves_alone : {S : Type 0} (prints : S → Command → List ℕ → S → Type 0) (fails : ServeFault → S → Command → S → Type 0) (passes : S → Bool) (r : Result Bool ServeFault) (a last : S) (input before after : Option (List ℕ)) → ServesBy prints fails passes r input before after a last
-    → (story : S → Story) → IsEffect prints story → FailsSo fails story → PassesSo passes story → (settings : Settings) → story a ≡ record { opening = settings; past = [] } → Serves r settings input before after
-serves_alone prints fails passes r a last input before after h story is fails_so passed settings e = (
-  h.0,
-  h.1,
-  if_some (λ octets. EndsBy prints fails passes r h.0 a (commands octets) last) (λ octets. Answers r h.0 (output settings octets)) input
-      (λ octets k. subst (λ (s : Story). Answers r h.0 (outcome s (commands octets))) e (alone_ends prints fails passes story is fails_so passed r h.0 a last (commands octets) k)) h.2,
-)
 
 pub quiet_first : (settings : Settings) (story : Story) → story ≡ record { opening = settings; past = [] } → IsQuiet story
 quiet_first settings story e = rw e refl

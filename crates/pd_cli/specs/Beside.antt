@@ -1,5 +1,5 @@
--- What serving writes beside workers. Which rows of a `show` are pending and when the history is full depends on the
--- workers; all else on the commands accepted so far alone, told as a story in which no job is started.
+-- What serving writes, with workers or without. Which rows of a `show` are pending and when the history is full depends on
+-- the workers; all else on the commands accepted so far alone, told as a story in which no job is started.
 use Rattle.std.specs.Prelude.{◌≡◌, ◌⊎◌, ℕ, Bool, List, [], ◌∷◌, ◌++◌, Option, Some, None, option_map, Result, Ok, Err, IfSome}
 use Rattle.std.specs.Io.KnownBytes.{Appends}
 use Rattle.pd_settings.specs.declared.fields.Settings.{Settings}
@@ -9,15 +9,15 @@ use Rattle.pd_book.specs.declared.act.Act.TheVariants as act
 use Rattle.pd_book.specs.declared.faults.BookFault.{BookFault}
 use Rattle.pd_book.specs.declared.faults.BookFault.TheVariants as book
 use Rattle.pd_book.specs.Acts.{texts, present, now}
-use Rattle.pd_book.specs.Headline.{RowsAreOfScratch}
+use Rattle.pd_book.specs.Headline.{RowsAreOfWhole}
 use Rattle.pd_book.specs.Refusals.{name_refusal, text_refusal, absence, value_refusal}
-use Rattle.pd_book.specs.Report.{ReportView, scratch}
+use Rattle.pd_book.specs.Report.{ReportView, IsFromScratch, scratch}
 use Rattle.pd_book.specs.Story.{Story, told}
 use Rattle.pd_words.specs.Commands.{Item, does, stops, commands}
 use Rattle.pd_words.specs.declared.command.Command.{Command}
 use Rattle.pd_words.specs.declared.command.Command.TheVariants.{Add, Edit, Remove, Set, Show, Settle}
 use Rattle.pd_words.specs.declared.faults.ServeFault.{ServeFault}
-use Rattle.pd_words.specs.declared.faults.ServeFault.TheVariants.{NoWorkers, Differs, BadCommand, Truncated, Read, Write, OutOfMemory}
+use Rattle.pd_words.specs.declared.faults.ServeFault.TheVariants.{HistoryFull, NoWorkers, Differs, BadCommand, Truncated, Read, Write, OutOfMemory}
 use Rattle.pd_cli.specs.Report.{rendered}
 use Rattle.pd_cli.specs.Output.{refused, all_pass}
 use Rattle.pd_cli.specs.Sessions.{PrintsAll}
@@ -26,9 +26,13 @@ use Rattle.pd_cli.specs.Sessions.{PrintsAll}
 abbrev pub from_scratch : Story → ReportView
 from_scratch story = scratch (texts story.past) (now story.opening story.past)
 
+-- it is the report from scratch, in the grammar's words
+abbrev pub IsScratchOf : Story → ReportView → Type 0
+IsScratchOf story = IsFromScratch (texts story.past) (now story.opening story.past)
+
 -- a report of the scripts as they stand under the present settings, in which each row is pending or the one from scratch
 abbrev pub IsPartOf : Story → ReportView → Type 0
-IsPartOf story report = (report.settings ≡ now story.opening story.past) × RowsAreOfScratch story.opening story.past report
+IsPartOf story report = (report.settings ≡ now story.opening story.past) × RowsAreOfWhole story.opening story.past report
 
 -- what an act prints, and the story after it: where there is a reason to refuse it, a full history apart, that refusal;
 -- else it is accepted, or refused for a full history
@@ -48,7 +52,7 @@ MayPrint story (Remove name) octets next = MayAct story (absence story.past name
 MayPrint story (Set key value) octets next =
     MayAct story (value_refusal (now story.opening story.past) (key_named key) value) (option_map (λ k. act.Set k value) (key_named key)) octets next
 MayPrint story Show octets next = ((report : ReportView) × IsPartOf story report × (octets ≡ rendered report)) × (next ≡ story)
-MayPrint story Settle octets next = (octets ≡ rendered (from_scratch story)) × (next ≡ story)
+MayPrint story Settle octets next = ((report : ReportView) × IsScratchOf story report × (octets ≡ rendered report)) × (next ≡ story)
 
 -- what items may print, one after another, and the story after them
 abbrev pub MayPrintAll : Story → List Item → List ℕ → Story → Type 0
@@ -69,7 +73,9 @@ DoesNext items = (command : Command) × (rest : List Item) × (items ≡ does co
 
 -- these octets may be written for items, with this end; where a write fails they are a prefix of what may be
 abbrev pub MayAnswer : Result Bool ServeFault → List ℕ → Story → List Item → Type 0
-MayAnswer (Ok passed) octets story items = (after : Story) × MayPrintAll story items octets after × (passed ≡ all_pass (from_scratch after))
+MayAnswer (Ok passed) octets story items =
+    (after : Story) × (report : ReportView) × MayPrintAll story items octets after × IsScratchOf after report × (passed ≡ all_pass report)
+MayAnswer (Err HistoryFull) octets story items = StopsBefore SettlesNext story items octets
 MayAnswer (Err NoWorkers) octets story items = StopsBefore SettlesNext story items octets
 MayAnswer (Err Differs) octets story items = StopsBefore DoesNext story items octets
 MayAnswer (Err BadCommand) octets story items = StopsBefore (λ rest. rest ≡ stops BadCommand ∷ []) story items octets
@@ -77,9 +83,14 @@ MayAnswer (Err Truncated) octets story items = StopsBefore (λ rest. rest ≡ st
 MayAnswer (Err Read) octets story items = StopsBefore (λ rest. Unit {0}) story items octets
 MayAnswer (Err OutOfMemory) octets story items = StopsBefore (λ rest. Unit {0}) story items octets
 MayAnswer (Err Write) octets story items = (more : List ℕ) × StopsBefore (λ rest. Unit {0}) story items (octets ++ more)
-MayAnswer (Err fault) octets story items = ⊥
 
--- a writer got what serving beside workers may write for an input, and this is how it ends
+-- beside workers no settle ends for a full history
+abbrev pub EndsBeside : Result Bool ServeFault → Type 0
+EndsBeside (Err HistoryFull) = ⊥
+EndsBeside result = Unit {0}
+
+-- a writer got what may be written for an input beside workers, and this is how it ends
 abbrev pub ServesBeside : Result Bool ServeFault → Settings → Option (List ℕ) → Option (List ℕ) → Option (List ℕ) → Type 0
 ServesBeside result settings input before after =
-    (octets : List ℕ) × Appends before after octets × IfSome input (λ input. MayAnswer result octets (record { opening = settings; past = [] }) (commands input))
+    (octets : List ℕ) × Appends before after octets
+    × IfSome input (λ input. MayAnswer result octets (record { opening = settings; past = [] }) (commands input) × EndsBeside result)

@@ -1,5 +1,5 @@
 -- What holds of each story that serving goes through, and of each report that it prints.
-use Rattle.std.specs.Prelude.{◌≡◌, ℕ, List, [], ◌∷◌, Ok}
+use Rattle.std.specs.Prelude.{◌≡◌, ◌↔◌, ℕ, Bool, List, [], ◌∷◌, Result, Ok}
 use Rattle.pd_settings.specs.declared.fields.Settings.{Settings}
 use Rattle.pd_book.specs.Acts.{texts, now}
 use Rattle.pd_book.specs.Story.{Story}
@@ -8,8 +8,10 @@ use Rattle.pd_book.specs.Headline.{RowsAreOfScratch}
 use Rattle.pd_words.specs.Commands.{Item, does, commands}
 use Rattle.pd_words.specs.declared.command.Command.{Command}
 use Rattle.pd_words.specs.declared.command.Command.TheVariants.{Show, Settle}
+use Rattle.pd_words.specs.declared.faults.ServeFault.{ServeFault}
 use Rattle.pd_cli.specs.Report.{rendered}
-use Rattle.pd_cli.specs.Output.{report, effect, PrintsAlone, ahead, outcome, output}
+use Rattle.pd_cli.specs.Output.{report, effect, PrintsAlone, ahead, outcome, output, Answers}
+use Rattle.pd_cli.specs.Grammatical.{Writes}
 use Rattle.pd_cli.specs.Sessions.{PrintsFirst}
 use Rattle.pd_cli.specs.Beside.{from_scratch, MayPrint}
 
@@ -59,3 +61,9 @@ abbrev pub SessionsArePossibleBeside : Type 0
 SessionsArePossibleBeside =
     (settings : Settings) → (input octets : List ℕ) → (story : Story) → (rest : List Item) → Reaches settings input octets story rest
     → (accepted : Story) × PrintsFirst MayPrint (record { opening = settings; past = [] }) (commands input) octets accepted rest × HaveSame story accepted
+
+-- what is written in the words of the grammar is just the output of the input
+abbrev pub WritesAreOutput : Type 0
+WritesAreOutput =
+    (settings : Settings) → (input octets : List ℕ) → (end : Result Bool ServeFault)
+    → Writes end octets (record { opening = settings; past = [] }) (commands input) ↔ Answers end octets (output settings input)

@@ -3,6 +3,7 @@ pub mod Beside
 pub mod BesideSteps
 pub mod Blocks
 pub mod DeskFaults
+pub mod Grammatical
 pub mod Laws
 pub mod Output
 pub mod Program

@@ -1,7 +1,6 @@
 -- What serving writes, and how it ends.
-use Rattle.std.specs.Prelude.{◌≡◌, ℕ, Bool, List, [], ◌∷◌, ◌++◌, codes, Option, Some, None, option_map, Result, Ok, Err, IfSome}
+use Rattle.std.specs.Prelude.{◌≡◌, ℕ, Bool, List, [], ◌∷◌, ◌++◌, codes, Option, Some, None, option_map, Result, Ok, Err}
 use Rattle.std.specs.List.{list_all}
-use Rattle.std.specs.Io.KnownBytes.{Appends}
 use Rattle.pd_settings.specs.declared.fields.Settings.{Settings}
 use Rattle.pd_settings.specs.Keys.{key_named}
 use Rattle.pd_book.specs.declared.act.Act.{Act}
@@ -45,17 +44,22 @@ abbrev pub reported : Result Story BookFault → Result (List ℕ × Story) Serv
 reported (Ok story) = Ok (rendered (report story), story)
 reported (Err fault) = Err HistoryFull
 
--- what a command prints, and the story after it, or the fault that ends the run;
--- lines that alone are over the limits of a text are refused before all else
+-- what an act prints that a command asks for, and the story after it; lines that alone are over the limits of a text are
+-- refused before all else
+abbrev pub done : Story → Command → List ℕ × Story
+done story (Add name None) = acted story (Some book.TooLarge) None
+done story (Add name (Some text)) = acted story (add_refusal story name) (Some (act.Add name text))
+done story (Edit name None) = acted story (Some book.TooLarge) None
+done story (Edit name (Some edit)) = acted story (edit_refusal story name edit) (Some (act.Edit name edit))
+done story (Remove name) = acted story (remove_refusal story name) (Some (act.Remove name))
+done story (Set key value) = acted story (set_refusal story key value) (option_map (λ k. act.Set k value) (key_named key))
+done story command = ([], story)
+
+-- what a command prints, and the story after it, or the fault that ends the run
 abbrev pub effect : Story → Command → Result (List ℕ × Story) ServeFault
-effect story (Add name None) = Ok (acted story (Some book.TooLarge) None)
-effect story (Add name (Some text)) = Ok (acted story (add_refusal story name) (Some (act.Add name text)))
-effect story (Edit name None) = Ok (acted story (Some book.TooLarge) None)
-effect story (Edit name (Some edit)) = Ok (acted story (edit_refusal story name edit) (Some (act.Edit name edit)))
-effect story (Remove name) = Ok (acted story (remove_refusal story name) (Some (act.Remove name)))
-effect story (Set key value) = Ok (acted story (set_refusal story key value) (option_map (λ k. act.Set k value) (key_named key)))
 effect story Show = Ok (rendered (report story), story)
 effect story Settle = reported (settled story)
+effect story command = Ok (done story command)
 
 -- what a command prints, and the story after it, where no fault ends the run
 abbrev pub PrintsAlone : Story → Command → List ℕ → Story → Type 0
@@ -96,8 +100,3 @@ Answers (Err Read) octets session = (more : List ℕ) × (session.written ≡ oc
 Answers (Err Write) octets session = (more : List ℕ) × (session.written ≡ octets ++ more)
 Answers (Err OutOfMemory) octets session = (more : List ℕ) × (session.written ≡ octets ++ more)
 Answers (Err fault) octets session = ⊥
-
--- a writer got the output of an input, or where serving stopped for a read, a write or memory a prefix of it
-abbrev pub Serves : Result Bool ServeFault → Settings → Option (List ℕ) → Option (List ℕ) → Option (List ℕ) → Type 0
-Serves result settings input before after =
-    (octets : List ℕ) × Appends before after octets × IfSome input (λ input. Answers result octets (output settings input))

@@ -1,9 +1,10 @@
 -- What the program writes, and its status.
-use Rattle.std.specs.Prelude.{◌≡◌, ℕ, suc, zero, Bool, true, false, ◌⊎◌, List, [], ◌++◌, Option, Result, Ok, Err, IfSome}
+use Rattle.std.specs.Prelude.{◌≡◌, ℕ, suc, zero, Bool, true, false, ◌⊎◌, List, [], ◌++◌, Option, Some, Result, Ok, Err, IfSome}
 use Rattle.std.specs.Io.KnownBytes.{Appends}
 use Rattle.pd_settings.specs.declared.fields.Settings.{Settings}
 use Rattle.pd_words.specs.Chosen.{Asked}
 use Rattle.pd_words.specs.Commands.{commands}
+use Rattle.pd_words.specs.Input.{HasCause}
 use Rattle.pd_words.specs.ProgramFaults.{fault_line}
 use Rattle.pd_words.specs.Said.{Says}
 use Rattle.pd_words.specs.SettingsText.{settings_in}
@@ -12,23 +13,29 @@ use Rattle.pd_words.specs.declared.faults.ServeFault.{ServeFault}
 use Rattle.pd_words.specs.declared.faults.ServeFault.TheVariants.{OutOfMemory}
 use Rattle.pd_words.specs.declared.program_faults.ProgramFault.{ProgramFault}
 use Rattle.pd_words.specs.declared.program_faults.ProgramFault.TheVariants.{Serving}
-use Rattle.pd_cli.specs.Beside.{MayAnswer}
-use Rattle.pd_cli.specs.Output.{output, Answers}
+use Rattle.pd_cli.specs.Beside.{MayAnswer, EndsBeside}
+use Rattle.pd_cli.specs.Grammatical.{Writes}
 use Rattle.pd_cli.specs.StepLines.{Counted, AreNumbered}
 use Rattle.pd_cli.specs.Telling.{AreTold}
 
--- what serving writes, and how it ends: without workers the output of the input, else what may be written beside them
-abbrev pub Served : ℕ → Settings → Result Bool ServeFault → List ℕ → List ℕ → Type 0
-Served zero settings end octets input = Answers end octets (output settings input)
-Served (suc more) settings end octets input = MayAnswer end octets (record { opening = settings; past = [] }) (commands input)
+-- what the number of workers adds: without any just the output of the input is written, in the grammar's words; beside some no
+-- settle ends for a full history
+abbrev pub ServedBy : ℕ → Settings → Result Bool ServeFault → List ℕ → List ℕ → Type 0
+ServedBy zero settings end octets input = Writes end octets (record { opening = settings; past = [] }) (commands input)
+ServedBy (suc more) settings end octets input = EndsBeside end
+
+-- what serving writes, and how it ends: with 17 only where a read failed, or all were made
+abbrev pub Served : Type 0 → ℕ → Settings → Result Bool ServeFault → List ℕ → List ℕ → Type 0
+Served failed workers settings end octets input =
+    MayAnswer end octets (record { opening = settings; past = [] }) (commands input) × ServedBy workers settings end octets input × HasCause end failed (Some input)
 
 -- where the settings are good the input is served with them and so many workers; where they are not, nothing is written,
 -- and the run ends with their fault or for want of memory
-abbrev pub Runs : ℕ → Result Settings ProgramFault → Result Bool ProgramFault → List ℕ → List ℕ → Type 0
-Runs workers (Ok settings) (Ok passed) octets input = Served workers settings (Ok passed) octets input
-Runs workers (Ok settings) (Err (Serving fault)) octets input = Served workers settings (Err fault) octets input
-Runs workers (Ok settings) (Err fault) octets input = ⊥
-Runs workers (Err fault) end octets input = (octets ≡ []) × ((end ≡ Err fault) ⊎ (end ≡ Err (Serving OutOfMemory)))
+abbrev pub Runs : Type 0 → ℕ → Result Settings ProgramFault → Result Bool ProgramFault → List ℕ → List ℕ → Type 0
+Runs failed workers (Ok settings) (Ok passed) octets input = Served failed workers settings (Ok passed) octets input
+Runs failed workers (Ok settings) (Err (Serving fault)) octets input = Served failed workers settings (Err fault) octets input
+Runs failed workers (Ok settings) (Err fault) octets input = ⊥
+Runs failed workers (Err fault) end octets input = (octets ≡ []) × ((end ≡ Err fault) ⊎ (end ≡ Err (Serving OutOfMemory)))
 
 -- how serving ended, as the end of a run
 abbrev pub end_of : Result Bool ServeFault → Result Bool ProgramFault
@@ -47,9 +54,9 @@ said_of (Ok passed) = []
 said_of (Err fault) = fault_line fault
 
 -- a run with so many workers and this settings text came to an end with its status, told what was asked of some jobs, which
--- are numbered from 1 on, then said what the end has to say, and wrote what belongs to it
-abbrev pub Finishes : Exit → ℕ → Asked → List ℕ → Option (List ℕ) → Option (List ℕ) → Option (List ℕ) → Option (List ℕ) → Option (List ℕ) → Type 0
-Finishes exit workers asked text input out_before out_after err_before err_after =
+-- are numbered from 1 on, then said what the end has to say, and wrote what belongs to it, where a read failed or none did
+abbrev pub Finishes : Type 0 → Exit → ℕ → Asked → List ℕ → Option (List ℕ) → Option (List ℕ) → Option (List ℕ) → Option (List ℕ) → Option (List ℕ) → Type 0
+Finishes failed exit workers asked text input out_before out_after err_before err_after =
     (end : Result Bool ProgramFault) × (exit.status ≡ status_of end)
     × ((jobs : List Counted) × (told : List ℕ) × AreNumbered 0 jobs × AreTold asked jobs told × Says exit.told err_before err_after (told ++ said_of end))
-    × ((octets : List ℕ) × Appends out_before out_after octets × IfSome input (Runs workers (settings_in text) end octets))
+    × ((octets : List ℕ) × Appends out_before out_after octets × IfSome input (Runs failed workers (settings_in text) end octets))

@@ -3,11 +3,12 @@
 use Rattle.std.specs.Prelude.{◌≡◌, ◌⊎◌, ℕ, Bool, List, [], ◌∷◌, ◌++◌, Option, Result, Ok, Err, IfSome}
 use Rattle.std.specs.Io.KnownBytes.{Appends}
 use Rattle.pd_words.specs.Commands.{Item, does, stops, commands}
+use Rattle.pd_words.specs.Input.{EndsReading}
 use Rattle.pd_words.specs.Taking.{FaultIn}
 use Rattle.pd_words.specs.declared.command.Command.{Command}
 use Rattle.pd_words.specs.declared.command.Command.TheVariants.{Settle}
 use Rattle.pd_words.specs.declared.faults.ServeFault.{ServeFault}
-use Rattle.pd_words.specs.declared.faults.ServeFault.TheVariants.{Write}
+use Rattle.pd_words.specs.declared.faults.ServeFault.TheVariants.{Read, Write}
 
 -- items print these octets, one after another, and this is the state after them
 abbrev pub PrintsAll : {S : Type 0} → (S → Command → List ℕ → S → Type 0) → S → List Item → List ℕ → S → Type 0
@@ -58,3 +59,8 @@ abbrev pub SettlesBy : {S : Type 0} → (S → Command → List ℕ → S → Ty
     → Result Bool ServeFault → S → S → List ℕ → Type 0
 SettlesBy prints fails passes (Ok passed) old new octets = prints old Settle octets new × (passed ≡ passes new)
 SettlesBy prints fails passes (Err fault) old new octets = DoesBy prints fails (Err fault) old Settle new octets
+
+-- a session that ends with 17 isn't read on, or whoever answers ends it so
+abbrev pub ReadsBy : {S V : Type 0} → (ServeFault → S → Command → S → Type 0) → Result V ServeFault → Type 0 → Option (List ℕ) → Type 0
+ReadsBy {S = S} fails (Err Read) failed input = EndsReading failed input ⊎ ((old new : S) × (command : Command) × fails Read old command new)
+ReadsBy fails result failed input = Unit {0}

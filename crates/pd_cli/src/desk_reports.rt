@@ -2,10 +2,10 @@
 ghost use Rattle.std.specs.Prelude.{◌≡◌, ◌↔◌, All, IsTrue, IfErr, OnOk};
 ghost use Rattle.pd_book.specs.Report.{IsRunUnder};
 ghost use Rattle.pd_desk.specs.Desk.{IsCurrent};
-ghost use Rattle.pd_cli.specs.Beside.{from_scratch, IsPartOf};
+ghost use Rattle.pd_cli.specs.Beside.{from_scratch, IsScratchOf, IsPartOf};
 ghost use Rattle.pd_cli.specs.BesideSteps.{scripts_of, IsOfSame, FailsBeside};
 
-use pd_book::{Book, Report, Row};
+use pd_book::{Book, Report, Row, headline};
 use pd_words::{Command, ServeFault};
 
 /// Compares a report with the own copy.
@@ -15,8 +15,10 @@ use pd_words::{Command, ServeFault};
 pub(crate) fn compare(own: &Book, report: &Report) -> Result<(), ServeFault>
     ensures part { OnOk result (IsPartOf own.now.story report.now) }
     ensures whole { OnOk result (IsCurrent report.now → report.now ≡ from_scratch own.now.story) }
+    ensures scratch { OnOk result (IsCurrent report.now → IsScratchOf own.now.story report.now) }
     ensures only { (command : Command) → IfErr result (λ fault. FailsBeside fault command) }
 {
+    headline();
     let kept = own.show()?;
     if is_of_same(report, &kept) {
         Ok(())

@@ -1,13 +1,13 @@
 //! What the definitions say of each story that serving goes through and of each report that it prints; the functions
 //! do nothing.
 ghost use Rattle.pd_cli.specs.Telling.{NothingIsTold, StepsAreTold, BlocksAreTold};
-ghost use Rattle.pd_cli.specs.Laws.{OutputGoesOn, StoriesAreLegal, SettlesPrintScratch, ShowsPrintPart, AloneIsPossibleBeside, SessionsArePossibleBeside};
+ghost use Rattle.pd_cli.specs.Laws.{OutputGoesOn, StoriesAreLegal, SettlesPrintScratch, ShowsPrintPart, AloneIsPossibleBeside, SessionsArePossibleBeside, WritesAreOutput};
 
 use pd_book::{accepting, headline, settling};
 
 /// Each story that serving comes to is legal. A settle leaves nothing pending and the same scripts and settings, and
 /// prints their report from scratch; in a report that a show prints each row is pending or that from scratch. What
-/// commands print they may print beside workers too.
+/// commands print they may print beside workers too. What is written in the words of the grammar is just the output.
 pub fn reports()
     ensures output { OutputGoesOn }
     ensures legal { StoriesAreLegal }
@@ -15,6 +15,7 @@ pub fn reports()
     ensures shows { ShowsPrintPart }
     ensures beside { AloneIsPossibleBeside }
     ensures sessions { SessionsArePossibleBeside }
+    ensures written { WritesAreOutput }
 {
     headline();
     accepting();

@@ -18,7 +18,7 @@ mod workers;
 
 pub use laws::{reports, tellings};
 pub use pd_words::{
-    Exit, Explaining, Options, ProgramFault, ServeFault, arguments, options, refuse,
+    Exit, Explaining, InputStream, Options, ProgramFault, ServeFault, arguments, options, refuse,
     refuse_arguments,
 };
 pub use rendering::render;

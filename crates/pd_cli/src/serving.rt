@@ -1,21 +1,23 @@
 //! Serving the commands of a reader to a writer.
 ghost use Rattle.std.specs.Prelude.{◌≤◌, ℕ, List, IfOk, IfErr, OnOk};
 ghost use Rattle.std.specs.Io.KnownBytes.{Appends};
-ghost use Rattle.pd_cli.specs.Output.{Serves};
+ghost use Rattle.pd_words.specs.Input.{HasCause};
 ghost use Rattle.pd_cli.specs.Beside.{ServesBeside};
-ghost use Rattle.pd_cli.specs.Sessions.{ServesBy, HasAnswered, DoesBy, SettlesBy};
+ghost use Rattle.pd_cli.specs.Grammatical.{ServesAlone};
+ghost use Rattle.pd_cli.specs.Sessions.{ServesBy, ReadsBy, HasAnswered, DoesBy, SettlesBy};
 
 use crate::answering::Answerer;
 use crate::at_book::AtBook;
 use crate::at_desk::AtDesk;
+use crate::laws::reports;
 use crate::listening::Silent;
-use pd_book::Book;
+use pd_book::{Book, headline};
 use pd_desk::Desk;
 use pd_seat::Seat;
 use pd_settings::Settings;
-use pd_words::{Command, Intake, ServeFault, next_command, put_all};
+use pd_words::{Command, InputStream, Intake, ServeFault, next_command, put_all};
 use std::alloc::Global;
-use std::io::{Read, Write};
+use std::io::Write;
 use std::sync::Wait;
 
 /// Serves the commands of a reader, to its end, with a book that begins with these settings and keeps at most `cache`
@@ -24,9 +26,9 @@ use std::sync::Wait;
 ///
 /// # Errors
 /// `BadCommand` and `Truncated` where they are in the input, `HistoryFull` where a settling has no
-/// room for a start: the output up to there is written. `Read`, `Write` and `OutOfMemory`: a prefix of
-/// the output is written.
-pub fn serve_alone<R: Read, W: Write>(
+/// room for a start: the output up to there is written. `Read` where a read failed or all were made, `Write` and
+/// `OutOfMemory`: a prefix of the output is written.
+pub fn serve_alone<R: InputStream, W: Write>(
     alloc: Global,
     settings: Settings,
     cache: usize,
@@ -35,8 +37,11 @@ pub fn serve_alone<R: Read, W: Write>(
 ) -> Result<bool, ServeFault>
     requires some { 1 ≤ cache }
     requires few { cache ≤ 1024 }
-    ensures { Serves result settings (R.remaining reader.old) (W.contents writer.old) (W.contents writer.new) }
+    ensures serves { ServesAlone result settings (R.remaining reader.old) (W.contents writer.old) (W.contents writer.new) }
+    ensures cause { HasCause result (R.has_failed reader.new) (R.remaining reader.old) }
 {
+    headline();
+    reports();
     let mut at = AtBook {
         alloc,
         book: Book::new(alloc, cache, settings),
@@ -55,7 +60,7 @@ pub fn serve_alone<R: Read, W: Write>(
 /// `BadCommand` and `Truncated` where they are in the input, `NoWorkers` where a script is owed its verdict and all
 /// workers have left, `Differs` where the desk isn't as the own copy, `Read`, `OutOfMemory`: what the commands before print
 /// is written. `Write`: a prefix of it is.
-pub fn serve_seat<H: Wait, R: Read, W: Write>(
+pub fn serve_seat<H: Wait, R: InputStream, W: Write>(
     rt: &H,
     alloc: Global,
     desk: &Desk,
@@ -64,8 +69,10 @@ pub fn serve_seat<H: Wait, R: Read, W: Write>(
     reader: &mut R,
     writer: &mut W,
 ) -> Result<bool, ServeFault>
-    ensures { ServesBeside result settings (R.remaining reader.old) (W.contents writer.old) (W.contents writer.new) }
+    ensures serves { ServesBeside result settings (R.remaining reader.old) (W.contents writer.old) (W.contents writer.new) }
+    ensures cause { HasCause result (R.has_failed reader.new) (R.remaining reader.old) }
 {
+    headline();
     let mut at = AtDesk {
         rt,
         alloc,
@@ -80,7 +87,7 @@ pub fn serve_seat<H: Wait, R: Read, W: Write>(
 ///
 /// # Errors
 /// What the input, the answerer or the writer stops at. What was written before stays.
-pub(crate) fn serve_all<A: Answerer, R: Read, W: Write>(
+pub(crate) fn serve_all<A: Answerer, R: InputStream, W: Write>(
     answerer: &mut A,
     reader: &mut R,
     writer: &mut W,
@@ -88,6 +95,7 @@ pub(crate) fn serve_all<A: Answerer, R: Read, W: Write>(
     requires { A.is_ready answerer.old }
     ensures serves { ServesBy A.prints A.fails A.passes result (R.remaining reader.old) (W.contents writer.old) (W.contents writer.new) answerer.old answerer.new }
     ensures answered { HasAnswered A.prints A.fails answerer.old answerer.new }
+    ensures cause { ReadsBy A.fails result (R.has_failed reader.new) (R.remaining reader.old) }
 {
     let alloc = answerer.alloc();
     let mut intake = Intake::new(alloc);

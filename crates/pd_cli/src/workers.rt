@@ -1,14 +1,15 @@
 //! Serving beside workers in threads of their own.
 ghost use Rattle.std.specs.Prelude.{◌≡◌, ◌≤◌};
 ghost use Rattle.pd_cli.specs.Beside.{ServesBeside};
+ghost use Rattle.pd_words.specs.Input.{HasCause};
 
 use crate::serving::serve_seat;
 use pd_desk::{Desk, Gate};
 use pd_seat::Seat;
 use pd_settings::Settings;
-use pd_words::ServeFault;
+use pd_words::{InputStream, ServeFault};
 use std::alloc::Global;
-use std::io::{Read, Write};
+use std::io::Write;
 use std::sync::Wait;
 use std::thread;
 use std::thread::Threads;
@@ -19,7 +20,7 @@ use std::thread::Threads;
 ///
 /// # Errors
 /// Those of `serve_seat`; `OutOfMemory` where the desk can't be opened or no thread can be started.
-pub fn serve<H: Threads + Wait + Sync, R: Read, W: Write, G: Gate + Sync>(
+pub fn serve<H: Threads + Wait + Sync, R: InputStream, W: Write, G: Gate + Sync>(
     rt: &H,
     alloc: Global,
     settings: Settings,
@@ -32,7 +33,8 @@ pub fn serve<H: Threads + Wait + Sync, R: Read, W: Write, G: Gate + Sync>(
     requires workers { workers ≤ 64 }
     requires some { 1 ≤ cache }
     requires few { cache ≤ 1024 }
-    ensures { ServesBeside result settings (R.remaining reader.old) (W.contents writer.old) (W.contents writer.new) }
+    ensures serves { ServesBeside result settings (R.remaining reader.old) (W.contents writer.old) (W.contents writer.new) }
+    ensures cause { HasCause result (R.has_failed reader.new) (R.remaining reader.old) }
 {
     let (desk, mut seats) = Desk::open(alloc, cache, settings, workers, workers + 1)?;
     let Some(mut seat) = seats.pop() else {
@@ -44,17 +46,17 @@ pub fn serve<H: Threads + Wait + Sync, R: Read, W: Write, G: Gate + Sync>(
         desk: &desk,
         seat: &mut seat,
         settings,
-        reader,
+        reader: &mut *reader,
         writer: &mut *writer,
     };
-    let (writer, answer) = run_beside(rt, alloc, &desk, gate, seats, task);
-    take_back(writer);
+    let (reader, writer, answer) = run_beside(rt, alloc, &desk, gate, seats, task);
+    take_back(reader, writer);
     answer
 }
 
-/// Does nothing: its use ties a reference that comes back to the one that was lent.
-fn take_back<T>(lent: &mut T)
-    ensures { lent.new ≡ lent.old }
+/// Does nothing: its use ties references that come back to those that were lent.
+fn take_back<R, W>(reader: &mut R, writer: &mut W)
+    ensures { (reader.new ≡ reader.old) × (writer.new ≡ writer.old) }
 {}
 
 /// What is done beside workers. Of what a closure wrote into its captures a scope says nothing, but it says what is
@@ -91,15 +93,16 @@ struct Serving<'a, H, R, W> {
     writer: &'a mut W,
 }
 
-impl<'a, H: Wait, R: Read, W: Write> BesideWork for Serving<'a, H, R, W> {
+impl<'a, H: Wait, R: InputStream, W: Write> BesideWork for Serving<'a, H, R, W> {
     ghost use Rattle.std.specs.Prelude.{◌≡◌};
     ghost use Rattle.pd_cli.specs.Beside.{ServesBeside};
+    ghost use Rattle.pd_words.specs.Input.{HasCause};
 
-    type Output = (&'a mut W, Result<bool, ServeFault>);
+    type Output = (&'a mut R, &'a mut W, Result<bool, ServeFault>);
 
-    ghost gives = { λ s r. (r.0.ghost_name ≡ s.writer.ghost_name) × ServesBeside r.1 s.settings (R.remaining s.reader.now) (W.contents s.writer.now) (W.contents r.0.now) };
+    ghost gives = { λ s r. (r.0.ghost_name ≡ s.reader.ghost_name) × (r.1.ghost_name ≡ s.writer.ghost_name) × ServesBeside r.2 s.settings (R.remaining s.reader.now) (W.contents s.writer.now) (W.contents r.1.now) × HasCause r.2 (R.has_failed r.0.now) (R.remaining s.reader.now) };
 
-    fn run(self) -> (&'a mut W, Result<bool, ServeFault>) {
+    fn run(self) -> (&'a mut R, &'a mut W, Result<bool, ServeFault>) {
         let Serving {
             rt,
             alloc,
@@ -110,12 +113,12 @@ impl<'a, H: Wait, R: Read, W: Write> BesideWork for Serving<'a, H, R, W> {
             writer,
         } = self;
         let answer = serve_seat(rt, alloc, desk, seat, settings, reader, writer);
-        (writer, answer)
+        (reader, writer, answer)
     }
 
-    fn give_up(self) -> (&'a mut W, Result<bool, ServeFault>) {
-        let Serving { writer, .. } = self;
-        (writer, Err(ServeFault::OutOfMemory))
+    fn give_up(self) -> (&'a mut R, &'a mut W, Result<bool, ServeFault>) {
+        let Serving { reader, writer, .. } = self;
+        (reader, writer, Err(ServeFault::OutOfMemory))
     }
 }
 

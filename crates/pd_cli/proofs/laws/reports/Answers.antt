@@ -1,6 +1,7 @@
 -- The reports of serving are those of the book's laws.
 use Rattle.std.proofs.Common.{refl}
 use Rattle.pd_cli.proofs.Passage.{output_goes_on, stories_legal, settles_scratch}
+use Rattle.pd_cli.proofs.Grammatical.{writes_output}
 use Rattle.pd_cli.proofs.Possible.{alone_possible, sessions_possible}
 use Rattle.pd_cli.proofs.laws.reports.Goals as goal
 
@@ -18,8 +19,19 @@ returns-clause-shows c = λ story. (refl, c.headline.ensures.rows story.opening 
 
 pub returns-clause-beside : goal.returns-clause-beside
 returns-clause-beside c =
-    alone_possible c.headline.ensures.rows
+    alone_possible c.headline.ensures.one c.headline.ensures.rows
     (settles_scratch (record { adds = c.accepting.ensures.adds; edits = c.accepting.ensures.edits; removes = c.accepting.ensures.removes; sets = c.accepting.ensures.sets; settles = c.settling.ensures.settles }))
 
 pub returns-clause-sessions : goal.returns-clause-sessions
-returns-clause-sessions c = sessions_possible (alone_possible c.headline.ensures.rows (settles_scratch (record { adds = c.accepting.ensures.adds; edits = c.accepting.ensures.edits; removes = c.accepting.ensures.removes; sets = c.accepting.ensures.sets; settles = c.settling.ensures.settles })))
+returns-clause-sessions c = sessions_possible (alone_possible c.headline.ensures.one c.headline.ensures.rows (settles_scratch (record { adds = c.accepting.ensures.adds; edits = c.accepting.ensures.edits; removes = c.accepting.ensures.removes; sets = c.accepting.ensures.sets; settles = c.settling.ensures.settles })))
+
+pub returns-clause-written : goal.returns-clause-written
+returns-clause-written c =
+    writes_output
+    (record {
+      book = record { adds = c.accepting.ensures.adds; edits = c.accepting.ensures.edits; removes = c.accepting.ensures.removes; sets = c.accepting.ensures.sets; settles = c.settling.ensures.settles };
+      parts = c.headline.ensures.parts;
+      one = c.headline.ensures.one;
+      turns = c.settling.ensures.turns;
+      enough = c.settling.ensures.enough;
+    })

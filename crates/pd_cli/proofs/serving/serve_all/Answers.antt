@@ -1,12 +1,15 @@
-use Rattle.std.proofs.Common.{refl}
+use Rattle.std.proofs.Common.{refl, []}
 use Rattle.pd_words.specs.Input.{to_come}
 use Rattle.pd_cli.proofs.Sessions.{so_first, so_more, next_some, next_none, fault_serves, out_serves, end_serves, now_answered, stop_answered, end_answered}
+use Rattle.pd_words.proofs.Spending.{spent_none, spends_then}
+use Rattle.pd_cli.proofs.Causes.{caused_reads, stop_reads, end_reads}
 use Rattle.pd_cli.proofs.serving.serve_all.Goals as goal
 
 pub loop-intake-init : goal.loop-intake-init
 loop-intake-init g c = record {
   ready = c.requires;
   so_far = so_first g.A.Answerer.prints c.args.answerer.now c.new-intake.result (g.W.Write.contents c.args.writer.now) (g.R.Read.remaining c.args.reader.now) c.new-intake.ensures;
+  spent = spent_none c.new-intake.result (g.R.Read.remaining c.args.reader.now) c.new-intake.ensures;
 }
 
 pub returns-in_err-command-clause-serves : goal.returns-in_err-command-clause-serves
@@ -56,4 +59,21 @@ loop-intake-preserved g c =
     record {
       ready = c.in_ok-serve_command-in-Some.ensures.ready;
       so_far = so_more g.A.Answerer.prints c.args.answerer.now c.loop-intake.answerer c.serve_command.new.answerer c.in-Some.command d.0 (g.W.Write.contents c.args.writer.now) (g.W.Write.contents c.loop-intake.writer) (g.W.Write.contents c.serve_command.new.writer) (g.R.Read.remaining c.args.reader.now) u v c.loop-intake.invariant.so_far some d.1 d.2;
+      spent = spends_then ([], 1048576) c.loop-intake.intake c.next_command.new.intake (g.R.Read.remaining c.args.reader.now) (g.R.Read.remaining c.loop-intake.reader) (g.R.Read.remaining c.next_command.new.reader) c.loop-intake.invariant.spent (rw c.in-Some.is at c.in_ok-command.ensures.reads);
     }
+
+pub returns-in_err-command-clause-cause : goal.returns-in_err-command-clause-cause
+returns-in_err-command-clause-cause g c =
+    caused_reads g.A.Answerer.fails c.from_residual.result c.in_err-command.field-0.0 (g.R.InputStream.has_failed c.next_command.new.reader) c.loop-intake.intake c.next_command.new.intake (g.R.Read.remaining c.args.reader.now) (g.R.Read.remaining c.loop-intake.reader)
+    c.from_residual.ensures.1 c.loop-intake.invariant.spent c.in_err-command.ensures.cause
+
+pub returns-in_err-serve_command-in-Some-clause-cause : goal.returns-in_err-serve_command-in-Some-clause-cause
+returns-in_err-serve_command-in-Some-clause-cause g c =
+    let d = c.in_err-serve_command-in-Some.ensures.does in
+    stop_reads g.A.Answerer.fails g.A.Answerer.prints c.from_residual-in_err-serve_command-in-Some.result c.in_err-serve_command-in-Some.field-0.0 (g.R.InputStream.has_failed c.next_command.new.reader) (g.R.Read.remaining c.args.reader.now) c.loop-intake.answerer c.serve_command.new.answerer c.in-Some.command d.0
+    c.from_residual-in_err-serve_command-in-Some.ensures.1 d.2
+
+pub returns-in-None-clause-cause : goal.returns-in-None-clause-cause
+returns-in-None-clause-cause g c =
+    let d = c.serve_end.ensures in
+    end_reads g.A.Answerer.fails g.A.Answerer.prints g.A.Answerer.passes c.serve_end.result (g.R.InputStream.has_failed c.next_command.new.reader) (g.R.Read.remaining c.args.reader.now) c.loop-intake.answerer c.serve_end.new.answerer d.0 d.2

@@ -13,11 +13,12 @@ returns-in-Ok g c =
     let after = g.W.Write.contents c.serve_telling-err.new.out in
     let text = c.args.options.now.settings.now in
     let end = c.serve_telling-err.result.2 in
-    let done = tells_end c.ended.result c.serve_telling-err.result.1 (end_of end) (asked_of c.args.options.now) text input before after (g.E.Write.contents c.args.err.now) (g.E.Write.contents c.serve_telling-err.result.0.now) (g.E.Write.contents c.ended.new.err)
-    c.ended.ensures.status c.serve_telling-err.ensures.said c.ended.ensures.said (ran_alone c.in-Ok.settings (settings_in text) end input before after c.in-Ok.ensures.ok c.serve_telling-err.ensures.served) in
-    tied (λ x. Finishes c.ended.result 0 (asked_of c.args.options.now) text input before after (g.E.Write.contents c.args.err.now) (g.E.Write.contents x)) c.ended.new.err _ (search rules) done
+    let failed = g.R.InputStream.has_failed c.serve_telling-err.new.reader in
+    let done = tells_end failed c.ended.result c.serve_telling-err.result.1 (end_of end) (asked_of c.args.options.now) text input before after (g.E.Write.contents c.args.err.now) (g.E.Write.contents c.serve_telling-err.result.0.now) (g.E.Write.contents c.ended.new.err)
+    c.ended.ensures.status c.serve_telling-err.ensures.said c.ended.ensures.said (ran_alone failed c.in-Ok.settings (settings_in text) end input before after c.in-Ok.ensures.ok c.serve_telling-err.ensures.served c.serve_telling-err.ensures.cause) in
+    tied (λ x. Finishes failed c.ended.result 0 (asked_of c.args.options.now) text input before after (g.E.Write.contents c.args.err.now) (g.E.Write.contents x)) c.ended.new.err _ (search rules) done
 
 pub returns-in-Err : goal.returns-in-Err
 returns-in-Err g c =
-    settings_end c.fail.result c.in-Err.fault 0 (asked_of c.args.options.now) c.args.options.now.settings.now (g.R.Read.remaining c.args.reader.now) (g.W.Write.contents c.args.out.now) (g.E.Write.contents c.args.err.now) (g.E.Write.contents c.fail.new.err)
+    settings_end (g.R.InputStream.has_failed c.args.reader.now) c.fail.result c.in-Err.fault 0 (asked_of c.args.options.now) c.args.options.now.settings.now (g.R.Read.remaining c.args.reader.now) (g.W.Write.contents c.args.out.now) (g.E.Write.contents c.args.err.now) (g.E.Write.contents c.fail.new.err)
     c.fail.ensures.status c.fail.ensures.said c.in-Err.ensures.err

@@ -2,7 +2,8 @@ use Rattle.std.proofs.Common.{[], refl}
 use Rattle.pd_words.specs.Chosen.{asked_of}
 use Rattle.pd_cli.proofs.Heard.{session_heard}
 use Rattle.pd_cli.proofs.Told.{says_none, told_said}
-use Rattle.pd_cli.proofs.Written.{serves_alone}
+use Rattle.pd_cli.proofs.Alone.{serves_alone}
+use Rattle.pd_cli.proofs.Causes.{serves_with_cause}
 use Rattle.pd_cli.proofs.whole_program.serve_telling.Goals as goal
 
 pub returns-clause-same_reference : goal.returns-clause-same_reference
@@ -20,4 +21,8 @@ returns-clause-said g c =
 
 pub returns-clause-served : goal.returns-clause-served
 returns-clause-served g c =
-    serves_alone _ _ _ c.serve_all-end.result _ _ (g.R.Read.remaining c.args.reader.now) (g.W.Write.contents c.args.out.now) (g.W.Write.contents c.serve_all-end.new.writer) c.serve_all-end.ensures.serves (λ at. at.book.story) (λ a b command octets h. h.0) (λ fault a b command h. h.0) (λ a. refl) c.args.settings c.new.ensures.story
+    serves_alone c.headline.ensures.one c.reports.ensures.written _ _ _ c.serve_all-end.result _ _ (g.R.Read.remaining c.args.reader.now) (g.W.Write.contents c.args.out.now) (g.W.Write.contents c.serve_all-end.new.writer) c.serve_all-end.ensures.serves (λ at. at.book.story) (λ a b command octets h. h.0) (λ fault a b command h. h.0) (λ a. refl) c.args.settings c.new.ensures.story c.reports.ensures.sessions c.reports.ensures.settles
+
+pub returns-clause-cause : goal.returns-clause-cause
+returns-clause-cause g c =
+    serves_with_cause _ _ _ c.serve_all-end.result _ _ (g.R.Read.remaining c.args.reader.now) (g.W.Write.contents c.args.out.now) (g.W.Write.contents c.serve_all-end.new.writer) c.serve_all-end.ensures.serves (g.R.InputStream.has_failed c.serve_all-end.new.reader) c.serve_all-end.ensures.cause (λ a b command h. h.0)

@@ -3,4 +3,4 @@ use Rattle.pd_cli.proofs.Beside.{beside_none}
 use Rattle.pd_cli.proofs.workers.ServingBesideWork.give_up.Goals as goal
 
 pub returns : goal.returns
-returns g c = (refl, beside_none c.args.self.settings (g.R.Read.remaining c.args.self.reader.now) (g.W.Write.contents c.args.self.writer.now))
+returns g c = (refl, refl, beside_none c.args.self.settings (g.R.Read.remaining c.args.self.reader.now) (g.W.Write.contents c.args.self.writer.now), tt)
