@@ -1,0 +1,33 @@
+-- Definitions that contracts of private functions cite and no public one does.
+use Rattle.std.specs.Prelude.{◌≡◌, ℕ, List, ◌⊎◌, None, Some}
+use Rattle.pd_text.specs.Edit.{edited, edit_refusal}
+use Rattle.pd_text.specs.declared.faults.TextFault.TheVariants as text_fault
+use Rattle.pd_text.specs.declared.line_edit.LineEdit.{LineEdit}
+use Rattle.pd_settings.specs.declared.fields.Settings.{Settings}
+use Rattle.pd_run.specs.declared.verdicts.Verdict.{Verdict}
+use Rattle.pd_script.specs.declared.script_events.Event.{Event}
+use Rattle.pd_least.specs.Mending.{IsFollowed, IsMend}
+use Rattle.pd_least.specs.declared.refusals.NotMended.{NotMended}
+use Rattle.pd_least.specs.declared.refusals.NotMended.TheVariants.{Stopped, TooLarge, OutOfMemory}
+
+-- a text is another one after a mend
+pub record IsNext (settings : Settings) (text : List (List ℕ)) (next : List (List ℕ)) : Type 0 where
+  pub edit : LineEdit
+  pub mends : IsMend settings text edit
+  pub allowed : edit_refusal text edit ≡ None
+  pub made : next ≡ edited text edit
+
+-- why a text isn't mended once: the mend is over the limits of a text, or memory was refused
+abbrev pub IsUnmade : Settings → List (List ℕ) → NotMended → Type 0
+IsUnmade settings text (Stopped stuck) = ⊥
+IsUnmade settings text TooLarge = (edit : LineEdit) × IsMend settings text edit × (edit_refusal text edit ≡ Some text_fault.TooLarge)
+IsUnmade settings text OutOfMemory = Unit {0}
+
+-- a text is refused with its verdict
+abbrev pub IsStuck : List (List ℕ) → Verdict → NotMended → Type 0
+IsStuck text verdict (Stopped stuck) = (stuck.lines ≡ text) × (stuck.verdict ≡ verdict)
+IsStuck text verdict _ = ⊥
+
+-- an edit changes one line: the one at which a run stopped, or that of an event which follows one there
+abbrev pub IsChange : List Event → ℕ → LineEdit → Type 0
+IsChange events line edit = (edit.remove ≡ 1) × ((edit.from ≡ line) ⊎ IsFollowed events line edit.from)

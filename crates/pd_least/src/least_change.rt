@@ -1,0 +1,97 @@
+//! Mends a script until it passes.
+ghost use Rattle.std.specs.Prelude.{◌≡◌, ℕ, IfOk, IfErr, MatchOption};
+ghost use Rattle.pd_run.specs.Grammatical.{IsVerdictOf};
+ghost use Rattle.pd_run.specs.Run.{verdict_of};
+ghost use Rattle.pd_run.specs.declared.verdicts.Verdict.TheVariants.{Pass};
+ghost use Rattle.pd_least.specs.Mended.{IsMended, IsNoPass, RefusesToMend};
+ghost use Rattle.pd_least.specs.Inner.{IsStuck};
+
+use crate::lines_left::line_in;
+use crate::mender::Mender;
+use crate::refusals::{NotMended, Stuck};
+use pd_run::{Verdict, run_all};
+use pd_settings::Settings;
+use pd_text::Lines;
+use std::alloc::Global;
+
+/// The most mends of a text: four for each event that a script may have.
+const MAX_MENDS: usize = 16_384;
+
+/// A mended text.
+#[derive(Drop)]
+pub struct Mended {
+    /// Its lines.
+    pub lines: Lines,
+    /// How many events it has.
+    pub events: usize,
+}
+
+/// Mends a text under settings until it passes. Where its run fails, the line at which it stops is written anew by as little as
+/// makes it hold, and the text is run again. So each mend costs a run of the text, and three where no packet came. A packet that
+/// is awaited and doesn't come is made a comment, or with `drop` taken away.
+///
+/// # Errors
+/// `Stopped` where the run stops and no mend helps, `TooLarge` where a mended text would be over the limits of one, and
+/// `OutOfMemory`.
+#[tactic(auto, using(crate::proofs::Leading::starts, crate::proofs::Leading::goes_on, crate::proofs::Leading::ends, crate::proofs::Leading::is_stuck, crate::proofs::Leading::is_unmade, crate::proofs::Leading::spared_unmade, crate::proofs::Leading::spared_stuck))]
+pub fn least(
+    alloc: Global,
+    lines: &Lines,
+    settings: &Settings,
+    drop: bool,
+) -> Result<Mended, NotMended>
+    ensures mended { IfOk result (λ mended. IsMended settings.now lines.now mended.lines mended.events) }
+
+    // In the grammar's words.
+    ensures grammar { IfOk result (λ mended. IsVerdictOf mended.lines settings.now (Pass mended.events)) }
+    ensures refused { IfErr result (RefusesToMend settings.now lines.now) }
+
+    // A text that passes stays as it is.
+    ensures stays { IfOk result (λ mended. (n : ℕ) → verdict_of lines.now settings.now ≡ Pass n → mended.lines ≡ lines.now) }
+    ensures spared { IfErr result (λ refusal. (n : ℕ) → verdict_of lines.now settings.now ≡ Pass n → refusal ≡ NotMended.OutOfMemory) }
+{
+    let mut text = lines.copy()?;
+    let mut mender = Mender::new(alloc, lines.len(), drop)?;
+    for _ in 0..MAX_MENDS {
+        let verdict = run_all(alloc, &text, settings)?;
+        if let Some(events) = events_passed(verdict) {
+            return Ok(Mended {
+                lines: text,
+                events,
+            });
+        }
+        match mender.mended(alloc, &text, settings, verdict)? {
+            Some(next) => text = next,
+            None => return Err(stuck(text, verdict, &mender)),
+        }
+    }
+    let verdict = run_all(alloc, &text, settings)?;
+    match events_passed(verdict) {
+        Some(events) => Ok(Mended {
+            lines: text,
+            events,
+        }),
+        None => Err(stuck(text, verdict, &mender)),
+    }
+}
+
+/// How many events passed, where all did.
+fn events_passed(verdict: Verdict) -> Option<usize>
+    ensures { MatchOption result (IsNoPass verdict) (λ events. verdict ≡ Pass events) }
+{
+    match verdict {
+        Verdict::Pass(events) => Some(events),
+        _ => None,
+    }
+}
+
+/// The refusal of a text at whose verdict no mend helps.
+fn stuck(lines: Lines, verdict: Verdict, mender: &Mender) -> NotMended
+    ensures { IsStuck lines verdict result }
+{
+    NotMended::Stopped(Stuck {
+        line: mender.origin_of(line_in(verdict)),
+        lines,
+        verdict,
+    })
+}

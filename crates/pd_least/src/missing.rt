@@ -1,0 +1,84 @@
+//! What becomes of a packet that isn't sent in time.
+use crate::awaited::look_ahead;
+use crate::differences::Differences;
+use crate::mends::{Mend, fitted};
+use crate::new_lines::one_line;
+use crate::pieces::{Span, part, rest};
+use crate::site::Site;
+use pd_run::{RunState, Stopped, Why, find_stop};
+use pd_script::parse;
+use pd_seg::Sent;
+use pd_text::{LineEdit, TextFault};
+use std::alloc::AllocError;
+
+/// A packet that is awaited at any time and never is sent.
+const NEVER: &[u8] = b"* > FSRP. 0:0(0)";
+
+/// No packet was sent in time. The one that the timer sends next may be it, and late; else it isn't sent.
+///
+/// # Errors
+/// `AllocError` where a growth is refused.
+pub fn mend_missing(site: &Site<'_>, drop: bool) -> Result<Option<Mend>, AllocError> {
+    if let Some((sent, run)) = next_packet(site)? {
+        if is_late(site, &sent, &run)? {
+            return fitted(site, &sent, &run);
+        }
+    }
+    Ok(Some(site.not_sent(drop)?))
+}
+
+/// The packet that is sent next, however late, in the run that took it: what a run meets that awaits another one.
+fn next_packet(site: &Site<'_>) -> Result<Option<(Sent, RunState)>, AllocError> {
+    let span = site.span();
+    let before = Span {
+        from: 0,
+        to: span.from,
+    };
+    let mut line = Vec::from_slice(site.alloc, part(site.octets, before))?;
+    line.extend_from_slice(NEVER)?;
+    line.extend_from_slice(rest(site.octets, span.to))?;
+    let edit = LineEdit {
+        from: site.line,
+        remove: 1,
+        insert: one_line(site.alloc, line.as_slice())?.lines,
+    };
+    let lines = match site.lines.apply(&edit) {
+        Ok(lines) => lines,
+        Err(TextFault::OutOfMemory) => return Err(AllocError),
+        Err(_) => return Ok(None),
+    };
+    let parsed = parse(site.alloc, &lines)?;
+    let Some(stop) = find_stop(site.alloc, &parsed, site.settings, site.line)? else {
+        return Ok(None);
+    };
+    let Stopped { why, .. } = stop;
+    match why {
+        Why::Differs(_, sent, run) => Ok(Some((sent, run))),
+        _ => Ok(None),
+    }
+}
+
+/// Whether the packet that is sent next is the awaited one. It isn't where a later line before the next input awaits just it. Else
+/// it is where it comes before that input and in its place, or is the same but for its time.
+fn is_late(site: &Site<'_>, sent: &Sent, run: &RunState) -> Result<bool, AllocError> {
+    let ahead = look_ahead(site.alloc, site.events(), run.base())?;
+    let mut is_same = false;
+    let mut is_own_moment = false;
+    for (number, awaited) in ahead.packets.iter().enumerate() {
+        let agrees = Differences::of(site.alloc, awaited.packet, sent)?.count() == 0;
+        if number == 0 {
+            is_same = agrees;
+            is_own_moment = match awaited.moments {
+                Some((first, _)) => first > run.base(),
+                None => true,
+            };
+        } else if agrees && awaited.is_in_time(sent.at, run.tolerance()) {
+            return Ok(false);
+        }
+    }
+    let is_before = match ahead.input {
+        Some(input) => sent.at <= input,
+        None => true,
+    };
+    Ok((is_same && (is_own_moment || is_before)) || (is_own_moment && is_before))
+}

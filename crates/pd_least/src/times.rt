@@ -1,0 +1,68 @@
+//! Times of awaited packets.
+use pd_script::Time;
+
+/// The first and the last moment of a time from a base, in microseconds since the start of the run; nothing for `*`.
+pub fn moments_of(base: u64, time: Time) -> Option<(u64, u64)> {
+    match time {
+        Time::Any => None,
+        Time::Absolute(moment) => Some((moment, moment)),
+        Time::Relative(span) => Some((base.saturating_add(span), base.saturating_add(span))),
+        Time::AbsoluteRange(first, last) => Some((first, last)),
+        Time::RelativeRange(first, last) => {
+            Some((base.saturating_add(first), base.saturating_add(last)))
+        }
+    }
+}
+
+/// The moment of a time that is one.
+pub fn moment_of(base: u64, time: Time) -> Option<u64> {
+    match time {
+        Time::Absolute(moment) => Some(moment),
+        Time::Relative(span) => Some(base.saturating_add(span)),
+        _ => None,
+    }
+}
+
+/// Whether a packet that leaves at a moment is in time.
+pub fn is_in_time(moments: Option<(u64, u64)>, at: u64, tolerance: u64) -> bool {
+    match moments {
+        Some((first, last)) => {
+            first <= at.saturating_add(tolerance) && at <= last.saturating_add(tolerance)
+        }
+        None => true,
+    }
+}
+
+/// The time of a packet that left at a moment, in the kind of another time: absolute, relative or `*`. It is `*` too where the
+/// packet left before the base.
+pub fn time_at(written: Time, base: u64, at: u64) -> Time {
+    match written {
+        _ if at < base => Time::Any,
+        Time::Any => Time::Any,
+        Time::Absolute(_) | Time::AbsoluteRange(_, _) => Time::Absolute(at),
+        Time::Relative(_) | Time::RelativeRange(_, _) => Time::Relative(at - base),
+    }
+}
+
+/// A time that counts from a base so much earlier; nothing where it doesn't count from one.
+pub fn later(time: Time, span: u64) -> Option<Time> {
+    match time {
+        Time::Relative(first) => Some(Time::Relative(first.saturating_add(span))),
+        Time::RelativeRange(first, last) => Some(Time::RelativeRange(
+            first.saturating_add(span),
+            last.saturating_add(span),
+        )),
+        _ => None,
+    }
+}
+
+/// The same from a base so much later, as far as it can.
+pub fn sooner(time: Time, span: u64) -> Time {
+    match time {
+        Time::Relative(first) => Time::Relative(first.saturating_sub(span)),
+        Time::RelativeRange(first, last) => {
+            Time::RelativeRange(first.saturating_sub(span), last.saturating_sub(span))
+        }
+        other => other,
+    }
+}
