@@ -3,6 +3,7 @@ use Rattle.std.proofs.Common.{◌≡◌, ℕ, List, [], ◌++◌, refl}
 use Rattle.pd_explain.specs.BlockLines.{AreIndented}
 use Rattle.pd_record.specs.declared.refusals.NotRecorded.{NotRecorded}
 use Rattle.pd_record.specs.declared.refusals.NotRecorded.TheVariants as unrecorded
+use Rattle.pd_run.specs.declared.verdicts.Verdict.{Verdict}
 use Rattle.pdrecord.specs.RecordProgram.{Explains, IsRefused, Tells, refusal_line}
 use Rattle.pdrecord.specs.declared.outcomes.Outcome.TheVariants.{Refused}
 use Rattle.std.specs.declared.vec.Vec.{Vec}
@@ -24,3 +25,7 @@ explains_none unrecorded.OutOfMemory below e = e
 -- a line with what explains it
 pub is_refused : (refusal : NotRecorded) (why below : List ℕ) (said : Vec ℕ Global) → Tells refusal why → Explains refusal below → said.items ≡ refusal_line why ++ below → IsRefused refusal (Refused said)
 is_refused refusal why below said t x e = (why, below, t, x, e)
+
+-- a verdict with what explains it
+pub is_stopped : (verdict : Verdict) (why below : List ℕ) (said : Vec ℕ Global) → Tells (unrecorded.Stopped verdict) why → AreIndented below → said.items ≡ refusal_line why ++ below → IsRefused (unrecorded.Stopped verdict) (Refused said)
+is_stopped verdict why below said t x e = (why, below, t, x, e)

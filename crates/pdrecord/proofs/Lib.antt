@@ -3,5 +3,6 @@ pub mod Below
 mod Gathering
 mod Joining
 mod Memory
+pub mod MendedTexts
 mod Sections
 mod Words

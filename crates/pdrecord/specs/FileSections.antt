@@ -12,6 +12,7 @@ use Rattle.pd_words.specs.declared.program_faults.ProgramFault.{ProgramFault}
 use Rattle.pd_words.specs.declared.program_faults.ProgramFault.TheVariants.{Serving}
 use Rattle.pdrecord.specs.RecordProgram.{IsOutcome}
 use Rattle.pdrecord.specs.ScriptInput.{script_in}
+use Rattle.pdrecord.specs.declared.ways.Way.{Way}
 use Rattle.pdrecord.specs.declared.outcomes.Outcome.{Outcome}
 use Rattle.pdrecord.specs.declared.outcomes.Outcome.TheVariants.{Recorded, Refused}
 
@@ -34,17 +35,17 @@ is_recorded (Recorded octets) = true
 is_recorded (Refused said) = false
 
 -- these octets are written of a file of this name, which holds an input; and whether its script was recorded
-abbrev pub IsSection : Settings → Bool → List ℕ → Option (List ℕ) → Bool → List ℕ → Type 0
-IsSection settings trace name input done octets =
-    (outcome : Outcome) × IfSome input (λ all. IsOutcome settings trace (script_in all) outcome)
+abbrev pub IsSection : Settings → Way → List ℕ → Option (List ℕ) → Bool → List ℕ → Type 0
+IsSection settings way name input done octets =
+    (outcome : Outcome) × IfSome input (λ all. IsOutcome settings way (script_in all) outcome)
     × (done ≡ is_recorded outcome) × (octets ≡ section name outcome)
 
 -- these octets are written of files, one after the other; and whether all their scripts were recorded
-abbrev pub AreSections : Settings → Bool → (List ℕ → Option (List ℕ)) → List (List ℕ) → Bool → List ℕ → Type 0
-AreSections settings trace held [] done octets = (done ≡ true) × (octets ≡ [])
-AreSections settings trace held (name ∷ names) done octets =
+abbrev pub AreSections : Settings → Way → (List ℕ → Option (List ℕ)) → List (List ℕ) → Bool → List ℕ → Type 0
+AreSections settings way held [] done octets = (done ≡ true) × (octets ≡ [])
+AreSections settings way held (name ∷ names) done octets =
     (first : Bool) × (others : Bool) × (front : List ℕ) × (rest : List ℕ)
-    × IsSection settings trace name (held name) first front × AreSections settings trace held names others rest
+    × IsSection settings way name (held name) first front × AreSections settings way held names others rest
     × (done ≡ (first && others)) × (octets ≡ front ++ rest)
 
 -- a fault that ends the recording of files
@@ -57,12 +58,12 @@ EndsFiles fault = ⊥
 
 -- that was written of all these files, and whether all their scripts were recorded; or at a fault some first octets of what is
 -- written of the first of them
-abbrev pub Writes : Settings → Bool → (List ℕ → Option (List ℕ)) → List (List ℕ) → Result Bool ServeFault → Option (List ℕ) → Option (List ℕ) → Type 0
-Writes settings trace held names (Ok done) before after =
-    (octets : List ℕ) × AreSections settings trace held names done octets × Appends before after octets
-Writes settings trace held names (Err fault) before after =
+abbrev pub Writes : Settings → Way → (List ℕ → Option (List ℕ)) → List (List ℕ) → Result Bool ServeFault → Option (List ℕ) → Option (List ℕ) → Type 0
+Writes settings way held names (Ok done) before after =
+    (octets : List ℕ) × AreSections settings way held names done octets × Appends before after octets
+Writes settings way held names (Err fault) before after =
     (first : List (List ℕ)) × (others : List (List ℕ)) × (done : Bool) × (octets : List ℕ) × (n : ℕ)
-    × EndsFiles fault × (names ≡ first ++ others) × AreSections settings trace held first done octets × Appends before after (take n octets)
+    × EndsFiles fault × (names ≡ first ++ others) × AreSections settings way held first done octets × Appends before after (take n octets)
 
 -- the status after files: 0 where all their scripts were recorded, else 1
 abbrev pub status_after : Bool → ℕ
@@ -75,9 +76,9 @@ EndsAfter (Err fault) exit before after = (exit.status ≡ 2) × Says exit.told 
 
 -- a run over files of these names, under settings that were read, came to an end with what belongs to what the files hold;
 -- settings that are no good end it with their fault or for want of memory, and nothing is written of files
-abbrev pub FinishesFiles : Result Settings ProgramFault → Bool → (List ℕ → Option (List ℕ)) → List (List ℕ) → Exit → Option (List ℕ) → Option (List ℕ) → Option (List ℕ) → Option (List ℕ) → Type 0
-FinishesFiles (Ok settings) trace held names exit out_before out_after err_before err_after =
-    ((end : Result Bool ServeFault) × Writes settings trace held names end out_before out_after × EndsAfter end exit err_before err_after)
-FinishesFiles (Err fault) trace held names exit out_before out_after err_before err_after =
+abbrev pub FinishesFiles : Result Settings ProgramFault → Way → (List ℕ → Option (List ℕ)) → List (List ℕ) → Exit → Option (List ℕ) → Option (List ℕ) → Option (List ℕ) → Option (List ℕ) → Type 0
+FinishesFiles (Ok settings) way held names exit out_before out_after err_before err_after =
+    ((end : Result Bool ServeFault) × Writes settings way held names end out_before out_after × EndsAfter end exit err_before err_after)
+FinishesFiles (Err fault) way held names exit out_before out_after err_before err_after =
     (exit.status ≡ 2) × Appends out_before out_after []
     × (Says exit.told err_before err_after (fault_line fault) ⊎ Says exit.told err_before err_after (fault_line (Serving OutOfMemory)))

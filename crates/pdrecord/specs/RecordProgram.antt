@@ -1,5 +1,5 @@
 -- What the program that records writes, and its status.
-use Rattle.std.specs.Prelude.{◌≡◌, ℕ, Bool, true, ◌⊎◌, List, [], ◌++◌, take, codes, Option, Some, None, Result, Ok, Err, IfSome}
+use Rattle.std.specs.Prelude.{◌≡◌, ℕ, Bool, true, false, ◌⊎◌, List, [], ◌++◌, take, codes, Option, Some, None, Result, Ok, Err, IfSome}
 use Rattle.std.specs.Io.KnownBytes.{Appends}
 use Rattle.pd_settings.specs.declared.fields.Settings.{Settings}
 use Rattle.pd_run.specs.declared.verdicts.Verdict.{Verdict}
@@ -8,7 +8,12 @@ use Rattle.pd_record.specs.Recording.{recording_of}
 use Rattle.pd_record.specs.Answered.{IsRecording, Refuses}
 use Rattle.pd_record.specs.declared.refusals.NotRecorded.{NotRecorded}
 use Rattle.pd_record.specs.declared.refusals.NotRecorded.TheVariants as unrecorded
+use Rattle.pd_run.specs.Run.{verdict_of}
+use Rattle.pd_least.specs.Mended.{IsMended, RefusesToMend}
+use Rattle.pd_least.specs.declared.refusals.NotMended.{NotMended}
+use Rattle.pd_least.specs.declared.refusals.NotMended.TheVariants as not_mended
 use Rattle.pd_explain.specs.BlockLines.{AreIndented}
+use Rattle.pd_words.specs.Input.{HasCause}
 use Rattle.pd_words.specs.SettingsText.{settings_in}
 use Rattle.pd_words.specs.Said.{Says}
 use Rattle.pd_words.specs.ProgramFaults.{fault_line}
@@ -22,6 +27,8 @@ use Rattle.pdrecord.specs.ScriptInput.{script_in}
 use Rattle.pdrecord.specs.Written.{IsWritten}
 use Rattle.pdrecord.specs.declared.outcomes.Outcome.{Outcome}
 use Rattle.pdrecord.specs.declared.outcomes.Outcome.TheVariants.{Recorded, Refused}
+use Rattle.pdrecord.specs.declared.ways.Way.{Way}
+use Rattle.pdrecord.specs.declared.ways.Way.TheVariants.{Whole, Traced, Least}
 
 -- the line that says why a script isn't recorded
 abbrev pub refusal_line : List ℕ → List ℕ
@@ -55,14 +62,36 @@ IsRefused refusal (Recorded octets) = ⊥
 IsRefused refusal (Refused said) =
     (why : List ℕ) × (below : List ℕ) × Tells refusal why × Explains refusal below × (said.items ≡ refusal_line why ++ below)
 
--- this comes of a script under settings: the octets of its recording, or the lines that tell why there is none; it is too large
--- where its lines are over the limits of a text
-abbrev pub IsOutcome : Settings → Bool → Option (List (List ℕ)) → Outcome → Type 0
-IsOutcome settings trace None outcome = IsRefused unrecorded.TooLarge outcome
-IsOutcome settings trace (Some text) (Recorded octets) =
+-- this comes of a text that is recorded whole, with a trace or without: the octets of its recording, or the lines that tell why
+-- there is none
+abbrev pub IsWhole : Settings → Bool → List (List ℕ) → Outcome → Type 0
+IsWhole settings trace text (Recorded octets) =
     (recording : List (List ℕ)) × (count : ℕ) × IsRecording text settings recording count × IsWritten trace recording octets.items
-IsOutcome settings trace (Some text) (Refused said) =
+IsWhole settings trace text (Refused said) =
     (refusal : NotRecorded) × Refuses (recording_of text settings) refusal × IsRefused refusal (Refused said)
+
+-- why a script that isn't mended isn't recorded
+abbrev pub unmended : NotMended → NotRecorded
+unmended (not_mended.Stopped stuck) = unrecorded.Stopped stuck.verdict
+unmended not_mended.TooLarge = unrecorded.TooLarge
+unmended not_mended.OutOfMemory = unrecorded.OutOfMemory
+
+-- this comes of a text that is recorded by the least change: the octets of what it is mended to, which is the text itself where it
+-- passes, or the lines that tell why it isn't mended
+abbrev pub IsMendedText : Settings → List (List ℕ) → Outcome → Type 0
+IsMendedText settings text (Recorded octets) =
+    (mended : List (List ℕ)) × (count : ℕ) × IsMended settings text mended count
+    × ((n : ℕ) → verdict_of text settings ≡ Pass n → mended ≡ text) × IsWritten false mended octets.items
+IsMendedText settings text (Refused said) =
+    (refusal : NotMended) × RefusesToMend settings text refusal × IsRefused (unmended refusal) (Refused said)
+
+-- this comes of a script under settings, by the way in which it is recorded; it is too large where its lines are over the limits of
+-- a text
+abbrev pub IsOutcome : Settings → Way → Option (List (List ℕ)) → Outcome → Type 0
+IsOutcome settings way None outcome = IsRefused unrecorded.TooLarge outcome
+IsOutcome settings Whole (Some text) outcome = IsWhole settings false text outcome
+IsOutcome settings Traced (Some text) outcome = IsWhole settings true text outcome
+IsOutcome settings (Least drop) (Some text) outcome = IsMendedText settings text outcome
 
 -- recording stops for a read, for memory, or since a recording isn't what was recorded
 abbrev pub IsStop : ServeFault → Type 0
@@ -71,12 +100,19 @@ IsStop OutOfMemory = Unit {0}
 IsStop Differs = Unit {0}
 IsStop fault = ⊥
 
--- this comes of an input, with a trace or without; settings that are no good end it with their fault or for want of memory
-abbrev pub Comes : Result Settings ProgramFault → Bool → Result Outcome ProgramFault → List ℕ → Type 0
-Comes (Ok settings) trace (Ok outcome) input = IsOutcome settings trace (script_in input) outcome
-Comes (Ok settings) trace (Err (Serving fault)) input = IsStop fault
-Comes (Ok settings) trace (Err fault) input = ⊥
-Comes (Err fault) trace end input = (end ≡ Err fault) ⊎ (end ≡ Err (Serving OutOfMemory))
+-- a script that was read isn't recorded for memory, or since a recording isn't what was recorded
+abbrev pub IsUnmade : ServeFault → Type 0
+IsUnmade OutOfMemory = Unit {0}
+IsUnmade Differs = Unit {0}
+IsUnmade fault = ⊥
+
+-- this comes of an input, recorded in a way; settings that are no good end it with their fault or for want of memory, and 17
+-- only an input of which a read failed, or that took all reads
+abbrev pub Comes : Type 0 → Result Settings ProgramFault → Way → Result Outcome ProgramFault → List ℕ → Type 0
+Comes failed (Ok settings) way (Ok outcome) input = IsOutcome settings way (script_in input) outcome
+Comes failed (Ok settings) way (Err (Serving fault)) input = IsStop fault × HasCause {V = Outcome} (Err fault) failed (Some input)
+Comes failed (Ok settings) way (Err fault) input = ⊥
+Comes failed (Err fault) way end input = (end ≡ Err fault) ⊎ (end ≡ Err (Serving OutOfMemory))
 
 -- a recording is written whole with status 0, or some of its first octets with that of a failed write; without one nothing is
 -- written, and the lines that tell why are written, with status 1 for a refusal and 2 for a fault
@@ -89,7 +125,7 @@ Ends (Ok (Refused said)) exit out_before out_after err_before err_after =
 Ends (Err fault) exit out_before out_after err_before err_after =
     (exit.status ≡ 2) × Says exit.told err_before err_after (fault_line fault) × Appends out_before out_after []
 
--- a run with this settings text, with a trace or without, came to an end with what belongs to its input
-abbrev pub FinishesRecording : Exit → List ℕ → Bool → Option (List ℕ) → Option (List ℕ) → Option (List ℕ) → Option (List ℕ) → Option (List ℕ) → Type 0
-FinishesRecording exit text trace input out_before out_after err_before err_after =
-    (end : Result Outcome ProgramFault) × IfSome input (Comes (settings_in text) trace end) × Ends end exit out_before out_after err_before err_after
+-- a run with this settings text, in a way of recording, came to an end with what belongs to its input
+abbrev pub FinishesRecording : Type 0 → Exit → List ℕ → Way → Option (List ℕ) → Option (List ℕ) → Option (List ℕ) → Option (List ℕ) → Option (List ℕ) → Type 0
+FinishesRecording failed exit text way input out_before out_after err_before err_after =
+    (end : Result Outcome ProgramFault) × IfSome input (Comes failed (settings_in text) way end) × Ends end exit out_before out_after err_before err_after

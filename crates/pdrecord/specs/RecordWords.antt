@@ -1,15 +1,31 @@
 -- The words of the program that records, in the definitions of `clap`.
-use Rattle.std.specs.Prelude.{◌≡◌, Bool, List, [], bytes_eq, codes, Some, unwrap_or}
+use Rattle.std.specs.Prelude.{◌≡◌, ℕ, Bool, List, [], bytes_eq, codes, Some, unwrap_or, if◌then◌else◌}
 use Rattle.clap.specs.Words.{App, Rule, Text, all_of, matches_of, new_app, new_rule, with_rule}
 use Rattle.clap.specs.declared.builder.ArgAction.TheVariants.{Append, SetTrue}
 use Rattle.pd_words.specs.Chosen.{names_of}
 use Rattle.pd_words.specs.ProgramWords.{settings_rule, settings_text, option_text}
 use Rattle.pdrecord.specs.declared.record_words.RecordOptions.{RecordOptions}
+use Rattle.pdrecord.specs.declared.ways.Way.{Way}
+use Rattle.pdrecord.specs.declared.ways.Way.TheVariants.{Whole, Traced, Least}
 
 -- `--trace`
 abbrev pub trace_rule : Rule
 trace_rule = record (new_rule (codes "trace")) {
   long = Some (codes "trace");
+  action = Some SetTrue;
+}
+
+-- `--least`
+abbrev pub least_rule : Rule
+least_rule = record (new_rule (codes "least")) {
+  long = Some (codes "least");
+  action = Some SetTrue;
+}
+
+-- `--drop`
+abbrev pub drop_rule : Rule
+drop_rule = record (new_rule (codes "drop")) {
+  long = Some (codes "drop");
   action = Some SetTrue;
 }
 
@@ -22,11 +38,20 @@ file_rule = record (new_rule (codes "file")) {
 
 -- the program that records
 abbrev pub pdrecord : App
-pdrecord = with_rule (with_rule (with_rule (new_app (codes "pdrecord")) settings_rule) trace_rule) file_rule
+pdrecord =
+    with_rule (with_rule (with_rule (with_rule (with_rule (new_app (codes "pdrecord")) settings_rule) trace_rule) least_rule) drop_rule) file_rule
 
--- words ask for a trace
-abbrev pub asks_trace : List Text → Bool
-asks_trace words = bytes_eq (option_text pdrecord (codes "trace") words) (codes "true")
+-- words have a flag of this name
+abbrev pub asks : List ℕ → List Text → Bool
+asks name words = bytes_eq (option_text pdrecord name words) (codes "true")
+
+-- how scripts are recorded, by whether the least change, one without comments, and a trace are asked for
+abbrev pub way_by : Bool → Bool → Bool → Way
+way_by least drop trace = if least then Least drop else (if trace then Traced else Whole)
+
+-- how words ask for scripts to be recorded
+abbrev pub way_asked : List Text → Way
+way_asked words = way_by (asks (codes "least") words) (asks (codes "drop") words) (asks (codes "trace") words)
 
 -- the files that words name
 abbrev pub files_named : List Text → List Text
@@ -34,4 +59,4 @@ files_named words = unwrap_or (all_of (codes "file") (matches_of pdrecord words)
 
 -- these are chosen by words, of which the first is the program's own name
 abbrev pub HasChosenToRecord : List Text → RecordOptions → Type 0
-HasChosenToRecord words options = (options.settings.now ≡ settings_text pdrecord words) × (options.trace ≡ asks_trace words) × (names_of options.files.items ≡ files_named words)
+HasChosenToRecord words options = (options.settings.now ≡ settings_text pdrecord words) × (options.way ≡ way_asked words) × (names_of options.files.items ≡ files_named words)

@@ -8,10 +8,11 @@ use crate::outcomes::Outcome;
 use crate::record_program::outcome_of;
 use crate::script_input::ScriptInput;
 use crate::shelf::Shelf;
+use crate::ways::Way;
 use pd_settings::Settings;
-use pd_words::{ServeFault, put_all, put_number};
+use pd_words::{InputStream, ServeFault, put_all, put_number};
 use std::alloc::{AllocError, Global};
-use std::io::{Read, Write};
+use std::io::Write;
 
 /// What is written of a file.
 #[derive(Drop)]
@@ -26,36 +27,36 @@ struct Section {
 ///
 /// # Errors
 /// `Read` where a file can't be opened or read, `Write` where a write fails, `Differs` and `OutOfMemory`.
-pub fn put_sections<R: Read + Drop, F: Shelf<R>, W: Write>(
+pub fn put_sections<R: InputStream + Drop, F: Shelf<R>, W: Write>(
     alloc: Global,
     settings: &Settings,
-    with_trace: bool,
+    way: Way,
     names: &[&str],
     files: &F,
     out: &mut W,
 ) -> Result<bool, ServeFault>
-    ensures { Writes settings.now with_trace (F.held files.now) (names_of names.now) result (W.contents out.old) (W.contents out.new) }
+    ensures { Writes settings.now way (F.held files.now) (names_of names.now) result (W.contents out.old) (W.contents out.new) }
 {
     let mut is_all = true;
     for name in names {
-        let is_recorded = put_section(alloc, settings, with_trace, name, files, out)?;
+        let is_recorded = put_section(alloc, settings, way, name, files, out)?;
         is_all &= is_recorded;
     }
     Ok(is_all)
 }
 
 /// Records the script of a file, and writes what came of it; whether it was recorded.
-fn put_section<R: Read + Drop, F: Shelf<R>, W: Write>(
+fn put_section<R: InputStream + Drop, F: Shelf<R>, W: Write>(
     alloc: Global,
     settings: &Settings,
-    with_trace: bool,
+    way: Way,
     name: &str,
     files: &F,
     out: &mut W,
 ) -> Result<bool, ServeFault>
-    ensures { Writes settings.now with_trace (F.held files.now) (name.now ∷ []) result (W.contents out.old) (W.contents out.new) }
+    ensures { Writes settings.now way (F.held files.now) (name.now ∷ []) result (W.contents out.old) (W.contents out.new) }
 {
-    let section = section_of(alloc, settings, with_trace, name, files)?;
+    let section = section_of(alloc, settings, way, name, files)?;
     put_all(out, section.octets.as_slice())?;
     Ok(section.is_recorded)
 }
@@ -64,19 +65,19 @@ fn put_section<R: Read + Drop, F: Shelf<R>, W: Write>(
 ///
 /// # Errors
 /// `Read` where it can't be opened or read, `Differs` and `OutOfMemory`.
-fn section_of<R: Read + Drop, F: Shelf<R>>(
+fn section_of<R: InputStream + Drop, F: Shelf<R>>(
     alloc: Global,
     settings: &Settings,
-    with_trace: bool,
+    way: Way,
     name: &str,
     files: &F,
 ) -> Result<Section, ServeFault>
-    ensures section { IfOk result (λ section. IsSection settings.now with_trace name.now (F.held files.now name.now) section.is_recorded section.octets.items) }
+    ensures section { IfOk result (λ section. IsSection settings.now way name.now (F.held files.now name.now) section.is_recorded section.octets.items) }
     ensures only { IfErr result IsStop }
 {
     let mut file = files.open(name)?;
     let input = ScriptInput::read(alloc, &mut file)?;
-    match outcome_of(alloc, &input, settings, with_trace)? {
+    match outcome_of(alloc, &input, settings, way)? {
         Outcome::Recorded(octets) => Ok(Section {
             octets: titled(alloc, b"recorded ", octets.as_slice(), name)?,
             is_recorded: true,

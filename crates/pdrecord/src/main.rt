@@ -4,12 +4,14 @@
 mod causes;
 mod file_sections;
 mod host_files;
+mod mending;
 mod outcomes;
 mod record_program;
 mod record_words;
 mod recorded_text;
 mod script_input;
 mod shelf;
+mod ways;
 
 use host_files::HostFiles;
 use pd_words::{arguments, refuse_arguments};

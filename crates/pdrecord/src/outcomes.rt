@@ -2,7 +2,7 @@
 ghost use Rattle.std.specs.Prelude.{◌≡◌, ℕ, List, IfOk, IfErr, codes};
 ghost use Rattle.pd_explain.specs.BlockLines.{AreIndented};
 ghost use Rattle.pd_words.specs.Verdicts.{verdict_text};
-ghost use Rattle.pdrecord.specs.RecordProgram.{Explains, Tells, IsRefused, IsStop, at_line, refusal_line};
+ghost use Rattle.pdrecord.specs.RecordProgram.{Explains, Tells, IsRefused, IsUnmade, at_line, refusal_line};
 
 use crate::causes::cause_of;
 use crate::script_input::ScriptInput;
@@ -35,7 +35,7 @@ pub fn refusal_of(
     settings: &Settings,
 ) -> Result<Outcome, ServeFault>
     ensures refused { IfOk result (λ outcome. IsRefused refusal outcome) }
-    ensures only { IfErr result IsStop }
+    ensures only { IfErr result IsUnmade }
 {
     let why = why_of(alloc, refusal, input)?;
     let mut said = refusal_line(alloc, why.as_slice())?;
@@ -81,7 +81,7 @@ fn block_below(
 /// Why a script isn't recorded, in words.
 fn why_of(alloc: Global, refusal: NotRecorded, input: &ScriptInput) -> Result<Vec<u8>, ServeFault>
     ensures told { IfOk result (λ why. Tells refusal why.items) }
-    ensures only { IfErr result IsStop }
+    ensures only { IfErr result IsUnmade }
 {
     match refusal {
         NotRecorded::Stopped(verdict) => {
@@ -110,7 +110,7 @@ fn line_in(verdict: Verdict) -> usize {
 }
 
 /// A verdict at another line.
-fn at_line(verdict: Verdict, line: usize) -> Verdict
+pub fn at_line(verdict: Verdict, line: usize) -> Verdict
     ensures { result ≡ at_line line verdict }
 {
     match verdict {
@@ -123,7 +123,7 @@ fn at_line(verdict: Verdict, line: usize) -> Verdict
 }
 
 /// The line that says why a script isn't recorded.
-fn refusal_line(alloc: Global, why: &[u8]) -> Result<Vec<u8>, AllocError>
+pub fn refusal_line(alloc: Global, why: &[u8]) -> Result<Vec<u8>, AllocError>
     ensures { IfOk result (λ line. line.items ≡ refusal_line why.now) }
 {
     let mut line = Vec::from_slice(alloc, b"pdrecord: ")?;

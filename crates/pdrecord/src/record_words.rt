@@ -3,8 +3,9 @@ ghost use Rattle.std.specs.Prelude.{false, ◌≡◌, ◌≢◌, ◌⊎◌, [], 
 ghost use Rattle.clap.specs.Words.{app_of, found_of, kind_of, matched_of, raw_values, rule_of};
 ghost use Rattle.pd_words.specs.Chosen.{names_of};
 ghost use Rattle.pd_words.specs.ProgramWords.{word_faults};
-ghost use Rattle.pdrecord.specs.RecordWords.{pdrecord, trace_rule, file_rule, HasChosenToRecord};
+ghost use Rattle.pdrecord.specs.RecordWords.{pdrecord, trace_rule, least_rule, drop_rule, file_rule, way_by, HasChosenToRecord};
 
+use crate::ways::Way;
 use clap::error::ErrorKind;
 use clap::{Arg, ArgAction, ArgMatches, Command, Error};
 use pd_words::{is_true, settings_option};
@@ -16,8 +17,8 @@ use std::convert::AsStr;
 pub struct RecordOptions<'a> {
     /// A TOML text of settings.
     pub settings: &'a str,
-    /// Whether a trace is written.
-    pub trace: bool,
+    /// How scripts are recorded.
+    pub way: Way,
     /// The files whose scripts are recorded; without one it is the input.
     pub files: Vec<&'a str>,
 }
@@ -57,11 +58,27 @@ pub fn record_options<'a, S: AsStr>(
     let command = record_command(alloc)?;
     let matches = command.try_get_matches_from(words)?;
     let files = files_in(alloc, &matches)?;
+    let is_least = is_true(matches.get_str("least").unwrap_or("").as_bytes());
+    let drops = is_true(matches.get_str("drop").unwrap_or("").as_bytes());
+    let with_trace = is_true(matches.get_str("trace").unwrap_or("").as_bytes());
     Ok(RecordOptions {
         settings: matches.get_str("settings").unwrap_or(""),
-        trace: is_true(matches.get_str("trace").unwrap_or("").as_bytes()),
+        way: way_by(is_least, drops, with_trace),
         files,
     })
+}
+
+/// How scripts are recorded, by whether the least change, one without comments, and a trace are asked for.
+fn way_by(is_least: bool, drops: bool, with_trace: bool) -> Way
+    ensures { result ≡ way_by is_least drops with_trace }
+{
+    if is_least {
+        Way::Least(drops)
+    } else if with_trace {
+        Way::Traced
+    } else {
+        Way::Whole
+    }
 }
 
 /// The files that are named.
@@ -84,6 +101,8 @@ fn record_command<'a>(alloc: Global) -> Result<Command<'a>, Error>
             .bin_name("pdrecord")?
             .arg(settings_option(alloc))?
             .arg(trace_option(alloc))?
+            .arg(least_option(alloc))?
+            .arg(drop_option(alloc))?
             .arg(file_option(alloc))?
             .about(ABOUT)
             .after_help(AFTER),
@@ -99,6 +118,26 @@ fn trace_option<'a>(alloc: Global) -> Arg<'a>
         .help(
             "Writes after each event its moment and the state of the sender, in a line that begins with //=",
         )
+        .action(ArgAction::SetTrue)
+}
+
+fn least_option<'a>(alloc: Global) -> Arg<'a>
+    ensures rule { rule_of result ≡ least_rule }
+    ensures local { result.global ≡ false }
+{
+    Arg::new(alloc, "least")
+        .long("least")
+        .help("Changes as little of a script as makes it pass; no trace is written")
+        .action(ArgAction::SetTrue)
+}
+
+fn drop_option<'a>(alloc: Global) -> Arg<'a>
+    ensures rule { rule_of result ≡ drop_rule }
+    ensures local { result.global ≡ false }
+{
+    Arg::new(alloc, "drop")
+        .long("drop")
+        .help("With --least, leaves no comments of packets that aren't sent")
         .action(ArgAction::SetTrue)
 }
 

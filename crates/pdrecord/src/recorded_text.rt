@@ -1,6 +1,6 @@
 //! The octets of a recording.
 ghost use Rattle.std.specs.Prelude.{◌≡◌, ◌++◌, ◌∷◌, [], true, false, IfOk, IfErr, OnOk};
-ghost use Rattle.pdrecord.specs.RecordProgram.{IsStop};
+ghost use Rattle.pdrecord.specs.RecordProgram.{IsUnmade};
 ghost use Rattle.pdrecord.specs.ScriptInput.{is_dropped};
 ghost use Rattle.pdrecord.specs.Written.{IsWritten};
 ghost use Rattle.pdrecord.specs.Inner.{GoesOn};
@@ -23,7 +23,7 @@ pub fn octets_of(
     with_trace: bool,
 ) -> Result<Vec<u8>, ServeFault>
     ensures written { IfOk result (λ octets. IsWritten with_trace recording.now.lines octets.items) }
-    ensures only { IfErr result IsStop }
+    ensures only { IfErr result IsUnmade }
 {
     let mut out = Vec::new(alloc);
     let mut marked = 0usize;
@@ -40,7 +40,7 @@ pub fn octets_of(
 /// Adds a line of the recording.
 fn put_line(out: &mut Vec<u8>, line: &[u8]) -> Result<(), ServeFault>
     ensures line { OnOk result ((is_dropped line.now ≡ false) × (out.new.items ≡ out.old.items ++ (line.now ++ 10 ∷ []))) }
-    ensures only { IfErr result IsStop }
+    ensures only { IfErr result IsUnmade }
 {
     if is_dropped(line) {
         return Err(ServeFault::Differs);
@@ -58,7 +58,7 @@ fn put_mark(
     with_trace: bool,
 ) -> Result<bool, ServeFault>
     ensures line { OnOk result (GoesOn with_trace out.old.items out.new.items) }
-    ensures only { IfErr result IsStop }
+    ensures only { IfErr result IsUnmade }
 {
     match mark {
         Some(mark) if mark.lines == number => {
@@ -74,7 +74,7 @@ fn put_mark(
 /// Adds the line of an event: its moment, and how the sender stands.
 fn put_trace(alloc: Global, out: &mut Vec<u8>, mark: &Mark) -> Result<(), ServeFault>
     ensures line { OnOk result (GoesOn true out.old.items out.new.items) }
-    ensures only { IfErr result IsStop }
+    ensures only { IfErr result IsUnmade }
 {
     let line = trace_line(alloc, mark)?;
     if !is_dropped(line.as_slice()) {

@@ -1,6 +1,7 @@
 //! A script as the input of a program, without the lines of a trace.
 ghost use Rattle.std.specs.Prelude.{◌≡◌, ◌<◌, IfOk, IfErr, IfSome, OnOk};
-ghost use Rattle.pd_words.specs.Input.{IfKnown, to_come, work_left};
+ghost use Rattle.std.specs.Bool.{OnTrue};
+ghost use Rattle.pd_words.specs.Input.{IfKnown, to_come, work_left, Spends, IsCaused, HasCause};
 ghost use Rattle.pd_words.specs.Pieces.{NoNewline};
 ghost use Rattle.pd_words.specs.TakenLines.{IsIo};
 ghost use Rattle.pdrecord.specs.ScriptInput.{is_dropped, script_in};
@@ -8,9 +9,8 @@ ghost use Rattle.pdrecord.specs.Inner.{Gathers, with_line};
 
 use pd_layout::is_trace;
 use pd_text::{Lines, MAX_LINES, MAX_OCTETS};
-use pd_words::{Gathered, Intake, ServeFault, Taken, text_of};
+use pd_words::{Gathered, InputStream, Intake, ServeFault, Taken, text_of};
 use std::alloc::{AllocError, Global};
-use std::io::Read;
 
 /// The script that an input is.
 #[derive(Drop)]
@@ -26,9 +26,10 @@ impl ScriptInput {
     ///
     /// # Errors
     /// `Read` where a read fails or 1,048,576 were made; `OutOfMemory`.
-    pub fn read<R: Read>(alloc: Global, reader: &mut R) -> Result<ScriptInput, ServeFault>
+    pub fn read<R: InputStream>(alloc: Global, reader: &mut R) -> Result<ScriptInput, ServeFault>
         ensures lines { IfOk result (λ input. IfSome (R.remaining reader.old) (λ octets. input.lines ≡ script_in octets)) }
         ensures only { IfErr result IsIo }
+        ensures cause { HasCause result (R.has_failed reader.new) (R.remaining reader.old) }
     {
         let mut intake = Intake::new(alloc);
         let mut gathered = Gathered::new(alloc);
@@ -77,7 +78,7 @@ impl LineNumbers {
 }
 
 /// Takes a line of an input; false where there is none.
-fn take_line<R: Read>(
+fn take_line<R: InputStream>(
     alloc: Global,
     intake: &mut Intake,
     reader: &mut R,
@@ -88,7 +89,9 @@ fn take_line<R: Read>(
         let new = to_come intake.new (R.remaining reader.new) in
         IfOk result (λ more. IfKnown (Gathers more gathered.old gathered.new) old new) }
     ensures less { IfOk result (λ _. work_left intake.new < work_left intake.old) }
+    ensures reads { IfOk result (λ more. OnTrue more (IfKnown (Spends intake.old intake.new) (R.remaining reader.old) (R.remaining reader.new))) }
     ensures only { IfErr result IsIo }
+    ensures cause { IfErr result (IsCaused (R.has_failed reader.new) intake.old intake.new (R.remaining reader.old)) }
 {
     match intake.next_line(alloc, reader, MAX_OCTETS)? {
         Taken::Whole(line) => {

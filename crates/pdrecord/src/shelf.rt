@@ -1,12 +1,11 @@
 //! Where files are opened by their names.
 ghost use Rattle.std.specs.Prelude.{◌≡◌, ℕ, List, Option, IfOk, IfErr};
 
-use pd_words::ServeFault;
+use pd_words::{InputStream, ServeFault};
 use std::fs::File;
-use std::io::Read;
 
 /// Opens files by their names.
-pub trait Shelf<R: Read> {
+pub trait Shelf<R: InputStream> {
     ghost held: { Self → List ℕ → Option (List ℕ) };
 
     /// Opens a file, to be read from its first octet on.
