@@ -152,11 +152,13 @@ def expect_command(no_color: bool, **words: Any) -> int:
 @choice_options
 @workers_option
 @click.option("--write", "writes", is_flag=True, help="Write the files, and show no diff.")
+@click.option("--whole", is_flag=True, help="Record scripts whole, and not by the least change.")
+@click.option("--drop", "drops", is_flag=True, help="Leave no comments of packets that aren't sent.")
 def record_command(no_color: bool, **words: Any) -> int:
     """Shows what recording scripts anew changes in them, or writes it.
 
-    A script that passes stays as it is, and so does one that is known not to. PATH is - for standard input; with
-    --write its recording goes to standard output.
+    As little of a script is changed as makes it pass. One that passes stays as it is, and so does one that is known not
+    to. PATH is - for standard input; with --write its recording goes to standard output.
     """
     # Only who records pays for what compares texts.
     from pdsuite.commands.record import RecordOptions, record

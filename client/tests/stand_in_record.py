@@ -2,7 +2,7 @@
 """Stands in for pdrecord: it takes what stands below a script's first line for the recording, if anything does.
 
 Of files it does so one after the other, and ends itself on one whose first line says `crash`. In a recording SETTINGS
-stands for what it was given as such.
+stands for what it was given as such, and WAY for the words that say how to record.
 """
 
 import os
@@ -10,11 +10,12 @@ import signal
 import sys
 
 REFUSED = b"pdrecord: nothing to record\n"
+WAYS = ("--trace", "--least", "--drop")
 
 
-def recorded(text: bytes, settings: str) -> bytes:
+def recorded(text: bytes, settings: str, way: str) -> bytes:
     """The recording of a script; empty where there is none."""
-    return text.partition(b"\n")[2].replace(b"SETTINGS", settings.encode())
+    return text.partition(b"\n")[2].replace(b"SETTINGS", settings.encode()).replace(b"WAY", way.encode())
 
 
 def put(word: str, octets: bytes, name: str) -> None:
@@ -25,7 +26,8 @@ def put(word: str, octets: bytes, name: str) -> None:
 
 def main() -> int:
     """Writes the recordings, or refuses."""
-    words = [it for it in sys.argv[1:] if it != "--trace"]
+    way = " ".join(it for it in sys.argv[1:] if it in WAYS)
+    words = [it for it in sys.argv[1:] if it not in WAYS]
     settings = ""
     if words[:1] == ["--settings"]:
         settings, words = words[1], words[2:]
@@ -35,12 +37,12 @@ def main() -> int:
             text = file.read()
         if text.startswith(b"crash"):
             os.kill(os.getpid(), signal.SIGSEGV)
-        recording = recorded(text, settings)
+        recording = recorded(text, settings, way)
         status = status if recording else 1
         put("recorded" if recording else "refused", recording or REFUSED, name)
     if words:
         return status
-    recording = recorded(sys.stdin.buffer.read(), settings)
+    recording = recorded(sys.stdin.buffer.read(), settings, way)
     if not recording:
         sys.stderr.buffer.write(REFUSED)
         return 1

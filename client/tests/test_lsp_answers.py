@@ -67,7 +67,7 @@ def lead_past(client: LspClient, uri: str) -> list[str]:
         # What a text breaks off in may have begun before.
         begun = 1 if found[0]["code"] == "syntax" and "Switch" in action["title"] else 0
         assert not left or left[0]["range"]["start"]["line"] > line + added - begun, (action["title"], text, after)
-        assert not left or "Record" not in action["title"], (action["title"], text, after)
+        assert not left or not action["title"].startswith(("Record", "Mend")), (action["title"], text, after)
     client.put(uri, text)
     client.settled(uri)
     return [it["title"] for it in actions]
@@ -81,7 +81,12 @@ def titles(client: LspClient, workspace: Path, text: str) -> list[str]:
 
 
 def test_what_is_offered(client: LspClient, workspace: Path) -> None:
-    rest = ["Record from here to the end", "Record the whole script", "Switch the line off as a comment"]
+    rest = [
+        "Record from here to the end",
+        "Mend each line that fails",
+        "Record the whole script",
+        "Switch the line off as a comment",
+    ]
     assert titles(client, workspace, WRITES + "+0 > P. 1:501(500) ack 1\n") == ["Take the packet that was sent", *rest]
     assert titles(client, workspace, WRITES + "+0.3 > P. 1:1001(1000) ack 1\n") == [
         "Take the time at which it was sent",

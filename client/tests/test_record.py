@@ -81,6 +81,27 @@ def test_each_script_has_its_settings(recorders: Path, tmp_path: Path, call: Cal
     assert (tmp_path / "other.pkt").read_text() == "sack = false\n"
 
 
+@pytest.mark.parametrize(
+    ("words", "way"),
+    [((), "--least"), (("--drop",), "--least --drop"), (("--whole",), "")],
+    ids=["least", "drop", "whole"],
+)
+def test_the_least_change_is_asked_for(
+    recorders: Path, tmp_path: Path, call: Call, words: tuple[str, ...], way: str
+) -> None:
+    write(tmp_path, a=FAILS + b"so: WAY\n")
+    assert call(recorders, "record", "--write", *words, "a.pkt").status == 0
+    assert (tmp_path / "a.pkt").read_text() == f"so: {way}\n"
+
+
+def test_no_comments_are_dropped_of_a_script_that_is_recorded_whole(
+    recorders: Path, tmp_path: Path, call: Call
+) -> None:
+    write(tmp_path, a=FAILS + b"b\n")
+    called = call(recorders, "record", "--whole", "--drop", "a.pkt")
+    assert (called.status, called.err) == (2, "pdsuite: --drop: not together with --whole\n")
+
+
 def test_what_is_not_recorded_is_named_and_the_others_are_done(recorders: Path, tmp_path: Path, call: Call) -> None:
     write(tmp_path, a=FAILS, b=FAILS + b"c\n", large=b"x\n" * 4_097)
     called = call(recorders, "record", "--write", ".", "none.pkt")

@@ -1,4 +1,4 @@
-"""`pdsuite record`: records scripts anew, and shows what that changes, or writes it."""
+"""`pdsuite record`: records scripts anew, by the least change or whole, and shows what that changes, or writes it."""
 
 import os
 import sys
@@ -11,7 +11,7 @@ from pdsuite.faults import Fault, why
 from pdsuite.files import write
 from pdsuite.programs.places import RECORD, REGRESS, locate
 from pdsuite.programs.program import Program
-from pdsuite.programs.recorder import Recording, record_all
+from pdsuite.programs.recorder import DROP, LEAST, Recording, record_all
 from pdsuite.programs.refusals import refusals
 from pdsuite.programs.rows import Verdict
 from pdsuite.run.choice import found_of, scripts_of
@@ -42,6 +42,19 @@ class RecordOptions:
     settings: str
     workers: int | None
     writes: bool
+    whole: bool
+    drops: bool
+
+    def __post_init__(self) -> None:
+        if self.whole and self.drops:
+            raise Fault("--drop: not together with --whole")
+
+    @property
+    def words(self) -> Sequence[str]:
+        """What the program is told of how to record."""
+        if self.whole:
+            return ()
+        return (LEAST, DROP) if self.drops else (LEAST,)
 
 
 @dataclass(frozen=True, slots=True)
@@ -56,6 +69,14 @@ class Recorded:
     def is_changed(self) -> bool:
         """Whether the file would hold something else."""
         return not self.fault and self.rewriting.old != self.rewriting.new
+
+
+@dataclass(frozen=True)
+class _Recorder:
+    """The program that records, and what it is told of how to."""
+
+    program: Path
+    words: Sequence[str]
 
 
 def record(options: RecordOptions, screen: Screen) -> int:
@@ -74,7 +95,8 @@ def record(options: RecordOptions, screen: Screen) -> int:
             recorder = locate(RECORD)
             texts = {it.index: _text(it, octets) for it in scripts}
             kept = _passing(scripts, texts, program, options.workers, screen, stop)
-            each = _recorded(scripts, texts, kept, recorder, screen, stop)
+            asked_for = _Recorder(recorder, options.words)
+            each = _recorded(scripts, texts, kept, asked_for, screen, stop)
         except Stopped as stopped:
             return stopped.status
         finally:
@@ -145,7 +167,7 @@ def _recorded(
     scripts: Sequence[Script],
     texts: dict[int, bytes | str],
     kept: set[int],
-    program: Path,
+    recorder: _Recorder,
     screen: Screen,
     stop: Stop,
 ) -> list[Recorded]:
@@ -161,7 +183,7 @@ def _recorded(
         else:
             groups.setdefault(script.settings, []).append((script, held))
     for settings, group in groups.items():
-        made = record_all(program, [text for _, text in group], settings, stop)
+        made = record_all(recorder.program, [text for _, text in group], settings, stop, recorder.words)
         for (script, text), it in zip(group, made):
             each[script.index] = _rewritten(script, text, it)
             screen.advance(len(each), len(scripts), "scripts recorded")

@@ -165,6 +165,12 @@ def _has_others(failing: Failing, event: Event, first: int, last: int) -> bool:
     return is_shared and not has_comment
 
 
+def mending_all(failing: Failing, mended: str) -> Iterator[Action]:
+    """The script with as little changed as makes it pass."""
+    if mended:
+        yield Action("Mend each line that fails", REWRITE, _ended(failing, mended))
+
+
 def recording_all(failing: Failing, recording: str) -> Iterator[Action]:
     """The whole script as it is recorded."""
     if recording:

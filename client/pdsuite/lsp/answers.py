@@ -5,7 +5,7 @@ from dataclasses import dataclass
 
 from pdsuite.lsp import pages
 from pdsuite.lsp.actions import Action, Failing, edits_to, leads_past
-from pdsuite.lsp.actions import recording_all, recording_from_here, switching_off, taking
+from pdsuite.lsp.actions import mending_all, recording_all, recording_from_here, switching_off, taking
 from pdsuite.lsp.completion import items_of, keys_proposed, proposals, typed_before
 from pdsuite.lsp.diagnostics import Diagnostic, diagnostics_of, untaken, with_related
 from pdsuite.lsp.documents import Document
@@ -131,6 +131,7 @@ class Answers:
         if failing.row.verdict is Verdict.FAIL:
             recording = self._tools.recording(failing.lines.text, settings).text
             yield from recording_from_here(failing, recording)
+            yield from mending_all(failing, self._tools.mended(failing.lines.text, settings))
             yield from recording_all(failing, recording)
         yield from switching_off(failing)
 
@@ -200,8 +201,10 @@ def _recordable(layout: Layout, result: Result) -> Iterator[str]:
 
 
 def _touches(failing: Failing, places: Extent) -> bool:
-    """Whether a part of a text has something of the lines of the failing event."""
+    """Whether a part of a text has something of the lines of the failing event, or of the line that is marked for it."""
     lines, event = failing.lines, failing.event
     line = (failing.row.line or 1) - 1
     last = line if event is None else lines.line_of(event.item.end)
-    return places.start <= lines.end(last) and lines.start(line) <= places.end
+    marked = failing.cause.get("text_line")
+    first = min(line, marked - 1) if isinstance(marked, int) else line
+    return places.start <= lines.end(last) and lines.start(first) <= places.end

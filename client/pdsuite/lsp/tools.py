@@ -8,7 +8,7 @@ from pdsuite.programs.places import RECORD, REGRESS, locate
 from pdsuite.programs.program import Ended, Program
 from pdsuite.programs.protocol import LONGEST_CAUSE, LONGEST_LINE, SETTLE, Cause, Unexpected
 from pdsuite.programs.protocol import add, causes_in, name_of, rows_in
-from pdsuite.programs.recorder import Recorder, Recording
+from pdsuite.programs.recorder import LEAST, Recorder, Recording
 from pdsuite.programs.refusals import refusals
 from pdsuite.programs.rows import Row
 from pdsuite.run.runs import RUN
@@ -51,6 +51,10 @@ class Tools:
                 del self._recordings[next(iter(self._recordings))]
             self._recordings[key] = self._recorder.record("the script", octets, settings)
         return self._recordings[key]
+
+    def mended(self, text: str, settings: Settings) -> str:
+        """A script with the least change with which it passes; empty where there is none."""
+        return self._recorder.record("the script", text.encode("utf-8", "surrogatepass"), settings, LEAST).text
 
     def rows(self, texts: Sequence[str], settings: Settings) -> list[Row | None]:
         """The rows of these texts; None of one that can't be a script."""

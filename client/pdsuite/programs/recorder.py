@@ -17,6 +17,9 @@ from pdsuite.signals import Stop
 # A recording has at most 4,096 events, each with a line of its state.
 _LONGEST = 8 << 20
 _TRACE = "--trace"
+# Has it change as little of a script as makes it pass, and leave no comment of packets that aren't sent.
+LEAST = "--least"
+DROP = "--drop"
 # A recording is expected to have so many octets at most, and so many for each octet of its script.
 _ROOM = 2_048
 _WRITTEN = 6
@@ -42,13 +45,16 @@ class Recorder:
         self._program = program
         self._fault = ""
 
-    def record(self, path: str, text: bytes, settings: Settings) -> Recording:
-        """The recording of a script, or why there is none: the program refuses it, ends on it, or isn't there."""
+    def record(self, path: str, text: bytes, settings: Settings, word: str = _TRACE) -> Recording:
+        """The recording of a script, or why there is none: the program refuses it, ends on it, or isn't there.
+
+        It has a trace, or is what another word asks for.
+        """
         program = self._located()
         if program is None:
             return Recording("", self._fault)
         try:
-            with Program([program, _TRACE, *_settings_words(settings)], self._stop) as started:
+            with Program([program, word, *_settings_words(settings)], self._stop) as started:
                 octets, said = started.record(text, _LONGEST)
         except Ended as end:
             self._note(f"pdsuite: {end}; {shown_path(Path(path))} isn't recorded")
@@ -66,7 +72,9 @@ class Recorder:
         return self._program
 
 
-def record_all(program: Path, texts: Sequence[bytes], settings: Settings, stop: Stop) -> Iterator[Recording]:
+def record_all(
+    program: Path, texts: Sequence[bytes], settings: Settings, stop: Stop, words: Sequence[str] = ()
+) -> Iterator[Recording]:
     """The recordings of texts under settings, without traces, or why there are none; a process records many.
 
     Where the program ends on a text, a new process goes on after that.
@@ -79,7 +87,7 @@ def record_all(program: Path, texts: Sequence[bytes], settings: Settings, stop: 
         while done < len(paths):
             part = paths[done : done + _FILES]
             try:
-                with Program([program, *_settings_words(settings), *part], stop) as started:
+                with Program([program, *words, *_settings_words(settings), *part], stop) as started:
                     for word, octets in started.sections(len(part), _LONGEST):
                         done += 1
                         yield _told(word, octets)
