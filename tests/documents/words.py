@@ -12,7 +12,7 @@ LIMITS: dict[tuple[str, ...], int] = {
     ("docs/TUTORIAL.md",): 1_200,
     ("docs/SENDER.md",): 4_000,
     ("docs/COMMANDS.md",): 760,
-    ("docs/SCRIPTS.md", "docs/SETTINGS.md", "docs/REFUSALS.md", "docs/RECORD.md", "docs/IMPORT.md"): 5_500,
+    ("docs/SCRIPTS.md", "docs/SETTINGS.md", "docs/REFUSALS.md", "docs/RECORD.md", "docs/IMPORT.md"): 5_770,
     ("docs/EXPLAIN.md",): 2_000,
     ("docs/SUITE.md",): 2_200,
     ("docs/EDITORS.md",): 500,
@@ -24,7 +24,7 @@ LIMITS: dict[tuple[str, ...], int] = {
     ("docs/DEVELOPING.md",): 1_800,
     ("CHANGELOG.md",): 600,
 }
-ALL = 33_500
+ALL = 33_770
 # Pages that stand beside what they are about.
 APART = frozenset({"crates/test_rows/README.md", "crates/test_sender/README.md", "tests/README.md"})
 # The pages that are read first, and how many words a sentence has there at most.
