@@ -201,7 +201,7 @@ def _recordable(layout: Layout, result: Result) -> Iterator[str]:
 
 
 def _touches(failing: Failing, places: Extent) -> bool:
-    """Whether a part of a text has something of the lines of the failing event, or of the line that is marked for it."""
+    """Whether a part of a text has something of the lines of the failing event, or of the line marked for it."""
     lines, event = failing.lines, failing.event
     line = (failing.row.line or 1) - 1
     last = line if event is None else lines.line_of(event.item.end)
