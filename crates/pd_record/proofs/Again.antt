@@ -1,5 +1,5 @@
 -- Recording what was recorded gives the same events.
-use Rattle.std.proofs.Common.{◌≡◌, ℕ, zero, suc, ◌+◌, ◌-◌, ◌≤◌, max, nat_le, Bool, true, Option, Some, None, List, [], ◌∷◌, ◌++◌, length, map, Result, Ok, Err, refl, sym, ap, subst, ◌∙◌, append_assoc, append-nil, length-append, arith}
+use Rattle.std.proofs.Common.{◌≡◌, ℕ, zero, suc, ◌+◌, ◌-◌, ◌≤◌, max, nat_le, Bool, true, Option, Some, None, List, [], ◌∷◌, ◌++◌, length, map, option_map, Result, Ok, Err, refl, sym, ap, subst, ◌∙◌, append_assoc, append-nil, length-append, arith}
 use Rattle.std.proofs.lemmas.Bool.{leb-true}
 use Rattle.pd_settings.specs.declared.fields.Settings.{Settings}
 use Rattle.pd_script.specs.Script.{script_of}
@@ -24,6 +24,8 @@ use Rattle.pd_run.specs.Laws.{IsUnderway, StartsUnderway, StepsGoOn}
 use Rattle.pd_run.specs.Run.{start_of}
 use Rattle.pd_run.specs.Step.{RunStateView, step, tolerance_of}
 use Rattle.pd_run.specs.Times.{moment_of, moments_of, is_in_reach}
+use Rattle.pd_run.specs.Verdicts.{barred_at}
+use Rattle.pd_run.specs.declared.bars.Bar.{Bar}
 use Rattle.pd_run.specs.Why.{ReasonsGiveVerdicts}
 use Rattle.pd_run.specs.declared.verdicts.Verdict.{Verdict}
 use Rattle.pd_record.specs.Following.{RecordingsFollowRuns}
@@ -34,7 +36,7 @@ use Rattle.pd_record.specs.Recorder.{RecorderView, Took, Answers, then_do, unles
 use Rattle.pd_record.specs.declared.refusals.NotRecorded.TheVariants.{Stopped}
 use Rattle.pd_record.specs.declared.tape.Own.{Own}
 use Rattle.pd_record.specs.declared.tape.Recorded.{Recorded}
-use Rattle.pd_record.proofs.Leaves.{step_passes, after_arrival, after_call, IsMoved, moved, met_again}
+use Rattle.pd_record.proofs.Leaves.{step_unbarred, after_arrival, after_call, IsMoved, moved, met_again}
 use Rattle.pd_record.proofs.Leaving.{comes_over}
 use Rattle.pd_record.proofs.Lines.{step_unplaced, same_start, as_many, passes_as_read}
 use Rattle.pd_record.proofs.Passing.{ok, given, both, no_refusal, alone, owned, own_of, answer_own, took, tracked, blank}
@@ -84,7 +86,7 @@ same_event x e same = ap (λ (y : Event). record y { line = e.line }) same
 
 -- nothing rules at an event whose step goes on
 pub no_ruling : (n : ℕ) (r s : RunStateView) (e : Event) → step r e ≡ Ok s → ruling_at (calm n r) e ≡ None
-no_ruling n r s e h = let passed = step_passes r s e h in rw (passed.0, passed.1, passed.2) refl
+no_ruling n r s e h = ap (option_map (λ (bar : Bar). Stopped (barred_at e.line bar))) (step_unbarred r s e h)
 
 -- ---- inputs
 

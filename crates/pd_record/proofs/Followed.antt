@@ -32,7 +32,8 @@ use Rattle.pd_run.specs.Why.{verdict_at, verdict_by_step, why}
 use Rattle.pd_run.specs.declared.verdicts.Verdict.{Verdict}
 use Rattle.pd_run.specs.declared.verdicts.Verdict.TheVariants.{Pass, Syntax}
 use Rattle.pd_run.specs.declared.whys.Why.{Why}
-use Rattle.pd_run.specs.declared.whys.Why.TheVariants.{OverLimit, NotRun, Backwards, Halted, Missing, Differs, Answered}
+use Rattle.pd_run.specs.declared.bars.Bar.TheVariants.{OverLimit, NotRun, Backwards}
+use Rattle.pd_run.specs.declared.whys.Why.TheVariants.{Barred, Halted, Missing, Differs, Answered}
 use Rattle.pd_record.specs.Following.{Input, input_at, inputs_from, inputs_of, taken_at, taken_from, taken_of, own_in, all_taken, inputs_in, departure_at, departures_in, departed, FollowsRun, RecordingsFollowRuns}
 use Rattle.pd_record.specs.Recording.{Tracked, records, closed, tracks_of, recording_in, events_in, event_in, events_of_all}
 use Rattle.pd_record.specs.Recorder.{RecorderView, Took, Answers, then_do, blank_from, recorded_as, event_at, happened, leaves_next, departs, left_by, with_base, acts_at, inputs, arrives, answer_at, with_answer, calls, based_after, meets, meets_oldest, ruling_at, performed, recorded}
@@ -40,11 +41,12 @@ use Rattle.pd_record.specs.declared.refusals.NotRecorded.TheVariants.{Stopped}
 use Rattle.pd_record.specs.declared.tape.Own.{Own}
 use Rattle.pd_record.specs.declared.tape.Recorded.{Recorded}
 use Rattle.pd_run.specs.Laws.{IsUnderway}
+use Rattle.pd_run.proofs.Bounds.{agreed, step_performs}
 use Rattle.pd_record.proofs.Again.{Bases, IsReady, gone, has_happened, packet_went, event_went, events_went}
 use Rattle.pd_record.proofs.Freed.{came_by, in_front, both_in_front, find_due, advanced_freed, none_due}
 use Rattle.pd_record.proofs.FreedArrivals.{arrived_freed}
 use Rattle.pd_record.proofs.FreedCalls.{beside_answer, called_freed}
-use Rattle.pd_record.proofs.Leaves.{step_passes, agreed, no_items, stands_next, expires_next}
+use Rattle.pd_record.proofs.Leaves.{no_items, stands_next, expires_next}
 use Rattle.pd_record.proofs.Lines.{verdict_begun}
 use Rattle.pd_record.proofs.Meeting.{Met, Waits, met, same_before, without_first, moment, LeftOver, all_left}
 use Rattle.pd_record.proofs.Passing.{ok, given, both, no_refusal, own_of, answer_own, took, tracked, blank}
@@ -159,7 +161,7 @@ module _ (laws : Bases) where
       let x : Event = event_at t e.line sent.at (Outbound packet) in
       let was = has_happened t e.line sent.at (Outbound packet) b.0 b.1 in
       let u : RunStateView = was.0 in
-      let n = met t.run u x packet (step_passes t.run u x was.1.0).3 in
+      let n = met t.run u x packet (step_performs t.run u x was.1.0) in
       let alike = same_before r s t.run u e x sent n.0 (sym f.state) f.clock m.1 n.1 in
       let left : RecorderView × Recorded = (gone t u, recorded_as sent.at x) in
       let went = packet_went laws t e.line may sent b.0 f.ready next b.1 in
@@ -228,7 +230,7 @@ calls_free call = record {
 abbrev ActedIn : Acting → RunStateView → Event → RunStateView → Type 0
 ActedIn acts r e s = (a b : State) × (advanced (run.acts_at r e) r.host.state ≡ Ok a) × acts (run.acts_at r e) a b × (acted r e b ≡ s)
 
-abbrev run_came : RunStateView → Result RunStateView Verdict
+abbrev run_came : RunStateView → Result RunStateView Why
 run_came r = Ok r
 
 arrival_came : (r s : RunStateView) (e : Event) (came : Result State Halt) → on_arrival r e came ≡ Ok s → (b : State) × (came ≡ Ok b) × (acted r e b ≡ s)
@@ -243,7 +245,7 @@ arrival_in r s e p h =
 
 answer_came : (r s : RunStateView) (e : Event) (call : Call) (came : Result (State × Answer) Halt) → on_answer r e call came ≡ Ok s
     → (x : State × Answer) × (came ≡ Ok x) × (acted r e x.0 ≡ s)
-answer_came r s e call (Ok (b, answer)) h = ((b, answer), refl, agreed e.line (acted r e b) s (result_mismatch call.result answer) h)
+answer_came r s e call (Ok (b, answer)) h = ((b, answer), refl, agreed (acted r e b) s _ (result_mismatch call.result answer) h)
 answer_came r s e call (Err stop) h = absurd cc
 
 call_in : (r s : RunStateView) (e : Event) (call : Call) → run.performed r e (Calls call) ≡ Ok s → ActedIn (CalledAt call) r e s
@@ -284,7 +286,7 @@ arrival_own line at p q z ready early none h =
     let was = has_happened q line at (Inbound p) b.0 b.1 in
     let x : Event = event_at q line at (Inbound p) in
     let base : q.run.base ≤ at = omega (arith, early, ready.timely) in
-    let so = acts_now (ArrivesAt p) q.run was.0 x at (acts_then q line at (Inbound p) base early) none (arrival_in q.run was.0 x p (step_passes q.run was.0 x was.1.0).3) in
+    let so = acts_now (ArrivesAt p) q.run was.0 x at (acts_then q line at (Inbound p) base early) none (arrival_in q.run was.0 x p (step_performs q.run was.0 x was.1.0)) in
     let its : (gone q was.0, own_of (recorded_as at x)) ≡ z = ap (λ (w : RecorderView × Recorded). (w.0, own_of w.1)) (sym was.1.2) ∙ given (b.0.0, own_of b.0.1) z b.2 in
     subst (OwnActs (ArrivesAt p) at (Inbound p) q) its
     (record { after = was.0; acts_so = so.0; clock = so.1; written = so.2; tape = refl; input = refl; packet = refl })
@@ -299,7 +301,7 @@ call_own line at call q z ready early none h =
     let was = has_happened q line at (Calls made) b.0 b.1 in
     let x : Event = event_at q line at (Calls made) in
     let base : q.run.base ≤ at = omega (arith, early, ready.timely) in
-    let so = acts_now (CalledAt made) q.run was.0 x at (acts_then q line at (Calls made) base early) none (call_in q.run was.0 x made (step_passes q.run was.0 x was.1.0).3) in
+    let so = acts_now (CalledAt made) q.run was.0 x at (acts_then q line at (Calls made) base early) none (call_in q.run was.0 x made (step_performs q.run was.0 x was.1.0)) in
     let its : seen a.0 (gone q was.0, recorded_as at x) ≡ z = ap (seen a.0) (sym was.1.2) ∙ given (seen a.0 b.0) z b.2 in
     subst (OwnActs (CalledAt call) at (Calls call) q) its
     (record { after = was.0; acts_so = so.0; clock = so.1; written = so.2; tape = refl; input = refl; packet = refl })
@@ -398,13 +400,13 @@ module _ (laws : Bases) where
 
   event_goes : (r s : RunStateView) (t : RecorderView) (w : List Sent) (e : Event) (y : RecorderView × Took) → Follows r t w → step r e ≡ Ok s → recorded t e ≡ Ok y → Goes r s w e e.action y
   event_goes r s t w e y f h k =
-      performed_goes r s t w e e.action y f (event_went laws t e y f.ready k).ready (step_passes r s e h).3 (no_refusal (performed t e e.action) (ruling_at t e) y k).1
+      performed_goes r s t w e e.action y f (event_went laws t e y f.ready k).ready (step_performs r s e h) (no_refusal (performed t e e.action) (ruling_at t e) y k).1
 
   -- a step that stops has no verdict that passes
   never_passes : (line n : ℕ) (reason : Why) → verdict_at line reason ≡ Pass n → ⊥
-  never_passes line n OverLimit h = cc
-  never_passes line n NotRun h = cc
-  never_passes line n Backwards h = cc
+  never_passes line n (Barred OverLimit) h = cc
+  never_passes line n (Barred NotRun) h = cc
+  never_passes line n (Barred Backwards) h = cc
   never_passes line n (Halted halt.Unsupported) h = cc
   never_passes line n (Halted halt.Limit) h = cc
   never_passes line n Missing h = cc

@@ -20,36 +20,18 @@ use Rattle.pd_host.specs.declared.halts.Halt.{Halt}
 use Rattle.pd_host.specs.declared.sender_state.State.{State}
 use Rattle.pd_match.specs.Calls.{result_mismatch}
 use Rattle.pd_match.specs.Packets.{mismatch}
-use Rattle.pd_match.specs.declared.kinds.Kind.{Kind}
-use Rattle.pd_match.specs.declared.kinds.Kind.TheVariants.{Missing, Backwards}
-use Rattle.pd_run.specs.Limits.{is_over_limit}
-use Rattle.pd_run.specs.Shapes.{is_run}
-use Rattle.pd_run.specs.Step.{RunStateView, KeepsTime, tolerance_of, noted, on_step, judged, with_state, acts_at, acted, arrives, on_arrival, answers, on_answer, on_expiry, expires, awaited, packet_taken, leaves, performed, step}
-use Rattle.pd_run.specs.Times.{is_single, moment_of, moments_of, is_backwards, is_in_reach, base_after}
-use Rattle.pd_run.specs.declared.verdicts.Verdict.{Verdict}
-use Rattle.pd_run.specs.declared.verdicts.Verdict.TheVariants.{Fail, Unsupported, Limit}
+use Rattle.pd_run.specs.Bars.{bar_of}
+use Rattle.pd_run.specs.RunStates.{RunStateView, KeepsTime}
+use Rattle.pd_run.specs.Step.{tolerance_of, noted, on_step, with_state, acts_at, acted, arrives, on_arrival, answers, on_answer, on_expiry, expires, awaited, packet_taken, leaves, performed, outcome, step}
+use Rattle.pd_run.specs.Times.{is_single, moment_of, moments_of, is_in_reach, base_after}
+use Rattle.pd_run.specs.declared.whys.Why.{Why}
+use Rattle.pd_run.specs.declared.whys.Why.TheVariants.{Missing}
+use Rattle.pd_run.proofs.Bounds.{given, agreed, goes, unbarred, step_performs}
 use Rattle.pd_record.specs.Recorder.{oldest_of, or_expired, due_where, leaves_next}
 
-abbrev pub ok : RunStateView → Result RunStateView Verdict
-ok r = Ok r
-
-pub given : (r s : RunStateView) → ok r ≡ ok s → r ≡ s
-given r s h = cc
-
--- what a step that goes on passed
-abbrev pub Passes : RunStateView → RunStateView → Event → Type 0
-Passes r s e = (is_over_limit e ≡ false) × (is_run e ≡ true) × (is_backwards r.base e.time ≡ false) × (performed r e e.action ≡ Ok s)
-
-checked : (a b c : Bool) (u v w : Verdict) (came : Result RunStateView Verdict) (s : RunStateView)
-    → (if a then Err u else (if not b then Err v else (if c then Err w else came))) ≡ Ok s
-    → (a ≡ false) × (b ≡ true) × (c ≡ false) × (came ≡ Ok s)
-checked true b c u v w came s h = absurd cc
-checked false false c u v w came s h = absurd cc
-checked false true true u v w came s h = absurd cc
-checked false true false u v w came s h = (refl, refl, refl, h)
-
-pub step_passes : (r s : RunStateView) (e : Event) → step r e ≡ Ok s → Passes r s e
-step_passes r s e h = checked (is_over_limit e) (is_run e) (is_backwards r.base e.time) (Limit e.line) (Unsupported e.line) (Fail e.line Backwards) (performed r e e.action) s h
+-- no check barred an event whose step goes on
+pub step_unbarred : (r s : RunStateView) (e : Event) → step r e ≡ Ok s → bar_of r.base e ≡ None
+step_unbarred r s e h = (unbarred (performed r e e.action) (bar_of r.base e) s (goes e.line (outcome r e) s h)).0
 
 -- ---- inputs
 
@@ -57,23 +39,19 @@ step_passes r s e h = checked (is_over_limit e) (is_run e) (is_backwards r.base 
 abbrev Acted : RunStateView → RunStateView → Event → Type 0
 Acted r s e = (s.base ≡ moment_of r.base e.time) × (s.clock ≡ acts_at r e)
 
-pub agreed : (line : ℕ) (r s : RunStateView) (kind : Option Kind) → judged line r kind ≡ Ok s → r ≡ s
-agreed line r s None h = given r s h
-agreed line r s (Some kind) h = absurd cc
-
 arrived_acted : (r s : RunStateView) (e : Event) (came : Result State Halt) → on_arrival r e came ≡ Ok s → Acted r s e
 arrived_acted r s e (Ok t) h = subst (λ (x : RunStateView). Acted r x e) (given (acted r e t) s h) (refl, refl)
 arrived_acted r s e (Err halt) h = absurd cc
 
 answered_acted : (r s : RunStateView) (e : Event) (call : Call) (came : Result (State × Answer) Halt) → on_answer r e call came ≡ Ok s → Acted r s e
-answered_acted r s e call (Ok (t, answer)) h = subst (λ (x : RunStateView). Acted r x e) (agreed e.line (acted r e t) s (result_mismatch call.result answer) h) (refl, refl)
+answered_acted r s e call (Ok (t, answer)) h = subst (λ (x : RunStateView). Acted r x e) (agreed (acted r e t) s _ (result_mismatch call.result answer) h) (refl, refl)
 answered_acted r s e call (Err halt) h = absurd cc
 
 pub after_arrival : (r s : RunStateView) (e : Event) (p : Packet) → e.action ≡ Inbound p → step r e ≡ Ok s → Acted r s e
-after_arrival r s e p is h = arrived_acted r s e (arrives r e p) (subst (λ (a : Action). performed r e a ≡ Ok s) is (step_passes r s e h).3)
+after_arrival r s e p is h = arrived_acted r s e (arrives r e p) (subst (λ (a : Action). performed r e a ≡ Ok s) is (step_performs r s e h))
 
 pub after_call : (r s : RunStateView) (e : Event) (call : Call) → e.action ≡ Calls call → step r e ≡ Ok s → Acted r s e
-after_call r s e call is h = answered_acted r s e call (answers r e call) (subst (λ (a : Action). performed r e a ≡ Ok s) is (step_passes r s e h).3)
+after_call r s e call is h = answered_acted r s e call (answers r e call) (subst (λ (a : Action). performed r e a ≡ Ok s) is (step_performs r s e h))
 
 -- ---- packets that leave
 
@@ -88,13 +66,13 @@ took : (e : Event) (p : Packet) (q s : RunStateView) (o : Option Sent) → slice
 took e p q s None is h = absurd cc
 took e p q s (Some sent) is h =
     let next : RunStateView = record q { host = without_oldest q.host; base = base_after q.base e.time sent.at } in
-    let same : next ≡ s = agreed e.line next s (mismatch p (moments_of q.base e.time) sent (tolerance_of q)) h in
+    let same : next ≡ s = agreed next s _ (mismatch p (moments_of q.base e.time) sent (tolerance_of q)) h in
     (sent, is, sym (ap (λ (x : RunStateView). x.base) same), sym (ap (λ (x : RunStateView). x.clock) same))
 
-pub both : (go : RunStateView → Result RunStateView Verdict) (came : Result RunStateView Verdict) (s : RunStateView) → on_step go (λ v. Err v) came ≡ Ok s
+pub both : (go : RunStateView → Result RunStateView Why) (came : Result RunStateView Why) (s : RunStateView) → on_step go (λ reason. Err reason) came ≡ Ok s
     → (t : RunStateView) × (came ≡ Ok t) × (go t ≡ Ok s)
 both go (Ok t) s h = (t, refl, h)
-both go (Err v) s h = absurd cc
+both go (Err reason) s h = absurd cc
 
 after_leaving : (r s : RunStateView) (e : Event) (p : Packet) → leaves (noted r) e p ≡ Ok s → Taken r s e p
 after_leaving r s e p h =
@@ -103,28 +81,28 @@ after_leaving r s e p h =
     (went.0, last.0, went.1, last.1, last.2, last.3)
 
 pub after_packet : (r s : RunStateView) (e : Event) (p : Packet) → e.action ≡ Outbound p → step r e ≡ Ok s → Taken r s e p
-after_packet r s e p is h = after_leaving r s e p (subst (λ (a : Action). performed r e a ≡ Ok s) is (step_passes r s e h).3)
+after_packet r s e p is h = after_leaving r s e p (subst (λ (a : Action). performed r e a ≡ Ok s) is (step_performs r s e h))
 
 -- what was awaited: the packet was there, or the next expiry sent it
 abbrev pub Awaited : RunStateView → RunStateView → Event → Type 0
 Awaited r q e = (length r.host.state.endpoint.outbox ≡ 0) × (at : ℕ) × (t : State) × (deadline_of r.host.state ≡ Some at) × (advanced at r.host.state ≡ Ok t) × (q ≡ record (with_state r t) { clock = at })
     × (is_in_reach (moments_of r.base e.time) (tolerance_of r) at ≡ true)
 
-on_time : (r q : RunStateView) (e : Event) (at : ℕ) (came : Result State Halt) → on_expiry r e at came ≡ Ok q → (t : State) × (came ≡ Ok t) × (q ≡ record (with_state r t) { clock = at })
-on_time r q e at (Ok t) h = (t, refl, sym (given (record (with_state r t) { clock = at }) q h))
-on_time r q e at (Err halt) h = absurd cc
+on_time : (r q : RunStateView) (at : ℕ) (came : Result State Halt) → on_expiry r at came ≡ Ok q → (t : State) × (came ≡ Ok t) × (q ≡ record (with_state r t) { clock = at })
+on_time r q at (Ok t) h = (t, refl, sym (given (record (with_state r t) { clock = at }) q h))
+on_time r q at (Err halt) h = absurd cc
 
-in_reach : (b : Bool) (v : Verdict) (came : Result RunStateView Verdict) (q : RunStateView) → (if b then came else Err v) ≡ Ok q → (came ≡ Ok q) × (b ≡ true)
-in_reach true v came q h = (h, refl)
-in_reach false v came q h = absurd cc
+in_reach : (b : Bool) (came : Result RunStateView Why) (q : RunStateView) → (if b then came else Err Missing) ≡ Ok q → (came ≡ Ok q) × (b ≡ true)
+in_reach true came q h = (h, refl)
+in_reach false came q h = absurd cc
 
 expired_at : (r q : RunStateView) (e : Event) (o : Option ℕ) → deadline_of r.host.state ≡ o → expires r e o ≡ Ok q
     → (at : ℕ) × (t : State) × (deadline_of r.host.state ≡ Some at) × (advanced at r.host.state ≡ Ok t) × (q ≡ record (with_state r t) { clock = at })
     × (is_in_reach (moments_of r.base e.time) (tolerance_of r) at ≡ true)
 expired_at r q e None is h = absurd cc
 expired_at r q e (Some at) is h =
-    let reached = in_reach (is_in_reach (moments_of r.base e.time) (tolerance_of r) at) (Fail e.line Missing) (on_expiry r e at (advanced at r.host.state)) q h in
-    let came = on_time r q e at (advanced at r.host.state) reached.0 in
+    let reached = in_reach (is_in_reach (moments_of r.base e.time) (tolerance_of r) at) (on_expiry r at (advanced at r.host.state)) q h in
+    let came = on_time r q at (advanced at r.host.state) reached.0 in
     (at, came.0, is, came.1, came.2, reached.1)
 
 pub which_awaited : (r q : RunStateView) (e : Event) → awaited r e ≡ Ok q → (q ≡ r) ⊎ Awaited r q e

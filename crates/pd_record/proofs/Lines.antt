@@ -1,114 +1,25 @@
 -- The lines on which events stand don't matter to a run that goes on.
-use Rattle.std.proofs.Common.{◌≡◌, ℕ, suc, ◌+◌, ◌==◌, Bool, true, false, not, if◌then◌else◌, Option, Some, None, is_none, List, [], ◌∷◌, find, length, slice_get, Result, Ok, Err, refl, sym, ap, subst, ◌∙◌, arith}
+use Rattle.std.proofs.Common.{◌≡◌, ℕ, suc, ◌+◌, Bool, false, Option, Some, None, is_none, List, [], ◌∷◌, find, length, Result, Ok, Err, refl, sym, ap, subst, ◌∙◌, arith}
 use Rattle.std.specs.List.{filter_map, last_or, cons_option}
 use Rattle.pd_settings.specs.declared.fields.Settings.{Settings}
 use Rattle.pd_script.specs.Script.{script_of}
-use Rattle.pd_script.specs.declared.calls.Call.{Call}
-use Rattle.pd_script.specs.declared.packets.Packet.{Packet}
 use Rattle.pd_script.specs.declared.parsing.Parsed.{Parsed}
-use Rattle.pd_script.specs.declared.script_events.Action.{Action}
-use Rattle.pd_script.specs.declared.script_events.Action.TheVariants.{Inbound, Outbound, Call as Calls, Command, Code}
 use Rattle.pd_script.specs.declared.script_events.Event.{Event}
 use Rattle.pd_script.specs.declared.script_header.HeaderItem.{HeaderItem}
-use Rattle.pd_seg.specs.declared.answers.Answer.{Answer}
-use Rattle.pd_seg.specs.declared.segments.Sent.{Sent}
-use Rattle.pd_host.specs.Expiries.{advanced, deadline_of}
-use Rattle.pd_host.specs.Host.{fresh_host, without_oldest}
-use Rattle.pd_host.specs.declared.halts.Halt.{Halt}
-use Rattle.pd_host.specs.declared.sender_state.State.{State}
-use Rattle.pd_match.specs.Calls.{result_mismatch}
-use Rattle.pd_match.specs.Packets.{mismatch}
-use Rattle.pd_match.specs.declared.kinds.Kind.{Kind}
-use Rattle.pd_match.specs.declared.kinds.Kind.TheVariants.{Missing, Backwards}
-use Rattle.pd_run.specs.Limits.{is_over_limit}
+use Rattle.pd_host.specs.Host.{fresh_host}
 use Rattle.pd_run.specs.Run.{tolerance_written, tolerance_in, start_of, verdict_in, verdict_of, verdict_from}
-use Rattle.pd_run.specs.Shapes.{is_run}
-use Rattle.pd_run.specs.Step.{RunStateView, tolerance_of, noted, on_step, judged, acted, arrives, on_arrival, answers, on_answer, on_expiry, expires, awaited, packet_taken, leaves, performed, step}
-use Rattle.pd_run.specs.Times.{moments_of, is_backwards, is_in_reach, base_after}
+use Rattle.pd_run.specs.RunStates.{RunStateView}
+use Rattle.pd_run.specs.Step.{outcome, at_line, step}
 use Rattle.pd_run.specs.declared.verdicts.Verdict.{Verdict}
-use Rattle.pd_run.specs.declared.verdicts.Verdict.TheVariants.{Pass, Fail, Unsupported, Limit}
+use Rattle.pd_run.specs.declared.verdicts.Verdict.TheVariants.{Pass, Unsupported}
 use Rattle.pd_record.specs.Recording.{Tracked, tracks_of, events_of}
 use Rattle.pd_layout.specs.Sameness.{unplaced, AreTheSame, kinds_of, IsReadAs}
+use Rattle.pd_run.proofs.Bounds.{goes}
 use Rattle.pd_record.proofs.Passing.{Through, passes, recording_goes}
 
--- the event at another line
-abbrev at_line : ℕ → Event → Event
-at_line line e = record e { line = line }
-
--- where what is performed goes on at another line, so does a step
-checks : (a b c : Bool) (u v w x y z : Verdict) (came other : Result RunStateView Verdict) (s : RunStateView) → (came ≡ Ok s → other ≡ Ok s)
-    → (if a then Err u else (if not b then Err v else (if c then Err w else came))) ≡ Ok s
-    → (if a then Err x else (if not b then Err y else (if c then Err z else other))) ≡ Ok s
-checks true b c u v w x y z came other s go h = absurd cc
-checks false false c u v w x y z came other s go h = absurd cc
-checks false true true u v w x y z came other s go h = absurd cc
-checks false true false u v w x y z came other s go h = go h
-
-arrival : (r s : RunStateView) (e : Event) (line : ℕ) (came : Result State Halt) → on_arrival r e came ≡ Ok s → on_arrival r (at_line line e) came ≡ Ok s
-arrival r s e line (Ok t) h = h
-arrival r s e line (Err halt) h = absurd cc
-
-judging : (line other : ℕ) (r s : RunStateView) (kind : Option Kind) → judged line r kind ≡ Ok s → judged other r kind ≡ Ok s
-judging line other r s None h = h
-judging line other r s (Some kind) h = absurd cc
-
-answering : (r s : RunStateView) (e : Event) (line : ℕ) (call : Call) (came : Result (State × Answer) Halt) → on_answer r e call came ≡ Ok s → on_answer r (at_line line e) call came ≡ Ok s
-answering r s e line call (Ok (t, answer)) h = judging e.line line (acted r e t) s (result_mismatch call.result answer) h
-answering r s e line call (Err halt) h = absurd cc
-
-taking : (e : Event) (line : ℕ) (p : Packet) (r s : RunStateView) (o : Option Sent) → packet_taken e p r o ≡ Ok s → packet_taken (at_line line e) p r o ≡ Ok s
-taking e line p r s None h = absurd cc
-taking e line p r s (Some sent) h =
-    judging e.line line (record r { host = without_oldest r.host; base = base_after r.base e.time sent.at }) s (mismatch p (moments_of r.base e.time) sent (tolerance_of r)) h
-
-expiring : (r s : RunStateView) (e : Event) (line at : ℕ) (came : Result State Halt) → on_expiry r e at came ≡ Ok s → on_expiry r (at_line line e) at came ≡ Ok s
-expiring r s e line at (Ok t) h = h
-expiring r s e line at (Err halt) h = absurd cc
-
-reaching : (b : Bool) (v w : Verdict) (came other : Result RunStateView Verdict) (s : RunStateView) → (came ≡ Ok s → other ≡ Ok s)
-    → (if b then came else Err v) ≡ Ok s → (if b then other else Err w) ≡ Ok s
-reaching true v w came other s go h = go h
-reaching false v w came other s go h = absurd cc
-
-expired : (r s : RunStateView) (e : Event) (line : ℕ) (o : Option ℕ) → expires r e o ≡ Ok s → expires r (at_line line e) o ≡ Ok s
-expired r s e line None h = absurd cc
-expired r s e line (Some at) h =
-    reaching (is_in_reach (moments_of r.base e.time) (tolerance_of r) at) (Fail e.line Missing) (Fail line Missing)
-    (on_expiry r e at (advanced at r.host.state)) (on_expiry r (at_line line e) at (advanced at r.host.state)) s
-    (expiring r s e line at (advanced at r.host.state)) h
-
-choosing : (b : Bool) (came other here : Result RunStateView Verdict) (s : RunStateView) → (came ≡ Ok s → other ≡ Ok s)
-    → (if b then came else here) ≡ Ok s → (if b then other else here) ≡ Ok s
-choosing true came other here s go h = go h
-choosing false came other here s go h = h
-
-awaiting : (r s : RunStateView) (e : Event) (line : ℕ) → awaited r e ≡ Ok s → awaited r (at_line line e) ≡ Ok s
-awaiting r s e line h =
-    choosing (length r.host.state.endpoint.outbox == 0) (expires r e (deadline_of r.host.state)) (expires r (at_line line e) (deadline_of r.host.state)) (Ok r) s
-    (expired r s e line (deadline_of r.host.state)) h
-
-both : (go : RunStateView → Result RunStateView Verdict) (came : Result RunStateView Verdict) (s : RunStateView) → on_step go (λ v. Err v) came ≡ Ok s
-    → (t : RunStateView) × (came ≡ Ok t) × (go t ≡ Ok s)
-both go (Ok t) s h = (t, refl, h)
-both go (Err v) s h = absurd cc
-
-leaving : (r s : RunStateView) (e : Event) (line : ℕ) (p : Packet) → leaves r e p ≡ Ok s → leaves r (at_line line e) p ≡ Ok s
-leaving r s e line p h =
-    let went = both (λ (t : RunStateView). packet_taken e p t (slice_get t.host.state.endpoint.outbox 0)) (awaited r e) s h in
-    ap (on_step (λ (t : RunStateView). packet_taken (at_line line e) p t (slice_get t.host.state.endpoint.outbox 0)) (λ v. Err v)) (awaiting r went.0 e line went.1)
-    ∙ taking e line p went.0 s (slice_get went.0.host.state.endpoint.outbox 0) went.2
-
-performing : (r s : RunStateView) (e : Event) (line : ℕ) (action : Action) → performed r e action ≡ Ok s → performed r (at_line line e) action ≡ Ok s
-performing r s e line (Inbound p) h = arrival r s e line (arrives r e p) h
-performing r s e line (Outbound p) h = leaving (noted r) s e line p h
-performing r s e line (Calls call) h = answering r s e line call (answers r e call) h
-performing r s e line Command h = absurd cc
-performing r s e line Code h = absurd cc
-
-stepping : (r s : RunStateView) (e : Event) (line : ℕ) → step r e ≡ Ok s → step r (at_line line e) ≡ Ok s
-stepping r s e line h =
-    checks (is_over_limit e) (is_run e) (is_backwards r.base e.time) (Limit e.line) (Unsupported e.line) (Fail e.line Backwards) (Limit line) (Unsupported line) (Fail line Backwards)
-    (performed r e e.action) (performed r (at_line line e) e.action) s (performing r s e line e.action) h
+-- how an event ends doesn't depend on its line
+stepping : (r s : RunStateView) (e : Event) (line : ℕ) → step r e ≡ Ok s → step r (record e { line = line }) ≡ Ok s
+stepping r s e line h = ap (at_line line) (goes e.line (outcome r e) s h)
 
 -- a step goes on at any line
 pub step_unplaced : (r s : RunStateView) (d e : Event) → unplaced d ≡ unplaced e → step r d ≡ Ok s → step r e ≡ Ok s

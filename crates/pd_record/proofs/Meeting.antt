@@ -13,13 +13,14 @@ use Rattle.pd_match.specs.Packets.{mismatch}
 use Rattle.pd_print.specs.Sent.{packet_of}
 use Rattle.pd_run.specs.Step.{RunStateView, tolerance_of, noted, on_step, with_state, awaited, packet_taken as compared, leaves}
 use Rattle.pd_run.specs.Times.{moments_of, is_in_reach, base_after}
-use Rattle.pd_run.specs.declared.verdicts.Verdict.{Verdict}
+use Rattle.pd_run.specs.declared.whys.Why.{Why}
+use Rattle.pd_run.proofs.Bounds.{agreed, step_performs}
 use Rattle.pd_record.specs.Following.{input_at, inputs_in, departure_at, departures_in, departed}
 use Rattle.pd_record.specs.Recorder.{RecorderView, Answers, recorded_as, event_at, leaves_next, or_expired, due_where, oldest_of, departs, with_unmet, comes, comes_on}
 use Rattle.pd_record.specs.declared.tape.Recorded.{Recorded}
 use Rattle.pd_record.proofs.Again.{Bases, IsReady, has_happened, packet_went}
 use Rattle.pd_record.proofs.Freed.{came_by, in_front, find_due, advanced_freed, advanced_on, none_due}
-use Rattle.pd_record.proofs.Leaves.{Awaited, Stands, Expires, step_passes, agreed, both as stepped_both, which_awaited, what_leaves, no_items, none_in, first_sent}
+use Rattle.pd_record.proofs.Leaves.{Awaited, Stands, Expires, both as stepped_both, which_awaited, what_leaves, no_items, none_in, first_sent}
 use Rattle.pd_record.proofs.Passing.{given, both}
 
 -- a state that came
@@ -76,15 +77,15 @@ took : (e : Event) (p : Packet) (q s : RunStateView) (o : Option Sent) → slice
     → (sent : Sent) × (slice_get q.host.state.endpoint.outbox 0 ≡ Some sent) × (taken_by q e sent ≡ s)
 took e p q s None is h = absurd cc
 took e p q s (Some sent) is h =
-    (sent, is, agreed e.line (taken_by q e sent) s (mismatch p (moments_of q.base e.time) sent (tolerance_of q)) h)
+    (sent, is, agreed (taken_by q e sent) s _ (mismatch p (moments_of q.base e.time) sent (tolerance_of q)) h)
 
-abbrev came_to : RunStateView → Result RunStateView Verdict
+abbrev came_to : RunStateView → Result RunStateView Why
 came_to r = Ok r
 
 took_one : (r q : RunStateView) (e : Event) (sent : Sent) → awaited (noted r) e ≡ came_to q → slice_get q.host.state.endpoint.outbox 0 ≡ Some sent
     → on_step (λ x. take 1 x.host.state.endpoint.outbox) (λ v. []) (awaited (noted r) e) ≡ sent ∷ []
 took_one r q e sent is first =
-    ap (λ (came : Result RunStateView Verdict). on_step (λ x. take 1 x.host.state.endpoint.outbox) (λ v. []) came) is ∙ one_of q.host.state.endpoint.outbox sent first
+    ap (λ (came : Result RunStateView Why). on_step (λ x. take 1 x.host.state.endpoint.outbox) (λ v. []) came) is ∙ one_of q.host.state.endpoint.outbox sent first
 
 pub met : (r s : RunStateView) (e : Event) (p : Packet) → leaves (noted r) e p ≡ Ok s → (sent : Sent) × Met r s e sent
 met r s e p h =
@@ -256,7 +257,7 @@ module _ (laws : Bases) where
       let x : Event = event_at t line sent.at (Outbound packet) in
       let was = has_happened t line sent.at (Outbound packet) b.0 b.1 in
       let s : RunStateView = was.0 in
-      let m = met t.run s x packet (step_passes t.run s x was.1.0).3 in
+      let m = met t.run s x packet (step_performs t.run s x was.1.0) in
       let its = takes_next may t.run s x sent m.0 is m.1 in
       let first = packet_went laws t line may sent b.0 ready is b.1 in
       let within : b.0.0.run.clock ≤ until = first.1 until (λ at comes. leb-true at until comes) early in

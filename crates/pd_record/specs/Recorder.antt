@@ -1,5 +1,5 @@
 -- What is recorded, event by event.
-use Rattle.std.specs.Prelude.{ℕ, zero, suc, ◌+◌, ◌-◌, max, nat_le, nat_lt, not, Bool, slice_get, List, [], ◌∷◌, ◌++◌, Option, Some, None, unwrap_or, is_none, Result, Ok, Err, if◌then◌else◌}
+use Rattle.std.specs.Prelude.{ℕ, zero, suc, ◌+◌, ◌-◌, max, nat_le, nat_lt, Bool, slice_get, List, [], ◌∷◌, ◌++◌, Option, Some, None, option_map, unwrap_or, is_none, Result, Ok, Err, if◌then◌else◌}
 use Rattle.pd_settings.specs.declared.fields.Settings.{Settings}
 use Rattle.pd_script.specs.declared.calls.Call.{Call}
 use Rattle.pd_script.specs.declared.packets.Packet.{Packet}
@@ -17,14 +17,14 @@ use Rattle.pd_host.specs.Host.{then_on}
 use Rattle.pd_host.specs.declared.halts.Halt.{Halt}
 use Rattle.pd_host.specs.declared.sender_state.State.{State}
 use Rattle.pd_match.specs.Calls.{result_mismatch}
-use Rattle.pd_match.specs.declared.kinds.Kind.TheVariants.{Backwards}
 use Rattle.pd_print.specs.Answers.{outcome_of}
 use Rattle.pd_print.specs.Sent.{packet_of}
-use Rattle.pd_run.specs.Limits.{is_over_limit}
+use Rattle.pd_run.specs.Bars.{bar_of}
 use Rattle.pd_run.specs.Run.{start_of}
-use Rattle.pd_run.specs.Shapes.{is_run}
-use Rattle.pd_run.specs.Step.{RunStateView, tolerance_of, step, verdict_by}
-use Rattle.pd_run.specs.Times.{moment_of, moments_of, is_backwards, is_in_reach, base_after}
+use Rattle.pd_run.specs.RunStates.{RunStateView}
+use Rattle.pd_run.specs.Step.{tolerance_of, step}
+use Rattle.pd_run.specs.Times.{moment_of, moments_of, is_in_reach, base_after}
+use Rattle.pd_run.specs.Verdicts.{barred_at, verdict_by}
 use Rattle.pd_run.specs.declared.verdicts.Verdict.{Verdict}
 use Rattle.pd_run.specs.declared.verdicts.Verdict.TheVariants as verdict
 use Rattle.pd_record.specs.declared.refusals.NotRecorded.{NotRecorded}
@@ -221,16 +221,9 @@ expects t e = meets_oldest t e t.unmet
 
 -- ---- events of the script
 
--- a time that goes backwards, from the base of the script's times
-abbrev pub backwards_at : RecorderView → Event → Option NotRecorded
-backwards_at t e = if is_backwards t.base e.time then Some (Stopped (verdict.Fail e.line Backwards)) else None
-
--- the checks of a step, in their order: limits, shapes that aren't run, and times that go backwards
+-- the checks of a step before anything happens, from the base of the script's times
 abbrev pub ruling_at : RecorderView → Event → Option NotRecorded
-ruling_at t e =
-    if is_over_limit e then Some (Stopped (verdict.Limit e.line))
-    else (if not (is_run e) then Some (Stopped (verdict.Unsupported e.line))
-    else backwards_at t e)
+ruling_at t e = option_map (λ bar. Stopped (barred_at e.line bar)) (bar_of t.base e)
 
 -- what is recorded of an action
 abbrev pub performed : RecorderView → Event → Action → Answers (RecorderView × Took)

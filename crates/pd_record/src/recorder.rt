@@ -11,11 +11,11 @@ use crate::outcomes::outcome_of;
 use crate::probes::{answer_of, next_packet};
 use crate::refusals::NotRecorded;
 use crate::tape::{Own, Recorded, Reply, Standing, Take};
-use pd_match::{Kind, check_call};
+use pd_match::check_call;
 use pd_print::sent_packet;
 use pd_run::{
-    Plain, RunState, StepEnd, Stepper, Verdict, base_after, is_backwards, is_in_reach,
-    is_over_limit, is_run, moment_of, moments_of, runs_are_bounded,
+    Plain, RunState, StepEnd, Stepper, Verdict, bar_of, base_after, is_in_reach, moment_of,
+    moments_of, runs_are_bounded,
 };
 use pd_script::{Action, Call, Event, Header, MAX_EVENTS, Packet, Time};
 use pd_seg::{Answer, Sent};
@@ -148,16 +148,8 @@ impl Recorder {
     fn ruling(&self, event: &Event) -> Option<NotRecorded>
         ensures { result ≡ ruling_at self.now event.now }
     {
-        let verdict = if is_over_limit(event) {
-            Verdict::Limit(event.line)
-        } else if !is_run(event) {
-            Verdict::Unsupported(event.line)
-        } else if is_backwards(self.base, event.time) {
-            Verdict::Fail(event.line, Kind::Backwards)
-        } else {
-            return None;
-        };
-        Some(NotRecorded::Stopped(verdict))
+        let bar = bar_of(self.base, event)?;
+        Some(NotRecorded::Stopped(bar.verdict(event.line)))
     }
 
     /// The moment at which an input acts.
@@ -381,6 +373,8 @@ impl Recorder {
         requires few { self.old.count < 4096 }
         ensures step { Goes (stepped self.old event.now) result self.new }
         ensures sound { OnOk result (Sound self.new) }
+        ensures same { OnOk result (self.new.unmet ≡ self.old.unmet) }
+        ensures base { OnOk result (self.new.base ≡ self.old.base) }
     {
         runs_are_bounded();
         match Plain::new().step(&mut self.run, event, &self.settings)? {

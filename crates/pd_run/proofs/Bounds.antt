@@ -1,5 +1,5 @@
 -- How far a step moves the clock and the base, and that the sender stays up to date.
-use Rattle.std.proofs.Common.{◌≡◌, ℕ, ◌+◌, ◌<◌, ◌≤◌, ◌==◌, max, Bool, true, false, not, ◌||◌, if◌then◌else◌, Option, Some, None, List, [], ◌∷◌, length, slice_get, Result, Ok, Err, refl, sym, subst, arith}
+use Rattle.std.proofs.Common.{◌≡◌, ℕ, ◌+◌, ◌<◌, ◌≤◌, ◌==◌, max, Bool, true, false, ◌||◌, if◌then◌else◌, Option, Some, None, List, [], ◌∷◌, length, slice_get, Result, Ok, Err, refl, sym, ap, subst, arith}
 use Rattle.std.proofs.lemmas.Bool.Decides.{nat_tests}
 use Rattle.std.specs.List.{list_any}
 use Rattle.pd_script.specs.declared.calls.Call.{Call}
@@ -23,14 +23,15 @@ use Rattle.pd_host.specs.declared.sender_state.State.{State}
 use Rattle.pd_match.specs.Calls.{result_mismatch}
 use Rattle.pd_match.specs.Packets.{mismatch}
 use Rattle.pd_match.specs.declared.kinds.Kind.{Kind}
-use Rattle.pd_match.specs.declared.kinds.Kind.TheVariants.{Missing, Backwards}
+use Rattle.pd_run.specs.Bars.{bar_of}
 use Rattle.pd_run.specs.Inbound.{segment_in}
 use Rattle.pd_run.specs.Limits.{is_long, written_times, written_until, is_action_over, is_over_limit}
-use Rattle.pd_run.specs.Shapes.{is_run}
-use Rattle.pd_run.specs.Step.{RunStateView, tolerance_of, noted, on_step, judged, with_state, acts_at, acted, arrives, on_arrival, answers, on_answer, on_expiry, expires, awaited, packet_taken, performed, step}
-use Rattle.pd_run.specs.Times.{is_single, moment_of, moments_of, is_backwards, is_in_reach, base_after}
-use Rattle.pd_run.specs.declared.verdicts.Verdict.{Verdict}
-use Rattle.pd_run.specs.declared.verdicts.Verdict.TheVariants.{Fail, Unsupported, Limit}
+use Rattle.pd_run.specs.Step.{RunStateView, tolerance_of, noted, on_step, judged, with_state, acts_at, acted, arrives, on_arrival, answers, on_answer, on_expiry, expires, awaited, packet_taken, performed, unless_barred, outcome, at_line, step}
+use Rattle.pd_run.specs.Times.{is_single, moment_of, moments_of, is_in_reach, base_after}
+use Rattle.pd_run.specs.declared.bars.Bar.{Bar}
+use Rattle.pd_run.specs.declared.bars.Bar.TheVariants.{OverLimit}
+use Rattle.pd_run.specs.declared.whys.Why.{Why}
+use Rattle.pd_run.specs.declared.whys.Why.TheVariants.{Missing}
 
 -- what is known of the sender's state at the clock is kept by all that a step does: the packets are in order by it, and the
 -- next expiry lies at most an hour ahead
@@ -48,12 +49,6 @@ pub record IsWithin (K : ℕ → State → Type 0) (n : ℕ) (r : RunStateView) 
   pub clock : r.clock ≤ n
   pub base : r.base ≤ n
   pub up_to : K r.clock r.host.state
-
--- where a refusal comes first, an `Ok` means that it didn't
-let_through : (b : Bool) (v : Verdict) (rest : Result RunStateView Verdict) (s : RunStateView)
-    → (if b then Err v else rest) ≡ Ok s → (b ≡ false) × (rest ≡ Ok s)
-let_through true v rest s h = absurd cc
-let_through false v rest s h = (refl, h)
 
 or_false : (a b : Bool) → (a || b) ≡ false → a ≡ false
 or_false true b h = absurd cc
@@ -80,15 +75,15 @@ base_within true moment base at n m b a = m
 base_within false moment base at n m b a = omega arith
 
 -- the state that came
-abbrev pub ok : RunStateView → Result RunStateView Verdict
+abbrev pub ok : {S : Type 0} → RunStateView → Result RunStateView S
 ok r = Ok r
 
-pub given : (r s : RunStateView) → ok r ≡ ok s → r ≡ s
+pub given : {S : Type 0} (r s : RunStateView) → ok {S = S} r ≡ ok s → r ≡ s
 given r s h = cc
 
-pub agreed : (line : ℕ) (r s : RunStateView) (kind : Option Kind) → judged line r kind ≡ Ok s → r ≡ s
-agreed line r s None h = given r s h
-agreed line r s (Some kind) h = absurd cc
+pub agreed : (r s : RunStateView) (reason : Kind → Why) (kind : Option Kind) → judged r reason kind ≡ Ok s → r ≡ s
+agreed r s reason None h = given r s h
+agreed r s reason (Some kind) h = absurd cc
 
 -- an `Ok` of two rules is one of each
 pub both : {A B : Type 0} (next : A → Result B Halt) (came : Result A Halt) (t : B) → then_on next came ≡ Ok t → (s : A) × (came ≡ Ok s) × (next s ≡ Ok t)
@@ -110,28 +105,34 @@ oldest : (n : ℕ) (packets : List Sent) (p : Sent) → AreInOrder n packets →
 oldest n [] p h is = absurd cc
 oldest n (q ∷ packets) p h is = let same : q ≡ p = cc in subst (λ (x : Sent). x.at ≤ n) same h.0
 
-pub in_reach : (b : Bool) (line : ℕ) (x : Result RunStateView Verdict) (s : RunStateView) → (if b then x else Err (Fail line Missing)) ≡ Ok s → x ≡ Ok s
-in_reach true line x s h = h
-in_reach false line x s h = absurd cc
+pub in_reach : (b : Bool) (x : Result RunStateView Why) (s : RunStateView) → (if b then x else Err Missing) ≡ Ok s → x ≡ Ok s
+in_reach true x s h = h
+in_reach false x s h = absurd cc
 
--- a step that goes on performed its event's action
+-- an event that goes on came to this
+pub goes : (line : ℕ) (came : Result RunStateView Why) (s : RunStateView) → at_line line came ≡ Ok s → came ≡ Ok s
+goes line (Ok r) s h = ap (λ (q : RunStateView). ok {S = Why} q) (given r s h)
+goes line (Err reason) s h = absurd cc
+
+-- no check barred it, and its action was performed
+pub unbarred : (came : Result RunStateView Why) (bar : Option Bar) (s : RunStateView) → unless_barred came bar ≡ Ok s → (bar ≡ None) × (came ≡ Ok s)
+unbarred came None s h = (refl, h)
+unbarred came (Some bar) s h = absurd cc
+
 pub step_performs : (r s : RunStateView) (e : Event) → step r e ≡ Ok s → performed r e e.action ≡ Ok s
-step_performs r s e h =
-    let shaped : Result RunStateView Verdict = if is_backwards r.base e.time then Err (Fail e.line Backwards) else performed r e e.action in
-    let unlimited : Result RunStateView Verdict = if not (is_run e) then Err (Unsupported e.line) else shaped in
-    let limit : (is_over_limit e ≡ false) × (unlimited ≡ Ok s) = let_through (is_over_limit e) (Limit e.line) unlimited s h in
-    let shape : (not (is_run e) ≡ false) × (shaped ≡ Ok s) = let_through (not (is_run e)) (Unsupported e.line) shaped s limit.1 in
-    let onwards : (is_backwards r.base e.time ≡ false) × (performed r e e.action ≡ Ok s) =
-    let_through (is_backwards r.base e.time) (Fail e.line Backwards) (performed r e e.action) s shape.1 in
-    onwards.1
+step_performs r s e h = (unbarred (performed r e e.action) (bar_of r.base e) s (goes e.line (outcome r e) s h)).1
 
 -- its numbers are within their limits
+pub within_limits : (base : ℕ) (e : Event) → bar_of base e ≡ None → is_over_limit e ≡ false
+within_limits base e h = go (is_over_limit e) _ h
+  where
+    go : (b : Bool) (rest : Option Bar) → (if b then Some OverLimit else rest) ≡ None → b ≡ false
+    go true rest h = absurd cc
+    go false rest h = refl
+
 pub step_unlimited : (r s : RunStateView) (e : Event) → step r e ≡ Ok s → is_over_limit e ≡ false
 step_unlimited r s e h =
-    let shaped : Result RunStateView Verdict = if is_backwards r.base e.time then Err (Fail e.line Backwards) else performed r e e.action in
-    let unlimited : Result RunStateView Verdict = if not (is_run e) then Err (Unsupported e.line) else shaped in
-    let limit : (is_over_limit e ≡ false) × (unlimited ≡ Ok s) = let_through (is_over_limit e) (Limit e.line) unlimited s h in
-    limit.0
+    within_limits r.base e (unbarred (performed r e e.action) (bar_of r.base e) s (goes e.line (outcome r e) s h)).0
 
 step_short : (r s : RunStateView) (e : Event) → step r e ≡ Ok s → list_any is_long (written_times e.time) ≡ false
 step_short r s e h = or_false _ _ (or_false _ _ (step_unlimited r s e h))
@@ -198,7 +199,7 @@ module _ (K : ℕ → State → Type 0) (laws : IsKept K) where
       → IsWithin K n r → moment_of r.base e.time ≤ n + 3600000000
       → on_answer r e call came ≡ Ok s → IsWithin K (n + 3600000000) s
   answer_within n r s e call (Ok (t, a)) is within moment h =
-      subst (IsWithin K (n + 3600000000)) (agreed e.line (acted r e t) s (result_mismatch call.result a) h)
+      subst (IsWithin K (n + 3600000000)) (agreed (acted r e t) s _ (result_mismatch call.result a) h)
       (acted_within n r e t within moment (call_keeps_up call r.clock (acts_at r e) r.host.state t a (omega arith) within.up_to is))
   answer_within n r s e call (Err halt) is within moment h = absurd cc
 
@@ -209,7 +210,7 @@ module _ (K : ℕ → State → Type 0) (laws : IsKept K) where
   taken_within n r s e p None is within moment h = absurd cc
   taken_within n r s e p (Some sent) is within moment h =
       let next : RunStateView = record r { host = without_oldest r.host; base = base_after r.base e.time sent.at } in
-      let same : next ≡ s = agreed e.line next s (mismatch p (moments_of r.base e.time) sent (tolerance_of r)) h in
+      let same : next ≡ s = agreed next s _ (mismatch p (moments_of r.base e.time) sent (tolerance_of r)) h in
       let clock : r.clock ≤ n = within.clock in
       let left : sent.at ≤ r.clock = oldest r.clock r.host.state.endpoint.outbox sent (laws.ordered r.clock r.host.state within.up_to) is in
       subst (IsWithin K n) same (record {
@@ -223,9 +224,9 @@ module _ (K : ℕ → State → Type 0) (laws : IsKept K) where
   abbrev Waited : ℕ → RunStateView → RunStateView → Type 0
   Waited n r s = IsWithin K (n + 3600000000) s × (s.base ≡ r.base)
 
-  expired : (n at : ℕ) (r s : RunStateView) (e : Event) (came : Result State Halt) → advanced at r.host.state ≡ came
-      → deadline_of r.host.state ≡ Some at → IsWithin K n r → on_expiry r e at came ≡ Ok s → Waited n r s
-  expired n at r s e (Ok t) is is_due within h =
+  expired : (n at : ℕ) (r s : RunStateView) (came : Result State Halt) → advanced at r.host.state ≡ came
+      → deadline_of r.host.state ≡ Some at → IsWithin K n r → on_expiry r at came ≡ Ok s → Waited n r s
+  expired n at r s (Ok t) is is_due within h =
       let clock : r.clock ≤ n = within.clock in
       let base : r.base ≤ n = within.base in
       let reach : (r.clock < at) × (at ≤ r.clock + 3600000000) = laws.soon r.clock at r.host.state within.up_to is_due in
@@ -238,14 +239,14 @@ module _ (K : ℕ → State → Type 0) (laws : IsKept K) where
         },
         refl,
       )
-  expired n at r s e (Err halt) is is_due within h = absurd cc
+  expired n at r s (Err halt) is is_due within h = absurd cc
 
   expires_within : (n : ℕ) (r s : RunStateView) (e : Event) (o : Option ℕ) → deadline_of r.host.state ≡ o
       → IsWithin K n r → expires r e o ≡ Ok s → Waited n r s
   expires_within n r s e None is_due within h = absurd cc
   expires_within n r s e (Some at) is_due within h =
-      expired n at r s e (advanced at r.host.state) refl is_due within
-      (in_reach (is_in_reach (moments_of r.base e.time) (tolerance_of r) at) e.line (on_expiry r e at (advanced at r.host.state)) s h)
+      expired n at r s (advanced at r.host.state) refl is_due within
+      (in_reach (is_in_reach (moments_of r.base e.time) (tolerance_of r) at) (on_expiry r at (advanced at r.host.state)) s h)
 
   later : (n : ℕ) (r : RunStateView) → IsWithin K n r → IsWithin K (n + 3600000000) r
   later n r within =
@@ -258,9 +259,9 @@ module _ (K : ℕ → State → Type 0) (laws : IsKept K) where
   awaited_within n r s e true within h = expires_within n r s e (deadline_of r.host.state) refl within h
   awaited_within n r s e false within h = subst (Waited n r) (given r s h) (later n r within, refl)
 
-  leaves_within : (n : ℕ) (r s : RunStateView) (e : Event) (p : Packet) (came : Result RunStateView Verdict) → awaited r e ≡ came
+  leaves_within : (n : ℕ) (r s : RunStateView) (e : Event) (p : Packet) (came : Result RunStateView Why) → awaited r e ≡ came
       → IsWithin K n r → moment_of r.base e.time ≤ n + 3600000000
-      → on_step (λ q. packet_taken e p q (slice_get q.host.state.endpoint.outbox 0)) (λ v. Err v) came ≡ Ok s
+      → on_step (λ q. packet_taken e p q (slice_get q.host.state.endpoint.outbox 0)) (λ reason. Err reason) came ≡ Ok s
       → IsWithin K (n + 3600000000) s
   leaves_within n r s e p (Ok t) is within moment h =
       let waited : Waited n r t = awaited_within n r t e (length r.host.state.endpoint.outbox == 0) within is in

@@ -30,15 +30,15 @@ use Rattle.pd_run.specs.Consulted.{uses_of, rebound_run, StepsNote, StepsOnlyUse
 use Rattle.pd_run.specs.Inner.{InputsOnlyUse}
 use Rattle.pd_run.specs.Inbound.{segment_in}
 use Rattle.pd_run.specs.Laws.{ToleranceStays}
-use Rattle.pd_run.specs.Limits.{is_over_limit}
+use Rattle.pd_run.specs.Bars.{bar_of}
 use Rattle.pd_run.specs.Run.{start_of, tolerance_in, states_from, states_in}
-use Rattle.pd_run.specs.Shapes.{is_run}
-use Rattle.pd_run.specs.Step.{RunStateView, tolerance_of, noted, on_step, judged, with_state, acts_at, acted, arrives, on_arrival, answers, on_answer, on_expiry, expires, awaited, packet_taken, leaves, performed, step}
-use Rattle.pd_run.specs.Times.{moments_of, base_after, is_backwards, is_in_reach}
+use Rattle.pd_run.specs.Step.{RunStateView, tolerance_of, noted, on_step, judged, with_state, acts_at, acted, arrives, on_arrival, answers, on_answer, on_expiry, expires, awaited, packet_taken, leaves, performed, unless_barred, outcome, at_line, step}
+use Rattle.pd_run.specs.Times.{moments_of, base_after, is_in_reach}
 use Rattle.pd_run.specs.declared.verdicts.Verdict.{Verdict}
-use Rattle.pd_run.specs.declared.verdicts.Verdict.TheVariants.{Fail, Unsupported, Limit}
-use Rattle.pd_match.specs.declared.kinds.Kind.TheVariants.{Missing, Backwards}
-use Rattle.pd_run.proofs.Bounds.{given, agreed, both, in_reach, step_performs}
+use Rattle.pd_run.specs.declared.bars.Bar.{Bar}
+use Rattle.pd_run.specs.declared.whys.Why.{Why}
+use Rattle.pd_run.specs.declared.whys.Why.TheVariants.{Missing, Differs}
+use Rattle.pd_run.proofs.Bounds.{given, agreed, both, in_reach, goes, step_performs}
 
 -- Sets of settings
 
@@ -129,7 +129,7 @@ answer_keeps laws r s e call (Ok (t, a)) is h =
     let came = both (called call (acts_at r e)) (advanced (acts_at r e) r.host.state) (t, a) is in
     let notes : Notes r.host.state t =
     notes_too r.host.state came.0 t (laws.advances_note (acts_at r e) r.host.state came.0 came.1) (laws.calls_note call (acts_at r e) came.0 t a came.2) in
-    subst (Keeps r) (agreed e.line (acted r e t) s (result_mismatch call.result a) h)
+    subst (Keeps r) (agreed (acted r e t) s _ (result_mismatch call.result a) h)
     (record { settings = notes.settings; uses = notes.uses; written = refl; compared = refl })
 answer_keeps laws r s e call (Err halt) is h = absurd cc
 
@@ -137,22 +137,22 @@ taken_keeps : (r s : RunStateView) (e : Event) (p : Packet) (first : Option Sent
 taken_keeps r s e p None h = absurd cc
 taken_keeps r s e p (Some sent) h =
     let next : RunStateView = record r { host = without_oldest r.host; base = base_after r.base e.time sent.at } in
-    subst (Keeps r) (agreed e.line next s (mismatch p (moments_of r.base e.time) sent (tolerance_of r)) h)
+    subst (Keeps r) (agreed next s _ (mismatch p (moments_of r.base e.time) sent (tolerance_of r)) h)
     (record { settings = refl; uses = includes_itself r.host.state.uses; written = refl; compared = refl })
 
-expiry_keeps : InputsOnlyUse → (r s : RunStateView) (e : Event) (at : ℕ) (came : Result State Halt) → advanced at r.host.state ≡ came
-    → on_expiry r e at came ≡ Ok s → Keeps r s
-expiry_keeps laws r s e at (Ok t) is h =
+expiry_keeps : InputsOnlyUse → (r s : RunStateView) (at : ℕ) (came : Result State Halt) → advanced at r.host.state ≡ came
+    → on_expiry r at came ≡ Ok s → Keeps r s
+expiry_keeps laws r s at (Ok t) is h =
     let notes : Notes r.host.state t = laws.advances_note at r.host.state t is in
     subst (Keeps r) (given (record (with_state r t) { clock = at }) s h)
     (record { settings = notes.settings; uses = notes.uses; written = refl; compared = refl })
-expiry_keeps laws r s e at (Err halt) is h = absurd cc
+expiry_keeps laws r s at (Err halt) is h = absurd cc
 
 expires_keeps : InputsOnlyUse → (r s : RunStateView) (e : Event) (o : Option ℕ) → expires r e o ≡ Ok s → Keeps r s
 expires_keeps laws r s e None h = absurd cc
 expires_keeps laws r s e (Some at) h =
-    expiry_keeps laws r s e at (advanced at r.host.state) refl
-    (in_reach (is_in_reach (moments_of r.base e.time) (tolerance_of r) at) e.line (on_expiry r e at (advanced at r.host.state)) s h)
+    expiry_keeps laws r s at (advanced at r.host.state) refl
+    (in_reach (is_in_reach (moments_of r.base e.time) (tolerance_of r) at) (on_expiry r at (advanced at r.host.state)) s h)
 
 awaited_keeps : InputsOnlyUse → (r s : RunStateView) (e : Event) (empty : Bool)
     → (if empty then expires r e (deadline_of r.host.state) else Ok r) ≡ Ok s → Keeps r s
@@ -160,14 +160,14 @@ awaited_keeps laws r s e true h = expires_keeps laws r s e (deadline_of r.host.s
 awaited_keeps laws r s e false h = subst (Keeps r) (given r s h) (itself r)
 
 -- an expected packet is taken after it was awaited
-abbrev take_first : Event → Packet → RunStateView → Result RunStateView Verdict
+abbrev take_first : Event → Packet → RunStateView → Result RunStateView Why
 take_first e p q = packet_taken e p q (slice_get q.host.state.endpoint.outbox 0)
 
-of_awaited : (e : Event) (p : Packet) (s : RunStateView) (came : Result RunStateView Verdict)
-    → on_step (take_first e p) (λ v. Err v) came ≡ Ok s
+of_awaited : (e : Event) (p : Packet) (s : RunStateView) (came : Result RunStateView Why)
+    → on_step (take_first e p) (λ reason. Err reason) came ≡ Ok s
     → (t : RunStateView) × (came ≡ Ok t) × (take_first e p t ≡ Ok s)
 of_awaited e p s (Ok t) h = (t, refl, h)
-of_awaited e p s (Err v) h = absurd cc
+of_awaited e p s (Err reason) h = absurd cc
 
 leaves_keeps : InputsOnlyUse → (r s : RunStateView) (e : Event) (p : Packet) → leaves r e p ≡ Ok s → Keeps r s
 leaves_keeps laws r s e p h =
@@ -216,16 +216,16 @@ tolerance_stays laws r s e h =
 
 -- The same step under other settings
 
-abbrev again : Settings → RunStateView → Result RunStateView Verdict
+abbrev again : {S : Type 0} → Settings → RunStateView → Result RunStateView S
 again b s = Ok (rebound_run b s)
 
-same_run : (b : Settings) (r s : RunStateView) → r ≡ s → again b r ≡ again b s
+same_run : {S : Type 0} (b : Settings) (r s : RunStateView) → r ≡ s → again {S = S} b r ≡ again b s
 same_run b r s h = ap (again b) h
 
-judged_again : (line : ℕ) (r s : RunStateView) (b : Settings) (kind : Option Kind) → judged line r kind ≡ Ok s
-    → judged line (rebound_run b r) kind ≡ again b s
-judged_again line r s b None h = same_run b r s (given r s h)
-judged_again line r s b (Some kind) h = absurd cc
+judged_again : (r s : RunStateView) (b : Settings) (one other : Kind → Why) (kind : Option Kind) → judged r one kind ≡ Ok s
+    → judged (rebound_run b r) other kind ≡ again b s
+judged_again r s b one other None h = same_run b r s (given r s h)
+judged_again r s b one other (Some kind) h = absurd cc
 
 -- what holds of the settings after a step holds of those before it
 agree_before : (u : UseSet) (x y b : Settings) → x ≡ y → Agree u y b → Agree u x b
@@ -255,7 +255,7 @@ answer_again : InputsOnlyUse → (r s : RunStateView) (e : Event) (call : Call) 
 answer_again laws r s e call b (Ok (t, a)) is h agree =
     let at : ℕ = acts_at r e in
     let came = both (called call at) (advanced at r.host.state) (t, a) is in
-    let same : acted r e t ≡ s = agreed e.line (acted r e t) s (result_mismatch call.result a) h in
+    let same : acted r e t ≡ s = agreed (acted r e t) s _ (result_mismatch call.result a) h in
     let after : Agree (uses_of (acted r e t)) r.host.state.settings b = subst (λ (q : RunStateView). Agree (uses_of q) r.host.state.settings b) (sym same) agree in
     let noted_here : Agree t.uses r.host.state.settings b = agree_on_fewer (uses_of (acted r e t)) t.uses r.host.state.settings b (host_uses (acted r e t)) after in
     let first : advanced at (rebound b r.host.state) ≡ Ok (rebound b came.0) = laws.advances at r.host.state came.0 b came.1 in
@@ -264,7 +264,7 @@ answer_again laws r s e call b (Ok (t, a)) is h agree =
     (agree_before t.uses came.0.settings r.host.state.settings b (laws.advances_note at r.host.state came.0 came.1).settings noted_here) in
     ap (λ (x : Result State Halt). on_answer (rebound_run b r) e call (then_on (called call at) x)) first
     ∙ ap (on_answer (rebound_run b r) e call) next
-    ∙ judged_again e.line (acted r e t) s b (result_mismatch call.result a) h
+    ∙ judged_again (acted r e t) s b _ _ (result_mismatch call.result a) h
 answer_again laws r s e call b (Err halt) is h agree = absurd cc
 
 -- the tolerance is the same
@@ -288,31 +288,31 @@ taken_again r s e p b None same h = absurd cc
 taken_again r s e p b (Some sent) same h =
     let next : RunStateView = record r { host = without_oldest r.host; base = base_after r.base e.time sent.at } in
     let moments = moments_of r.base e.time in
-    ap (λ (x : ℕ). judged e.line (rebound_run b next) (mismatch p moments sent x)) same
-    ∙ judged_again e.line next s b (mismatch p moments sent (tolerance_of r)) h
+    ap (λ (x : ℕ). judged (rebound_run b next) (λ kind. Differs kind sent (rebound_run b r)) (mismatch p moments sent x)) same
+    ∙ judged_again next s b _ _ (mismatch p moments sent (tolerance_of r)) h
 
-reach_again : (c : Bool) (line : ℕ) (x y : Result RunStateView Verdict) (s u : RunStateView) → (x ≡ Ok s → y ≡ Ok u)
-    → (if c then x else Err (Fail line Missing)) ≡ Ok s → (if c then y else Err (Fail line Missing)) ≡ Ok u
-reach_again true line x y s u more h = more h
-reach_again false line x y s u more h = absurd cc
+reach_again : (c : Bool) (x y : Result RunStateView Why) (s u : RunStateView) → (x ≡ Ok s → y ≡ Ok u)
+    → (if c then x else Err Missing) ≡ Ok s → (if c then y else Err Missing) ≡ Ok u
+reach_again true x y s u more h = more h
+reach_again false x y s u more h = absurd cc
 
-expiry_again : InputsOnlyUse → (r s : RunStateView) (e : Event) (at : ℕ) (b : Settings) (came : Result State Halt) → advanced at r.host.state ≡ came
-    → on_expiry r e at came ≡ Ok s → on_expiry (rebound_run b r) e at (advanced at (rebound b r.host.state)) ≡ again b s
-expiry_again laws r s e at b (Ok t) is h =
-    ap (on_expiry (rebound_run b r) e at) (laws.advances at r.host.state t b is)
+expiry_again : InputsOnlyUse → (r s : RunStateView) (at : ℕ) (b : Settings) (came : Result State Halt) → advanced at r.host.state ≡ came
+    → on_expiry r at came ≡ Ok s → on_expiry (rebound_run b r) at (advanced at (rebound b r.host.state)) ≡ again b s
+expiry_again laws r s at b (Ok t) is h =
+    ap (on_expiry (rebound_run b r) at) (laws.advances at r.host.state t b is)
     ∙ same_run b (record (with_state r t) { clock = at }) s (given (record (with_state r t) { clock = at }) s h)
-expiry_again laws r s e at b (Err halt) is h = absurd cc
+expiry_again laws r s at b (Err halt) is h = absurd cc
 
 expires_again : InputsOnlyUse → (r s : RunStateView) (e : Event) (b : Settings) (o : Option ℕ) → SameTolerance b r
     → expires r e o ≡ Ok s → expires (rebound_run b r) e o ≡ again b s
 expires_again laws r s e b None same h = absurd cc
 expires_again laws r s e b (Some at) same h =
     let moments = moments_of r.base e.time in
-    let here : Result RunStateView Verdict = on_expiry r e at (advanced at r.host.state) in
-    let there : Result RunStateView Verdict = on_expiry (rebound_run b r) e at (advanced at (rebound b r.host.state)) in
-    ap (λ (x : ℕ). if is_in_reach moments x at then there else Err (Fail e.line Missing)) same
-    ∙ reach_again (is_in_reach moments (tolerance_of r) at) e.line here there s (rebound_run b s)
-    (λ k. expiry_again laws r s e at b (advanced at r.host.state) refl k) h
+    let here : Result RunStateView Why = on_expiry r at (advanced at r.host.state) in
+    let there : Result RunStateView Why = on_expiry (rebound_run b r) at (advanced at (rebound b r.host.state)) in
+    ap (λ (x : ℕ). if is_in_reach moments x at then there else Err Missing) same
+    ∙ reach_again (is_in_reach moments (tolerance_of r) at) here there s (rebound_run b s)
+    (λ k. expiry_again laws r s at b (advanced at r.host.state) refl k) h
 
 awaited_again : InputsOnlyUse → (r s : RunStateView) (e : Event) (b : Settings) (empty : Bool) → SameTolerance b r
     → (if empty then expires r e (deadline_of r.host.state) else Ok r) ≡ Ok s
@@ -325,7 +325,7 @@ leaves_again : InputsOnlyUse → (r s : RunStateView) (e : Event) (p : Packet) (
 leaves_again laws r s e p b same h =
     let came = of_awaited e p s (awaited r e) h in
     let empty : Bool = length r.host.state.endpoint.outbox == 0 in
-    ap (on_step (take_first e p) (λ v. Err v)) (awaited_again laws r came.0 e b empty same came.1)
+    ap (on_step (take_first e p) (λ reason. Err reason)) (awaited_again laws r came.0 e b empty same came.1)
     ∙ taken_again came.0 s e p b (slice_get came.0.host.state.endpoint.outbox 0)
     (same_later b r came.0 (awaited_keeps laws r came.0 e empty came.1) same) came.2
 
@@ -348,23 +348,18 @@ performed_again laws r s e (Calls call) b h agree = answer_again laws r s e call
 performed_again laws r s e Command b h agree = absurd cc
 performed_again laws r s e Code b h agree = absurd cc
 
--- where a refusal doesn't come first, it doesn't there
-passes_too : (c : Bool) (v : Verdict) (x y : Result RunStateView Verdict) (s u : RunStateView) → (x ≡ Ok s → y ≡ Ok u)
-    → (if c then Err v else x) ≡ Ok s → (if c then Err v else y) ≡ Ok u
-passes_too true v x y s u more h = absurd cc
-passes_too false v x y s u more h = more h
+-- what no check bars, none bars there
+unbarred_too : (bar : Option Bar) (x y : Result RunStateView Why) (s u : RunStateView) → (x ≡ Ok s → y ≡ Ok u)
+    → unless_barred x bar ≡ Ok s → unless_barred y bar ≡ Ok u
+unbarred_too None x y s u more h = more h
+unbarred_too (Some bar) x y s u more h = absurd cc
 
 pub steps_only_use : InputsOnlyUse → StepsOnlyUse
 steps_only_use laws r s e b h agree =
     let u : RunStateView = rebound_run b r in
-    let v : RunStateView = rebound_run b s in
-    let shaped : RunStateView → Result RunStateView Verdict = λ q. if is_backwards r.base e.time then Err (Fail e.line Backwards) else performed q e e.action in
-    let unlimited : RunStateView → Result RunStateView Verdict = λ q. if not (is_run e) then Err (Unsupported e.line) else shaped q in
-    passes_too (is_over_limit e) (Limit e.line) (unlimited r) (unlimited u) s v
-    (passes_too (not (is_run e)) (Unsupported e.line) (shaped r) (shaped u) s v
-    (passes_too (is_backwards r.base e.time) (Fail e.line Backwards) (performed r e e.action) (performed u e e.action) s v
-    (λ k. performed_again laws r s e e.action b k agree)))
-    h
+    ap (at_line e.line)
+    (unbarred_too (bar_of r.base e) (performed r e e.action) (performed u e e.action) s (rebound_run b s)
+    (λ k. performed_again laws r s e e.action b k agree) (goes e.line (outcome r e) s h))
 
 -- Whole runs
 

@@ -7,7 +7,7 @@ use Rattle.pd_script.specs.declared.parsing.Parsed.{Parsed}
 use Rattle.pd_run.specs.Consulted.{rebound_run, PassesBy, RunsGoOnUnder}
 use Rattle.pd_run.specs.Inner.{InputsOnlyUse}
 use Rattle.pd_run.specs.Run.{start_of, verdict_in, stepped_in, states_of, verdict_from, stepped_from, states_from}
-use Rattle.pd_run.specs.Step.{RunStateView}
+use Rattle.pd_run.specs.RunStates.{RunStateView}
 use Rattle.pd_run.proofs.Consulted.{has_begun, states_begun, runs_only_use}
 use Rattle.pd_run.proofs.States.{Onward, resume}
 

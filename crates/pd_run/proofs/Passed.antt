@@ -20,13 +20,13 @@ use Rattle.pd_match.specs.declared.kinds.Kind.{Kind}
 use Rattle.pd_run.specs.Laws.{PassedPacketsAgree, untaken, AreAwaited, PassedPacketsAreTaken, PassedCallsAnswer}
 use Rattle.pd_run.specs.Step.{RunStateView, tolerance_of, noted, on_step, with_state, judged, answers, on_answer, on_expiry, expires, awaited, packet_taken, performed}
 use Rattle.pd_run.specs.Times.{moments_of, base_after, is_in_reach}
-use Rattle.pd_run.specs.declared.verdicts.Verdict.{Verdict}
+use Rattle.pd_run.specs.declared.whys.Why.{Why}
 use Rattle.pd_run.proofs.Bounds.{given, agreed, in_reach, step_performs}
 
 -- what was judged and passed differs in nothing
-no_kind : (line : ℕ) (r s : RunStateView) (kind : Option Kind) → judged line r kind ≡ Ok s → kind ≡ None
-no_kind line r s None h = refl
-no_kind line r s (Some kind) h = absurd cc
+no_kind : (r s : RunStateView) (reason : Kind → Why) (kind : Option Kind) → judged r reason kind ≡ Ok s → kind ≡ None
+no_kind r s reason None h = refl
+no_kind r s reason (Some kind) h = absurd cc
 
 -- the packet that passed
 abbrev Passed : Event → Packet → RunStateView → Option Sent → Type 0
@@ -34,13 +34,13 @@ Passed e p t first = (sent : Sent) × (first ≡ Some sent) × (mismatch p (mome
 
 of_taken : (e : Event) (p : Packet) (t s : RunStateView) (first : Option Sent) → packet_taken e p t first ≡ Ok s → Passed e p t first
 of_taken e p t s None h = absurd cc
-of_taken e p t s (Some sent) h = (sent, refl, no_kind e.line _ s (mismatch p (moments_of t.base e.time) sent (tolerance_of t)) h)
+of_taken e p t s (Some sent) h = (sent, refl, no_kind _ s _ (mismatch p (moments_of t.base e.time) sent (tolerance_of t)) h)
 
-of_awaited : (e : Event) (p : Packet) (s : RunStateView) (came : Result RunStateView Verdict)
-    → on_step (λ q. packet_taken e p q (slice_get q.host.state.endpoint.outbox 0)) (λ v. Err v) came ≡ Ok s
+of_awaited : (e : Event) (p : Packet) (s : RunStateView) (came : Result RunStateView Why)
+    → on_step (λ q. packet_taken e p q (slice_get q.host.state.endpoint.outbox 0)) (λ reason. Err reason) came ≡ Ok s
     → (t : RunStateView) × (came ≡ Ok t) × Passed e p t (slice_get t.host.state.endpoint.outbox 0)
 of_awaited e p s (Ok t) h = (t, refl, of_taken e p t s (slice_get t.host.state.endpoint.outbox 0) h)
-of_awaited e p s (Err v) h = absurd cc
+of_awaited e p s (Err reason) h = absurd cc
 
 all_agree : MismatchIsFirst → (p : Packet) (moments : Option (ℕ × ℕ)) (sent : Sent) (tolerance : ℕ) → mismatch p moments sent tolerance ≡ None
     → AllByRecursion (Agrees p moments sent tolerance) compared
@@ -63,21 +63,21 @@ oldest_taken : (e : Event) (p : Packet) (t s : RunStateView) (packets : List Sen
 oldest_taken e p t s [] is h = absurd cc
 oldest_taken e p t s (sent ∷ packets) is h =
     let next : RunStateView = record t { host = without_oldest t.host; base = base_after t.base e.time sent.at } in
-    let same : next ≡ s = agreed e.line next s (mismatch p (moments_of t.base e.time) sent (tolerance_of t)) h in
+    let same : next ≡ s = agreed next s _ (mismatch p (moments_of t.base e.time) sent (tolerance_of t)) h in
     let left : untaken s ≡ packets = ap untaken (sym same) ∙ ap (drop 1) is in
     (sent, is ∙ ap (λ (l : List Sent). sent ∷ l) (sym left))
 
 -- what the next expiry put out
-of_expiry : (r t : RunStateView) (e : Event) (at : ℕ) (came : Result State Halt) → on_expiry r e at came ≡ Ok t
+of_expiry : (r t : RunStateView) (at : ℕ) (came : Result State Halt) → on_expiry r at came ≡ Ok t
     → (s : State) × (came ≡ Ok s) × (untaken t ≡ s.endpoint.outbox)
-of_expiry r t e at (Ok s) h = (s, refl, ap untaken (sym (given (record (with_state r s) { clock = at }) t h)))
-of_expiry r t e at (Err halt) h = absurd cc
+of_expiry r t at (Ok s) h = (s, refl, ap untaken (sym (given (record (with_state r s) { clock = at }) t h)))
+of_expiry r t at (Err halt) h = absurd cc
 
 of_due : (r t : RunStateView) (e : Event) (o : Option ℕ) → deadline_of r.host.state ≡ o → untaken r ≡ [] → expires r e o ≡ Ok t → AreAwaited r (untaken t)
 of_due r t e None due none h = absurd cc
 of_due r t e (Some at) due none h =
-    let went = of_expiry r t e at (advanced at r.host.state)
-    (in_reach (is_in_reach (moments_of r.base e.time) (tolerance_of r) at) e.line (on_expiry r e at (advanced at r.host.state)) t h) in
+    let went = of_expiry r t at (advanced at r.host.state)
+    (in_reach (is_in_reach (moments_of r.base e.time) (tolerance_of r) at) (on_expiry r at (advanced at r.host.state)) t h) in
     inr (at, went.0, none, due, went.1, went.2)
 
 none_less : (n : ℕ) → (suc n == 0) ≡ true → ⊥
@@ -92,13 +92,13 @@ of_wait : (r t : RunStateView) (e : Event) (empty : Bool) → (length (untaken r
 of_wait r t e true is h = of_due r t e (deadline_of r.host.state) refl (no_packets (untaken r) is) h
 of_wait r t e false is h = inl (ap untaken (sym (given r t h)))
 
-of_leaving : (e : Event) (p : Packet) (s : RunStateView) (came : Result RunStateView Verdict)
-    → on_step (λ q. packet_taken e p q (slice_get q.host.state.endpoint.outbox 0)) (λ v. Err v) came ≡ Ok s
+of_leaving : (e : Event) (p : Packet) (s : RunStateView) (came : Result RunStateView Why)
+    → on_step (λ q. packet_taken e p q (slice_get q.host.state.endpoint.outbox 0)) (λ reason. Err reason) came ≡ Ok s
     → (t : RunStateView) × (sent : Sent) × (came ≡ Ok t) × (untaken t ≡ sent ∷ untaken s)
 of_leaving e p s (Ok t) h =
     let took = oldest_taken e p t s (untaken t) refl h in
     (t, took.0, refl, took.1)
-of_leaving e p s (Err v) h = absurd cc
+of_leaving e p s (Err reason) h = absurd cc
 
 pub passed_packets_are_taken : PassedPacketsAreTaken
 passed_packets_are_taken r s e p is h =
@@ -108,7 +108,7 @@ passed_packets_are_taken r s e p is h =
 
 of_answer : (r s : RunStateView) (e : Event) (call : Call) (came : Result (State × Answer) Halt) → on_answer r e call came ≡ Ok s
     → (t : State) × (a : Answer) × (came ≡ Ok (t, a)) × (result_mismatch call.result a ≡ None)
-of_answer r s e call (Ok (t, a)) h = (t, a, refl, no_kind e.line _ s (result_mismatch call.result a) h)
+of_answer r s e call (Ok (t, a)) h = (t, a, refl, no_kind _ s _ (result_mismatch call.result a) h)
 of_answer r s e call (Err halt) h = absurd cc
 
 pub passed_calls_answer : MatchIsResult → PassedCallsAnswer

@@ -32,7 +32,7 @@ use Rattle.pd_run.specs.Inner.{SenderIsLawful}
 use Rattle.pd_run.specs.Limits.{is_write, is_count_over, is_action_over}
 use Rattle.pd_run.specs.Step.{RunStateView, tolerance_of, noted, on_step, with_state, acts_at, acted, arrives, on_arrival, answers, on_answer, on_expiry, expires, awaited, packet_taken, performed, step}
 use Rattle.pd_run.specs.Times.{moments_of, base_after, is_in_reach}
-use Rattle.pd_run.specs.declared.verdicts.Verdict.{Verdict}
+use Rattle.pd_run.specs.declared.whys.Why.{Why}
 use Rattle.pd_run.proofs.Bounds.{given, agreed, both, action_within, in_reach, step_performs, step_unlimited}
 
 -- What a call asks for
@@ -139,7 +139,7 @@ after_call : SenderIsLawful → (r s : RunStateView) (e : Event) (call : Call) (
     → is_action_over (Calls call) ≡ false → on_answer r e call came ≡ Ok s → end_of s ≤ end_of r + 262144
 after_call laws r s e call (Ok (t, a)) is within h =
     let came = both (called call (acts_at r e)) (advanced (acts_at r e) r.host.state) (t, a) is in
-    let same : end_of s ≡ state_end t = ap end_of (sym (agreed e.line (acted r e t) s (result_mismatch call.result a) h)) in
+    let same : end_of s ≡ state_end t = ap end_of (sym (agreed (acted r e t) s _ (result_mismatch call.result a) h)) in
     let before : state_end came.0 ≡ end_of r = laws.queued_by_expiries (acts_at r e) r.host.state came.0 came.1 in
     let more : state_end t ≤ state_end came.0 + asked_by came.0.settings.sndbuf (request_of call) = laws.queued_by_calls call (acts_at r e) came.0 t a came.2 in
     let few : asked_by came.0.settings.sndbuf (request_of call) ≤ 262144 = asks came.0.settings.sndbuf call.function call.arguments within in
@@ -150,33 +150,33 @@ after_taking : (r s : RunStateView) (e : Event) (p : Packet) (first : Option Sen
 after_taking r s e p None h = absurd cc
 after_taking r s e p (Some sent) h =
     let next : RunStateView = record r { host = without_oldest r.host; base = base_after r.base e.time sent.at } in
-    ap end_of (sym (agreed e.line next s (mismatch p (moments_of r.base e.time) sent (tolerance_of r)) h))
+    ap end_of (sym (agreed next s _ (mismatch p (moments_of r.base e.time) sent (tolerance_of r)) h))
 
-after_expiry : SenderIsLawful → (r s : RunStateView) (e : Event) (at : ℕ) (came : Result State Halt) → advanced at r.host.state ≡ came
-    → on_expiry r e at came ≡ Ok s → end_of s ≡ end_of r
-after_expiry laws r s e at (Ok t) is h =
+after_expiry : SenderIsLawful → (r s : RunStateView) (at : ℕ) (came : Result State Halt) → advanced at r.host.state ≡ came
+    → on_expiry r at came ≡ Ok s → end_of s ≡ end_of r
+after_expiry laws r s at (Ok t) is h =
     ap end_of (sym (given (record (with_state r t) { clock = at }) s h)) ∙ laws.queued_by_expiries at r.host.state t is
-after_expiry laws r s e at (Err halt) is h = absurd cc
+after_expiry laws r s at (Err halt) is h = absurd cc
 
 after_due : SenderIsLawful → (r s : RunStateView) (e : Event) (o : Option ℕ) → expires r e o ≡ Ok s → end_of s ≡ end_of r
 after_due laws r s e None h = absurd cc
 after_due laws r s e (Some at) h =
-    after_expiry laws r s e at (advanced at r.host.state) refl
-    (in_reach (is_in_reach (moments_of r.base e.time) (tolerance_of r) at) e.line (on_expiry r e at (advanced at r.host.state)) s h)
+    after_expiry laws r s at (advanced at r.host.state) refl
+    (in_reach (is_in_reach (moments_of r.base e.time) (tolerance_of r) at) (on_expiry r at (advanced at r.host.state)) s h)
 
 after_wait : SenderIsLawful → (r s : RunStateView) (e : Event) (empty : Bool) → (if empty then expires r e (deadline_of r.host.state) else Ok r) ≡ Ok s
     → end_of s ≡ end_of r
 after_wait laws r s e true h = after_due laws r s e (deadline_of r.host.state) h
 after_wait laws r s e false h = ap end_of (sym (given r s h))
 
-after_leaving : SenderIsLawful → (r s : RunStateView) (e : Event) (p : Packet) (came : Result RunStateView Verdict) → awaited r e ≡ came
-    → on_step (λ q. packet_taken e p q (slice_get q.host.state.endpoint.outbox 0)) (λ v. Err v) came ≡ Ok s
+after_leaving : SenderIsLawful → (r s : RunStateView) (e : Event) (p : Packet) (came : Result RunStateView Why) → awaited r e ≡ came
+    → on_step (λ q. packet_taken e p q (slice_get q.host.state.endpoint.outbox 0)) (λ reason. Err reason) came ≡ Ok s
     → end_of s ≤ end_of r + 262144
 after_leaving laws r s e p (Ok t) is h =
     let waited : end_of t ≡ end_of r = after_wait laws r t e (length r.host.state.endpoint.outbox == 0) is in
     let took : end_of s ≡ end_of t = after_taking t s e p (slice_get t.host.state.endpoint.outbox 0) h in
     omega (arith, waited, took)
-after_leaving laws r s e p (Err v) is h = absurd cc
+after_leaving laws r s e p (Err reason) is h = absurd cc
 
 after_action : SenderIsLawful → (r s : RunStateView) (e : Event) (action : Action) → is_action_over action ≡ false → performed r e action ≡ Ok s
     → end_of s ≤ end_of r + 262144

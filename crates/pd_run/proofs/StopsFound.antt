@@ -6,10 +6,11 @@ use Rattle.pd_run.specs.Run.{verdict_from}
 use Rattle.pd_run.specs.Step.{RunStateView, on_step, step}
 use Rattle.pd_run.specs.Stops.{reason_on, stop_by, stop_from, line_of, VerdictsHaveReasons}
 use Rattle.pd_run.specs.Why.{why, verdict_at, verdict_by_step, ReasonsGiveVerdicts}
+use Rattle.pd_run.specs.declared.bars.Bar.TheVariants.{OverLimit, NotRun, Backwards}
 use Rattle.pd_run.specs.declared.stops.Stopped.{Stopped}
 use Rattle.pd_run.specs.declared.verdicts.Verdict.{Verdict}
 use Rattle.pd_run.specs.declared.whys.Why.{Why}
-use Rattle.pd_run.specs.declared.whys.Why.TheVariants.{OverLimit, NotRun, Backwards, Halted, Missing, Differs, Answered}
+use Rattle.pd_run.specs.declared.whys.Why.TheVariants.{Barred, Halted, Missing, Differs, Answered}
 use Rattle.std.proofs.lemmas.Bool.Decides.{Decides-eqb}
 
 -- what is found, and its verdict
@@ -18,9 +19,9 @@ Found line found v = (stop : Stopped) × (found ≡ Some stop) × (verdict_at li
 
 -- the verdict of a reason at a line has that line
 lined : (line : ℕ) (reason : Why) → line_of (verdict_at line reason) ≡ Some line
-lined line OverLimit = refl
-lined line NotRun = refl
-lined line Backwards = refl
+lined line (Barred OverLimit) = refl
+lined line (Barred NotRun) = refl
+lined line (Barred Backwards) = refl
 lined line (Halted halt.Unsupported) = refl
 lined line (Halted halt.Limit) = refl
 lined line Missing = refl

@@ -8,8 +8,8 @@ use Rattle.pd_host.specs.InputLaws.{rebound_host}
 use Rattle.pd_host.specs.Laws.{IsUpTo, begun_under}
 use Rattle.pd_host.specs.Host.{HostView, without_oldest}
 use Rattle.pd_host.specs.declared.sender_state.State.{State}
-use Rattle.pd_run.specs.Inner.{InputsOnlyUse, SenderIsLawful, IsUpToDate}
-use Rattle.pd_run.specs.Step.{KeepsTime}
+use Rattle.pd_run.specs.Inner.{InputsOnlyUse, SenderIsLawful}
+use Rattle.pd_run.specs.RunStates.{KeepsTime, IsUpToDate}
 use Rattle.pd_run.proofs.Bounds.{IsKept}
 
 -- where the next expiry lies

@@ -4,7 +4,7 @@ use Rattle.pd_script.specs.declared.script_header.HeaderItem.{HeaderItem}
 use Rattle.pd_run.specs.Inner.{InputsOnlyUse, SenderIsLawful}
 use Rattle.pd_run.specs.Laws.{IsUnderway, StartsUnderway, StepsGoOn, RebindingGoesOn, IsHeldUnder, StartsHeld, StepsStayHeld}
 use Rattle.pd_run.specs.Run.{tolerance_in}
-use Rattle.pd_run.specs.Step.{KeepsTime}
+use Rattle.pd_run.specs.RunStates.{KeepsTime}
 use Rattle.pd_run.proofs.Bounds.{IsWithin, given, step_within}
 use Rattle.pd_run.proofs.Queued.{end_of, step_queues}
 use Rattle.pd_run.proofs.Timed.{keeps_time, IsHeld, stays_held}

@@ -17,7 +17,8 @@ use Rattle.pd_match.specs.Agreement.{Agrees, IsResult}
 use Rattle.pd_match.specs.Packets.{compared}
 use Rattle.pd_run.specs.Run.{start_of}
 use Rattle.pd_run.specs.Consulted.{rebound_run}
-use Rattle.pd_run.specs.Step.{RunStateView, KeepsTime, tolerance_of, noted, answers, awaited, step}
+use Rattle.pd_run.specs.RunStates.{RunStateView, KeepsTime}
+use Rattle.pd_run.specs.Step.{tolerance_of, noted, answers, awaited, step}
 use Rattle.pd_run.specs.Times.{moments_of}
 
 -- where an expected packet passes, one had left: the oldest that nobody had taken agrees with it in every field

@@ -6,6 +6,9 @@ pub mod Limits
 pub mod Times
 pub mod Inbound
 pub mod Shapes
+pub mod Bars
+pub mod RunStates
+pub mod Verdicts
 pub mod Step
 pub mod Run
 pub mod Grammatical

@@ -2,6 +2,7 @@
 #![tactic(auto)]
 
 mod acting;
+mod bars;
 mod inbound;
 mod laws;
 mod limits;
@@ -14,18 +15,17 @@ mod times;
 mod verdicts;
 mod whys;
 
+pub use bars::{Bar, bar_of};
 pub use laws::{
     runs_are_bounded, runs_only_use, steps_are_lawful, verdicts_are_grammatical,
     verdicts_have_reasons,
 };
-pub use limits::is_over_limit;
 pub use pd_host::ConnState;
 pub use pd_match::Kind;
 pub use run_state::RunState;
 pub use running::{run_all, run_with};
-pub use shapes::is_run;
 pub use stepping::{Plain, StepEnd, Stepper};
 pub use stops::{Stopped, find_stop};
-pub use times::{base_after, is_backwards, is_in_reach, moment_of, moments_of};
+pub use times::{base_after, is_in_reach, moment_of, moments_of};
 pub use verdicts::Verdict;
 pub use whys::Why;

@@ -3,11 +3,9 @@ ghost use Rattle.std.specs.Prelude.{◌≡◌, ◌+◌, ◌-◌, ◌<◌, ◌^�
 ghost use Rattle.pd_host.specs.Host.{IsShort};
 ghost use Rattle.pd_host.specs.declared.halts.Ending.TheVariants.{OutOfMemory};
 ghost use Rattle.pd_run.specs.Step.{Steps};
-ghost use Rattle.pd_run.specs.Inner.{ended_by};
 
 use crate::run_state::RunState;
 use crate::verdicts::Verdict;
-use pd_host::{Ending, Halt};
 use pd_script::Event;
 use pd_settings::Settings;
 use std::alloc::AllocError;
@@ -19,17 +17,6 @@ pub enum StepEnd {
     /// The run goes on.
     Go,
     Stop(Verdict),
-}
-
-/// How a step ends at this line where the host has ended.
-pub(crate) fn end_by(ending: Ending, line: usize) -> Result<StepEnd, AllocError>
-    ensures { result ≡ ended_by line ending }
-{
-    match ending {
-        Ending::Halted(Halt::Unsupported) => Ok(StepEnd::Stop(Verdict::Unsupported(line))),
-        Ending::Halted(Halt::Limit) => Ok(StepEnd::Stop(Verdict::Limit(line))),
-        Ending::OutOfMemory => Err(AllocError),
-    }
 }
 
 /// Takes the steps of runs and counts them: a step is one event, and the count rises by one a call.
@@ -86,6 +73,7 @@ impl Plain {
 impl Stepper for Plain {
     ghost counted = { λ steps. steps };
 
+    #[inline(always)]
     fn step(
         &mut self,
         state: &mut RunState,

@@ -1,7 +1,7 @@
 -- What is left from here, and what was done, make the whole run.
 use Rattle.std.proofs.Common.{◌≡◌, ◌≤◌, ◌+◌, ◌*◌, drop}
 use Rattle.pd_run.specs.Run.{verdict_from, stepped_from}
-use Rattle.pd_run.specs.Step.{KeepsTime}
+use Rattle.pd_run.specs.RunStates.{KeepsTime}
 use Rattle.pd_run.proofs.Bounds.{IsWithin}
 use Rattle.pd_run.proofs.Queued.{end_of}
 use Rattle.pd_run.proofs.running.run_events.Given as goal

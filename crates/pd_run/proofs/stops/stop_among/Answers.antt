@@ -3,7 +3,8 @@ use Rattle.std.proofs.Common.{◌≡◌, ◌≤◌, ◌+◌, ◌*◌, ◌∷◌,
 use Rattle.std.proofs.lemmas.List.{drop_more}
 use Rattle.pd_script.specs.declared.script_events.Event.{Event}
 use Rattle.pd_run.specs.Inner.{SenderIsLawful}
-use Rattle.pd_run.specs.Step.{KeepsTime, step, Steps}
+use Rattle.pd_run.specs.RunStates.{KeepsTime}
+use Rattle.pd_run.specs.Step.{step, Steps}
 use Rattle.pd_run.specs.Stops.{reason_on}
 use Rattle.pd_run.specs.declared.stepping.StepEnd.TheVariants.{Go}
 use Rattle.pd_run.proofs.Bounds.{IsWithin, step_within}

@@ -1,7 +1,7 @@
 -- Where the events that are left stop the run is where the whole run stops.
 use Rattle.std.proofs.Common.{◌≡◌, ◌≤◌, ◌*◌, drop}
 use Rattle.pd_run.specs.Stops.{stop_from}
-use Rattle.pd_run.specs.Step.{KeepsTime}
+use Rattle.pd_run.specs.RunStates.{KeepsTime}
 use Rattle.pd_run.proofs.Bounds.{IsWithin}
 use Rattle.pd_run.proofs.Queued.{end_of}
 use Rattle.pd_run.proofs.stops.stop_among.Given as goal

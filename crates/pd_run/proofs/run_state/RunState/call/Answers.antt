@@ -1,16 +1,9 @@
 -- The sender is up to date at the moment of the call.
 use Rattle.std.proofs.Common.{ap, ◌∙◌}
-use Rattle.pd_run.specs.Step.{RunStateView, KeepsTime}
+use Rattle.pd_run.specs.RunStates.{RunStateView, KeepsTime}
 use Rattle.pd_run.proofs.Bounds.{host_after_call, acts_later}
 use Rattle.pd_run.proofs.Timed.{keeps_time}
 use Rattle.pd_run.proofs.run_state.RunState.call.Goals as goal
-
-pub invariant_of-self-in-Some : goal.invariant_of-self-in-Some
-invariant_of-self-in-Some c =
-    host_after_call KeepsTime (keeps_time c.sender_is_lawful.ensures) c.self.inside.host c.answer.new.host c.args.call.now c.self.inside.clock c.acts_at-moment.result c.in-Ok.answer c.self.invariant
-    (ap (λ (r : RunStateView). r.host.ended) c.self.view_is ∙ c.requires.live)
-    (acts_later c.args.self.now c.args.event.now c.self.inside.clock c.acts_at-moment.result (ap (λ (r : RunStateView). r.clock) c.self.view_is) c.acts_at-moment.ensures)
-    c.in-Ok.ensures
 
 pub invariant_of-self-2 : goal.invariant_of-self-2
 invariant_of-self-2 c =

@@ -1,7 +1,7 @@
 -- The sender is up to date at the moment of the expiry.
 use Rattle.std.proofs.Common.{ap, ◌∙◌}
 use Rattle.pd_host.specs.Expiries.{deadline_of}
-use Rattle.pd_run.specs.Step.{RunStateView, KeepsTime}
+use Rattle.pd_run.specs.RunStates.{RunStateView, KeepsTime}
 use Rattle.pd_run.proofs.Bounds.{host_after_expiry}
 use Rattle.pd_run.proofs.Timed.{keeps_time}
 use Rattle.pd_run.proofs.run_state.RunState.expire.Goals as goal

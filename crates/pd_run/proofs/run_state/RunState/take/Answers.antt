@@ -5,15 +5,3 @@ use Rattle.pd_run.proofs.run_state.RunState.take.Goals as goal
 pub invariant_of-self : goal.invariant_of-self
 invariant_of-self c =
     host_taken c.sender_is_lawful.ensures c.self.inside.host c.take.new.self c.self.inside.clock c.self.invariant c.take.ensures.rest
-
-pub invariant_of-self-2 : goal.invariant_of-self-2
-invariant_of-self-2 c =
-    host_taken c.sender_is_lawful.ensures c.self.inside.host c.take.new.self c.self.inside.clock c.self.invariant c.take.ensures.rest
-
-pub invariant_of-self-in-Some-check_packet : goal.invariant_of-self-in-Some-check_packet
-invariant_of-self-in-Some-check_packet c =
-    host_taken c.sender_is_lawful.ensures c.self.inside.host c.take.new.self c.self.inside.clock c.self.invariant c.take.ensures.rest
-
-pub invariant_of-self-3 : goal.invariant_of-self-3
-invariant_of-self-3 c =
-    host_taken c.sender_is_lawful.ensures c.self.inside.host c.take.new.self c.self.inside.clock c.self.invariant c.take.ensures.rest

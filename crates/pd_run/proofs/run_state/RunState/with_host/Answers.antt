@@ -1,7 +1,6 @@
 -- The run is up to date on an equal host.
 use Rattle.std.proofs.Common.{◌∙◌, ap, sym, subst}
-use Rattle.pd_run.specs.Step.{RunStateView}
-use Rattle.pd_run.specs.Inner.{IsUpToDate}
+use Rattle.pd_run.specs.RunStates.{RunStateView, IsUpToDate}
 use Rattle.pd_run.proofs.run_state.RunState.with_host.Goals as goal
 
 pub invariant_of-result : goal.invariant_of-result

@@ -1,0 +1,207 @@
+//! One event of a run: what it does, and how it ends.
+ghost use Rattle.std.specs.Prelude.{◌≡◌, ◌<◌, ◌^◌, false, None, Some, IfOk, OnErr, slice_get};
+ghost use Rattle.std.specs.List.{list_any};
+ghost use Rattle.pd_host.specs.Expiries.{advanced, deadline_of};
+ghost use Rattle.pd_host.specs.Host.{IsShort};
+ghost use Rattle.pd_host.specs.declared.halts.Ending.TheVariants.{OutOfMemory};
+ghost use Rattle.pd_run.specs.Inner.{Ends};
+ghost use Rattle.pd_run.specs.Limits.{is_long, written_times, is_packet_over};
+ghost use Rattle.pd_run.specs.Step.{arrives, on_arrival, answers, on_answer, on_expiry, awaited, packet_taken, leaves, outcome, why, Steps};
+
+use super::RunState;
+use crate::acting::{answer, arrive};
+use crate::bars::{Bar, bar_of};
+use crate::laws::sender_is_lawful;
+use crate::stepping::StepEnd;
+use crate::times::{base_after, is_in_reach, moments_of};
+use crate::whys::{Stop, Why};
+use pd_match::{Expect, check_call, check_packet};
+use pd_script::{Action, Call, Event, Packet};
+use std::alloc::AllocError;
+
+impl RunState {
+    /// One event. One that stops the run leaves it in a state of which nothing is claimed.
+    ///
+    /// # Errors
+    /// Want of memory, also where a step before has found none.
+    #[inline(always)]
+    pub(crate) fn step(&mut self, event: &Event) -> Result<StepEnd, AllocError>
+        requires clock { self.old.clock < 2 ^ 61 }
+        requires base { self.old.base < 2 ^ 61 }
+        requires short { IsShort self.old.host.state }
+        ensures ends { IfOk result (λ end. Steps self.old event.now end self.new) }
+        ensures memory { OnErr result (self.new.host.ended ≡ Some OutOfMemory) }
+    {
+        if let Some(ending) = self.host.ended() {
+            return Ok(StepEnd::Stop(Stop::by(ending)?.verdict(event.line)));
+        }
+        match self.outcome(event)? {
+            None => Ok(StepEnd::Go),
+            Some(stop) => Ok(StepEnd::Stop(stop.verdict(event.line))),
+        }
+    }
+
+    /// Why the run stops at an event; nothing where it goes on. The run itself stays as it is.
+    ///
+    /// # Errors
+    /// `AllocError` where a growth is refused.
+    pub fn why(&self, event: &Event) -> Result<Option<Why>, AllocError>
+        requires live { self.now.host.ended ≡ None }
+        requires clock { self.now.clock < 2 ^ 61 }
+        requires base { self.now.base < 2 ^ 61 }
+        requires short { IsShort self.now.host.state }
+        ensures { IfOk result (λ reason. reason ≡ why self.now event.now) }
+    {
+        let mut run = self.copy()?;
+        match run.outcome(event)? {
+            None => Ok(None),
+            Some(stop) => Ok(Some(stop.told(run)?)),
+        }
+    }
+
+    /// How an event ends: its checks in order, then the event itself. Nothing where the run goes on.
+    #[inline(always)]
+    fn outcome(&mut self, event: &Event) -> Result<Option<Stop>, AllocError>
+        requires live { self.old.host.ended ≡ None }
+        requires clock { self.old.clock < 2 ^ 61 }
+        requires base { self.old.base < 2 ^ 61 }
+        requires short { IsShort self.old.host.state }
+        ensures ends { IfOk result (λ end. Ends (outcome self.old event.now) end self.new) }
+        ensures memory { OnErr result (self.new.host.ended ≡ Some OutOfMemory) }
+    {
+        if let Some(bar) = bar_of(self.base, event) {
+            return Ok(Some(Stop::Barred(bar)));
+        }
+        match &event.action {
+            Action::Inbound(packet) => self.arrive(event, packet),
+            Action::Outbound(packet) => {
+                self.note();
+                self.expect(event, packet)
+            }
+            Action::Call(call) => self.call(event, call),
+            Action::Command | Action::Code => Ok(Some(Stop::Barred(Bar::NotRun))),
+        }
+    }
+
+    #[inline(always)]
+    fn arrive(&mut self, event: &Event, packet: &Packet) -> Result<Option<Stop>, AllocError>
+        requires live { self.old.host.ended ≡ None }
+        requires clock { self.old.clock < 2 ^ 61 }
+        requires base { self.old.base < 2 ^ 61 }
+        requires short { list_any is_long (written_times event.now.time) ≡ false }
+        requires fits { is_packet_over packet.now ≡ false }
+        ensures ends { IfOk result (λ end. Ends (on_arrival self.old event.now (arrives self.old event.now packet.now)) end self.new) }
+        ensures memory { OnErr result (self.new.host.ended ≡ Some OutOfMemory) }
+    {
+        sender_is_lawful();
+        let moment = self.acts_at(event);
+        match arrive(&mut self.host, packet, moment) {
+            Ok(()) => {}
+            Err(ending) => return Ok(Some(Stop::by(ending)?)),
+        }
+        self.clock = moment;
+        self.rebase(event);
+        Ok(None)
+    }
+
+    #[inline(always)]
+    fn call(&mut self, event: &Event, call: &Call) -> Result<Option<Stop>, AllocError>
+        requires live { self.old.host.ended ≡ None }
+        requires clock { self.old.clock < 2 ^ 61 }
+        requires base { self.old.base < 2 ^ 61 }
+        requires short { list_any is_long (written_times event.now.time) ≡ false }
+        requires room { IsShort self.old.host.state }
+        ensures ends { IfOk result (λ end. Ends (on_answer self.old event.now call.now (answers self.old event.now call.now)) end self.new) }
+        ensures memory { OnErr result (self.new.host.ended ≡ Some OutOfMemory) }
+    {
+        sender_is_lawful();
+        let moment = self.acts_at(event);
+        let answer = match answer(&mut self.host, call, moment) {
+            Ok(answer) => answer,
+            Err(ending) => return Ok(Some(Stop::by(ending)?)),
+        };
+        self.clock = moment;
+        self.rebase(event);
+        match check_call(call, &answer) {
+            None => Ok(None),
+            Some(_) => Ok(Some(Stop::Answered(answer))),
+        }
+    }
+
+    #[inline(always)]
+    fn expect(&mut self, event: &Event, packet: &Packet) -> Result<Option<Stop>, AllocError>
+        requires live { self.old.host.ended ≡ None }
+        requires clock { self.old.clock < 2 ^ 61 }
+        requires base { self.old.base < 2 ^ 61 }
+        requires short { list_any is_long (written_times event.now.time) ≡ false }
+        ensures ends { IfOk result (λ end. Ends (leaves self.old event.now packet.now) end self.new) }
+        ensures memory { OnErr result (self.new.host.ended ≡ Some OutOfMemory) }
+    {
+        match self.wait(event)? {
+            None => Ok(self.take(event, packet)),
+            end => Ok(end),
+        }
+    }
+
+    /// Where no packet is untaken, performs the next expiry that may send the expected one.
+    #[inline(always)]
+    fn wait(&mut self, event: &Event) -> Result<Option<Stop>, AllocError>
+        requires live { self.old.host.ended ≡ None }
+        requires clock { self.old.clock < 2 ^ 61 }
+        requires base { self.old.base < 2 ^ 61 }
+        requires short { list_any is_long (written_times event.now.time) ≡ false }
+        ensures ends { IfOk result (λ end. Ends (awaited self.old event.now) end self.new) }
+        ensures memory { OnErr result (self.new.host.ended ≡ Some OutOfMemory) }
+        ensures base { self.new.base ≡ self.old.base }
+    {
+        if !self.host.outbox().is_empty() {
+            return Ok(None);
+        }
+        let moments = moments_of(self.base, event.time);
+        match self.host.deadline() {
+            Some(at) if is_in_reach(moments, self.tolerance(), at) => self.expire(at),
+            _ => Ok(Some(Stop::Missing)),
+        }
+    }
+
+    /// Performs the next expiry, whose moment the clock becomes.
+    fn expire(&mut self, at: u64) -> Result<Option<Stop>, AllocError>
+        requires live { self.old.host.ended ≡ None }
+        requires clock { self.old.clock < 2 ^ 61 }
+        requires due { deadline_of self.old.host.state ≡ Some at }
+        ensures ends { IfOk result (λ end. Ends (on_expiry self.old at (advanced at self.old.host.state)) end self.new) }
+        ensures memory { OnErr result (self.new.host.ended ≡ Some OutOfMemory) }
+        ensures base { self.new.base ≡ self.old.base }
+    {
+        sender_is_lawful();
+        match self.host.advance(at) {
+            Ok(()) => {}
+            Err(ending) => return Ok(Some(Stop::by(ending)?)),
+        }
+        self.clock = at;
+        Ok(None)
+    }
+
+    /// Compares the oldest packet, and takes it where it agrees.
+    #[inline(always)]
+    fn take(&mut self, event: &Event, packet: &Packet) -> Option<Stop>
+        requires base { self.old.base < 2 ^ 61 }
+        requires short { list_any is_long (written_times event.now.time) ≡ false }
+        ensures { Ends (packet_taken event.now packet.now self.old (slice_get self.old.host.state.endpoint.outbox 0)) result self.new }
+    {
+        sender_is_lawful();
+        let Some(sent) = self.host.outbox().get(0) else {
+            return Some(Stop::Missing);
+        };
+        let expect = Expect {
+            packet,
+            moments: moments_of(self.base, event.time),
+        };
+        if let Some(kind) = check_packet(&expect, sent, self.tolerance()) {
+            return Some(Stop::Differs(kind));
+        }
+        self.base = base_after(self.base, event.time, sent.at);
+        let _ = self.host.take();
+        None
+    }
+}
