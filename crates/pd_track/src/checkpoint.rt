@@ -1,7 +1,7 @@
 //! States that runs can be taken up in.
-ghost use Rattle.std.specs.Prelude.{◌≡◌, IfOk};
+ghost use Rattle.std.specs.Prelude.{◌≡◌, ◌++◌, ◌∷◌, [], IfOk, OnOk};
 
-use pd_reparse::Copied;
+use pd_reparse::{Copied, SharedList};
 use pd_run::RunState;
 use std::alloc::AllocError;
 use std::marker::Model;
@@ -22,8 +22,23 @@ impl Model for Checkpoint {
 }
 
 impl Checkpoint {
+    /// Puts a copy of a state after others.
+    ///
+    /// # Errors
+    /// `AllocError` where memory for it is refused, and then nothing is claimed of what the list holds.
+    pub(crate) fn keep(
+        checkpoints: &mut SharedList<Checkpoint>,
+        state: &RunState,
+    ) -> Result<(), AllocError>
+        ensures { OnOk result (checkpoints.new ≡ checkpoints.old ++ state.now ∷ []) }
+    {
+        match state.copy() {
+            Ok(state) => checkpoints.push(Checkpoint { state }),
+            Err(error) => Err(error),
+        }
+    }
+
     /// A copy of a state.
-    #[inline(always)]
     pub(crate) fn new(state: &RunState) -> Result<Checkpoint, AllocError>
         ensures { IfOk result (λ checkpoint. checkpoint ≡ state.now) }
     {

@@ -96,7 +96,7 @@ impl Progress {
     {
         self.passed += 1;
         if self.passed % 4 == 0 {
-            self.checkpoints.push(Checkpoint::new(&self.state)?)?;
+            Checkpoint::keep(&mut self.checkpoints, &self.state)?;
         }
         Ok(())
     }
