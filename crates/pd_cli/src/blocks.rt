@@ -7,7 +7,7 @@ ghost use Rattle.pd_words.specs.Chosen.{names_of};
 ghost use Rattle.pd_cli.specs.Blocks.{is_looked_into};
 
 use pd_book::Done;
-use pd_explain::{block_json, block_text, ending_json, ending_text, explain, find_ending};
+use pd_explain::{block_json, block_text, ending_json, ending_text, explain_job, find_ending};
 use pd_run::Verdict;
 use pd_text::Name;
 use pd_words::Explaining;
@@ -29,11 +29,10 @@ pub(crate) fn block_of(
     if !is_looked_into(explaining.only.as_slice(), done.name()) {
         return Ok(Vec::new(alloc));
     }
-    let verdict = done.verdict();
-    if is_pass(verdict) {
+    if is_pass(done.verdict()) {
         return end_of(alloc, explaining, done);
     }
-    reason_of(alloc, explaining.json, done, verdict)
+    reason_of(alloc, explaining.json, done)
 }
 
 fn is_pass(verdict: Verdict) -> bool
@@ -43,15 +42,8 @@ fn is_pass(verdict: Verdict) -> bool
 }
 
 /// Why a job doesn't pass.
-fn reason_of(
-    alloc: Global,
-    json: bool,
-    done: &Done,
-    verdict: Verdict,
-) -> Result<Vec<u8>, AllocError>
-    requires { verdict ≡ verdict_of done.now.text done.now.settings }
-{
-    match explain(alloc, done.text().lines(), &done.settings(), verdict)? {
+fn reason_of(alloc: Global, json: bool, done: &Done) -> Result<Vec<u8>, AllocError> {
+    match explain_job(alloc, done)? {
         Some(explanation) if json => block_json(alloc, done.name(), &explanation),
         Some(explanation) => block_text(alloc, done.name(), &explanation),
         None => Ok(Vec::new(alloc)),

@@ -13,7 +13,8 @@ use Rattle.pd_run.specs.declared.verdicts.Verdict.{Verdict}
 use Rattle.pd_run.specs.declared.verdicts.Verdict.TheVariants as verdict
 use Rattle.pd_run.specs.Why.{why, verdict_at, verdict_by_step, ReasonsGiveVerdicts}
 use Rattle.pd_run.specs.declared.whys.Why.{Why}
-use Rattle.pd_run.specs.declared.whys.Why.TheVariants.{OverLimit, NotRun, Backwards, Halted, Missing, Differs, Answered}
+use Rattle.pd_run.specs.declared.bars.Bar.TheVariants.{OverLimit, NotRun, Backwards}
+use Rattle.pd_run.specs.declared.whys.Why.TheVariants.{Barred, Halted, Missing, Differs, Answered}
 use Rattle.pd_host.specs.declared.halts.Halt.TheVariants as halt
 use Rattle.pd_explain.specs.Columns.{sent_text}
 use Rattle.pd_explain.specs.Ends.{end_from, end_in, is_pass, PassesHaveEnds}
@@ -61,9 +62,9 @@ beyond_ten skipped xs = omega (arith, length-drop skipped xs)
 
 -- no stop has the verdict of a pass
 no_pass : (line : ℕ) (w : Why) → is_pass (verdict_at line w) ≡ false
-no_pass line OverLimit = refl
-no_pass line NotRun = refl
-no_pass line Backwards = refl
+no_pass line (Barred OverLimit) = refl
+no_pass line (Barred NotRun) = refl
+no_pass line (Barred Backwards) = refl
 no_pass line (Halted halt.Unsupported) = refl
 no_pass line (Halted halt.Limit) = refl
 no_pass line Missing = refl

@@ -1,4 +1,4 @@
--- Lemmas on rules, reasons, what is shown, explanations, ends of runs, parts of events, and the lines of a block.
+-- Lemmas on rules, reasons, what is shown, explanations, ends of runs, parts of events, the lines of a block, runs that are taken up, and packets that no line asks for.
 pub mod RuleLemmas
 pub mod ShownLemmas
 pub mod InputLemmas
@@ -8,3 +8,5 @@ pub mod StopIsThere
 pub mod BlockLemmas
 pub mod EndLemmas
 pub mod PartLemmas
+pub mod TakenUp
+pub mod UnaskedLemmas

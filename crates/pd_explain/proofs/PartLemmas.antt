@@ -1,5 +1,5 @@
 -- Tokens and the parts that begin with them, one after the other.
-use Rattle.std.proofs.Common.{◌≡◌, ◌∙◌, ℕ, ◌<◌, ◌+◌, Bool, true, false, List, ◌∷◌, length, Option, Some, None, if◌then◌else◌, refl, sym, ap, arith}
+use Rattle.std.proofs.Common.{◌≡◌, ◌∙◌, ℕ, ◌<◌, ◌+◌, Bool, true, false, List, ◌∷◌, length, Some, None, if◌then◌else◌, refl, sym, ap, arith}
 use Rattle.pd_lex.specs.declared.token.Place.{Place}
 use Rattle.pd_lex.specs.declared.token.Token.{Token}
 use Rattle.pd_lex.specs.declared.token.Lexed.{Lexed}

@@ -1,6 +1,7 @@
 -- With the packet that was sent in the place of the expected one, a run goes on past the event.
-use Rattle.std.proofs.Common.{◌≡◌, ◌≢◌, ◌≤◌, ℕ, zero, suc, ◌+◌, ◌-◌, ◌==◌, ◌&&◌, nat_le, max, Bool, true, false, not, if◌then◌else◌, List, [], ◌∷◌, ◌++◌, length, slice_get, Option, Some, None, Result, Ok, Err, refl, sym, ap, subst, ◌∙◌, arith}
+use Rattle.std.proofs.Common.{◌≡◌, ◌≤◌, ℕ, zero, suc, ◌+◌, ◌-◌, ◌==◌, ◌&&◌, nat_le, max, Bool, true, false, not, if◌then◌else◌, List, [], ◌∷◌, ◌++◌, length, slice_get, Option, Some, None, Result, Ok, Err, refl, sym, ap, subst, ◌∙◌, arith}
 use Rattle.std.specs.Prelude.{is_some, is_none}
+use Rattle.std.specs.Result.{result_err}
 use Rattle.std.proofs.lemmas.Bool.Decides.{nat_tests}
 use Rattle.pd_script.specs.declared.script_events.Event.{Event}
 use Rattle.pd_script.specs.declared.timing.Time.TheVariants.{Any, Relative}
@@ -19,15 +20,18 @@ use Rattle.pd_match.specs.declared.kinds.Kind.{Kind}
 use Rattle.pd_match.specs.declared.kinds.Kind.TheVariants as kind
 use Rattle.pd_print.specs.Laws.{SentPacketsAgree}
 use Rattle.pd_print.specs.Sent.{packet_of}
+use Rattle.pd_run.specs.Bars.{bar_of}
 use Rattle.pd_run.specs.Limits.{is_over_limit}
 use Rattle.pd_run.specs.Shapes.{is_run, is_action_run}
-use Rattle.pd_run.specs.Step.{RunStateView, tolerance_of, noted, with_state, on_expiry, expires, awaited}
+use Rattle.pd_run.specs.RunStates.{RunStateView}
+use Rattle.pd_run.specs.Step.{tolerance_of, noted, with_state, on_expiry, expires, awaited, performed, unless_barred}
 use Rattle.pd_run.specs.Times.{moments_of, is_backwards, is_in_reach, base_after}
 use Rattle.pd_run.specs.Why.{why, DifferencesAreFirst}
-use Rattle.pd_run.specs.declared.verdicts.Verdict.{Verdict}
-use Rattle.pd_run.specs.declared.verdicts.Verdict.TheVariants.{Fail}
+use Rattle.pd_run.specs.declared.bars.Bar.{Bar}
+use Rattle.pd_run.specs.declared.bars.Bar.TheVariants.{OverLimit, NotRun}
 use Rattle.pd_run.specs.declared.whys.Why.{Why}
-use Rattle.pd_run.specs.declared.whys.Why.TheVariants.{OverLimit, NotRun, Differs}
+use Rattle.pd_run.specs.declared.whys.Why.TheVariants.{Missing, Differs}
+use Rattle.pd_run.proofs.Bounds.{given}
 use Rattle.pd_explain.specs.Columns.{time_since}
 use Rattle.pd_explain.specs.Pasted.{with_actual, ActualPacketsPass}
 
@@ -41,12 +45,6 @@ state_out s = Ok s
 
 state_is : (a b : State) → state_out a ≡ state_out b → a ≡ b
 state_is a b e = cc
-
-abbrev run_out : RunStateView → Result RunStateView Verdict
-run_out r = Ok r
-
-run_is : (a b : RunStateView) → run_out a ≡ run_out b → a ≡ b
-run_is a b e = cc
 
 -- the oldest packet of a state
 abbrev Oldest : State → Sent → Type 0
@@ -162,12 +160,12 @@ no_mismatch P (Some k) all is = absurd (is.fails (all k))
 
 -- The wait for it is the same
 
-came_of : (r q : RunStateView) (e a : Event) (at : ℕ) (came : Result State Halt) → on_expiry r e at came ≡ Ok q
-    → (on_expiry r a at came ≡ Ok q) × (s : State) × (came ≡ Ok s) × (q.base ≡ r.base) × (q.host.state ≡ s)
-came_of r q e a at (Ok s) h =
-    let same : record (with_state r s) { clock = at } ≡ q = run_is _ q h in
-    (h, s, refl, ap (λ (x : RunStateView). x.base) (sym same), ap (λ (x : RunStateView). x.host.state) (sym same))
-came_of r q e a at (Err x) h = absurd cc
+came_of : (r q : RunStateView) (at : ℕ) (came : Result State Halt) → on_expiry r at came ≡ Ok q
+    → (s : State) × (came ≡ Ok s) × (q.base ≡ r.base) × (q.host.state ≡ s)
+came_of r q at (Ok s) h =
+    let same : record (with_state r s) { clock = at } ≡ q = given _ q h in
+    (s, refl, ap (λ (x : RunStateView). x.base) (sym same), ap (λ (x : RunStateView). x.host.state) (sym same))
+came_of r q at (Err x) h = absurd cc
 
 module _ (r q : RunStateView) (e : Event) (sent : Sent) (first : Oldest q.host.state sent) where
   expires_too : (deadline : Option ℕ) → deadline_of r.host.state ≡ deadline → (length r.host.state.endpoint.outbox == 0) ≡ true
@@ -175,15 +173,15 @@ module _ (r q : RunStateView) (e : Event) (sent : Sent) (first : Oldest q.host.s
   expires_too None d none h = absurd cc
   expires_too (Some at) d none h = in_reach (is_in_reach (moments_of r.base e.time) (tolerance_of r) at) h
     where
-      in_reach : (b : Bool) → (if b then on_expiry r e at (advanced at r.host.state) else Err (Fail e.line kind.Missing)) ≡ Ok q
+      in_reach : (b : Bool) → (if b then on_expiry r at (advanced at r.host.state) else Err Missing) ≡ Ok q
           → (expires r (with_actual q.base sent e) (Some at) ≡ Ok q) × (q.base ≡ r.base)
       in_reach false h = absurd cc
       in_reach true h =
-          let came = came_of r q e (with_actual q.base sent e) at (advanced at r.host.state) h in
-          let moment : sent.at ≡ at = first_at at r.host.state came.1 sent none d came.2 (subst (λ (s : State). Oldest s sent) came.4 first) in
+          let came = came_of r q at (advanced at r.host.state) h in
+          let moment : sent.at ≡ at = first_at at r.host.state came.0 sent none d came.1 (subst (λ (s : State). Oldest s sent) came.3 first) in
           let reach : is_in_reach (moments_of r.base (time_since q.base sent.at)) (tolerance_of r) at ≡ true =
-          rw (came.3, moment) (reaches r.base at (tolerance_of r) (nat_le r.base at) refl) in
-          (ap (λ (b : Bool). if b then on_expiry r (with_actual q.base sent e) at (advanced at r.host.state) else Err (Fail e.line kind.Missing)) reach ∙ came.0, came.3)
+          rw (came.2, moment) (reaches r.base at (tolerance_of r) (nat_le r.base at) refl) in
+          (ap (λ (b : Bool). if b then on_expiry r at (advanced at r.host.state) else Err Missing) reach ∙ h, came.2)
 
   awaited_too : awaited r e ≡ Ok q → (awaited r (with_actual q.base sent e) ≡ Ok q) × (q.base ≡ r.base)
   awaited_too h = go (length r.host.state.endpoint.outbox == 0) refl h
@@ -191,19 +189,19 @@ module _ (r q : RunStateView) (e : Event) (sent : Sent) (first : Oldest q.host.s
       go : (b : Bool) → (length r.host.state.endpoint.outbox == 0) ≡ b → (if b then expires r e (deadline_of r.host.state) else Ok r) ≡ Ok q
           → ((if b then expires r (with_actual q.base sent e) (deadline_of r.host.state) else Ok r) ≡ Ok q) × (q.base ≡ r.base)
       go true none h = expires_too (deadline_of r.host.state) refl none h
-      go false some h = (h, ap (λ (x : RunStateView). x.base) (sym (run_is r q h)))
+      go false some h = (h, ap (λ (x : RunStateView). x.base) (sym (given r q h)))
 
 -- The checks before
 
-past : (b : Bool) (reason : Why) (rest : Option Why) (k : Kind) (sent : Sent) (q : RunStateView) → reason ≢ Differs k sent q
-    → (if b then Some reason else rest) ≡ Some (Differs k sent q) → rest ≡ Some (Differs k sent q)
-past true reason rest k sent q not h = absurd (not (some_is h))
-past false reason rest k sent q not h = h
+unbarred : (came : Result RunStateView Why) (bar : Option Bar) (k : Kind) (sent : Sent) (q : RunStateView)
+    → result_err (unless_barred came bar) ≡ Some (Differs k sent q) → bar ≡ None
+unbarred came None k sent q h = refl
+unbarred came (Some bar) k sent q h = absurd cc
 
-is_passed : (b : Bool) (rest : Option Why) (k : Kind) (sent : Sent) (q : RunStateView)
-    → (if not b then Some NotRun else rest) ≡ Some (Differs k sent q) → b ≡ true
-is_passed true rest k sent q h = refl
-is_passed false rest k sent q h = absurd cc
+is_passed : (a b : Bool) (rest : Option Bar) → (if a then Some OverLimit else (if not b then Some NotRun else rest)) ≡ None → b ≡ true
+is_passed true b rest h = absurd cc
+is_passed false true rest h = refl
+is_passed false false rest h = absurd cc
 
 first_of : (a b : Bool) → (a && b) ≡ true → a ≡ true
 first_of true b h = refl
@@ -212,7 +210,7 @@ first_of false b h = absurd cc
 -- the event has no blocking time
 not_blocking : (r q : RunStateView) (e : Event) (k : Kind) (sent : Sent) → why r e ≡ Some (Differs k sent q) → is_none e.until ≡ true
 not_blocking r q e k sent h =
-    let run : is_run e ≡ true = is_passed (is_run e) _ k sent q (past (is_over_limit e) OverLimit _ k sent q (λ n. cc) h) in
+    let run : is_run e ≡ true = is_passed (is_over_limit e) (is_run e) _ (unbarred (performed r e e.action) (bar_of r.base e) k sent q h) in
     first_of (is_none e.until) (is_action_run e.time e.action) run
 
 pub actual_packets_pass_by : DifferencesAreFirst → SentPacketsAgree → MismatchIsFirst → ActualPacketsPass

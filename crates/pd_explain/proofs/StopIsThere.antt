@@ -8,6 +8,7 @@ use Rattle.pd_script.specs.Script.{script_of}
 use Rattle.pd_script.specs.declared.parsing.Parsed.{Parsed}
 use Rattle.pd_script.specs.declared.script_events.Event.{Event}
 use Rattle.pd_script.specs.declared.script_header.HeaderItem.{HeaderItem}
+use Rattle.pd_reparse.specs.Reading.{reading_of}
 use Rattle.pd_host.specs.Host.{fresh_host}
 use Rattle.pd_run.specs.Run.{tolerance_in, start_of, verdict_in, verdict_from}
 use Rattle.pd_run.specs.Step.{RunStateView, on_step, step}
@@ -20,6 +21,7 @@ use Rattle.pd_run.specs.declared.whys.Why.{Why}
 use Rattle.pd_explain.specs.Causes.{IsCauseOf}
 use Rattle.pd_explain.specs.declared.causes.Cause.{Cause}
 use Rattle.pd_explain.specs.Explained.{row_line, not_run, StopsAt, IsCauseIn, IsCause}
+use Rattle.pd_explain.specs.Parts.{event_place}
 
 -- where a stop is found among so many events after n others
 abbrev Within : ℕ → ℕ → Option Stopped → Type 0
@@ -96,7 +98,7 @@ stops_within law settings parsed line stop h run found =
 
 -- the cause of such a stop at an event is that of the run's verdict
 pub causes_in : (text : List (List ℕ)) (settings : Settings) (parsed : Parsed) (line : ℕ) (v : Verdict) (stop : Stopped) (e : Event) (told : Result Cause AllocError)
-    → not_run parsed.header.items ≡ None → StopsAt line settings parsed v e stop → IfOk told (IsCauseOf text parsed.header.end e stop)
+    → not_run parsed.header.items ≡ None → StopsAt line settings parsed v e stop → IfOk told (IsCauseOf text (event_place (reading_of text) stop.passed) e stop)
     → IfOk told (IsCauseIn text line settings parsed v)
 causes_in text settings parsed line v stop e (Ok cause) run at is = rw run (e, stop, at, is)
 causes_in text settings parsed line v stop e (Err x) run at is = tt

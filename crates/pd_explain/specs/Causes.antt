@@ -4,17 +4,17 @@ use Rattle.pd_lex.specs.declared.token.Place.{Place}
 use Rattle.pd_script.specs.declared.script_events.Event.{Event}
 use Rattle.pd_run.specs.declared.stops.Stopped.{Stopped}
 use Rattle.pd_explain.specs.Failures.{is_failure, IsFailureOf}
-use Rattle.pd_explain.specs.Parts.{part_of, after_events}
+use Rattle.pd_explain.specs.Parts.{part_of}
 use Rattle.pd_explain.specs.Rules.{event_rule}
 use Rattle.pd_explain.specs.Rulings.{IsRuling}
 use Rattle.pd_explain.specs.declared.causes.Cause.{Cause}
 use Rattle.pd_explain.specs.declared.causes.Cause.TheVariants as cause
 
--- what is reported of an event that stopped a run, in a text whose events begin at a place: what didn't happen as written, with
--- the time shown as some octets are, or the rule that stopped it, with the part of the event that it is about
+-- what is reported of an event that stopped a run, and stands at a place of its text: what didn't happen as written, with the time
+-- shown as some octets are, or the rule that stopped it, with the part of the event that it is about
 abbrev pub IsCauseOf : List (List ℕ) → Place → Event → Stopped → Cause → Type 0
-IsCauseOf lines first e stop (cause.Failed f) = (time : List ℕ) × IsFailureOf time e stop f
-IsCauseOf lines first e stop (cause.Rule ruling) =
+IsCauseOf lines place e stop (cause.Failed f) = (time : List ℕ) × IsFailureOf time e stop f
+IsCauseOf lines place e stop (cause.Rule ruling) =
     let rule = event_rule e stop in
-    (is_failure stop.why ≡ false) × IsRuling lines (after_events lines stop.passed first) (part_of rule e) rule ruling
-IsCauseOf lines first e stop (cause.Syntax refusal) = ⊥
+    (is_failure stop.why ≡ false) × IsRuling lines place (part_of rule e) rule ruling
+IsCauseOf lines place e stop (cause.Syntax refusal) = ⊥

@@ -7,6 +7,7 @@ use Rattle.pd_script.specs.declared.parsing.Parsed.{Parsed}
 use Rattle.pd_script.specs.declared.script_events.Event.{Event}
 use Rattle.pd_script.specs.declared.script_header.HeaderItem.{HeaderItem}
 use Rattle.pd_script.specs.declared.script_header.HeaderKind.{HeaderKind}
+use Rattle.pd_reparse.specs.Reading.{reading_of}
 use Rattle.pd_run.specs.Run.{tolerance_in}
 use Rattle.pd_run.specs.Stops.{stop_in}
 use Rattle.pd_run.specs.Why.{verdict_at}
@@ -14,7 +15,7 @@ use Rattle.pd_run.specs.declared.stops.Stopped.{Stopped}
 use Rattle.pd_run.specs.declared.verdicts.Verdict.{Verdict}
 use Rattle.pd_run.specs.declared.verdicts.Verdict.TheVariants as verdict
 use Rattle.pd_explain.specs.Causes.{IsCauseOf}
-use Rattle.pd_explain.specs.Parts.{header_part}
+use Rattle.pd_explain.specs.Parts.{header_part, event_place}
 use Rattle.pd_explain.specs.Rules.{header_rule}
 use Rattle.pd_explain.specs.Rulings.{IsRuling}
 use Rattle.pd_explain.specs.declared.causes.Cause.{Cause}
@@ -50,7 +51,9 @@ IsCauseIn lines line settings parsed v told = by_header (not_run parsed.header.i
   where
     by_header : Option HeaderItem → Type 0
     by_header (Some item) = IsHeaderCause lines item.kind told
-    by_header None = (e : Event) × (stop : Stopped) × StopsAt line settings parsed v e stop × IsCauseOf lines parsed.header.end e stop told
+    by_header None =
+        (e : Event) × (stop : Stopped) × StopsAt line settings parsed v e stop
+        × IsCauseOf lines (event_place (reading_of lines) stop.passed) e stop told
 
 -- a text is refused, and nothing else is reported
 abbrev pub IsRefused : Cause → Type 0

@@ -10,13 +10,15 @@ use Rattle.pd_print.specs.Sent.{packet_of}
 use Rattle.pd_host.specs.Expiries.{deadline_of}
 use Rattle.pd_host.specs.Holds.{hold_in}
 use Rattle.pd_host.specs.Host.{HostView}
-use Rattle.pd_run.specs.Step.{RunStateView}
+use Rattle.pd_run.specs.RunStates.{RunStateView}
+use Rattle.pd_run.specs.declared.bars.Bar.TheVariants.{Backwards}
 use Rattle.pd_run.specs.declared.stops.Stopped.{Stopped}
 use Rattle.pd_run.specs.declared.whys.Why.{Why}
 use Rattle.pd_run.specs.declared.whys.Why.TheVariants as why
 use Rattle.pd_explain.specs.Columns.{time_since, comment_of, lined_up}
 use Rattle.pd_explain.specs.Senders.{standing_of, reason_of}
 use Rattle.pd_explain.specs.Shown.{shown}
+use Rattle.pd_explain.specs.Unasked.{CountsUnasked}
 use Rattle.pd_explain.specs.declared.causes.failures.Comparison.{Comparison}
 use Rattle.pd_explain.specs.declared.causes.failures.Failed.{Failed}
 use Rattle.pd_explain.specs.declared.causes.failures.Failed.TheVariants as failed
@@ -24,7 +26,7 @@ use Rattle.pd_explain.specs.declared.causes.failures.Failure.{Failure}
 
 -- an event failed, so that no rule stopped it
 abbrev pub is_failure : Why → Bool
-is_failure why.Backwards = true
+is_failure (why.Barred Backwards) = true
 is_failure why.Missing = true
 is_failure (why.Differs kind sent r) = true
 is_failure (why.Answered answer r) = true
@@ -47,11 +49,11 @@ ShowsPackets time _ sent base c = Unit {0}
 -- what is reported of the event, whose time is written so, by why it stopped the run
 abbrev pub Tells : List ℕ → Event → RunStateView → Why → Failed → Type 0
 Tells time e before (why.Differs kind sent r) (failed.Packet c) =
-    (c.kind ≡ kind) × (c.at ≡ sent.at) × ShowsPackets (shown time) e.action sent r.base c
+    (c.kind ≡ kind) × (c.at ≡ sent.at) × ShowsPackets (shown time) e.action sent r.base c × CountsUnasked e r c.unasked
 Tells time e before why.Missing (failed.Missing w) =
     (w.reason ≡ reason_of e.action (hold_in before.host.state)) × (w.expiry ≡ deadline_of before.host.state)
 Tells time e before (why.Answered answer r) (failed.Result reply) = reply.answer.items ≡ answer_text answer
-Tells time e before why.Backwards (failed.Backwards setback) = setback.base ≡ before.base
+Tells time e before (why.Barred Backwards) (failed.Backwards setback) = setback.base ≡ before.base
 Tells time e before _ _ = ⊥
 
 -- the same with the sender at the stop

@@ -2,6 +2,7 @@
 pub mod Columns
 pub mod Senders
 pub mod Reasons
+pub mod Unasked
 pub mod Failures
 pub mod Causes
 pub mod Pasted

@@ -2,6 +2,7 @@
 -- it is and by what stands before it.
 use Rattle.std.specs.Prelude.{codes, ℕ, zero, suc, ◌+◌, ◌-◌, ◌≡◌, ◌==◌, nat_le, nat_lt, Bool, true, false, ◌&&◌, ◌||◌, List, [], ◌∷◌, length, take, slice_get, Option, Some, None, unwrap_or, if◌then◌else◌}
 use Rattle.std.specs.List.{list_any}
+use Rattle.std.specs.Option.{option_map_or}
 use Rattle.std.specs.Str.{bytes_eq}
 use Rattle.pd_lex.specs.Lexing.{items}
 use Rattle.pd_lex.specs.Numbers.{capped_number}
@@ -10,13 +11,12 @@ use Rattle.pd_lex.specs.declared.token.Place.{Place}
 use Rattle.pd_lex.specs.declared.token.TokenKind.{TokenKind}
 use Rattle.pd_lex.specs.declared.token.TokenKind.TheVariants as kinds
 use Rattle.pd_script.specs.Header.{option_kind}
-use Rattle.pd_script.specs.Next.{next_in}
 use Rattle.pd_script.specs.Values.{sign}
-use Rattle.pd_script.specs.declared.deciding.NextEvent.{NextEvent}
-use Rattle.pd_script.specs.declared.deciding.NextEvent.TheVariants.{Got, End, Fault}
 use Rattle.pd_script.specs.declared.script_events.Event.{Event}
 use Rattle.pd_script.specs.declared.script_header.HeaderKind.{HeaderKind}
 use Rattle.pd_script.specs.declared.script_header.HeaderKind.TheVariants as header
+use Rattle.pd_reparse.specs.Reading.{DecidedScript}
+use Rattle.pd_reparse.specs.declared.decided.Decided.{Decided}
 use Rattle.pd_run.specs.Limits.{is_long, written_times}
 use Rattle.pd_explain.specs.Rules.{limit_of}
 use Rattle.pd_explain.specs.Shown.{shown}
@@ -323,19 +323,10 @@ header_part _ = part.HeaderOption
 
 -- ---- places
 
--- where the event at a place is followed by something
-abbrev pub after_event : List (List ℕ) → Place → Place
-after_event lines p = by (next_in (items lines p))
-  where
-    by : NextEvent → Place
-    by (Got e after reach) = after
-    by End = p
-    by (Fault line) = p
-
--- where the event stands that comes after so many others, from a place on
-abbrev pub after_events : List (List ℕ) → ℕ → Place → Place
-after_events lines zero p = p
-after_events lines (suc n) p = after_event lines (after_events lines n p)
+-- where the event of a text stands that comes after so many others: at the token after those, the first one after the header
+abbrev pub event_place : DecidedScript → ℕ → Place
+event_place r zero = r.header.end
+event_place r (suc n) = option_map_or (λ (d : Decided). d.after) (slice_get r.events n) r.header.end
 
 -- a line of a text, counted from 1; nothing outside of it
 abbrev pub line_in : List (List ℕ) → ℕ → List ℕ

@@ -5,8 +5,10 @@ ghost use Rattle.pd_explain.specs.Causes.{IsCauseOf};
 mod columns;
 mod failing;
 mod failures;
+mod moments;
 mod pasted_laws;
 mod reasons;
+mod unasked;
 mod untaken;
 mod window_laws;
 mod writings;
@@ -21,13 +23,12 @@ pub use self::reasons::Reason;
 pub(crate) use self::untaken::list_untaken;
 pub use self::window_laws::named_windows_hold;
 use self::writings::written_at;
-use crate::parts::place_of_event;
 use crate::refusals::Refusal;
 use crate::rules::event_rule;
 use crate::rulings::{Ruling, ruling_at};
 use pd_lex::Place;
+use pd_reparse::Decided;
 use pd_run::Stopped;
-use pd_script::Event;
 use pd_text::Lines;
 use std::alloc::{AllocError, Global};
 
@@ -42,21 +43,21 @@ pub enum Cause {
     Failed(Failure),
 }
 
-/// Why an event stopped a run. It is written in a text after so many others, as the stop says, from a place on.
+/// Why an event stopped a run. It stands at a place of its text, and something follows it at another one.
 ///
 /// # Errors
 /// `AllocError` where a growth is refused.
 pub fn cause_at(
     alloc: Global,
     lines: &Lines,
-    first: Place,
-    event: &Event,
+    place: Place,
+    decided: &Decided,
     stop: &Stopped,
 ) -> Result<Cause, AllocError>
-    ensures { IfOk result (IsCauseOf lines.now first event.now stop.now) }
+    ensures { IfOk result (IsCauseOf lines.now place decided.now.event stop.now) }
 {
-    let place = place_of_event(alloc, lines, first, stop.passed)?;
-    let writing = written_at(alloc, lines, place)?;
+    let event = &decided.event;
+    let writing = written_at(alloc, lines, place, decided.after)?;
     match failure_of(alloc, event, stop, writing)? {
         Some(failure) => Ok(Cause::Failed(failure)),
         None => {

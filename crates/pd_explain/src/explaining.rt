@@ -1,21 +1,28 @@
 //! Explains a verdict: looks into the run where it stopped.
 ghost use Rattle.std.specs.Prelude.{◌≡◌, Some, option_map, IfOk, IfSome};
+ghost use Rattle.pd_reparse.specs.Reading.{reading_of, script_part};
 ghost use Rattle.pd_run.specs.Run.{verdict_of};
 ghost use Rattle.pd_run.specs.Stops.{line_of};
 ghost use Rattle.pd_script.specs.Script.{script_of};
 ghost use Rattle.pd_explain.specs.Explained.{row_line, not_run, IsCauseIn, IsCause};
+ghost use Rattle.pd_explain.specs.Inner.{IsTakenUp};
 
 use crate::causes::{Cause, cause_at};
 use crate::explanations::Explanation;
+use crate::parts::event_place;
 use crate::refusals::find_refusal;
 use crate::rulings::header_ruling;
-use pd_run::{Verdict, find_stop, verdicts_have_reasons};
-use pd_script::{Header, HeaderItem, HeaderKind, parse};
+use crate::taking_up::{TakenUp, stop_on, take_up};
+use pd_reparse::{Reading, read, readings};
+use pd_run::{Verdict, verdicts_have_reasons};
+use pd_script::{Header, HeaderItem, HeaderKind};
 use pd_settings::Settings;
 use pd_text::Lines;
+use pd_track::Done;
 use std::alloc::{AllocError, Global};
 
-/// Explains the verdict that a run of a text under settings came to; nothing for a pass.
+/// Explains the verdict that a run of a text under settings came to; nothing for a pass. The text is read and run again, up to the
+/// stop.
 ///
 /// # Errors
 /// `AllocError` where a growth is refused.
@@ -34,6 +41,28 @@ pub fn explain(
         return Ok(None);
     };
     let cause = cause_of(alloc, lines, settings, verdict, line)?;
+    Ok(Some(Explanation {
+        line,
+        verdict,
+        cause,
+    }))
+}
+
+/// Explains the verdict of a job that was run; nothing for a pass. Its text isn't read again, and of its run at most three events
+/// before those of the line at which it stopped.
+///
+/// # Errors
+/// `AllocError` where a growth is refused.
+pub fn explain_job(alloc: Global, done: &Done) -> Result<Option<Explanation>, AllocError>
+    ensures told { IfOk result (λ told. option_map (λ e. e.verdict) told ≡ option_map (λ _. verdict_of done.now.text done.now.settings) (row_line (verdict_of done.now.text done.now.settings))) }
+    ensures at { IfOk result (λ told. option_map (λ e. e.line) told ≡ row_line (verdict_of done.now.text done.now.settings)) }
+    ensures cause { IfOk result (λ told. IfSome told (λ e. IsCause done.now.text done.now.settings (verdict_of done.now.text done.now.settings) e.cause)) }
+{
+    let verdict = done.verdict();
+    let Some(line) = row_line(verdict) else {
+        return Ok(None);
+    };
+    let cause = cause_of_job(alloc, done, verdict, line)?;
     Ok(Some(Explanation {
         line,
         verdict,
@@ -66,33 +95,71 @@ fn cause_of(
 {
     match verdict {
         Verdict::Syntax(_) => Ok(Cause::Syntax(find_refusal(alloc, lines, line)?)),
-        _ => cause_of_stop(alloc, lines, settings, verdict, line),
+        _ => {
+            let reading = read(alloc, lines)?;
+            cause_of_stop(alloc, lines, settings, verdict, line, &reading, None)
+        }
     }
 }
 
-/// Why the run of a script comes to its verdict at a line.
+/// Why a job that was run comes to its verdict at a line.
+fn cause_of_job(
+    alloc: Global,
+    done: &Done,
+    verdict: Verdict,
+    line: usize,
+) -> Result<Cause, AllocError>
+    requires verdict { verdict ≡ verdict_of done.now.text done.now.settings }
+    requires line { row_line verdict ≡ Some line }
+    ensures { IfOk result (IsCause done.now.text done.now.settings verdict) }
+{
+    let lines = done.text().lines();
+    match verdict {
+        Verdict::Syntax(_) => Ok(Cause::Syntax(find_refusal(alloc, lines, line)?)),
+        _ => {
+            let track = done.track();
+            let taken = take_up(track, line)?;
+            cause_of_stop(
+                alloc,
+                lines,
+                track.settings(),
+                verdict,
+                line,
+                track.reading(),
+                taken,
+            )
+        }
+    }
+}
+
+/// Why the run of a script that was read comes to its verdict at a line. The run is taken up on its way, or else is run from its
+/// first event.
 fn cause_of_stop(
     alloc: Global,
     lines: &Lines,
     settings: &Settings,
     verdict: Verdict,
     line: usize,
+    reading: &Reading,
+    taken: Option<TakenUp>,
 ) -> Result<Cause, AllocError>
     requires verdict { verdict ≡ verdict_of lines.now settings.now }
     requires line { line_of verdict ≡ Some line }
+    requires reading { reading.now ≡ reading_of lines.now }
+    requires taken { IfSome taken (λ t. IsTakenUp settings.now (script_of lines.now) t.passed t.run) }
     ensures { IfOk result (IsCauseIn lines.now line settings.now (script_of lines.now) verdict) }
 {
-    // The law does no work: that a stop is found rests on it.
+    // The laws do no work: that a stop is found rests on them.
     verdicts_have_reasons();
-    let parsed = parse(alloc, lines)?;
-    if let Some(item) = item_not_run(&parsed.header) {
+    readings();
+    if let Some(item) = item_not_run(reading.header()) {
         return Ok(Cause::Rule(header_ruling(alloc, lines, &item)?));
     }
-    let Some(stop) = find_stop(alloc, &parsed, settings, line)? else {
+    let Some(stop) = stop_on(alloc, reading, settings, taken, line)? else {
         unreachable!()
     };
-    let event = &parsed.events.as_slice()[stop.passed];
-    cause_at(alloc, lines, parsed.header.end(), event, &stop)
+    let place = event_place(reading, stop.passed);
+    cause_at(alloc, lines, place, reading.events().at(stop.passed), &stop)
 }
 
 /// The first header item that isn't run.

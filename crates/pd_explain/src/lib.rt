@@ -17,6 +17,7 @@ mod rulings;
 mod runs;
 mod shown;
 mod shown_laws;
+mod taking_up;
 
 pub use blocks::{block_json, block_text, cause_text, ending_json, ending_text, write_standing};
 pub use causes::{
@@ -24,9 +25,9 @@ pub use causes::{
     Wait, actual_packets_pass, cause_at, named_windows_hold,
 };
 pub use endings::{Ending, find_ending, passes_have_ends};
-pub use explaining::explain;
+pub use explaining::{explain, explain_job};
 pub use explanations::Explanation;
-pub use parts::ShownPart;
+pub use parts::{ShownPart, event_place};
 pub use refusals::{Refusal, find_refusal};
 pub use rules::{Input, Number, Rule, Shape, event_rule, header_rule, rules_are_lawful};
 pub use rulings::Ruling;

@@ -7,6 +7,6 @@ mod standings;
 
 pub use self::about::{header_part, part_of};
 pub use self::kinds::Part;
-pub use self::places::{ShownPart, place_after, place_of_event, place_of_part, rest_at, shown_at};
+pub use self::places::{ShownPart, event_place, place_of_part, rest_at, shown_at};
 pub use self::signs::Sign;
 pub use self::standings::Standing;

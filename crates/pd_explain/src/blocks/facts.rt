@@ -88,6 +88,10 @@ fn put_packets<'a>(facts: &mut Facts<'a>, packets: &'a Comparison) -> Result<(),
         named("actual packet", "actual_packet", Octets(&packets.actual)),
         named("", "sent_us", Moment(packets.at)),
     ])?;
+    if packets.unasked > 0 {
+        let count = Number(packets.unasked as u64);
+        facts.extend_from_slice(&[named("", "unasked_packets", count)])?;
+    }
     match packets.awaited {
         None => Ok(()),
         Some(awaited) => put_distance(facts, awaited, packets.at),

@@ -1,5 +1,7 @@
 //! What a row came to, in words.
+use crate::causes::{Cause, Failed};
 use crate::endings::Ending;
+use crate::explanations::Explanation;
 use pd_match::Kind;
 use pd_run::Verdict;
 use std::alloc::{AllocError, Global};
@@ -16,7 +18,7 @@ pub fn verdict_name(verdict: Verdict) -> &'static str {
 }
 
 /// What a verdict says.
-pub fn verdict_words(verdict: Verdict) -> &'static str {
+fn verdict_words(verdict: Verdict) -> &'static str {
     match verdict {
         Verdict::Pass(_) => "all events passed",
         Verdict::Fail(_, kind) => kind_words(kind),
@@ -37,6 +39,38 @@ fn kind_words(kind: Kind) -> &'static str {
         Kind::Result => "the call has another result",
         Kind::Missing => "no packet was sent in time",
         Kind::Backwards => "the event's time lies before that of the event before it",
+    }
+}
+
+/// What an explanation says first: what its verdict says, or that no line asks for packets before the awaited one.
+///
+/// # Errors
+/// `AllocError` where a growth is refused.
+pub fn first_words(alloc: Global, explanation: &Explanation) -> Result<Vec<u8>, AllocError> {
+    let count = unasked_in(&explanation.cause);
+    let mut words = Vec::new(alloc);
+    if count == 0 {
+        words.extend_from_slice(verdict_words(explanation.verdict).as_bytes())?;
+        return Ok(words);
+    }
+    words.extend_from_slice(count.to_string(alloc)?.as_bytes())?;
+    words.extend_from_slice(if count == 1 {
+        b" packet before it is".as_slice()
+    } else {
+        b" packets before it are".as_slice()
+    })?;
+    words.extend_from_slice(b" asked for by no line")?;
+    Ok(words)
+}
+
+/// How many packets before the awaited one no line asks for.
+fn unasked_in(cause: &Cause) -> usize {
+    match cause {
+        Cause::Failed(failure) => match &failure.failed {
+            Failed::Packet(packets) => packets.unasked,
+            Failed::Missing(_) | Failed::Result(_) | Failed::Backwards(_) => 0,
+        },
+        Cause::Syntax(_) | Cause::Rule(_) => 0,
     }
 }
 

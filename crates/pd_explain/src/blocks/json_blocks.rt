@@ -1,6 +1,6 @@
 //! The block of an explanation as a JSON object.
 use crate::blocks::facts::{Fact, Told, facts_of, facts_of_sender, named, state_name};
-use crate::blocks::headings::{ending_words, verdict_name, verdict_words};
+use crate::blocks::headings::{ending_words, first_words, verdict_name};
 use crate::causes::{Cause, SenderSnapshot, Untaken};
 use crate::endings::Ending;
 use crate::explanations::Explanation;
@@ -84,9 +84,10 @@ fn put_heading(
             named("", "name", Told::Octets(name.as_slice())),
             named("", "line", Told::Number(explanation.line as u64)),
             named("", "verdict", Told::Words(verdict_name(verdict))),
-            named("", "what", Told::Words(verdict_words(verdict))),
         ],
     )?;
+    let words = first_words(alloc, explanation)?;
+    put(object, alloc, "what", letters(alloc, words.as_slice())?)?;
     match verdict {
         Verdict::Fail(_, kind) => put_facts(
             alloc,

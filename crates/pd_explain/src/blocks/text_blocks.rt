@@ -5,8 +5,8 @@ ghost use Rattle.pd_explain.specs.BlockLines.{AreIndented, IsBlock};
 ghost use Rattle.pd_explain.specs.Inner.{AddsLines};
 
 use crate::blocks::facts::{Fact, Told, facts_of, facts_of_sender, state_name};
-use crate::blocks::headings::{ending_words, verdict_name, verdict_words};
-use crate::causes::{Cause, SenderSnapshot, Untaken};
+use crate::blocks::headings::{ending_words, first_words, verdict_name};
+use crate::causes::{Cause, Comparison, Failed, Failure, SenderSnapshot, Untaken};
 use crate::endings::Ending;
 use crate::explanations::Explanation;
 use crate::refusals::Refusal;
@@ -88,7 +88,7 @@ fn heading(alloc: Global, name: &Name, explanation: &Explanation) -> Result<Vec<
         put_words(&mut line, kind.word())?;
     }
     put_words(&mut line, ": ")?;
-    put_words(&mut line, verdict_words(explanation.verdict))?;
+    line.extend_from_slice(&first_words(alloc, explanation)?)?;
     as_shown(alloc, &line)
 }
 
@@ -110,12 +110,59 @@ fn ending_heading(alloc: Global, name: &Name, ending: &Ending) -> Result<Vec<u8>
 fn put_cause(alloc: Global, out: &mut Vec<u8>, cause: &Cause) -> Result<(), AllocError>
     ensures { OnOk result (AddsLines out.old.items out.new.items) }
 {
+    put_inserts(alloc, out, cause)?;
     put_facts(alloc, out, &facts_of(alloc, cause)?)?;
     match cause {
         Cause::Syntax(refusal) => put_refusal(alloc, out, refusal),
         Cause::Rule(ruling) => put_ruling(alloc, out, ruling),
         Cause::Failed(failure) => put_left(alloc, out, &failure.untaken, &failure.standing),
     }
+}
+
+/// Adds the packets that no line asks for, as lines to insert.
+#[tactic(auto, using(crate::proofs::BlockLemmas::no_lines))]
+fn put_inserts(alloc: Global, out: &mut Vec<u8>, cause: &Cause) -> Result<(), AllocError>
+    ensures { OnOk result (AddsLines out.old.items out.new.items) }
+{
+    match cause {
+        Cause::Failed(
+            Failure {
+                failed: Failed::Packet(packets),
+                untaken,
+                ..
+            },
+        ) => put_unasked(alloc, out, packets, untaken),
+        _ => Ok(()),
+    }
+}
+
+/// The same of a packet that differs: it is the first of them, and others that are untaken follow it.
+#[tactic(auto, using(crate::proofs::BlockLemmas::no_lines, crate::proofs::BlockLemmas::then_lines))]
+fn put_unasked(
+    alloc: Global,
+    out: &mut Vec<u8>,
+    packets: &Comparison,
+    untaken: &Untaken,
+) -> Result<(), AllocError>
+    ensures { OnOk result (AddsLines out.old.items out.new.items) }
+{
+    let mut left = packets.unasked;
+    if left == 0 {
+        return Ok(());
+    }
+    put_fact(
+        alloc,
+        out,
+        "mend by inserting",
+        Told::Octets(&packets.actual),
+    )?;
+    for packet in &untaken.packets {
+        left = left.saturating_sub(1);
+        if left > 0 {
+            put_fact(alloc, out, "mend by inserting", Told::Octets(packet))?;
+        }
+    }
+    Ok(())
 }
 
 fn put_words(out: &mut Vec<u8>, words: &str) -> Result<(), AllocError> {

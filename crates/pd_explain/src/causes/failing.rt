@@ -8,6 +8,7 @@ ghost use Rattle.pd_run.specs.Limits.{is_long, written_times};
 ghost use Rattle.pd_run.specs.Times.{moments_of};
 ghost use Rattle.pd_explain.specs.Failures.{is_failure, sender_at, ShowsPackets, Tells, IsFailureOf};
 ghost use Rattle.pd_explain.specs.Senders.{standing_of, reason_of};
+ghost use Rattle.pd_explain.specs.Unasked.{CountsUnasked};
 ghost use Rattle.pd_explain.specs.Inner.{awaited_of};
 ghost use Rattle.pd_explain.specs.Shown.{shown};
 
@@ -15,14 +16,16 @@ use crate::causes::columns::{Pair, event_of, event_sent, pair_of};
 use crate::causes::failures::{
     Awaited, Comparison, Failed, Failure, Reply, SenderSnapshot, Setback, Wait,
 };
+use crate::causes::moments::moments_of;
 use crate::causes::reasons::Reason;
+use crate::causes::unasked::count_unasked;
 use crate::causes::untaken::list_untaken;
 use crate::causes::writings::Writing;
 use crate::shown::as_shown;
 use pd_host::Host;
 use pd_match::Kind;
 use pd_print::write_answer;
-use pd_run::{RunState, Stopped, Why};
+use pd_run::{Bar, RunState, Stopped, Why};
 use pd_script::{Action, Event, Packet, Time};
 use pd_seg::{Answer, Sent};
 use std::alloc::{AllocError, Global};
@@ -58,8 +61,8 @@ fn failed_of(
 {
     let before = &stop.before;
     let failed = match &stop.why {
-        Why::OverLimit | Why::NotRun | Why::Halted(_) => return Ok(None),
-        Why::Backwards => Failed::Backwards(setback(event, before, writing)),
+        Why::Barred(Bar::OverLimit | Bar::NotRun) | Why::Halted(_) => return Ok(None),
+        Why::Barred(Bar::Backwards) => Failed::Backwards(setback(event, before, writing)),
         Why::Missing => {
             let script = line_of(alloc, event, writing)?;
             Failed::Missing(wait(alloc, event, before, script)?)
@@ -172,6 +175,7 @@ fn comparison(
     ensures kind { IfOk result (λ compared. compared.kind ≡ kind) }
     ensures at { IfOk result (λ compared. compared.at ≡ sent.now.at) }
     ensures packets { IfOk result (λ compared. ShowsPackets (shown writing.time.items) event.now.action sent.now run.now.base compared) }
+    ensures unasked { IfOk result (λ compared. CountsUnasked event.now run.now compared.unasked) }
 {
     let pair = match &event.action {
         Action::Outbound(packet) => pair_of(
@@ -195,6 +199,7 @@ fn comparison(
             Kind::Time => awaited(event.time, run),
             _ => None,
         },
+        unasked: count_unasked(event, run),
     })
 }
 
@@ -228,23 +233,5 @@ fn awaited(time: Time, run: &RunState) -> Option<Awaited>
             last,
             tolerance: run.tolerance(),
         }),
-    }
-}
-
-/// The first and the last moment of a time; nothing for `*`.
-fn moments_of(base: u64, time: Time) -> Option<(u64, u64)>
-    ensures { base < 2 ^ 61 → list_any is_long (written_times time) ≡ false → result ≡ moments_of base time }
-{
-    match time {
-        Time::Any => None,
-        Time::Absolute(moment) => Some((moment, moment)),
-        Time::Relative(after) => {
-            let moment = base.saturating_add(after);
-            Some((moment, moment))
-        }
-        Time::AbsoluteRange(first, last) => Some((first, last)),
-        Time::RelativeRange(first, last) => {
-            Some((base.saturating_add(first), base.saturating_add(last)))
-        }
     }
 }

@@ -40,6 +40,9 @@ pub struct Comparison {
     pub at: u64,
     /// When the packet was awaited, where its time is what differs.
     pub awaited: Option<Awaited>,
+    /// How many packets come before the awaited one, this one the first: no line asks for them. 0 where the awaited one isn't among
+    /// those that were sent.
+    pub unasked: usize,
 }
 
 /// When a packet was awaited, in microseconds since the start of the run.

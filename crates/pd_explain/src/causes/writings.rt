@@ -1,5 +1,4 @@
 //! The octets of an event as they are written in its text.
-use crate::parts::place_after;
 use pd_lex::{Lexed, Place, Token, TokenKind, next_token};
 use pd_text::{Lines, MAX_OCTETS};
 use std::alloc::{AllocError, Global};
@@ -22,12 +21,17 @@ struct Stretch {
     to: Place,
 }
 
-/// The octets of the event at a place as written.
+/// The octets of the event at a place as written, which something follows at another one.
 ///
 /// # Errors
 /// `AllocError` where a growth is refused.
-pub fn written_at(alloc: Global, lines: &Lines, from: Place) -> Result<Writing, AllocError> {
-    let parts = parts_of(lines, from, place_after(alloc, lines, from)?);
+pub fn written_at(
+    alloc: Global,
+    lines: &Lines,
+    from: Place,
+    until: Place,
+) -> Result<Writing, AllocError> {
+    let parts = parts_of(lines, from, until);
     Ok(Writing {
         event: octets_of(alloc, lines, parts.event)?,
         time: octets_of(alloc, lines, parts.time)?,

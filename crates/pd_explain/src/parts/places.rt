@@ -1,14 +1,14 @@
 //! Where parts of a text stand, and how they are shown.
 ghost use Rattle.std.specs.Prelude.{◌≡◌, IfOk, take, drop};
 ghost use Rattle.pd_lex.specs.Lexing.{items};
-ghost use Rattle.pd_explain.specs.Parts.{after_event, after_events, at_first, found, place_of_part, line_in, IsShownAt};
+ghost use Rattle.pd_explain.specs.Parts.{event_place, at_first, found, place_of_part, line_in, IsShownAt};
 
 use crate::parts::kinds::Part;
 use crate::parts::signs::Sign;
 use crate::parts::standings::Standing;
 use crate::shown::as_shown;
 use pd_lex::{Lexed, Place, next_token};
-use pd_script::{NextEvent, next_event};
+use pd_reparse::Reading;
 use pd_text::Lines;
 use std::alloc::{AllocError, Global};
 
@@ -23,36 +23,18 @@ pub struct ShownPart {
     pub column: usize,
 }
 
-/// Where the event stands that comes after so many others, from a place on.
-///
-/// # Errors
-/// `AllocError` where a growth is refused.
-pub fn place_of_event(
-    alloc: Global,
-    lines: &Lines,
-    first: Place,
-    passed: usize,
-) -> Result<Place, AllocError>
-    ensures { IfOk result (λ place. place ≡ after_events lines.now passed first) }
+/// Where the event of a text that was read stands that comes after so many others: at the token after those, the first one after
+/// the header.
+pub fn event_place(reading: &Reading, passed: usize) -> Place
+    ensures { result ≡ event_place reading.now passed }
 {
-    let mut place = first;
-    for _event in 0..passed {
-        place = place_after(alloc, lines, place)?;
+    let end = reading.header().end();
+    if passed == 0 {
+        return end;
     }
-    Ok(place)
-}
-
-/// Where the event at a place is followed by something.
-///
-/// # Errors
-/// `AllocError` where a growth is refused.
-pub fn place_after(alloc: Global, lines: &Lines, place: Place) -> Result<Place, AllocError>
-    ensures { IfOk result (λ after. after ≡ after_event lines.now place) }
-{
-    match next_event(alloc, lines, place)? {
-        NextEvent::Got(_, after, _) => Ok(after),
-        NextEvent::End => Ok(place),
-        NextEvent::Fault(_) => Ok(place),
+    match reading.events().get(passed - 1) {
+        Some(decided) => decided.after,
+        None => end,
     }
 }
 

@@ -1,5 +1,5 @@
 -- So many packets are listed.
-use Rattle.std.proofs.Common.{◌≡◌, ℕ, map, take, drop}
+use Rattle.std.proofs.Common.{◌≡◌, map, take, drop}
 use Rattle.pd_run.specs.Laws.{untaken}
 use Rattle.pd_explain.proofs.EndLemmas.{texts}
 use Rattle.pd_explain.proofs.causes.untaken.list_untaken.Given as goal
