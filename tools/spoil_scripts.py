@@ -41,6 +41,8 @@ PACKET = re.compile(
 CALL = re.compile(r"^[^/]*\) += (?P<result>-1 E\w+|-?\d+)")
 SINGLE = re.compile(r"^(\+?)(\d+(?:\.\d+)?)(?=\s)")
 FIELDS = ("time", "flags", "seq", "ack", "win", "options")
+# A larger window isn't run.
+MOST_WIN = 65_535
 
 
 @dataclass(frozen=True)
@@ -65,9 +67,10 @@ def spoil_time(line: str, old: str, chance: random.Random) -> str | None:
     return new.ljust(room - 1) + " " + line[room:] if len(new) < room else new + " " + line[room:]
 
 
-def spoil_number(old: str, chance: random.Random) -> str:
-    """Another number with as many digits."""
+def spoil_number(old: str, chance: random.Random, most: int | None = None) -> str:
+    """Another number with as many digits, below a limit if there is one."""
     first, last = (0, 9) if len(old) == 1 else (10 ** (len(old) - 1), 10 ** len(old) - 1)
+    last = last if most is None else min(last, most)
     return str(chance.choice([it for it in (chance.randint(first, last) for _ in range(20)) if it != int(old)]))
 
 
@@ -95,7 +98,7 @@ def spoil_field(line: str, name: str, found: re.Match[str], chance: random.Rando
     elif name == "seq":
         new = spoil_seq(found, chance)
     else:
-        new = spoil_number(old, chance)
+        new = spoil_number(old, chance, MOST_WIN if name == "win" else None)
     return line[: found.start(name)] + new + line[found.end(name) :]
 
 

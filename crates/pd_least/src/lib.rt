@@ -4,6 +4,7 @@
 mod alignment;
 mod awaited;
 mod differences;
+mod early;
 mod laws;
 mod least_change;
 mod lines_left;
@@ -20,6 +21,7 @@ mod rewriting;
 mod site;
 mod swaps;
 mod times;
+mod trials;
 
 pub use laws::other_lines_stay;
 pub use least_change::{Mended, least};

@@ -4,13 +4,14 @@ ghost use Rattle.pd_run.specs.Run.{verdict_of};
 ghost use Rattle.pd_script.specs.Script.{script_of};
 ghost use Rattle.pd_least.specs.Inner.{IsChange, IsNext, IsUnmade};
 
+use crate::early::Early;
 use crate::lines_left::follower_of;
-use crate::mends::{Mend, mend_of};
+use crate::mends::{Fate, Mend, copy_of, mend_of};
 use crate::origins::Origins;
 use crate::refusals::NotMended;
 use crate::site::Site;
 use pd_run::{Verdict, find_stop};
-use pd_script::{Event, parse};
+use pd_script::{Action, Event, parse};
 use pd_settings::Settings;
 use pd_text::{LineEdit, Lines, TextFault};
 use std::alloc::{AllocError, Global};
@@ -22,6 +23,8 @@ pub struct Mender {
     origins: Origins,
     /// Whether a packet that doesn't come is taken away.
     drop: bool,
+    /// The packets that were sent in the places of others.
+    early: Early,
     /// Whether the event after the one that stops the run was moved, so that this one can be taken out.
     is_moved: bool,
 }
@@ -35,6 +38,7 @@ impl Mender {
         Ok(Mender {
             origins: Origins::new(alloc, count)?,
             drop,
+            early: Early::new(alloc),
             is_moved: false,
         })
     }
@@ -94,11 +98,37 @@ impl Mender {
         let Some(site) = Site::at(alloc, text, settings, &parsed, &stop, line)? else {
             return Ok(None);
         };
-        let Some(mend) = mend_of(&site, self.drop, self.is_moved)? else {
+        let Some(mend) = self.next_mend(&site)? else {
+            return Ok(None);
+        };
+        Ok(changed(events, stop.passed, line, text, mend))
+    }
+
+    /// The next mend, of which what counts for later ones is noted.
+    fn next_mend(&mut self, site: &Site<'_>) -> Result<Option<Mend>, AllocError> {
+        let Some(mend) = mend_of(site, &self.early, self.drop, self.is_moved)? else {
             return Ok(None);
         };
         self.is_moved = mend.is_follower;
-        Ok(changed(events, stop.passed, line, text, mend))
+        self.note_fate(site, &mend.fate)?;
+        Ok(Some(mend))
+    }
+
+    /// Notes a packet that was sent in the place of another one, and that the line of one was taken out.
+    fn note_fate(&mut self, site: &Site<'_>, fate: &Fate) -> Result<(), AllocError> {
+        match fate {
+            Fate::Stays => Ok(()),
+            Fate::Yields(sent) => self.early.add(copy_of(sent)?),
+            Fate::Goes => self.forget(site),
+        }
+    }
+
+    /// The awaited packet has no line any more.
+    fn forget(&mut self, site: &Site<'_>) -> Result<(), AllocError> {
+        match &site.event.action {
+            Action::Outbound(packet) => self.early.remove(site.alloc, packet),
+            _ => Ok(()),
+        }
     }
 
     /// Notes where the lines of an edit come from.

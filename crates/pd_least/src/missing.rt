@@ -8,23 +8,44 @@ use crate::site::Site;
 use pd_run::{RunState, Stopped, Why, find_stop};
 use pd_script::parse;
 use pd_seg::Sent;
-use pd_text::{LineEdit, TextFault};
 use std::alloc::AllocError;
 
 /// A packet that is awaited at any time and never is sent.
 const NEVER: &[u8] = b"* > FSRP. 0:0(0)";
+
+/// Whether the packet that is sent next is the awaited one, and late.
+#[derive(Clone, Copy, PartialEq, Eq)]
+enum Lateness {
+    /// It is, unless the script gets further without the awaited one.
+    Late,
+    /// It has the awaited fields, but comes after the next input: only if the script gets further so.
+    Unclear,
+    /// It is another one.
+    NotSent,
+}
 
 /// No packet was sent in time. The one that the timer sends next may be it, and late; else it isn't sent.
 ///
 /// # Errors
 /// `AllocError` where a growth is refused.
 pub fn mend_missing(site: &Site<'_>, drop: bool) -> Result<Option<Mend>, AllocError> {
-    if let Some((sent, run)) = next_packet(site)? {
-        if is_late(site, &sent, &run)? {
-            return fitted(site, &sent, &run);
-        }
+    let gone = site.not_sent(drop)?;
+    let Some((sent, run)) = next_packet(site)? else {
+        return Ok(Some(gone));
+    };
+    let lateness = lateness_of(site, &sent, &run)?;
+    if lateness == Lateness::NotSent {
+        return Ok(Some(gone));
     }
-    Ok(Some(site.not_sent(drop)?))
+    let Some(late) = fitted(site, &sent, &run)? else {
+        return Ok(None);
+    };
+    let is_late = if lateness == Lateness::Late {
+        !site.gets_further(&gone, &late)?
+    } else {
+        site.gets_further(&late, &gone)?
+    };
+    Ok(Some(if is_late { late } else { gone }))
 }
 
 /// The packet that is sent next, however late, in the run that took it: what a run meets that awaits another one.
@@ -37,15 +58,9 @@ fn next_packet(site: &Site<'_>) -> Result<Option<(Sent, RunState)>, AllocError> 
     let mut line = Vec::from_slice(site.alloc, part(site.octets, before))?;
     line.extend_from_slice(NEVER)?;
     line.extend_from_slice(rest(site.octets, span.to))?;
-    let edit = LineEdit {
-        from: site.line,
-        remove: 1,
-        insert: one_line(site.alloc, line.as_slice())?.lines,
-    };
-    let lines = match site.lines.apply(&edit) {
-        Ok(lines) => lines,
-        Err(TextFault::OutOfMemory) => return Err(AllocError),
-        Err(_) => return Ok(None),
+    let insert = one_line(site.alloc, line.as_slice())?.lines;
+    let Some(lines) = site.with_lines(insert)? else {
+        return Ok(None);
     };
     let parsed = parse(site.alloc, &lines)?;
     let Some(stop) = find_stop(site.alloc, &parsed, site.settings, site.line)? else {
@@ -60,7 +75,7 @@ fn next_packet(site: &Site<'_>) -> Result<Option<(Sent, RunState)>, AllocError> 
 
 /// Whether the packet that is sent next is the awaited one. It isn't where a later line before the next input awaits just it. Else
 /// it is where it comes before that input and in its place, or is the same but for its time.
-fn is_late(site: &Site<'_>, sent: &Sent, run: &RunState) -> Result<bool, AllocError> {
+fn lateness_of(site: &Site<'_>, sent: &Sent, run: &RunState) -> Result<Lateness, AllocError> {
     let ahead = look_ahead(site.alloc, site.events(), run.base())?;
     let mut is_same = false;
     let mut is_own_moment = false;
@@ -73,12 +88,18 @@ fn is_late(site: &Site<'_>, sent: &Sent, run: &RunState) -> Result<bool, AllocEr
                 None => true,
             };
         } else if agrees && awaited.is_in_time(sent.at, run.tolerance()) {
-            return Ok(false);
+            return Ok(Lateness::NotSent);
         }
     }
     let is_before = match ahead.input {
         Some(input) => sent.at <= input,
         None => true,
     };
-    Ok((is_same && (is_own_moment || is_before)) || (is_own_moment && is_before))
+    if (is_same && (is_own_moment || is_before)) || (is_own_moment && is_before) {
+        Ok(Lateness::Late)
+    } else if is_same {
+        Ok(Lateness::Unclear)
+    } else {
+        Ok(Lateness::NotSent)
+    }
 }

@@ -3,7 +3,7 @@ ghost use Rattle.std.specs.Prelude.{◌≡◌};
 ghost use Rattle.pd_text.specs.Text.{is_line};
 
 use crate::differences::Differences;
-use crate::mends::Mend;
+use crate::mends::{Fate, Mend, copy_of};
 use crate::pieces::{Span, event_pieces, part, rest};
 use crate::rewriting::{Change, retimed, rewritten};
 use crate::site::Site;
@@ -28,6 +28,7 @@ pub fn one_line(alloc: Global, octets: &[u8]) -> Result<Mend, AllocError> {
     Ok(Mend {
         is_follower: false,
         lines,
+        fate: Fate::Stays,
     })
 }
 
@@ -72,6 +73,7 @@ pub fn inserted(site: &Site<'_>, sent: &Sent, base: u64) -> Result<Option<Mend>,
     Ok(Some(Mend {
         is_follower: false,
         lines,
+        fate: Fate::Yields(copy_of(sent)?),
     }))
 }
 
@@ -120,10 +122,16 @@ pub fn taken_out(site: &Site<'_>, drop: bool) -> Result<Mend, AllocError> {
     Ok(Mend {
         is_follower: false,
         lines,
+        fate: Fate::Goes,
     })
 }
 
 impl Site<'_> {
+    /// Whether nothing but blanks is after the event on its line.
+    pub fn is_last(&self) -> bool {
+        is_blank(rest(self.octets, self.span().to))
+    }
+
     /// The event's packet wasn't sent. Where the time of the next event counts from the event's, it is moved first, so that it
     /// stays the same moment.
     ///

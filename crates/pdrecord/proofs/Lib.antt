@@ -5,4 +5,5 @@ mod Joining
 mod Memory
 pub mod MendedTexts
 mod Sections
+mod Together
 mod Words

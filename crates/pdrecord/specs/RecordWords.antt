@@ -1,9 +1,11 @@
 -- The words of the program that records, in the definitions of `clap`.
-use Rattle.std.specs.Prelude.{◌≡◌, ℕ, Bool, List, [], bytes_eq, codes, Some, unwrap_or, if◌then◌else◌}
-use Rattle.clap.specs.Words.{App, Rule, Text, all_of, matches_of, new_app, new_rule, with_rule}
+use Rattle.std.specs.Prelude.{◌≡◌, ℕ, Bool, not, ◌&&◌, List, [], ◌∷◌, bytes_eq, codes, Some, unwrap_or, if◌then◌else◌}
+use Rattle.clap.specs.Kinds.{or_else}
+use Rattle.clap.specs.Words.{App, Kinds, Rule, Text, all_of, matches_of, new_app, new_rule, with_rule}
 use Rattle.clap.specs.declared.builder.ArgAction.TheVariants.{Append, SetTrue}
+use Rattle.clap.specs.declared.error.kind.ErrorKind.TheVariants.{ArgumentConflict, MissingRequiredArgument}
 use Rattle.pd_words.specs.Chosen.{names_of}
-use Rattle.pd_words.specs.ProgramWords.{settings_rule, settings_text, option_text}
+use Rattle.pd_words.specs.ProgramWords.{settings_rule, settings_text, option_text, word_faults}
 use Rattle.pdrecord.specs.declared.record_words.RecordOptions.{RecordOptions}
 use Rattle.pdrecord.specs.declared.ways.Way.{Way}
 use Rattle.pdrecord.specs.declared.ways.Way.TheVariants.{Whole, Traced, Least}
@@ -44,6 +46,22 @@ pdrecord =
 -- words have a flag of this name
 abbrev pub asks : List ℕ → List Text → Bool
 asks name words = bytes_eq (option_text pdrecord name words) (codes "true")
+
+-- `--trace` is beside `--least`
+abbrev pub is_trace_of_least : List Text → Bool
+is_trace_of_least words = asks (codes "trace") words && asks (codes "least") words
+
+-- `--drop` is without `--least`
+abbrev pub is_drop_alone : List Text → Bool
+is_drop_alone words = asks (codes "drop") words && not (asks (codes "least") words)
+
+-- why words are refused together of which each may be written
+abbrev pub together_faults : List Text → Kinds
+together_faults words = if is_trace_of_least words then ArgumentConflict ∷ [] else (if is_drop_alone words then MissingRequiredArgument ∷ [] else [])
+
+-- why the program refuses words: the first fault of one by itself, or else of some together
+abbrev pub refusals : List Text → Kinds
+refusals words = or_else (word_faults pdrecord words) (together_faults words)
 
 -- how scripts are recorded, by whether the least change, one without comments, and a trace are asked for
 abbrev pub way_by : Bool → Bool → Bool → Way

@@ -1,9 +1,10 @@
 //! Why recording a script stops, as the cause that a block tells.
-use pd_explain::{Cause, Failed, cause_at, explain};
+use pd_explain::{Cause, Failed, cause_at, event_place, explain};
 use pd_host::Halt;
 use pd_record::{RecordingStop, find_recording_stop};
-use pd_run::{Stopped, Verdict, Why, run_all};
-use pd_script::{Parsed, parse};
+use pd_reparse::read;
+use pd_run::{Bar, Stopped, Verdict, Why, run_all};
+use pd_script::parse;
 use pd_settings::Settings;
 use pd_text::Lines;
 use std::alloc::{AllocError, Global};
@@ -22,12 +23,12 @@ pub fn cause_of(
         Verdict::Pass(_) | Verdict::Syntax(_) => return cause_of_run(alloc, lines, settings),
         Verdict::Unsupported(line) => (line, Why::Halted(Halt::Unsupported)),
         Verdict::Limit(line) => (line, Why::Halted(Halt::Limit)),
-        Verdict::Fail(line, _) => (line, Why::Backwards),
+        Verdict::Fail(line, _) => (line, Why::Barred(Bar::Backwards)),
     };
     let parsed = parse(alloc, lines)?;
     let events = parsed.events.as_slice();
     match find_recording_stop(alloc, &parsed.header, events, settings, line)? {
-        Some(stop) => cause_of_stop(alloc, lines, &parsed, stop, why),
+        Some(stop) => cause_of_stop(alloc, lines, stop, why),
         None => cause_of_run(alloc, lines, settings),
     }
 }
@@ -50,12 +51,12 @@ fn cause_of_run(
 fn cause_of_stop(
     alloc: Global,
     lines: &Lines,
-    parsed: &Parsed,
     stop: RecordingStop,
     why: Why,
 ) -> Result<Option<Cause>, AllocError> {
     let RecordingStop { passed, run, base } = stop;
-    let Some(event) = parsed.events.as_slice().get(passed) else {
+    let reading = read(alloc, lines)?;
+    let Some(decided) = reading.events().get(passed) else {
         return Ok(None);
     };
     let stopped = Stopped {
@@ -63,7 +64,8 @@ fn cause_of_stop(
         before: run,
         why,
     };
-    let mut cause = cause_at(alloc, lines, parsed.header.end(), event, &stopped)?;
+    let place = event_place(&reading, passed);
+    let mut cause = cause_at(alloc, lines, place, decided, &stopped)?;
     if let Cause::Failed(failure) = &mut cause {
         if let Failed::Backwards(setback) = &mut failure.failed {
             setback.base = base;

@@ -4,9 +4,9 @@ ghost use Rattle.std.specs.Io.KnownBytes.{Appends};
 ghost use Rattle.pd_words.specs.SettingsText.{settings_in};
 ghost use Rattle.pd_words.specs.Said.{Refuses, Says};
 ghost use Rattle.pd_words.specs.ProgramFaults.{fault_line};
-ghost use Rattle.pd_words.specs.ProgramWords.{settings_text, word_faults};
+ghost use Rattle.pd_words.specs.ProgramWords.{settings_text};
 ghost use Rattle.pdrecord.specs.RecordProgram.{Comes, Ends, FinishesRecording, IsOutcome, IsUnmade, IsWhole};
-ghost use Rattle.pdrecord.specs.RecordWords.{pdrecord, way_asked, files_named};
+ghost use Rattle.pdrecord.specs.RecordWords.{pdrecord, way_asked, files_named, refusals};
 ghost use Rattle.pdrecord.specs.FileSections.{EndsAfter, FinishesFiles};
 ghost use Rattle.pd_words.specs.Chosen.{names_of};
 
@@ -42,8 +42,8 @@ pub fn run_recording<S: AsStr, R: InputStream, W: Write, E: Write>(
 ) -> Exit
     ensures taken { let words = map S.text words.now in
         let input = R.remaining reader.old in
-        word_faults pdrecord words ≡ [] → files_named words ≡ [] → FinishesRecording (R.has_failed reader.new) result (settings_text pdrecord words) (way_asked words) input (W.contents out.old) (W.contents out.new) (E.contents err.old) (E.contents err.new) }
-    ensures refused { word_faults pdrecord (map S.text words.now) ≢ [] → Refuses result (W.contents out.old) (W.contents out.new) }
+        refusals words ≡ [] → files_named words ≡ [] → FinishesRecording (R.has_failed reader.new) result (settings_text pdrecord words) (way_asked words) input (W.contents out.old) (W.contents out.new) (E.contents err.old) (E.contents err.new) }
+    ensures refused { refusals (map S.text words.now) ≢ [] → Refuses result (W.contents out.old) (W.contents out.new) }
 {
     run_with_files(alloc, words, reader, &NoFiles, out, err)
 }
@@ -59,10 +59,10 @@ pub fn run_with_files<
 >(alloc: Global, words: &[S], reader: &mut R, files: &F, out: &mut W, err: &mut E) -> Exit
     ensures taken { let words = map S.text words.now in
         let input = R.remaining reader.old in
-        word_faults pdrecord words ≡ [] → files_named words ≡ [] → FinishesRecording (R.has_failed reader.new) result (settings_text pdrecord words) (way_asked words) input (W.contents out.old) (W.contents out.new) (E.contents err.old) (E.contents err.new) }
+        refusals words ≡ [] → files_named words ≡ [] → FinishesRecording (R.has_failed reader.new) result (settings_text pdrecord words) (way_asked words) input (W.contents out.old) (W.contents out.new) (E.contents err.old) (E.contents err.new) }
     ensures files { let words = map S.text words.now in
-        word_faults pdrecord words ≡ [] → files_named words ≢ [] → FinishesFiles (settings_in (settings_text pdrecord words)) (way_asked words) (F.held files.now) (files_named words) result (W.contents out.old) (W.contents out.new) (E.contents err.old) (E.contents err.new) }
-    ensures refused { word_faults pdrecord (map S.text words.now) ≢ [] → Refuses result (W.contents out.old) (W.contents out.new) }
+        refusals words ≡ [] → files_named words ≢ [] → FinishesFiles (settings_in (settings_text pdrecord words)) (way_asked words) (F.held files.now) (files_named words) result (W.contents out.old) (W.contents out.new) (E.contents err.old) (E.contents err.new) }
+    ensures refused { refusals (map S.text words.now) ≢ [] → Refuses result (W.contents out.old) (W.contents out.new) }
 {
     match record_options(alloc, words) {
         Ok(options) => run_chosen(alloc, &options, reader, files, out, err),

@@ -1,9 +1,8 @@
 //! The words of the program that records, read by `clap`.
-ghost use Rattle.std.specs.Prelude.{false, ◌≡◌, ◌≢◌, ◌⊎◌, [], IfOk, IfErr, codes, map, option_map, unwrap_or};
-ghost use Rattle.clap.specs.Words.{app_of, found_of, kind_of, matched_of, raw_values, rule_of};
+ghost use Rattle.std.specs.Prelude.{false, ◌≡◌, ◌≢◌, ◌⊎◌, ◌||◌, List, [], IfOk, IfErr, IsErr, codes, map, option_map, unwrap_or};
+ghost use Rattle.clap.specs.Words.{HasMatchesOf, Text, app_of, found_of, kind_of, matched_of, raw_values, rule_of};
 ghost use Rattle.pd_words.specs.Chosen.{names_of};
-ghost use Rattle.pd_words.specs.ProgramWords.{word_faults};
-ghost use Rattle.pdrecord.specs.RecordWords.{pdrecord, trace_rule, least_rule, drop_rule, file_rule, way_by, HasChosenToRecord};
+ghost use Rattle.pdrecord.specs.RecordWords.{pdrecord, trace_rule, least_rule, drop_rule, file_rule, asks, is_trace_of_least, is_drop_alone, refusals, way_by, HasChosenToRecord};
 
 use crate::ways::Way;
 use clap::error::ErrorKind;
@@ -52,15 +51,72 @@ pub fn record_options<'a, S: AsStr>(
     words: &'a [S],
 ) -> Result<RecordOptions<'a>, Error>
     ensures chosen { IfOk result (λ options. HasChosenToRecord (map S.text words.entry.now) options) }
-    ensures taken { IfOk result (λ _. word_faults pdrecord (map S.text words.entry.now) ≡ []) }
-    ensures refused { IfErr result (λ error. (kind_of error ≡ ErrorKind.OutOfMemory) ⊎ (word_faults pdrecord (map S.text words.entry.now) ≢ [])) }
+    ensures taken { IfOk result (λ _. refusals (map S.text words.entry.now) ≡ []) }
+    ensures refused { IfErr result (λ error. (kind_of error ≡ ErrorKind.OutOfMemory) ⊎ (refusals (map S.text words.entry.now) ≢ [])) }
 {
-    let command = record_command(alloc)?;
+    let command = free_command(alloc)?;
     let matches = command.try_get_matches_from(words)?;
-    let files = files_in(alloc, &matches)?;
-    let is_least = is_true(matches.get_str("least").unwrap_or("").as_bytes());
-    let drops = is_true(matches.get_str("drop").unwrap_or("").as_bytes());
-    let with_trace = is_true(matches.get_str("trace").unwrap_or("").as_bytes());
+    if are_refused_together(&matches) {
+        return refuse_together(alloc, words, is_trace_of_least(&matches));
+    }
+    Ok(chosen(alloc, &matches)?)
+}
+
+/// Has `clap` refuse words of which it takes each by itself, for `--trace` beside `--least` or for a `--drop` that is alone.
+///
+/// # Errors
+/// Always: what `clap` says of the words.
+fn refuse_together<'a, S: AsStr>(
+    alloc: Global,
+    words: &'a [S],
+    is_trace_apart: bool,
+) -> Result<RecordOptions<'a>, Error>
+    ensures { IsErr result }
+{
+    let mut command = ruled_command(alloc, is_trace_apart)?;
+    command.try_get_matches_from_mut(words)?;
+    Err(command.error(
+        ErrorKind::ArgumentConflict,
+        "these options can't be used together",
+    )?)
+}
+
+/// Whether words are refused together of which each may be written.
+fn are_refused_together(matches: &ArgMatches<'_>) -> bool
+    ensures { (words : List Text) → HasMatchesOf pdrecord words matches.now → result ≡ (is_trace_of_least words || is_drop_alone words) }
+{
+    is_trace_of_least(matches) || is_drop_alone(matches)
+}
+
+/// Whether `--trace` is beside `--least`, of which there is no trace.
+fn is_trace_of_least(matches: &ArgMatches<'_>) -> bool
+    ensures { (words : List Text) → HasMatchesOf pdrecord words matches.now → result ≡ is_trace_of_least words }
+{
+    asks(matches, "trace") && asks(matches, "least")
+}
+
+/// Whether `--drop` is without `--least`, to which it belongs.
+fn is_drop_alone(matches: &ArgMatches<'_>) -> bool
+    ensures { (words : List Text) → HasMatchesOf pdrecord words matches.now → result ≡ is_drop_alone words }
+{
+    asks(matches, "drop") && !asks(matches, "least")
+}
+
+/// Whether a flag is written.
+fn asks(matches: &ArgMatches<'_>, name: &str) -> bool
+    ensures { (words : List Text) → HasMatchesOf pdrecord words matches.now → result ≡ asks name.now words }
+{
+    is_true(matches.get_str(name).unwrap_or("").as_bytes())
+}
+
+/// What words choose that aren't refused.
+fn chosen<'a>(alloc: Global, matches: &ArgMatches<'a>) -> Result<RecordOptions<'a>, AllocError>
+    ensures { (words : List Text) → HasMatchesOf pdrecord words matches.now → IfOk result (λ options. HasChosenToRecord words options) }
+{
+    let files = files_in(alloc, matches)?;
+    let is_least = asks(matches, "least");
+    let drops = asks(matches, "drop");
+    let with_trace = asks(matches, "trace");
     Ok(RecordOptions {
         settings: matches.get_str("settings").unwrap_or(""),
         way: way_by(is_least, drops, with_trace),
@@ -91,8 +147,8 @@ fn files_in<'a>(alloc: Global, matches: &ArgMatches<'a>) -> Result<Vec<&'a str>,
     }
 }
 
-/// What the words of the program that records may be.
-fn record_command<'a>(alloc: Global) -> Result<Command<'a>, Error>
+/// What each word of the program that records may be, whatever the others are.
+fn free_command<'a>(alloc: Global) -> Result<Command<'a>, Error>
     ensures words { IfOk result (λ command. app_of command ≡ pdrecord) }
     ensures memory { IfErr result (λ error. kind_of error ≡ ErrorKind.OutOfMemory) }
 {
@@ -103,6 +159,26 @@ fn record_command<'a>(alloc: Global) -> Result<Command<'a>, Error>
             .arg(trace_option(alloc))?
             .arg(least_option(alloc))?
             .arg(drop_option(alloc))?
+            .arg(file_option(alloc))?
+            .about(ABOUT)
+            .after_help(AFTER),
+    )
+}
+
+/// What each word may be beside the others. Where `--trace` may never be beside `--least`, `clap` doesn't ask for `--least` beside
+/// `--drop` and `--trace`.
+fn ruled_command<'a>(alloc: Global, is_trace_apart: bool) -> Result<Command<'a>, Error> {
+    let mut trace = trace_option(alloc);
+    if is_trace_apart {
+        trace = trace.conflicts_with("least")?;
+    }
+    Ok(
+        Command::new(alloc, "pdrecord")
+            .bin_name("pdrecord")?
+            .arg(settings_option(alloc))?
+            .arg(trace)?
+            .arg(least_option(alloc))?
+            .arg(drop_option(alloc).requires_arg("least")?)?
             .arg(file_option(alloc))?
             .about(ABOUT)
             .after_help(AFTER),

@@ -3,7 +3,7 @@ use Rattle.clap.specs.Words.{app_of, new_app, with_rule}
 use Rattle.clap.specs.Simple.{app_of_fields}
 use Rattle.pd_words.specs.ProgramWords.{settings_rule}
 use Rattle.pdrecord.specs.RecordWords.{trace_rule, least_rule, drop_rule, file_rule}
-use Rattle.pdrecord.proofs.record_words.record_command.Goals as goal
+use Rattle.pdrecord.proofs.record_words.free_command.Goals as goal
 
 pub returns-clause-words : goal.returns-clause-words
 returns-clause-words c =

@@ -1,0 +1,48 @@
+-- Words that are refused together.
+use Rattle.std.proofs.Common.{◌≡◌, ◌≢◌, ◌⊎◌, ◌||◌, inl, inr, if◌then◌else◌, true, false, Bool, List, [], ◌∷◌, refl}
+use Rattle.clap.specs.Kinds.{or_else}
+use Rattle.clap.specs.Words.{Kinds, Text}
+use Rattle.clap.specs.declared.error.kind.ErrorKind.{ErrorKind}
+use Rattle.clap.specs.declared.error.kind.ErrorKind.TheVariants.{ArgumentConflict, MissingRequiredArgument}
+use Rattle.pd_words.specs.ProgramWords.{word_faults}
+use Rattle.pdrecord.specs.RecordWords.{pdrecord, is_trace_of_least, is_drop_alone, together_faults, refusals}
+
+-- a fault of one kind is one
+one_kind : (kind : ErrorKind) (kinds : Kinds) → (kind ∷ kinds) ≢ []
+one_kind kind kinds n = absurd cc
+
+by_both : (trace drop : Bool) (first second : ErrorKind) → (trace || drop) ≡ true → (if trace then first ∷ [] else (if drop then second ∷ [] else [])) ≢ []
+by_both true drop first second t = one_kind first []
+by_both false true first second t = one_kind second []
+by_both false false first second t = absurd cc
+
+by_none : (trace drop : Bool) (first second : ErrorKind) → (trace || drop) ≡ false → (if trace then first ∷ [] else (if drop then second ∷ [] else [])) ≡ []
+by_none false false first second t = refl
+by_none true drop first second t = absurd cc
+by_none false true first second t = absurd cc
+
+second_is : (a b : Kinds) → b ≢ [] → or_else a b ≢ []
+second_is [] b h = h
+second_is (kind ∷ kinds) b h = one_kind kind kinds
+
+first_is : (a b : Kinds) → a ≢ [] → or_else a b ≢ []
+first_is [] b h = absurd (h refl)
+first_is (kind ∷ kinds) b h = one_kind kind kinds
+
+none_is : (a b : Kinds) → a ≡ [] → b ≡ [] → or_else a b ≡ []
+none_is a b e f = rw (e, f) refl
+
+-- words that are refused together are refused
+pub refused_together : (words : List Text) → (is_trace_of_least words || is_drop_alone words) ≡ true → refusals words ≢ []
+refused_together words t =
+    second_is (word_faults pdrecord words) (together_faults words) (by_both (is_trace_of_least words) (is_drop_alone words) ArgumentConflict MissingRequiredArgument t)
+
+-- words that are refused neither one by one nor together are taken
+pub not_refused : (words : List Text) → word_faults pdrecord words ≡ [] → (is_trace_of_least words || is_drop_alone words) ≡ false → refusals words ≡ []
+not_refused words e t =
+    none_is (word_faults pdrecord words) (together_faults words) e (by_none (is_trace_of_least words) (is_drop_alone words) ArgumentConflict MissingRequiredArgument t)
+
+-- words that are refused one by one are refused
+pub alone_too : (words : List Text) (memory : Type 0) → memory ⊎ (word_faults pdrecord words ≢ []) → memory ⊎ (refusals words ≢ [])
+alone_too words memory (inl m) = inl m
+alone_too words memory (inr h) = inr (first_is (word_faults pdrecord words) (together_faults words) h)
