@@ -6,6 +6,7 @@ use Rattle.std.proofs.lemmas.Nat.{div_below}
 use Rattle.std.proofs.Math.Nat.{mul-le-mul_left}
 use Rattle.pd_settings.specs.declared.recovery_rate.RecoveryRate.{RecoveryRate}
 use Rattle.pd_settings.specs.declared.recovery_rate.RecoveryRate.TheVariants.{Pipe, PrrCrb}
+use Rattle.pd_board.specs.Loss.{dup_thresh}
 use Rattle.pd_recover.specs.declared.feedback.Ack.{Ack}
 use Rattle.pd_recover.specs.declared.feedback.News.{News}
 use Rattle.pd_recover.specs.declared.reductions.Reduction.{Reduction}
@@ -226,7 +227,7 @@ module _ (ack : Ack) (octets : ℕ) where
   duplicate_alike : (lost : Bool) (v : CongView) → v.rate ≡ Pipe → selective_duplicate other lost v ≡ selective_duplicate ack lost v
   duplicate_alike lost v e =
       λ i. if nat_lt ack.una v.recovery_point then (v, Ordinary)
-      else if nat_le 3 v.dup_acks || lost then (entered_alike v e i, Entry)
+      else if nat_le dup_thresh v.dup_acks || lost then (entered_alike v e i, Entry)
       else if v.sends_early then (record v { high_rxt = ack.una }, LimitedTransmit)
       else (v, Ordinary)
 
