@@ -34,8 +34,8 @@ impl Bar {
     }
 }
 
-/// The checks of an event before anything happens: limits, shapes that aren't run, and absolute times that go back behind the
-/// base, in microseconds since the start of the run. The first that it doesn't pass.
+/// The first check that an event doesn't pass before anything happens, of limits, shapes that aren't run, and absolute times before
+/// the base, in microseconds since the start of the run.
 #[inline(always)]
 pub fn bar_of(base: u64, event: &Event) -> Option<Bar>
     ensures { result ≡ bar_of base event.now }
