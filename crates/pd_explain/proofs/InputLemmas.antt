@@ -4,7 +4,7 @@ use Rattle.pd_seg.specs.declared.segments.Segment.{Segment}
 use Rattle.pd_host.specs.Arrivals.{is_stray_fin}
 use Rattle.pd_host.specs.Connection.{ConnectionView}
 use Rattle.pd_host.specs.Handshake.{is_listening, is_syn_alone, is_mss_run, length_of, offered_mss}
-use Rattle.pd_host.specs.declared.listeners.Listener.{Listener}
+use Rattle.pd_host.specs.declared.descriptors.Listener.{Listener}
 use Rattle.pd_explain.specs.Rules.{HoldsOfFirst, OpeningsHaveRules, is_closed_by, HoldsOn, ContentsHaveRules}
 use Rattle.pd_explain.specs.declared.rules.inputs.Input.TheVariants.{NotListening, NotSyn, SmallMss, Payload, SecondSyn, StrayFin, AfterReset, AfterFins}
 

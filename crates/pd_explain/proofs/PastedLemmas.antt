@@ -11,7 +11,7 @@ use Rattle.pd_host.specs.Expiries.{advanced, deadline_of, due_by, segment_again,
 use Rattle.pd_host.specs.Sending.{on_found, repeated, places_left}
 use Rattle.pd_host.specs.declared.halts.Halt.{Halt}
 use Rattle.pd_host.specs.declared.halts.Halt.TheVariants as halt
-use Rattle.pd_host.specs.declared.sender_state.State.{State}
+use Rattle.pd_host.specs.declared.endpoint.State.{State}
 use Rattle.pd_host.proofs.Repeats.{repeated-more}
 use Rattle.pd_match.specs.Agreement.{Agrees, IsInTime, IsFirstFailing}
 use Rattle.pd_match.specs.Laws.{MismatchIsFirst}

@@ -7,8 +7,8 @@ use Rattle.pd_host.specs.Connection.{ConnectionView}
 use Rattle.pd_host.specs.Holds.{wanted, is_enough, hold_of_new, hold_at, hold_in_recovery, hold_since, hold_by, hold_on, hold_in}
 use Rattle.pd_host.specs.Sending.{usable, unsent, is_full, is_all, is_half_window, leaves_now, past_sacked}
 use Rattle.pd_host.specs.declared.established.Established.{Established}
-use Rattle.pd_host.specs.declared.holds.Hold.{Hold}
-use Rattle.pd_host.specs.declared.holds.Hold.TheVariants.{Reset, NotEstablished, Acknowledged, PipeFull, NothingNext, Recovering, AllSent, PeerWindow, CongestionWindow, PartOfSegment, Nagle, Open}
+use Rattle.pd_host.specs.declared.connection.observing.Hold.{Hold}
+use Rattle.pd_host.specs.declared.connection.observing.Hold.TheVariants.{Reset, NotEstablished, Acknowledged, PipeFull, NothingNext, Recovering, AllSent, PeerWindow, CongestionWindow, PartOfSegment, Nagle, Open}
 use Rattle.pd_explain.specs.Senders.{is_answer, reason_of}
 use Rattle.pd_explain.specs.Windows.{IsWithin, HoldsByPeer, HoldsByCongestion, LeavesPart, NamedWindowsHold}
 use Rattle.pd_explain.specs.declared.causes.reasons.Reason.TheVariants.{NoOctets, Held}

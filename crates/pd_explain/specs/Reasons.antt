@@ -1,7 +1,7 @@
 -- The names that reasons have in JSON.
 use Rattle.std.specs.Prelude.{ℕ, List, codes}
-use Rattle.pd_host.specs.declared.holds.Hold.{Hold}
-use Rattle.pd_host.specs.declared.holds.Hold.TheVariants as hold
+use Rattle.pd_host.specs.declared.connection.observing.Hold.{Hold}
+use Rattle.pd_host.specs.declared.connection.observing.Hold.TheVariants as hold
 use Rattle.pd_explain.specs.declared.causes.reasons.Reason.{Reason}
 use Rattle.pd_explain.specs.declared.causes.reasons.Reason.TheVariants.{NoOctets, Held}
 

@@ -25,8 +25,8 @@ use Rattle.pd_host.specs.Connection.{ConnectionView}
 use Rattle.pd_host.specs.Handshake.{is_listening, is_syn_alone, is_mss_run, is_opening, length_of, offered_mss}
 use Rattle.pd_host.specs.Requests.{request_of}
 use Rattle.pd_host.specs.declared.halts.Halt.TheVariants as halt
-use Rattle.pd_host.specs.declared.listeners.Listener.{Listener}
-use Rattle.pd_host.specs.declared.sender_state.State.{State}
+use Rattle.pd_host.specs.declared.descriptors.Listener.{Listener}
+use Rattle.pd_host.specs.declared.endpoint.State.{State}
 use Rattle.pd_run.specs.Inbound.{segment_in}
 use Rattle.pd_run.specs.Limits.{written_times, written_until, is_long, is_block_over, is_action_over, is_over_limit}
 use Rattle.pd_run.specs.Shapes.{is_run}

@@ -6,8 +6,8 @@ use Rattle.pd_host.specs.ConnStates.{conn_state}
 use Rattle.pd_host.specs.Expiries.{deadline_of}
 use Rattle.pd_host.specs.Figures.{figures_in}
 use Rattle.pd_host.specs.Host.{HostView}
-use Rattle.pd_host.specs.declared.holds.Hold.{Hold}
-use Rattle.pd_host.specs.declared.holds.Hold.TheVariants.{Reset, NotEstablished}
+use Rattle.pd_host.specs.declared.connection.observing.Hold.{Hold}
+use Rattle.pd_host.specs.declared.connection.observing.Hold.TheVariants.{Reset, NotEstablished}
 use Rattle.pd_explain.specs.declared.causes.failures.SenderSnapshot.{SenderSnapshot}
 use Rattle.pd_explain.specs.declared.causes.reasons.Reason.{Reason}
 use Rattle.pd_explain.specs.declared.causes.reasons.Reason.TheVariants.{NoOctets, Held}

@@ -1,7 +1,7 @@
 -- The names of the states of a connection (RFC 9293, section 3.3.2).
 use Rattle.std.specs.Prelude.{ℕ, List, codes}
-use Rattle.pd_host.specs.declared.conn_states.ConnState.{ConnState}
-use Rattle.pd_host.specs.declared.conn_states.ConnState.TheVariants as state
+use Rattle.pd_host.specs.declared.connection.states.ConnState.{ConnState}
+use Rattle.pd_host.specs.declared.connection.states.ConnState.TheVariants as state
 
 -- the name of a state
 abbrev pub state_word : ConnState → List ℕ

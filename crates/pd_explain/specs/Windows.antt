@@ -5,8 +5,8 @@ use Rattle.pd_host.specs.Connection.{ConnectionView}
 use Rattle.pd_host.specs.Holds.{wanted, hold_in}
 use Rattle.pd_host.specs.Sending.{usable, unsent, past_sacked}
 use Rattle.pd_host.specs.declared.established.Established.{Established}
-use Rattle.pd_host.specs.declared.holds.Hold.TheVariants.{PeerWindow, CongestionWindow, PartOfSegment}
-use Rattle.pd_host.specs.declared.sender_state.State.{State}
+use Rattle.pd_host.specs.declared.connection.observing.Hold.TheVariants.{PeerWindow, CongestionWindow, PartOfSegment}
+use Rattle.pd_host.specs.declared.endpoint.State.{State}
 use Rattle.pd_explain.specs.Senders.{reason_of}
 use Rattle.pd_explain.specs.declared.causes.reasons.Reason.TheVariants.{Held}
 

@@ -23,7 +23,7 @@ use Rattle.pd_host.specs.Invariants.{IsEnding, IsOrdered, IsOfPhase, IsInBounds,
 use Rattle.pd_host.specs.Sending.{sent_on}
 use Rattle.pd_host.specs.Timing.{is_measured, clocked, measured, with_timer_moved}
 use Rattle.pd_host.specs.declared.established.Established.{Established}
-use Rattle.pd_host.specs.declared.timings.Timing.{Timing}
+use Rattle.pd_host.specs.declared.connection.timing.Timing.{Timing}
 use Rattle.pd_recover.proofs.Windows.{paced-within}
 use Rattle.pd_host.proofs.Boards.{HasNumbersOf, acknowledged_ordered, blocks_keep}
 use Rattle.pd_host.proofs.Kept.{by_test}

@@ -10,7 +10,7 @@ use Rattle.pd_host.specs.InputLaws.{AdvancesPutOutAfter, AdvancesUseNone, reboun
 use Rattle.pd_host.specs.Laws.{AreInOrder}
 use Rattle.pd_host.specs.Sending.{places_left}
 use Rattle.pd_host.specs.declared.established.Established.{Established}
-use Rattle.pd_host.specs.declared.sender_state.State.{State}
+use Rattle.pd_host.specs.declared.endpoint.State.{State}
 use Rattle.pd_host.proofs.Outcomes.{Leaves, came, kept, alike}
 use Rattle.pd_host.proofs.Rebound.{again}
 

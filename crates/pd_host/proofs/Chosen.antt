@@ -20,8 +20,8 @@ use Rattle.pd_host.specs.Connection.{ConnectionView}
 use Rattle.pd_host.specs.Sending.{window_edge, usable, unsent, sendable, unsent_segment, leaves_now, next_new, next_again, ordinary_segment}
 use Rattle.pd_host.specs.SendingLaws.{IsInPeersWindow}
 use Rattle.pd_host.specs.declared.established.Established.{Established}
-use Rattle.pd_host.specs.declared.fillings.Filling.{Filling}
-use Rattle.pd_host.specs.declared.fillings.Filling.TheVariants.{NextSeg, NewData}
+use Rattle.pd_host.specs.declared.connection.acknowledgments.Filling.{Filling}
+use Rattle.pd_host.specs.declared.connection.acknowledgments.Filling.TheVariants.{NextSeg, NewData}
 
 -- tests
 

@@ -13,17 +13,17 @@ use Rattle.pd_host.specs.Arrivals.{ruled, goes_on, finished_on, finished_by, arr
 use Rattle.pd_host.specs.Connection.{ConnectionView}
 use Rattle.pd_host.specs.Handshake.{is_opening, block_begun, answered_syn, established_by, syn_acked, syn_octet, syn_uses, establishment_uses, offered_mss, offered_count, offers_sack, window_in}
 use Rattle.pd_host.specs.Timing.{with_sample, with_timer_settled}
-use Rattle.pd_host.specs.declared.peer_fins.PeerFin.TheVariants.{Awaited}
-use Rattle.pd_host.specs.declared.streams.Stream.TheVariants.{Waiting}
+use Rattle.pd_host.specs.declared.established.PeerFin.TheVariants.{Awaited}
+use Rattle.pd_host.specs.declared.descriptors.Stream.TheVariants.{Waiting}
 use Rattle.pd_host.specs.InputLaws.{OnlyUsesMatter, rebound}
 use Rattle.pd_host.specs.Packets.{syn_ack_of}
 use Rattle.pd_host.specs.Host.{beside, with_outbox, put_out, then_on}
 use Rattle.pd_host.specs.declared.endpoint.Endpoint.{Endpoint}
 use Rattle.pd_host.specs.declared.halts.Halt.{Halt}
 use Rattle.pd_host.specs.declared.halts.Halt.TheVariants.{Limit, Unsupported}
-use Rattle.pd_host.specs.declared.rulings.Ruling.{Ruling}
-use Rattle.pd_host.specs.declared.rulings.Ruling.TheVariants.{NotRun, StrayRst, OutsideWindow, ExactRst, ChallengedRst, WithoutAck, FirstAck, RefusedAck, EarlyAck, OldAck}
-use Rattle.pd_host.specs.declared.sender_state.State.{State}
+use Rattle.pd_host.specs.declared.connection.checks.Ruling.{Ruling}
+use Rattle.pd_host.specs.declared.connection.checks.Ruling.TheVariants.{NotRun, StrayRst, OutsideWindow, ExactRst, ChallengedRst, WithoutAck, FirstAck, RefusedAck, EarlyAck, OldAck}
+use Rattle.pd_host.specs.declared.endpoint.State.{State}
 use Rattle.pd_host.proofs.Finishes.{finished_leaves}
 use Rattle.pd_host.proofs.Outcomes.{came, either_mapped}
 use Rattle.pd_host.proofs.Rebound.{again, taken_again}

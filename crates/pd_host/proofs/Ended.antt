@@ -12,12 +12,12 @@ use Rattle.pd_host.specs.Expiries.{due_by, deadline_of, expired}
 use Rattle.pd_host.specs.Handshake.{length_of}
 use Rattle.pd_host.specs.Invariants.{IsReached, BoardsAreLawful, CallsStayInRange, EndsForGood}
 use Rattle.pd_host.specs.Sending.{repeated, on_found, places_left}
-use Rattle.pd_host.specs.declared.conn_states.ConnState.{ConnState}
-use Rattle.pd_host.specs.declared.conn_states.ConnState.TheVariants.{Closed}
+use Rattle.pd_host.specs.declared.connection.states.ConnState.{ConnState}
+use Rattle.pd_host.specs.declared.connection.states.ConnState.TheVariants.{Closed}
 use Rattle.pd_host.specs.declared.halts.Halt.TheVariants.{Limit}
-use Rattle.pd_host.specs.declared.rulings.Ruling.{Ruling}
-use Rattle.pd_host.specs.declared.rulings.Ruling.TheVariants.{NotRun}
-use Rattle.pd_host.specs.declared.streams.Stream.TheVariants as stream
+use Rattle.pd_host.specs.declared.connection.checks.Ruling.{Ruling}
+use Rattle.pd_host.specs.declared.connection.checks.Ruling.TheVariants.{NotRun}
+use Rattle.pd_host.specs.declared.descriptors.Stream.TheVariants as stream
 use Rattle.pd_host.proofs.CallsKept.{called_where}
 use Rattle.pd_host.proofs.Growth.{calls_queue_what_they_ask}
 use Rattle.pd_host.proofs.Kept.{by_test, nothing_found}

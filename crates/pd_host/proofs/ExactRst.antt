@@ -14,9 +14,9 @@ use Rattle.pd_host.specs.Sending.{with_block}
 use Rattle.pd_host.specs.declared.established.Established.{Established}
 use Rattle.pd_host.specs.declared.halts.Halt.{Halt}
 use Rattle.pd_host.specs.declared.halts.Halt.TheVariants.{Limit}
-use Rattle.pd_host.specs.declared.rulings.Ruling.{Ruling}
-use Rattle.pd_host.specs.declared.rulings.Ruling.TheVariants.{NotRun, StrayRst, OutsideWindow, ExactRst, ChallengedRst, WithoutAck, FirstAck, RefusedAck, EarlyAck, OldAck}
-use Rattle.pd_host.specs.declared.sender_state.State.{State}
+use Rattle.pd_host.specs.declared.connection.checks.Ruling.{Ruling}
+use Rattle.pd_host.specs.declared.connection.checks.Ruling.TheVariants.{NotRun, StrayRst, OutsideWindow, ExactRst, ChallengedRst, WithoutAck, FirstAck, RefusedAck, EarlyAck, OldAck}
+use Rattle.pd_host.specs.declared.endpoint.State.{State}
 use Rattle.pd_host.proofs.Finishes.{passed_leaves}
 use Rattle.pd_host.proofs.Outcomes.{Leaves, came, leaves_too}
 use Rattle.pd_host.proofs.SentOn.{IsSentOn, stills}

@@ -10,7 +10,7 @@ use Rattle.pd_host.specs.Connection.{ConnectionView}
 use Rattle.pd_host.specs.Expiries.{resent_by, first_again, expired_by}
 use Rattle.pd_host.specs.Invariants.{IsEnding, IsOfPhase, IsInBounds, IsTimed, IsReached}
 use Rattle.pd_host.specs.declared.established.Established.{Established}
-use Rattle.pd_host.specs.declared.timings.Timing.{Timing}
+use Rattle.pd_host.specs.declared.connection.timing.Timing.{Timing}
 use Rattle.pd_host.proofs.Acked.{few}
 use Rattle.pd_host.proofs.Boards.{unmarked_ordered, sent_ordered}
 use Rattle.pd_host.proofs.Reached.{at_some, outstanding}

@@ -8,7 +8,7 @@ use Rattle.pd_host.specs.Connection.{ConnectionView}
 use Rattle.pd_host.specs.Expiries.{due_by, deadline_of, expired_on, expired, advanced}
 use Rattle.pd_host.specs.Sending.{places_left}
 use Rattle.pd_host.specs.declared.established.Established.{Established}
-use Rattle.pd_host.specs.declared.sender_state.State.{State}
+use Rattle.pd_host.specs.declared.endpoint.State.{State}
 use Rattle.pd_host.proofs.Kept.{AtEnd, came, repeated_keeps}
 use Rattle.pd_host.proofs.Rules.{deadline_on, Holds, KeptByExpiries}
 

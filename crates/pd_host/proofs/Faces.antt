@@ -7,13 +7,13 @@ use Rattle.pd_host.specs.Arrivals.{with_peer_fin}
 use Rattle.pd_host.specs.ConnStates.{synchronized, state_since, state_of, state_on}
 use Rattle.pd_host.specs.Connection.{ConnectionView}
 use Rattle.pd_host.specs.Handshake.{window_in, with_window}
-use Rattle.pd_host.specs.declared.conn_states.ConnState.{ConnState}
-use Rattle.pd_host.specs.declared.conn_states.ConnState.TheVariants.{Closed, SynReceived}
+use Rattle.pd_host.specs.declared.connection.states.ConnState.{ConnState}
+use Rattle.pd_host.specs.declared.connection.states.ConnState.TheVariants.{Closed, SynReceived}
 use Rattle.pd_host.specs.declared.established.Established.{Established}
-use Rattle.pd_host.specs.declared.listeners.Listener.{Listener}
-use Rattle.pd_host.specs.declared.peer_fins.PeerFin.{PeerFin}
-use Rattle.pd_host.specs.declared.peer_fins.PeerFin.TheVariants.{BeforeOurs, AfterOurs}
-use Rattle.pd_host.specs.declared.sender_state.State.{State}
+use Rattle.pd_host.specs.declared.descriptors.Listener.{Listener}
+use Rattle.pd_host.specs.declared.established.PeerFin.{PeerFin}
+use Rattle.pd_host.specs.declared.established.PeerFin.TheVariants.{BeforeOurs, AfterOurs}
+use Rattle.pd_host.specs.declared.endpoint.State.{State}
 use Rattle.pd_host.proofs.SentOn.{IsSentOn, still, stills, at_rest}
 use Rattle.pd_host.proofs.Taken.{same_either, timing_keeps, taking_keeps}
 

@@ -14,23 +14,23 @@ use Rattle.pd_host.specs.Figure.{MovesByCall}
 use Rattle.pd_host.specs.Invariants.{IsReached, IsLawful}
 use Rattle.pd_host.specs.Requests.{request_of}
 use Rattle.pd_host.specs.Sending.{ordinary_outside_recovery, places_left}
-use Rattle.pd_host.specs.declared.conn_states.ConnState.{ConnState}
-use Rattle.pd_host.specs.declared.conn_states.ConnState.TheVariants as state
+use Rattle.pd_host.specs.declared.connection.states.ConnState.{ConnState}
+use Rattle.pd_host.specs.declared.connection.states.ConnState.TheVariants as state
 use Rattle.pd_host.specs.declared.descriptors.Descriptor.{Descriptor}
 use Rattle.pd_host.specs.declared.descriptors.Descriptor.TheVariants.{Listening, Connected}
 use Rattle.pd_host.specs.declared.established.Established.{Established}
 use Rattle.pd_host.specs.declared.halts.Halt.TheVariants.{Unsupported}
-use Rattle.pd_host.specs.declared.listeners.Listener.{Listener}
-use Rattle.pd_host.specs.declared.listeners.Listener.TheVariants.{Absent, Open, Bound, Listens, Closed}
-use Rattle.pd_host.specs.declared.peer_fins.PeerFin.{PeerFin}
-use Rattle.pd_host.specs.declared.peer_fins.PeerFin.TheVariants.{Awaited, BeforeOurs, AfterOurs}
+use Rattle.pd_host.specs.declared.descriptors.Listener.{Listener}
+use Rattle.pd_host.specs.declared.descriptors.Listener.TheVariants.{Absent, Open, Bound, Listens, Closed}
+use Rattle.pd_host.specs.declared.established.PeerFin.{PeerFin}
+use Rattle.pd_host.specs.declared.established.PeerFin.TheVariants.{Awaited, BeforeOurs, AfterOurs}
 use Rattle.pd_host.specs.declared.requests.Operation.{Operation}
 use Rattle.pd_host.specs.declared.requests.Operation.TheVariants.{Bind, Listen, Accept, ReuseAddress, NoDelay, SetFlags, Write, Close}
 use Rattle.pd_host.specs.declared.requests.Request.{Request}
 use Rattle.pd_host.specs.declared.requests.Request.TheVariants.{Socket, On}
-use Rattle.pd_host.specs.declared.sender_state.State.{State}
-use Rattle.pd_host.specs.declared.streams.Stream.{Stream}
-use Rattle.pd_host.specs.declared.streams.Stream.TheVariants as stream
+use Rattle.pd_host.specs.declared.endpoint.State.{State}
+use Rattle.pd_host.specs.declared.descriptors.Stream.{Stream}
+use Rattle.pd_host.specs.declared.descriptors.Stream.TheVariants as stream
 use Rattle.pd_host.proofs.Advances.{expiry_finds, expiry_sends}
 use Rattle.pd_host.proofs.Boards.{sure}
 use Rattle.pd_host.proofs.CallsAfter.{Replies, reply_leaves, either_reply, queued_sends, outside_sends}

@@ -15,17 +15,17 @@ use Rattle.pd_host.specs.Handshake.{is_listening, length_of, is_opening, block_b
 use Rattle.pd_host.specs.Invariants.{IsReached, IsLawful}
 use Rattle.pd_host.specs.Host.{beside, with_outbox}
 use Rattle.pd_host.specs.Sending.{with_block}
-use Rattle.pd_host.specs.declared.conn_states.ConnState.{ConnState}
-use Rattle.pd_host.specs.declared.conn_states.ConnState.TheVariants.{Closed, Listen, SynReceived, Established as Stands, CloseWait}
+use Rattle.pd_host.specs.declared.connection.states.ConnState.{ConnState}
+use Rattle.pd_host.specs.declared.connection.states.ConnState.TheVariants.{Closed, Listen, SynReceived, Established as Stands, CloseWait}
 use Rattle.pd_host.specs.declared.established.Established.{Established}
 use Rattle.pd_host.specs.declared.halts.Halt.TheVariants.{Limit, Unsupported}
-use Rattle.pd_host.specs.declared.listeners.Listener.{Listener}
-use Rattle.pd_host.specs.declared.peer_fins.PeerFin.{PeerFin}
-use Rattle.pd_host.specs.declared.peer_fins.PeerFin.TheVariants.{Awaited, BeforeOurs, AfterOurs}
-use Rattle.pd_host.specs.declared.rulings.Ruling.{Ruling}
-use Rattle.pd_host.specs.declared.rulings.Ruling.TheVariants.{NotRun, StrayRst, OutsideWindow, ExactRst, ChallengedRst, WithoutAck, FirstAck, RefusedAck, EarlyAck, OldAck}
-use Rattle.pd_host.specs.declared.sender_state.State.{State}
-use Rattle.pd_host.specs.declared.streams.Stream.TheVariants as stream
+use Rattle.pd_host.specs.declared.descriptors.Listener.{Listener}
+use Rattle.pd_host.specs.declared.established.PeerFin.{PeerFin}
+use Rattle.pd_host.specs.declared.established.PeerFin.TheVariants.{Awaited, BeforeOurs, AfterOurs}
+use Rattle.pd_host.specs.declared.connection.checks.Ruling.{Ruling}
+use Rattle.pd_host.specs.declared.connection.checks.Ruling.TheVariants.{NotRun, StrayRst, OutsideWindow, ExactRst, ChallengedRst, WithoutAck, FirstAck, RefusedAck, EarlyAck, OldAck}
+use Rattle.pd_host.specs.declared.endpoint.State.{State}
+use Rattle.pd_host.specs.declared.descriptors.Stream.TheVariants as stream
 use Rattle.pd_host.proofs.AckedBelow.{first_of_two}
 use Rattle.pd_host.proofs.Boards.{sure}
 use Rattle.pd_host.proofs.ExactRst.{at_rcv_nxt}

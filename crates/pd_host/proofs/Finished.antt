@@ -5,7 +5,7 @@ use Rattle.pd_host.specs.Expiries.{advanced}
 use Rattle.pd_host.specs.Sending.{places_left, ready, ordinary}
 use Rattle.pd_host.specs.SendingLaws.{SendsAllThatMay}
 use Rattle.pd_host.specs.declared.halts.Halt.{Halt}
-use Rattle.pd_host.specs.declared.sender_state.State.{State}
+use Rattle.pd_host.specs.declared.endpoint.State.{State}
 use Rattle.pd_host.proofs.Advances.{expiry_finds, expiry_sends}
 use Rattle.pd_host.proofs.Outcomes.{came, done}
 use Rattle.pd_host.proofs.SentOn.{finds, sends, fill_finds, fill_sends}

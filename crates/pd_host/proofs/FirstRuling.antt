@@ -1,7 +1,7 @@
 -- The first check that rules, as a chain of `or`.
 use Rattle.std.proofs.Common.{◌≡◌, refl, ◌∷◌, [], Option, None, Some}
 use Rattle.std.specs.Option.{option_or}
-use Rattle.pd_host.specs.declared.rulings.Ruling.{Ruling}
+use Rattle.pd_host.specs.declared.connection.checks.Ruling.{Ruling}
 use Rattle.pd_host.specs.Arrivals.{first_ruling}
 
 -- the first of six checks

@@ -13,10 +13,10 @@ use Rattle.pd_host.specs.Places.{has_place}
 use Rattle.pd_host.specs.Sending.{value_on, places_left, with_block, begun_again, past_sacked, sent_on, with_segment, found, sent_ordinarily, ready, ordinary}
 use Rattle.pd_host.specs.Timing.{clocked, timed_after}
 use Rattle.pd_host.specs.declared.established.Established.{Established}
-use Rattle.pd_host.specs.declared.fillings.Filling.{Filling}
-use Rattle.pd_host.specs.declared.fillings.Filling.TheVariants.{NextSeg, NewData}
+use Rattle.pd_host.specs.declared.connection.acknowledgments.Filling.{Filling}
+use Rattle.pd_host.specs.declared.connection.acknowledgments.Filling.TheVariants.{NextSeg, NewData}
 use Rattle.pd_host.specs.declared.halts.Halt.TheVariants.{Limit}
-use Rattle.pd_host.specs.declared.sender_state.State.{State}
+use Rattle.pd_host.specs.declared.endpoint.State.{State}
 use Rattle.pd_host.proofs.Chosen.{Stands, ordinary_end, ordinary_queued, filling_stands, run_end}
 use Rattle.pd_host.proofs.Outcomes.{Leaves, kept, either, then_leaves}
 use Rattle.pd_host.proofs.SentOn.{still, sender_leaves, finds, sends, fill_finds, fill_sends, fill_still, entered_still, begun_still}

@@ -8,9 +8,9 @@ use Rattle.pd_host.specs.InputLaws.{OutsideIsHarmless}
 use Rattle.pd_host.specs.Host.{beside, with_outbox, then_on}
 use Rattle.pd_host.specs.declared.halts.Halt.{Halt}
 use Rattle.pd_host.specs.declared.halts.Halt.TheVariants.{Limit}
-use Rattle.pd_host.specs.declared.rulings.Ruling.{Ruling}
-use Rattle.pd_host.specs.declared.rulings.Ruling.TheVariants.{NotRun, StrayRst, OutsideWindow}
-use Rattle.pd_host.specs.declared.sender_state.State.{State}
+use Rattle.pd_host.specs.declared.connection.checks.Ruling.{Ruling}
+use Rattle.pd_host.specs.declared.connection.checks.Ruling.TheVariants.{NotRun, StrayRst, OutsideWindow}
+use Rattle.pd_host.specs.declared.endpoint.State.{State}
 
 -- the state that came
 abbrev ok : State → Result State Halt

@@ -7,7 +7,7 @@ use Rattle.pd_host.specs.Connection.{ConnectionView}
 use Rattle.pd_host.specs.Holds.{is_enough, hold_of_new, is_open, OpenHoldsSend}
 use Rattle.pd_host.specs.Sending.{window_edge, sendable, unsent_segment, is_full, is_all, is_half_window, is_held_back, leaves_now, next_new, next_again}
 use Rattle.pd_host.specs.declared.established.Established.{Established}
-use Rattle.pd_host.specs.declared.holds.Hold.TheVariants.{AllSent, PeerWindow, CongestionWindow, PartOfSegment, Nagle, Open}
+use Rattle.pd_host.specs.declared.connection.observing.Hold.TheVariants.{AllSent, PeerWindow, CongestionWindow, PartOfSegment, Nagle, Open}
 use Rattle.pd_host.proofs.Runs.{run_within}
 
 -- the reasons by their tests

@@ -7,7 +7,7 @@ use Rattle.pd_host.specs.Expiries.{block_expired}
 use Rattle.pd_host.specs.SendingLaws.{TimesOnce}
 use Rattle.pd_host.specs.Timing.{timed_after}
 use Rattle.pd_host.specs.declared.established.Established.{Established}
-use Rattle.pd_host.specs.declared.timings.Timing.{Timing}
+use Rattle.pd_host.specs.declared.connection.timing.Timing.{Timing}
 
 -- what is left of a timing
 abbrev left : Timing → Bool → Option Timing

@@ -7,8 +7,8 @@ use Rattle.pd_host.specs.Connection.{ConnectionView}
 use Rattle.pd_host.specs.Host.{then_on}
 use Rattle.pd_host.specs.Sending.{found, ready, sent_until_done, ordinary}
 use Rattle.pd_host.specs.Steps.{put_again, entry_on, led_on}
-use Rattle.pd_host.specs.declared.fillings.Filling.TheVariants.{NextSeg, NewData}
-use Rattle.pd_host.specs.declared.sender_state.State.{State}
+use Rattle.pd_host.specs.declared.connection.acknowledgments.Filling.TheVariants.{NextSeg, NewData}
+use Rattle.pd_host.specs.declared.endpoint.State.{State}
 use Rattle.pd_host.proofs.Recovering.{nothing_filled}
 use Rattle.pd_host.proofs.Sends.{sending_done}
 

@@ -12,7 +12,7 @@ use Rattle.pd_host.specs.Connection.{ConnectionView}
 use Rattle.pd_host.specs.Expiries.{due_by}
 use Rattle.pd_host.specs.InputLaws.{RebindingKeepsUp}
 use Rattle.pd_host.specs.Laws.{AreInOrder, IsUpTo, begun_under, StartsUpToDate, AdvancesKeepUp, ArrivalsKeepUp, CallsKeepUp, TakingKeepsUp}
-use Rattle.pd_host.specs.declared.sender_state.State.{State}
+use Rattle.pd_host.specs.declared.endpoint.State.{State}
 use Rattle.pd_host.proofs.ArrivalsKept.{arrived_holds, arrived_later}
 use Rattle.pd_host.proofs.CallsKept.{called_holds}
 use Rattle.pd_host.proofs.ExpiriesKept.{advanced_holds}

@@ -10,8 +10,8 @@ use Rattle.pd_host.specs.Expiries.{due_by, segment_again, expired}
 use Rattle.pd_host.specs.Packets.{data_of}
 use Rattle.pd_host.specs.Sending.{found, sent_ordinarily}
 use Rattle.pd_host.specs.SendingLaws.{PutsOutOne, SendsOneByOne}
-use Rattle.pd_host.specs.declared.fillings.Filling.{Filling}
-use Rattle.pd_host.specs.declared.sender_state.State.{State}
+use Rattle.pd_host.specs.declared.connection.acknowledgments.Filling.{Filling}
+use Rattle.pd_host.specs.declared.endpoint.State.{State}
 use Rattle.pd_host.proofs.Rules.{deadline_on}
 
 ordinary_one : (now : ℕ) (segment : Span) (s : State) (o : Option ConnectionView) → found o ≡ Some segment → PutsOutOne s (sent_ordinarily now segment o s)

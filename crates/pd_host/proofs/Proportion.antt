@@ -17,9 +17,9 @@ use Rattle.pd_host.specs.Sending.{with_block, with_segment}
 use Rattle.pd_host.specs.SendingLaws.{cwnd_in, reducing_in, out_in, sndcnt_in, LetsOut, RecoversInProportion}
 use Rattle.pd_host.specs.Timing.{clocked}
 use Rattle.pd_host.specs.declared.established.Established.{Established}
-use Rattle.pd_host.specs.declared.fillings.Filling.TheVariants.{NextSeg}
+use Rattle.pd_host.specs.declared.connection.acknowledgments.Filling.TheVariants.{NextSeg}
 use Rattle.pd_host.specs.declared.halts.Halt.TheVariants.{Limit}
-use Rattle.pd_host.specs.declared.sender_state.State.{State}
+use Rattle.pd_host.specs.declared.endpoint.State.{State}
 use Rattle.pd_host.proofs.Outcomes.{Leaves, came, either}
 use Rattle.pd_host.proofs.Room.{filled_out}
 

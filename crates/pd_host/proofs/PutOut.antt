@@ -9,7 +9,7 @@ use Rattle.pd_host.specs.Host.{with_packet}
 use Rattle.pd_host.specs.declared.halts.Ending.{Ending}
 use Rattle.pd_host.specs.declared.halts.Halt.{Halt}
 use Rattle.pd_host.specs.declared.halts.Halt.TheVariants.{Limit}
-use Rattle.pd_host.specs.declared.sender_state.State.{State}
+use Rattle.pd_host.specs.declared.endpoint.State.{State}
 
 -- the state with this connection and these packets
 abbrev pub holding : ConnectionView → List Sent → State → State

@@ -7,10 +7,10 @@ use Rattle.pd_host.specs.Calls.{is_open, is_waiting, stream_in, stream_of, with_
 use Rattle.pd_host.specs.Connection.{ConnectionView}
 use Rattle.pd_host.specs.Invariants.{IsOfPhase, IsInBounds, IsEnding, IsReached, fin_octets}
 use Rattle.pd_host.specs.declared.established.Established.{Established}
-use Rattle.pd_host.specs.declared.peer_fins.PeerFin.{PeerFin}
-use Rattle.pd_host.specs.declared.peer_fins.PeerFin.TheVariants.{BeforeOurs, AfterOurs}
-use Rattle.pd_host.specs.declared.streams.Stream.{Stream}
-use Rattle.pd_host.specs.declared.streams.Stream.TheVariants as stream
+use Rattle.pd_host.specs.declared.established.PeerFin.{PeerFin}
+use Rattle.pd_host.specs.declared.established.PeerFin.TheVariants.{BeforeOurs, AfterOurs}
+use Rattle.pd_host.specs.declared.descriptors.Stream.{Stream}
+use Rattle.pd_host.specs.declared.descriptors.Stream.TheVariants as stream
 use Rattle.pd_host.proofs.Boards.{sure, written_ordered}
 use Rattle.pd_host.proofs.Kept.{by_test}
 use Rattle.pd_host.proofs.Reached.{IsLive, phase_of}

@@ -19,9 +19,9 @@ use Rattle.pd_host.specs.Invariants.{IsEnding, IsOfPhase, IsInBounds, IsTimed, I
 use Rattle.pd_host.specs.Sending.{is_idle, restarted_in, begun_again, past_sacked, sent_on}
 use Rattle.pd_host.specs.Timing.{overlaps, timed_after, clocked}
 use Rattle.pd_host.specs.declared.established.Established.{Established}
-use Rattle.pd_host.specs.declared.fillings.Filling.{Filling}
-use Rattle.pd_host.specs.declared.fillings.Filling.TheVariants.{NextSeg, NewData}
-use Rattle.pd_host.specs.declared.timings.Timing.{Timing}
+use Rattle.pd_host.specs.declared.connection.acknowledgments.Filling.{Filling}
+use Rattle.pd_host.specs.declared.connection.acknowledgments.Filling.TheVariants.{NextSeg, NewData}
+use Rattle.pd_host.specs.declared.connection.timing.Timing.{Timing}
 use Rattle.pd_host.proofs.Boards.{sent_ordered, skipped_ordered}
 use Rattle.pd_host.proofs.Kept.{by_test}
 use Rattle.pd_host.proofs.Rules.{found_on, next_on, KeptBySending, first_run}

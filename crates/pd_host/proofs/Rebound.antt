@@ -15,11 +15,11 @@ use Rattle.pd_host.specs.Host.{then_on}
 use Rattle.pd_host.specs.Sending.{repeated, places_left, with_block, sent_on, with_segment, sent_ordinarily, ready, sent_until_done, ordinary}
 use Rattle.pd_host.specs.Timing.{clocked}
 use Rattle.pd_host.specs.declared.established.Established.{Established}
-use Rattle.pd_host.specs.declared.fillings.Filling.{Filling}
-use Rattle.pd_host.specs.declared.fillings.Filling.TheVariants.{NextSeg, NewData}
+use Rattle.pd_host.specs.declared.connection.acknowledgments.Filling.{Filling}
+use Rattle.pd_host.specs.declared.connection.acknowledgments.Filling.TheVariants.{NextSeg, NewData}
 use Rattle.pd_host.specs.declared.halts.Halt.{Halt}
 use Rattle.pd_host.specs.declared.halts.Halt.TheVariants.{Limit}
-use Rattle.pd_host.specs.declared.sender_state.State.{State}
+use Rattle.pd_host.specs.declared.endpoint.State.{State}
 use Rattle.pd_host.proofs.Outcomes.{mapped, alike, either_mapped, then_mapped}
 use Rattle.pd_host.proofs.SentOn.{finds, sends, fill_finds, fill_sends}
 

@@ -9,9 +9,9 @@ use Rattle.pd_host.specs.Connection.{ConnectionView}
 use Rattle.pd_host.specs.Packets.{data_of}
 use Rattle.pd_host.specs.Host.{with_packet}
 use Rattle.pd_host.specs.Sending.{repeated, places_left}
-use Rattle.pd_host.specs.declared.fillings.Filling.{Filling}
+use Rattle.pd_host.specs.declared.connection.acknowledgments.Filling.{Filling}
 use Rattle.pd_host.specs.declared.halts.Halt.{Halt}
-use Rattle.pd_host.specs.declared.sender_state.State.{State}
+use Rattle.pd_host.specs.declared.endpoint.State.{State}
 use Rattle.pd_host.proofs.PutOut.{holding, and_packet, put_ok, one_place_less}
 use Rattle.pd_host.proofs.Repeats.{repeated-more, repeated-none}
 use Rattle.pd_host.proofs.Rules.{next_on}

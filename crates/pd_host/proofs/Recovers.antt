@@ -24,12 +24,12 @@ use Rattle.pd_host.specs.Invariants.{RecoversBelow, IsBelowPoint}
 use Rattle.pd_host.specs.Sending.{is_idle, restarted_in, begun_again}
 use Rattle.pd_host.specs.Timing.{is_measured, measured, with_sample, with_timer_moved}
 use Rattle.pd_host.specs.declared.established.Established.{Established}
-use Rattle.pd_host.specs.declared.fillings.Filling.{Filling}
-use Rattle.pd_host.specs.declared.fillings.Filling.TheVariants.{NextSeg, NewData}
-use Rattle.pd_host.specs.declared.peer_fins.PeerFin.{PeerFin}
-use Rattle.pd_host.specs.declared.peer_fins.PeerFin.TheVariants.{BeforeOurs, AfterOurs}
-use Rattle.pd_host.specs.declared.streams.Stream.{Stream}
-use Rattle.pd_host.specs.declared.timings.Timing.{Timing}
+use Rattle.pd_host.specs.declared.connection.acknowledgments.Filling.{Filling}
+use Rattle.pd_host.specs.declared.connection.acknowledgments.Filling.TheVariants.{NextSeg, NewData}
+use Rattle.pd_host.specs.declared.established.PeerFin.{PeerFin}
+use Rattle.pd_host.specs.declared.established.PeerFin.TheVariants.{BeforeOurs, AfterOurs}
+use Rattle.pd_host.specs.declared.descriptors.Stream.{Stream}
+use Rattle.pd_host.specs.declared.connection.timing.Timing.{Timing}
 use Rattle.pd_recover.proofs.Cases.{selective_cases}
 use Rattle.pd_host.proofs.AckedBelow.{ge}
 use Rattle.pd_host.proofs.Kept.{by_test}

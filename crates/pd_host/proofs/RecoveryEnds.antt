@@ -12,7 +12,7 @@ use Rattle.pd_host.specs.Connection.{ConnectionView}
 use Rattle.pd_host.specs.Sending.{with_block, is_recovering}
 use Rattle.pd_host.specs.SendingLaws.{recovers, EndsRecovery}
 use Rattle.pd_host.specs.declared.established.Established.{Established}
-use Rattle.pd_host.specs.declared.sender_state.State.{State}
+use Rattle.pd_host.specs.declared.endpoint.State.{State}
 use Rattle.pd_host.proofs.Outcomes.{came}
 use Rattle.pd_host.proofs.SentOn.{IsSentOn, at_rest, stills}
 use Rattle.pd_host.proofs.Taken.{congestions, ack_keeps, ack_leaves_congestion, taken_sends}

@@ -6,7 +6,7 @@ use Rattle.pd_host.specs.Sending.{on_found, repeated, places_left}
 use Rattle.pd_host.specs.Steps.{with_place}
 use Rattle.pd_host.specs.declared.halts.Halt.{Halt}
 use Rattle.pd_host.specs.declared.halts.Halt.TheVariants.{Limit}
-use Rattle.pd_host.specs.declared.sender_state.State.{State}
+use Rattle.pd_host.specs.declared.endpoint.State.{State}
 
 -- what comes where no place is left, by what is found
 abbrev without_place : {S X : Type 0} → S → Option X → Result S Halt

@@ -23,9 +23,9 @@ use Rattle.pd_host.specs.Packets.{data_of}
 use Rattle.pd_host.specs.Sending.{value_on, places_left, with_segment}
 use Rattle.pd_host.specs.SendingLaws.{end_with_fin, octets_in, cwnd_in, out_in, FillsWindow, KeepsToWindow}
 use Rattle.pd_host.specs.declared.established.Established.{Established}
-use Rattle.pd_host.specs.declared.fillings.Filling.{Filling}
-use Rattle.pd_host.specs.declared.fillings.Filling.TheVariants.{NextSeg, NewData}
-use Rattle.pd_host.specs.declared.sender_state.State.{State}
+use Rattle.pd_host.specs.declared.connection.acknowledgments.Filling.{Filling}
+use Rattle.pd_host.specs.declared.connection.acknowledgments.Filling.TheVariants.{NextSeg, NewData}
+use Rattle.pd_host.specs.declared.endpoint.State.{State}
 use Rattle.pd_host.proofs.Chosen.{is_within}
 use Rattle.pd_host.proofs.InWindow.{packet_ends}
 use Rattle.pd_host.proofs.Outcomes.{Leaves, came, leaves_too, kept}

@@ -17,11 +17,11 @@ use Rattle.pd_host.specs.Handshake.{is_opening, block_begun, established_by}
 use Rattle.pd_host.specs.Sending.{value_on, ordinary_segment, begun_again, past_sacked, sent_on}
 use Rattle.pd_host.specs.Timing.{clocked}
 use Rattle.pd_host.specs.declared.established.Established.{Established}
-use Rattle.pd_host.specs.declared.fillings.Filling.{Filling}
-use Rattle.pd_host.specs.declared.listeners.Listener.{Listener}
-use Rattle.pd_host.specs.declared.rulings.Ruling.TheVariants.{FirstAck}
-use Rattle.pd_host.specs.declared.sender_state.State.{State}
-use Rattle.pd_host.specs.declared.streams.Stream.TheVariants as stream
+use Rattle.pd_host.specs.declared.connection.acknowledgments.Filling.{Filling}
+use Rattle.pd_host.specs.declared.descriptors.Listener.{Listener}
+use Rattle.pd_host.specs.declared.connection.checks.Ruling.TheVariants.{FirstAck}
+use Rattle.pd_host.specs.declared.endpoint.State.{State}
+use Rattle.pd_host.specs.declared.descriptors.Stream.TheVariants as stream
 
 -- a property of the packets that nobody has taken, and of the connection under the settings
 pub record Holds (O : List Sent → Type 0) (C : Settings → ConnectionView → Type 0) (s : State) : Type 0 where

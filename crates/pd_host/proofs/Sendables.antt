@@ -18,8 +18,8 @@ use Rattle.pd_host.specs.Invariants.{IsOrdered}
 use Rattle.pd_host.specs.Sending.{next_again, next_new, leaves_now, sendable, window_edge}
 use Rattle.pd_host.specs.Sending as sending
 use Rattle.pd_host.specs.declared.established.Established.{Established}
-use Rattle.pd_host.specs.declared.fillings.Filling.{Filling}
-use Rattle.pd_host.specs.declared.fillings.Filling.TheVariants.{NextSeg, NewData}
+use Rattle.pd_host.specs.declared.connection.acknowledgments.Filling.{Filling}
+use Rattle.pd_host.specs.declared.connection.acknowledgments.Filling.TheVariants.{NextSeg, NewData}
 use Rattle.pd_host.proofs.Runs.{run_within}
 use Rattle.pd_host.proofs.AckedBelow.{first_of_two, lt, ge}
 

@@ -7,7 +7,7 @@ use Rattle.pd_seg.specs.declared.segments.Segment.{Segment}
 use Rattle.pd_seg.specs.declared.segments.Sent.{Sent}
 use Rattle.pd_host.specs.Connection.{ConnectionView}
 use Rattle.pd_host.specs.Sending.{with_block, with_packet_sent, places_left, found, sent_ordinarily, ready, ordinary}
-use Rattle.pd_host.specs.declared.sender_state.State.{State}
+use Rattle.pd_host.specs.declared.endpoint.State.{State}
 use Rattle.pd_host.proofs.Kept.{Comes, repeated_holds}
 use Rattle.pd_host.proofs.Rules.{Holds, KeptBySending}
 

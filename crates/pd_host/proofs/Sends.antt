@@ -10,7 +10,7 @@ use Rattle.pd_host.specs.Steps.{with_place, sent_next, expired_next}
 use Rattle.pd_host.specs.declared.halts.Halt.{Halt}
 use Rattle.pd_host.specs.declared.halts.Ending.{Ending}
 use Rattle.pd_host.specs.declared.halts.Ending.TheVariants.{Halted, OutOfMemory}
-use Rattle.pd_host.specs.declared.sender_state.State.{State}
+use Rattle.pd_host.specs.declared.endpoint.State.{State}
 use Rattle.pd_host.proofs.Repeats.{repeated-none, went_on, halted}
 use Rattle.pd_host.proofs.Rules.{deadline_on}
 

@@ -22,10 +22,10 @@ use Rattle.pd_host.specs.SendingLaws.{sent_in, timed_in, end_with_flags, touches
 use Rattle.pd_host.specs.Timing.{overlaps, timed_after, is_measured, measured, with_sample, with_timer_moved}
 use Rattle.pd_host.specs.declared.established.Established.{Established}
 use Rattle.pd_host.specs.declared.halts.Halt.TheVariants.{Limit, Unsupported}
-use Rattle.pd_host.specs.declared.rulings.Ruling.{Ruling}
-use Rattle.pd_host.specs.declared.rulings.Ruling.TheVariants.{NotRun, StrayRst, OutsideWindow, ExactRst, ChallengedRst, WithoutAck, FirstAck, RefusedAck, EarlyAck, OldAck}
-use Rattle.pd_host.specs.declared.sender_state.State.{State}
-use Rattle.pd_host.specs.declared.timings.Timing.{Timing}
+use Rattle.pd_host.specs.declared.connection.checks.Ruling.{Ruling}
+use Rattle.pd_host.specs.declared.connection.checks.Ruling.TheVariants.{NotRun, StrayRst, OutsideWindow, ExactRst, ChallengedRst, WithoutAck, FirstAck, RefusedAck, EarlyAck, OldAck}
+use Rattle.pd_host.specs.declared.endpoint.State.{State}
+use Rattle.pd_host.specs.declared.connection.timing.Timing.{Timing}
 use Rattle.pd_host.proofs.Advances.{expiry_finds, expiry_sends}
 use Rattle.pd_host.proofs.CallsGo.{IsQuiet, called_goes}
 use Rattle.pd_host.proofs.Finishes.{after_fin, passed_leaves}

@@ -13,9 +13,9 @@ use Rattle.pd_host.specs.Connection.{ConnectionView}
 use Rattle.pd_host.specs.Handshake.{is_listening, is_syn_alone, length_of, offered_mss, is_mss_run, is_opening, smss_of, offers_of, block_begun, window_in, established_with, established_by, syn_acked}
 use Rattle.pd_host.specs.Invariants.{IsOfPhase, IsTimed, IsReached}
 use Rattle.pd_host.specs.Timing.{is_measured, measured, with_timer_settled}
-use Rattle.pd_host.specs.declared.listeners.Listener.{Listener}
-use Rattle.pd_host.specs.declared.rulings.Ruling.TheVariants.{FirstAck}
-use Rattle.pd_host.specs.declared.timings.Timing.{Timing}
+use Rattle.pd_host.specs.declared.descriptors.Listener.{Listener}
+use Rattle.pd_host.specs.declared.connection.checks.Ruling.TheVariants.{FirstAck}
+use Rattle.pd_host.specs.declared.connection.timing.Timing.{Timing}
 use Rattle.pd_host.proofs.Acked.{nothing_out}
 use Rattle.pd_host.proofs.Boards.{opened_ordered, acknowledged_ordered}
 use Rattle.pd_host.proofs.Kept.{by_test}

@@ -9,8 +9,8 @@ use Rattle.pd_host.specs.Connection.{ConnectionView}
 use Rattle.pd_host.specs.Invariants.{IsReached, IsBelowPoint, IsLawful, StartsLawful, AdvancesStayLawful, ArrivalsStayLawful, CallsStayLawful, TakingStaysLawful}
 use Rattle.pd_host.specs.Laws.{AreInOrder}
 use Rattle.pd_host.specs.Timing.{clocked}
-use Rattle.pd_host.specs.declared.sender_state.State.{State}
-use Rattle.pd_host.specs.declared.streams.Stream.TheVariants as stream
+use Rattle.pd_host.specs.declared.endpoint.State.{State}
+use Rattle.pd_host.specs.declared.descriptors.Stream.TheVariants as stream
 use Rattle.pd_host.proofs.Acked.{taking_live, taking_new, taking_again}
 use Rattle.pd_host.proofs.ArrivalsKept.{arrived_holds}
 use Rattle.pd_host.proofs.CallsKept.{called_holds}

@@ -12,8 +12,8 @@ use Rattle.pd_host.specs.Handshake.{looked_at, window_in, with_window}
 use Rattle.pd_host.specs.Sending.{with_block}
 use Rattle.pd_host.specs.Timing.{is_measured, measured, with_sample, with_timer_moved}
 use Rattle.pd_host.specs.declared.established.Established.{Established}
-use Rattle.pd_host.specs.declared.sender_state.State.{State}
-use Rattle.pd_host.specs.declared.timings.Timing.{Timing}
+use Rattle.pd_host.specs.declared.endpoint.State.{State}
+use Rattle.pd_host.specs.declared.connection.timing.Timing.{Timing}
 use Rattle.pd_host.proofs.Outcomes.{Leaves}
 use Rattle.pd_host.proofs.SentOn.{IsSentOn, led_to_sends}
 

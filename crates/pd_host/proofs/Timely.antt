@@ -14,8 +14,8 @@ use Rattle.pd_host.specs.Connection.{ConnectionView}
 use Rattle.pd_host.specs.Handshake.{syn_acked}
 use Rattle.pd_host.specs.Timing.{clocked, is_measured, measured, with_sample, with_timer_moved}
 use Rattle.pd_host.specs.declared.established.Established.{Established}
-use Rattle.pd_host.specs.declared.fillings.Filling.{Filling}
-use Rattle.pd_host.specs.declared.timings.Timing.{Timing}
+use Rattle.pd_host.specs.declared.connection.acknowledgments.Filling.{Filling}
+use Rattle.pd_host.specs.declared.connection.timing.Timing.{Timing}
 use Rattle.pd_host.proofs.Kept.{by_test}
 use Rattle.pd_host.proofs.Rules.{HoldsFirst, KeptBySending, KeptByArrivals, KeptByCalls, first_run}
 

@@ -11,7 +11,7 @@ use Rattle.pd_host.specs.Packets.{data_of}
 use Rattle.pd_host.specs.Sending.{value_on, places_left, window_edge, is_idle, restarted_in, begun_again, past_sacked, sent_on, found, sent_ordinarily, ready, ordinary}
 use Rattle.pd_host.specs.SendingLaws.{end_with_fin, edge_of}
 use Rattle.pd_host.specs.declared.established.Established.{Established}
-use Rattle.pd_host.specs.declared.sender_state.State.{State}
+use Rattle.pd_host.specs.declared.endpoint.State.{State}
 use Rattle.pd_host.proofs.Chosen.{chosen_within}
 use Rattle.pd_host.proofs.InWindow.{packet_ends}
 use Rattle.pd_host.proofs.Outcomes.{Leaves, came, kept}

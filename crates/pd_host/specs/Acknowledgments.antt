@@ -23,11 +23,11 @@ use Rattle.pd_host.specs.Host.{then_on}
 use Rattle.pd_host.specs.Sending.{value_in, repeated, places_left, with_block, with_segment, sent_on, ordinary}
 use Rattle.pd_host.specs.Timing.{clocked, with_sample, with_timer_moved}
 use Rattle.pd_host.specs.declared.established.Established.{Established}
-use Rattle.pd_host.specs.declared.fillings.Filling.{Filling}
-use Rattle.pd_host.specs.declared.fillings.Filling.TheVariants.{NextSeg, NewData}
+use Rattle.pd_host.specs.declared.connection.acknowledgments.Filling.{Filling}
+use Rattle.pd_host.specs.declared.connection.acknowledgments.Filling.TheVariants.{NextSeg, NewData}
 use Rattle.pd_host.specs.declared.halts.Halt.{Halt}
 use Rattle.pd_host.specs.declared.halts.Halt.TheVariants.{Limit}
-use Rattle.pd_host.specs.declared.sender_state.State.{State}
+use Rattle.pd_host.specs.declared.endpoint.State.{State}
 
 -- The ack number and the SACK blocks
 

@@ -3,8 +3,8 @@ use Rattle.std.specs.Prelude.{ℕ, ◌+◌, ◌==◌, nat_lt, nat_le, not, Bool,
 use Rattle.pd_seg.specs.declared.segments.Segment.{Segment}
 use Rattle.pd_host.specs.declared.halts.Halt.{Halt}
 use Rattle.pd_host.specs.declared.halts.Halt.TheVariants.{Unsupported}
-use Rattle.pd_host.specs.declared.rulings.Ruling.{Ruling}
-use Rattle.pd_host.specs.declared.rulings.Ruling.TheVariants.{NotRun, StrayRst, OutsideWindow, ExactRst, ChallengedRst, WithoutAck, FirstAck, RefusedAck, EarlyAck, OldAck}
+use Rattle.pd_host.specs.declared.connection.checks.Ruling.{Ruling}
+use Rattle.pd_host.specs.declared.connection.checks.Ruling.TheVariants.{NotRun, StrayRst, OutsideWindow, ExactRst, ChallengedRst, WithoutAck, FirstAck, RefusedAck, EarlyAck, OldAck}
 use Rattle.pd_timer.specs.Rto.{stopped}
 use Rattle.pd_host.specs.Acknowledgments.{ack_taken}
 use Rattle.pd_host.specs.Handshake.{length_of, opened_by, established_by, establishment_uses}
@@ -13,9 +13,9 @@ use Rattle.pd_host.specs.ConnStates.{state_of, is_closed}
 use Rattle.pd_host.specs.Connection.{ConnectionView, peer_fin_in, rcv_nxt}
 use Rattle.pd_host.specs.declared.endpoint.Endpoint.{Endpoint}
 use Rattle.pd_host.specs.declared.established.Established.{Established}
-use Rattle.pd_host.specs.declared.peer_fins.PeerFin.{PeerFin}
-use Rattle.pd_host.specs.declared.peer_fins.PeerFin.TheVariants.{Awaited, BeforeOurs, AfterOurs}
-use Rattle.pd_host.specs.declared.sender_state.State.{State}
+use Rattle.pd_host.specs.declared.established.PeerFin.{PeerFin}
+use Rattle.pd_host.specs.declared.established.PeerFin.TheVariants.{Awaited, BeforeOurs, AfterOurs}
+use Rattle.pd_host.specs.declared.endpoint.State.{State}
 use Rattle.pd_host.specs.Host.{beside, put_out, then_on}
 
 -- the sequence number lies in the receive window

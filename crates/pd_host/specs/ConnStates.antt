@@ -2,13 +2,13 @@
 use Rattle.std.specs.Prelude.{◌==◌, Bool, true, false, Option, None, Some, if◌then◌else◌}
 use Rattle.pd_host.specs.Connection.{ConnectionView}
 use Rattle.pd_host.specs.Handshake.{is_listening}
-use Rattle.pd_host.specs.declared.conn_states.ConnState.{ConnState}
-use Rattle.pd_host.specs.declared.conn_states.ConnState.TheVariants.{Closed, Listen, SynReceived, Established, FinWait1, FinWait2, CloseWait, Closing, LastAck, TimeWait}
+use Rattle.pd_host.specs.declared.connection.states.ConnState.{ConnState}
+use Rattle.pd_host.specs.declared.connection.states.ConnState.TheVariants.{Closed, Listen, SynReceived, Established, FinWait1, FinWait2, CloseWait, Closing, LastAck, TimeWait}
 use Rattle.pd_host.specs.declared.established.Established as conn
-use Rattle.pd_host.specs.declared.listeners.Listener.{Listener}
-use Rattle.pd_host.specs.declared.peer_fins.PeerFin.{PeerFin}
-use Rattle.pd_host.specs.declared.peer_fins.PeerFin.TheVariants.{Awaited, BeforeOurs, AfterOurs}
-use Rattle.pd_host.specs.declared.sender_state.State.{State}
+use Rattle.pd_host.specs.declared.descriptors.Listener.{Listener}
+use Rattle.pd_host.specs.declared.established.PeerFin.{PeerFin}
+use Rattle.pd_host.specs.declared.established.PeerFin.TheVariants.{Awaited, BeforeOurs, AfterOurs}
+use Rattle.pd_host.specs.declared.endpoint.State.{State}
 
 -- from the end of the handshake on: by the peer's FIN, by whether ours is queued, and by whether all that is queued is
 -- acknowledged, our FIN too

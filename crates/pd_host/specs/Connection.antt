@@ -3,10 +3,10 @@ use Rattle.std.specs.Prelude.{ℕ, ◌-◌, Bool, Option, None, Some, if◌then�
 use Rattle.pd_board.specs.Board.{BoardView}
 use Rattle.pd_timer.specs.Rto.{RtoView}
 use Rattle.pd_host.specs.declared.established.Established.{Established}
-use Rattle.pd_host.specs.declared.peer_fins.PeerFin.{PeerFin}
-use Rattle.pd_host.specs.declared.peer_fins.PeerFin.TheVariants.{Awaited}
-use Rattle.pd_host.specs.declared.scaling.Scaling.{Scaling}
-use Rattle.pd_host.specs.declared.timings.Timing.{Timing}
+use Rattle.pd_host.specs.declared.established.PeerFin.{PeerFin}
+use Rattle.pd_host.specs.declared.established.PeerFin.TheVariants.{Awaited}
+use Rattle.pd_host.specs.declared.connection.Scaling.{Scaling}
+use Rattle.pd_host.specs.declared.connection.timing.Timing.{Timing}
 
 -- a connection's transmission control block (RFC 9293, section 3.3.1); numbers are relative, both initial ones at 0
 pub record ConnectionView : Type 0 where

@@ -11,7 +11,7 @@ use Rattle.pd_host.specs.Packets.{data_of, syn_ack_of}
 use Rattle.pd_host.specs.Sending.{repeated, places_left, with_packet_sent, with_block}
 use Rattle.pd_host.specs.declared.established.Established.{Established}
 use Rattle.pd_host.specs.declared.halts.Halt.{Halt}
-use Rattle.pd_host.specs.declared.sender_state.State.{State}
+use Rattle.pd_host.specs.declared.endpoint.State.{State}
 
 -- the moment of the next expiry, where the timer of a connection runs
 abbrev pub deadline_of : State → Option ℕ

@@ -8,9 +8,9 @@ use Rattle.pd_host.specs.Calls.{called}
 use Rattle.pd_host.specs.ConnStates.{conn_state}
 use Rattle.pd_host.specs.Expiries.{advanced}
 use Rattle.pd_host.specs.Invariants.{IsLawful}
-use Rattle.pd_host.specs.declared.conn_states.ConnState.{ConnState}
-use Rattle.pd_host.specs.declared.conn_states.ConnState.TheVariants.{Closed, Listen, SynReceived, Established, FinWait1, FinWait2, CloseWait, Closing, LastAck, TimeWait}
-use Rattle.pd_host.specs.declared.sender_state.State.{State}
+use Rattle.pd_host.specs.declared.connection.states.ConnState.{ConnState}
+use Rattle.pd_host.specs.declared.connection.states.ConnState.TheVariants.{Closed, Listen, SynReceived, Established, FinWait1, FinWait2, CloseWait, Closing, LastAck, TimeWait}
+use Rattle.pd_host.specs.declared.endpoint.State.{State}
 
 -- the edges that calls take: a passive OPEN, and CLOSE
 abbrev pub is_call_edge : ConnState → ConnState → Bool

@@ -12,7 +12,7 @@ use Rattle.pd_host.specs.declared.figures.Figures.{Figures}
 use Rattle.pd_host.specs.declared.figures.Recovery.{Recovery}
 use Rattle.pd_host.specs.declared.figures.Recovery.TheVariants.{Idle, WithSack, WithoutSack}
 use Rattle.pd_host.specs.declared.figures.Windows.{Windows}
-use Rattle.pd_host.specs.declared.sender_state.State.{State}
+use Rattle.pd_host.specs.declared.endpoint.State.{State}
 
 -- the recovery that goes on: with SACK that of RFC 6675, by its pipe, else that of RFC 5681, section 3.2
 abbrev pub recovery_of : ConnectionView → CongView → Recovery

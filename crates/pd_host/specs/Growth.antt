@@ -13,7 +13,7 @@ use Rattle.pd_host.specs.declared.requests.Operation.{Operation}
 use Rattle.pd_host.specs.declared.requests.Operation.TheVariants.{Write, Close}
 use Rattle.pd_host.specs.declared.requests.Request.{Request}
 use Rattle.pd_host.specs.declared.requests.Request.TheVariants.{On}
-use Rattle.pd_host.specs.declared.sender_state.State.{State}
+use Rattle.pd_host.specs.declared.endpoint.State.{State}
 
 -- the most octets that an operation queues: those that a `write` names, at most as many as the setting `sndbuf` lets wait,
 -- and the FIN of a `close`

@@ -10,12 +10,12 @@ use Rattle.pd_seg.specs.declared.segments.Segment.{Segment}
 use Rattle.pd_host.specs.declared.established.Established.{Established}
 use Rattle.pd_host.specs.declared.halts.Halt.{Halt}
 use Rattle.pd_host.specs.declared.halts.Halt.TheVariants.{Unsupported}
-use Rattle.pd_host.specs.declared.listeners.Listener.{Listener}
-use Rattle.pd_host.specs.declared.listeners.Listener.TheVariants.{Listens}
+use Rattle.pd_host.specs.declared.descriptors.Listener.{Listener}
+use Rattle.pd_host.specs.declared.descriptors.Listener.TheVariants.{Listens}
 use Rattle.pd_host.specs.declared.offers.Offers.{Offers}
-use Rattle.pd_host.specs.declared.peer_fins.PeerFin.TheVariants.{Awaited}
-use Rattle.pd_host.specs.declared.scaling.Scaling.{Scaling}
-use Rattle.pd_host.specs.declared.streams.Stream.TheVariants.{Waiting}
+use Rattle.pd_host.specs.declared.established.PeerFin.TheVariants.{Awaited}
+use Rattle.pd_host.specs.declared.connection.Scaling.{Scaling}
+use Rattle.pd_host.specs.declared.descriptors.Stream.TheVariants.{Waiting}
 use Rattle.pd_host.specs.Packets.{peer_count, syn_ack_of}
 use Rattle.pd_seg.specs.declared.sack_blocks.Span.{Span}
 use Rattle.pd_board.specs.Board.{opened, acknowledged}
@@ -23,7 +23,7 @@ use Rattle.pd_recover.specs.Cong as congestion
 use Rattle.pd_timer.specs.Rto.{initial, started}
 use Rattle.pd_host.specs.Timing.{with_sample, with_timer_settled}
 use Rattle.pd_host.specs.Connection.{ConnectionView}
-use Rattle.pd_host.specs.declared.sender_state.State.{State}
+use Rattle.pd_host.specs.declared.endpoint.State.{State}
 use Rattle.pd_host.specs.Host.{beside, put_out}
 
 -- the octets of data in a segment

@@ -6,9 +6,9 @@ use Rattle.pd_recover.specs.Choice as recovery
 use Rattle.pd_host.specs.Connection.{ConnectionView}
 use Rattle.pd_host.specs.Sending.{is_full, is_all, is_half_window, leaves_now, ordinary_segment, past_sacked}
 use Rattle.pd_host.specs.declared.established.Established.{Established}
-use Rattle.pd_host.specs.declared.holds.Hold.{Hold}
-use Rattle.pd_host.specs.declared.holds.Hold.TheVariants.{Reset, NotEstablished, Acknowledged, PipeFull, NothingNext, Recovering, AllSent, PeerWindow, CongestionWindow, PartOfSegment, Nagle, Open}
-use Rattle.pd_host.specs.declared.sender_state.State.{State}
+use Rattle.pd_host.specs.declared.connection.observing.Hold.{Hold}
+use Rattle.pd_host.specs.declared.connection.observing.Hold.TheVariants.{Reset, NotEstablished, Acknowledged, PipeFull, NothingNext, Recovering, AllSent, PeerWindow, CongestionWindow, PartOfSegment, Nagle, Open}
+use Rattle.pd_host.specs.declared.endpoint.State.{State}
 
 -- the octet that has to lie within the windows for the next segment to leave: of octets that were sent before the last one
 -- of the segment, since all of it leaves or nothing; else the octet at the sending place

@@ -11,8 +11,8 @@ use Rattle.pd_host.specs.declared.halts.Halt.{Halt}
 use Rattle.pd_host.specs.declared.halts.Halt.TheVariants.{Limit}
 use Rattle.pd_host.specs.declared.halts.Ending.{Ending}
 use Rattle.pd_host.specs.declared.halts.Ending.TheVariants.{OutOfMemory}
-use Rattle.pd_host.specs.declared.listeners.Listener.TheVariants.{Absent}
-use Rattle.pd_host.specs.declared.sender_state.State.{State}
+use Rattle.pd_host.specs.declared.descriptors.Listener.TheVariants.{Absent}
+use Rattle.pd_host.specs.declared.endpoint.State.{State}
 
 -- a host: its state, and why it has ended, if it has
 pub record HostView : Type 0 where

@@ -2,7 +2,7 @@
 use Rattle.std.specs.Prelude.{ℕ, ◌≤◌, Option, IfNone}
 use Rattle.std.specs.Option.{ForSome}
 use Rattle.pd_host.specs.declared.established.Established.{Established}
-use Rattle.pd_host.specs.declared.scaling.Scaling.{Scaling}
+use Rattle.pd_host.specs.declared.connection.Scaling.{Scaling}
 
 -- no shift count is above 14 (RFC 7323, section 2.3)
 abbrev pub IsScalable : Option Scaling → Type 0

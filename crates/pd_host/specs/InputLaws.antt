@@ -13,7 +13,7 @@ use Rattle.pd_host.specs.Connection.{ConnectionView, rcv_nxt}
 use Rattle.pd_host.specs.Expiries.{advanced}
 use Rattle.pd_host.specs.Laws.{AreInOrder, IsUpTo}
 use Rattle.pd_host.specs.Host.{HostView}
-use Rattle.pd_host.specs.declared.sender_state.State.{State}
+use Rattle.pd_host.specs.declared.endpoint.State.{State}
 
 -- a segment with a number outside the receive window leaves the connection as it is (RFC 9293, section 3.10.7.4;
 -- RFC 5961, section 3.2)

@@ -17,10 +17,10 @@ use Rattle.pd_host.specs.Requests.{request_of}
 use Rattle.pd_host.specs.Host.{HostView, fresh_host, without_oldest, queued_to}
 use Rattle.pd_host.specs.declared.established.Established.{Established}
 use Rattle.pd_host.specs.declared.halts.Halt.TheVariants.{Unsupported}
-use Rattle.pd_host.specs.declared.peer_fins.PeerFin.TheVariants.{AfterOurs}
-use Rattle.pd_host.specs.declared.sender_state.State.{State}
-use Rattle.pd_host.specs.declared.streams.Stream.TheVariants as stream
-use Rattle.pd_host.specs.declared.timings.Timing.{Timing}
+use Rattle.pd_host.specs.declared.established.PeerFin.TheVariants.{AfterOurs}
+use Rattle.pd_host.specs.declared.endpoint.State.{State}
+use Rattle.pd_host.specs.declared.descriptors.Stream.TheVariants as stream
+use Rattle.pd_host.specs.declared.connection.timing.Timing.{Timing}
 
 -- what the SYN and the settings agreed on stays (RFC 9293, section 3.7.1)
 pub record IsAgreed (b : Settings) (announced smss rcv_wnd : ℕ) : Type 0 where

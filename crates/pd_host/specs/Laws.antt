@@ -12,7 +12,7 @@ use Rattle.pd_host.specs.Calls.{called}
 use Rattle.pd_host.specs.Connection.{ConnectionView}
 use Rattle.pd_host.specs.Expiries.{advanced, deadline_of}
 use Rattle.pd_host.specs.Host.{HostView, fresh_host, without_oldest}
-use Rattle.pd_host.specs.declared.sender_state.State.{State}
+use Rattle.pd_host.specs.declared.endpoint.State.{State}
 
 -- packets are in the order of their moments, none of which is later than this one
 abbrev pub AreInOrder : ℕ → List Sent → Type 0

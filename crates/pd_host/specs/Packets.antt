@@ -5,7 +5,7 @@ use Rattle.pd_seg.specs.declared.option_list.SegOption.{SegOption}
 use Rattle.pd_seg.specs.declared.option_list.SegOption.TheVariants.{Mss, Wscale, SackOk, Nop}
 use Rattle.pd_seg.specs.declared.sack_blocks.Span.{Span}
 use Rattle.pd_seg.specs.declared.segments.Segment.{Segment}
-use Rattle.pd_host.specs.declared.scaling.Scaling.{Scaling}
+use Rattle.pd_host.specs.declared.connection.Scaling.{Scaling}
 use Rattle.pd_host.specs.Connection.{ConnectionView, rcv_nxt, data_end}
 
 -- a segment without flags

@@ -29,13 +29,13 @@ use Rattle.pd_host.specs.Requests.{request_of}
 use Rattle.pd_host.specs.Sending.{value_in, with_block, window_edge, ordinary_segment, found, sent_ordinarily, is_idle, ordinary, is_recovering}
 use Rattle.pd_host.specs.Timing.{overlaps, clocked}
 use Rattle.pd_host.specs.declared.established.Established.{Established}
-use Rattle.pd_host.specs.declared.fillings.Filling.{Filling}
-use Rattle.pd_host.specs.declared.fillings.Filling.TheVariants.{NextSeg}
+use Rattle.pd_host.specs.declared.connection.acknowledgments.Filling.{Filling}
+use Rattle.pd_host.specs.declared.connection.acknowledgments.Filling.TheVariants.{NextSeg}
 use Rattle.pd_host.specs.declared.requests.Operation.TheVariants.{Close}
 use Rattle.pd_host.specs.declared.requests.Request.TheVariants.{On}
-use Rattle.pd_host.specs.declared.sender_state.State.{State}
-use Rattle.pd_host.specs.declared.streams.Stream.TheVariants as stream
-use Rattle.pd_host.specs.declared.timings.Timing.{Timing}
+use Rattle.pd_host.specs.declared.endpoint.State.{State}
+use Rattle.pd_host.specs.declared.descriptors.Stream.TheVariants as stream
+use Rattle.pd_host.specs.declared.connection.timing.Timing.{Timing}
 
 -- Flow control (RFC 9293, section 3.8.6)
 

@@ -17,8 +17,8 @@ use Rattle.pd_host.specs.Timing.{clocked}
 use Rattle.pd_host.specs.declared.halts.Halt.{Halt}
 use Rattle.pd_host.specs.declared.halts.Halt.TheVariants.{Limit}
 use Rattle.pd_host.specs.declared.offers.Offers.{Offers}
-use Rattle.pd_host.specs.declared.rulings.Ruling.{Ruling}
-use Rattle.pd_host.specs.declared.sender_state.State.{State}
+use Rattle.pd_host.specs.declared.connection.checks.Ruling.{Ruling}
+use Rattle.pd_host.specs.declared.endpoint.State.{State}
 
 -- What is found, and one time of it
 

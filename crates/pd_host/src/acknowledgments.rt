@@ -7,10 +7,10 @@ ghost use Rattle.pd_host.specs.Host.{with_packet};
 ghost use Rattle.pd_host.specs.Steps.{IsQueuedOn, put_new, put_again, entry_on, led_on, FollowsQueuedOn};
 
 use crate::connection::Connection;
-use crate::fillings::Filling;
+use crate::connection::acknowledgments::Filling;
+use crate::endpoint::State;
 use crate::halts::Ending;
 use crate::outbox::Outbox;
-use crate::sender_state::State;
 use pd_recover::Then;
 use pd_seg::Span;
 

@@ -4,14 +4,14 @@ ghost use Rattle.pd_host.specs.Arrivals.{finished_on, arrived};
 ghost use Rattle.pd_host.specs.Handshake.{is_syn_alone, is_opening, opened_by};
 ghost use Rattle.pd_host.specs.Outcome.{Gives};
 ghost use Rattle.pd_host.specs.Steps.{ruled_on};
-ghost use Rattle.pd_host.specs.declared.rulings.Ruling.TheVariants.{FirstAck};
+ghost use Rattle.pd_host.specs.declared.connection.checks.Ruling.TheVariants.{FirstAck};
 
+use crate::connection::checks::{Ruling, goes_on};
 use crate::connection::{Connection, refusal};
+use crate::descriptors::Listener;
+use crate::endpoint::State;
 use crate::halts::{Ending, Halt};
-use crate::listeners::Listener;
 use crate::offers::{Offers, is_mss_run};
-use crate::rulings::{Ruling, goes_on};
-use crate::sender_state::State;
 use crate::uses::{with_establishment, with_syn};
 use pd_seg::{Flags, Segment};
 

@@ -4,12 +4,10 @@ ghost use Rattle.pd_host.specs.Calls.{open_descriptor, is_stream_open, is_pendin
 ghost use Rattle.pd_host.specs.Outcome.{GivesAnswer};
 ghost use Rattle.pd_host.specs.Growth.{asked_by, asked_of, HasRoomFor};
 
-use crate::descriptors::Descriptor;
-use crate::endpoint::Endpoint;
+use crate::descriptors::{Descriptor, Listener};
+use crate::endpoint::{Endpoint, State};
 use crate::halts::{Ending, Halt};
-use crate::listeners::Listener;
 use crate::requests::{Operation, Request};
-use crate::sender_state::State;
 use crate::uses::with_write;
 use pd_seg::{Answer, Errno};
 

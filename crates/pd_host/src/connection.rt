@@ -6,26 +6,24 @@ ghost use Rattle.pd_host.specs.Connection.{peer_fin_in, rcv_nxt};
 ghost use Rattle.pd_host.specs.Inner.{IsScalable};
 ghost use Rattle.pd_host.specs.Handshake.{offered_mss, is_mss_run, smss_of, scaling_of, block_begun, window_in, syn_acked, established_with, established_by};
 ghost use Rattle.pd_host.specs.Sending.{is_recovering};
-ghost use Rattle.pd_host.specs.declared.streams.Stream.TheVariants.{Open as StreamOpen, Closed as StreamClosed};
+ghost use Rattle.pd_host.specs.declared.descriptors.Stream.TheVariants.{Open as StreamOpen, Closed as StreamClosed};
 ghost use Rattle.pd_host.specs.Packets.{peer_count};
 ghost use Rattle.pd_host.specs.Timing.{with_sample, with_timer_settled};
 
-mod acknowledgments;
-mod checks;
+pub mod acknowledgments;
+pub mod checks;
 mod copying;
 mod expiring;
-mod observing;
+pub mod observing;
 mod packets;
 mod sending;
-mod states;
-mod timing;
+pub mod states;
+pub mod timing;
 
-use crate::established::Established;
+use self::timing::Timing;
+use crate::descriptors::Stream;
+use crate::established::{Established, PeerFin};
 use crate::offers::Offers;
-use crate::peer_fins::PeerFin;
-use crate::scaling::Scaling;
-use crate::streams::Stream;
-use crate::timings::Timing;
 pub use packets::refusal;
 use pd_board::Board;
 use pd_recover::Cong;
@@ -34,6 +32,15 @@ use pd_settings::Settings;
 use pd_timer::Rto;
 use std::alloc::Global;
 use std::marker::Model;
+
+/// By how many bits windows are shifted, each at most 14 (RFC 7323, section 2.2).
+#[derive(Clone, Copy, PartialEq, Eq)]
+pub struct Scaling {
+    /// The windows that we send.
+    pub own: u8,
+    /// The windows that the peer sends.
+    pub peer: u8,
+}
 
 /// The MSS of a peer that names none, in octets (RFC 9293, section 3.7.1).
 const DEFAULT_MSS: u16 = 536;

@@ -1,4 +1,7 @@
-//! The open descriptors.
+//! Descriptors 3 and 4, as a program has them.
+ghost use Rattle.std.specs.Prelude.{◌≡◌};
+ghost use Rattle.pd_host.specs.Calls.{is_listener_open, is_waiting, is_open};
+ghost use Rattle.pd_host.specs.Handshake.{is_listening};
 
 /// An open descriptor.
 #[derive(Clone, Copy, PartialEq, Eq)]
@@ -7,4 +10,56 @@ pub enum Descriptor {
     Listening,
     /// Descriptor 4, the connection that `accept` has handed out.
     Connected,
+}
+
+/// How far descriptor 3 has come.
+#[derive(Clone, Copy, PartialEq, Eq)]
+pub enum Listener {
+    /// No `socket` was called.
+    Absent,
+    Open,
+    Bound,
+    Listens,
+    Closed,
+}
+
+impl Listener {
+    /// Whether descriptor 3 is open: `socket` was called, and it wasn't closed.
+    pub fn is_open(self) -> bool
+        ensures { result ≡ is_listener_open self }
+    {
+        !matches!(self, Listener::Absent | Listener::Closed)
+    }
+
+    /// Whether descriptor 3 listens.
+    pub fn is_listening(self) -> bool
+        ensures { result ≡ is_listening self }
+    {
+        matches!(self, Listener::Listens)
+    }
+}
+
+/// How far descriptor 4 has come, once the connection is established.
+#[derive(Clone, Copy, PartialEq, Eq)]
+pub enum Stream {
+    /// `accept` hasn't handed it out.
+    Waiting,
+    Open,
+    Closed,
+}
+
+impl Stream {
+    /// Whether `accept` has still to hand it out.
+    pub fn is_waiting(self) -> bool
+        ensures { result ≡ is_waiting self }
+    {
+        matches!(self, Stream::Waiting)
+    }
+
+    /// Whether descriptor 4 is open: `accept` has handed it out, and it wasn't closed.
+    pub fn is_open(self) -> bool
+        ensures { result ≡ is_open self }
+    {
+        matches!(self, Stream::Open)
+    }
 }

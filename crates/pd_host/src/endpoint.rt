@@ -1,10 +1,13 @@
-//! What the sender's rules work on.
+//! The sender's state: the endpoint that its rules work on, and the settings that it consults.
 ghost use Rattle.std.specs.Prelude.{◌≡◌};
 ghost use Rattle.pd_host.specs.Host.{fresh_endpoint};
+ghost use Rattle.pd_host.specs.ConnStates.{conn_state};
 
 use crate::connection::Connection;
-use crate::listeners::Listener;
+use crate::connection::states::ConnState;
+use crate::descriptors::Listener;
 use crate::outbox::Outbox;
+use pd_settings::{Settings, UseSet};
 use std::alloc::Global;
 
 /// Descriptor 3, the connection once it was begun, and the packets that were put out and not yet taken.
@@ -27,6 +30,30 @@ impl Endpoint {
             listener: Listener::Absent,
             connection: None,
             outbox: Outbox::new(alloc),
+        }
+    }
+}
+
+/// The endpoint, and beside it the settings and which of them were consulted so far.
+#[derive(Drop)]
+pub struct State {
+    /// The settings, which are copied where a rule consults them.
+    pub settings: Settings,
+    /// Which of them were consulted so far.
+    pub uses: UseSet,
+    /// The descriptors, the connection and the packets.
+    pub endpoint: Endpoint,
+}
+
+impl State {
+    /// The state of the connection, or of the listener where none was begun.
+    pub fn conn_state(&self) -> ConnState
+        ensures { result ≡ conn_state self.now }
+    {
+        match &self.endpoint.connection {
+            None if self.endpoint.listener.is_listening() => ConnState::Listen,
+            None => ConnState::Closed,
+            Some(connection) => connection.state(),
         }
     }
 }

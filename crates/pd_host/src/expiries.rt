@@ -4,8 +4,8 @@ ghost use Rattle.pd_host.specs.Expiries.{deadline_of, due_by, advanced};
 ghost use Rattle.pd_host.specs.Outcome.{Gives};
 ghost use Rattle.pd_host.specs.Steps.{expired_next};
 
+use crate::endpoint::State;
 use crate::halts::Ending;
-use crate::sender_state::State;
 
 impl State {
     /// Performs all expiries up to a moment, in order, each at its own.

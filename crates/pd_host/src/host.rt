@@ -14,15 +14,14 @@ ghost use Rattle.pd_host.specs.Requests.{request_of};
 ghost use Rattle.pd_host.specs.Host.{fresh_host, without_oldest, exhausted, end_of};
 ghost use Rattle.pd_host.specs.declared.halts.Ending.TheVariants.{OutOfMemory};
 
-use crate::conn_states::ConnState;
-use crate::endpoint::Endpoint;
+use crate::connection::observing::Hold;
+use crate::connection::states::ConnState;
+use crate::endpoint::{Endpoint, State};
 use crate::figures::Figures;
 use crate::halts::{Ending, Halt};
 use crate::held::HeldCopies;
-use crate::holds::Hold;
 use crate::outbox::Outbox;
 use crate::requests::Request;
-use crate::sender_state::State;
 use pd_script::Call;
 use pd_seg::{Answer, Segment, Sent};
 use pd_settings::{Settings, UseSet};

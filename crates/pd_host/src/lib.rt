@@ -4,37 +4,27 @@
 mod acknowledgments;
 mod arrivals;
 mod calls;
-mod conn_states;
 mod connection;
 mod descriptors;
 mod endpoint;
 mod established;
 mod expiries;
 mod figures;
-mod fillings;
 mod halts;
 mod held;
-mod holds;
 mod host;
 mod laws;
-mod listeners;
 mod offers;
 mod outbox;
-mod peer_fins;
 mod requests;
-mod rulings;
-mod scaling;
-mod sender_state;
 mod sending;
-mod streams;
-mod timings;
 mod uses;
 
-pub use conn_states::ConnState;
+pub use connection::observing::Hold;
+pub use connection::states::ConnState;
 pub use figures::{Figures, Recovery, Windows};
 pub use halts::{Ending, Halt};
 pub use held::HeldCopies;
-pub use holds::Hold;
 pub use host::Host;
 pub use laws::{
     advances_are_lawful, arrivals_are_lawful, calls_are_lawful, growth_is_lawful, holds_are_lawful,

@@ -4,8 +4,8 @@ ghost use Rattle.pd_host.specs.Outcome.{Gives};
 ghost use Rattle.pd_host.specs.Sending.{found, ready, ordinary};
 ghost use Rattle.pd_host.specs.Steps.{IsQueuedOn, sent_next};
 
+use crate::endpoint::State;
 use crate::halts::Ending;
-use crate::sender_state::State;
 use pd_seg::Span;
 
 impl State {

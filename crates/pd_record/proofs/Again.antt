@@ -18,7 +18,7 @@ use Rattle.pd_host.specs.InputLaws.{AdvancesPutOutAfter}
 use Rattle.pd_host.specs.Host.{then_on}
 use Rattle.pd_host.specs.SendingLaws.{SendsOneByOne}
 use Rattle.pd_host.specs.declared.halts.Halt.{Halt}
-use Rattle.pd_host.specs.declared.sender_state.State.{State}
+use Rattle.pd_host.specs.declared.endpoint.State.{State}
 use Rattle.pd_print.specs.Sent.{packet_of}
 use Rattle.pd_run.specs.Laws.{IsUnderway, StartsUnderway, StepsGoOn}
 use Rattle.pd_run.specs.Run.{start_of}

@@ -20,7 +20,7 @@ use Rattle.pd_host.specs.Expiries.{advanced, deadline_of, due_by}
 use Rattle.pd_host.specs.Host.{then_on}
 use Rattle.pd_host.specs.declared.halts.Halt.{Halt}
 use Rattle.pd_host.specs.declared.halts.Halt.TheVariants as halt
-use Rattle.pd_host.specs.declared.sender_state.State.{State}
+use Rattle.pd_host.specs.declared.endpoint.State.{State}
 use Rattle.pd_match.specs.Calls.{result_mismatch}
 use Rattle.pd_print.specs.Sent.{packet_of}
 use Rattle.pd_run.specs.Inbound.{segment_in}

@@ -13,14 +13,14 @@ use Rattle.pd_host.specs.declared.descriptors.Descriptor.{Descriptor}
 use Rattle.pd_host.specs.declared.descriptors.Descriptor.TheVariants.{Listening, Connected}
 use Rattle.pd_host.specs.declared.halts.Halt.{Halt}
 use Rattle.pd_host.specs.declared.halts.Halt.TheVariants.{Unsupported}
-use Rattle.pd_host.specs.declared.listeners.Listener.{Listener}
-use Rattle.pd_host.specs.declared.listeners.Listener.TheVariants.{Absent, Open, Bound, Listens, Closed}
+use Rattle.pd_host.specs.declared.descriptors.Listener.{Listener}
+use Rattle.pd_host.specs.declared.descriptors.Listener.TheVariants.{Absent, Open, Bound, Listens, Closed}
 use Rattle.pd_host.specs.declared.requests.Operation.{Operation}
 use Rattle.pd_host.specs.declared.requests.Operation.TheVariants.{Bind, Listen, Accept, ReuseAddress, NoDelay, SetFlags, Write, Close}
 use Rattle.pd_host.specs.declared.requests.Request.{Request}
 use Rattle.pd_host.specs.declared.requests.Request.TheVariants.{Socket, On}
-use Rattle.pd_host.specs.declared.sender_state.State.{State}
-use Rattle.pd_host.specs.declared.streams.Stream.TheVariants as stream
+use Rattle.pd_host.specs.declared.endpoint.State.{State}
+use Rattle.pd_host.specs.declared.descriptors.Stream.TheVariants as stream
 use Rattle.pd_record.proofs.Freed.{CameBy, either_by, in_front, ordinary_freed}
 
 -- a state and an answer, with these packets in front

@@ -17,7 +17,7 @@ use Rattle.pd_host.specs.Laws.{AreInOrder}
 use Rattle.pd_host.specs.Host.{without_oldest}
 use Rattle.pd_host.specs.Sending.{on_found, repeated, places_left}
 use Rattle.pd_host.specs.declared.halts.Halt.{Halt}
-use Rattle.pd_host.specs.declared.sender_state.State.{State}
+use Rattle.pd_host.specs.declared.endpoint.State.{State}
 use Rattle.pd_match.specs.Calls.{result_mismatch}
 use Rattle.pd_match.specs.Packets.{mismatch}
 use Rattle.pd_run.specs.Bars.{bar_of}

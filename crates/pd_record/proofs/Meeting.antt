@@ -8,7 +8,7 @@ use Rattle.pd_seg.specs.declared.segments.Sent.{Sent}
 use Rattle.pd_host.specs.Expiries.{advanced, deadline_of, due_by}
 use Rattle.pd_host.specs.Host.{without_oldest}
 use Rattle.pd_host.specs.declared.halts.Halt.{Halt}
-use Rattle.pd_host.specs.declared.sender_state.State.{State}
+use Rattle.pd_host.specs.declared.endpoint.State.{State}
 use Rattle.pd_match.specs.Packets.{mismatch}
 use Rattle.pd_print.specs.Sent.{packet_of}
 use Rattle.pd_run.specs.Step.{RunStateView, tolerance_of, noted, on_step, with_state, awaited, packet_taken as compared, leaves}

@@ -15,7 +15,7 @@ use Rattle.pd_host.specs.Calls.{called}
 use Rattle.pd_host.specs.Expiries.{advanced, deadline_of}
 use Rattle.pd_host.specs.Host.{then_on}
 use Rattle.pd_host.specs.declared.halts.Halt.{Halt}
-use Rattle.pd_host.specs.declared.sender_state.State.{State}
+use Rattle.pd_host.specs.declared.endpoint.State.{State}
 use Rattle.pd_match.specs.Calls.{result_mismatch}
 use Rattle.pd_print.specs.Answers.{outcome_of}
 use Rattle.pd_print.specs.Sent.{packet_of}

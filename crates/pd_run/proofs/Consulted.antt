@@ -22,7 +22,7 @@ use Rattle.pd_host.specs.Expiries.{advanced, deadline_of}
 use Rattle.pd_host.specs.InputLaws.{Notes, rebound}
 use Rattle.pd_host.specs.Host.{then_on, without_oldest}
 use Rattle.pd_host.specs.declared.halts.Halt.{Halt}
-use Rattle.pd_host.specs.declared.sender_state.State.{State}
+use Rattle.pd_host.specs.declared.endpoint.State.{State}
 use Rattle.pd_match.specs.Calls.{result_mismatch}
 use Rattle.pd_match.specs.Packets.{mismatch}
 use Rattle.pd_match.specs.declared.kinds.Kind.{Kind}

@@ -24,7 +24,7 @@ use Rattle.pd_host.specs.declared.halts.Ending.{Ending}
 use Rattle.pd_host.specs.declared.halts.Halt.{Halt}
 use Rattle.pd_host.specs.declared.requests.Operation.TheVariants.{Bind, Accept, NoDelay}
 use Rattle.pd_host.specs.declared.requests.Request.TheVariants.{Socket, On}
-use Rattle.pd_host.specs.declared.sender_state.State.{State}
+use Rattle.pd_host.specs.declared.endpoint.State.{State}
 use Rattle.pd_match.specs.Calls.{result_mismatch}
 use Rattle.pd_match.specs.Packets.{mismatch}
 use Rattle.pd_run.specs.Inbound.{segment_in}

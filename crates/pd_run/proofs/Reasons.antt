@@ -7,7 +7,7 @@ use Rattle.pd_seg.specs.declared.segments.Sent.{Sent}
 use Rattle.pd_host.specs.Expiries.{advanced, deadline_of}
 use Rattle.pd_host.specs.Host.{without_oldest}
 use Rattle.pd_host.specs.declared.halts.Halt.{Halt}
-use Rattle.pd_host.specs.declared.sender_state.State.{State}
+use Rattle.pd_host.specs.declared.endpoint.State.{State}
 use Rattle.pd_match.specs.Agreement.{Agrees, IsFirstFailing}
 use Rattle.pd_match.specs.Laws.{MismatchIsFirst}
 use Rattle.pd_match.specs.Packets.{compared, mismatch}

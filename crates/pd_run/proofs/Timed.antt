@@ -7,7 +7,7 @@ use Rattle.pd_host.specs.Expiries.{deadline_of}
 use Rattle.pd_host.specs.InputLaws.{rebound_host}
 use Rattle.pd_host.specs.Laws.{IsUpTo, begun_under}
 use Rattle.pd_host.specs.Host.{HostView, without_oldest}
-use Rattle.pd_host.specs.declared.sender_state.State.{State}
+use Rattle.pd_host.specs.declared.endpoint.State.{State}
 use Rattle.pd_run.specs.Inner.{InputsOnlyUse, SenderIsLawful}
 use Rattle.pd_run.specs.RunStates.{KeepsTime, IsUpToDate}
 use Rattle.pd_run.proofs.Bounds.{IsKept}

@@ -12,7 +12,7 @@ use Rattle.pd_seg.specs.declared.segments.Sent.{Sent}
 use Rattle.pd_host.specs.Expiries.{advanced, deadline_of}
 use Rattle.pd_host.specs.Laws.{IsUpTo}
 use Rattle.pd_host.specs.Host.{queued_to}
-use Rattle.pd_host.specs.declared.sender_state.State.{State}
+use Rattle.pd_host.specs.declared.endpoint.State.{State}
 use Rattle.pd_match.specs.Agreement.{Agrees, IsResult}
 use Rattle.pd_match.specs.Packets.{compared}
 use Rattle.pd_run.specs.Run.{start_of}

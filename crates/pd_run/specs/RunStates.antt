@@ -3,7 +3,7 @@ use Rattle.std.specs.Prelude.{◌≡◌, ℕ, Bool, Option, None}
 use Rattle.pd_settings.specs.declared.fields.Settings.{Settings}
 use Rattle.pd_host.specs.Host.{HostView}
 use Rattle.pd_host.specs.Laws.{IsUpTo}
-use Rattle.pd_host.specs.declared.sender_state.State.{State}
+use Rattle.pd_host.specs.declared.endpoint.State.{State}
 
 -- the sender, in microseconds the clock, the base of relative times and the tolerance that the header sets, if it does, and
 -- whether a packet was expected without one

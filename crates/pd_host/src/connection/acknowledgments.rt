@@ -9,11 +9,19 @@ ghost use Rattle.pd_host.specs.Steps.{FollowsQueued};
 
 use super::Connection;
 use crate::established::Established;
-use crate::fillings::Filling;
 use pd_board::Board;
 use pd_recover::{Ack, Cong, News, NextSegment, Then};
 use pd_seg::{SegOption, Segment, Span};
 use std::alloc::AllocError;
+
+/// Which segments are sent while the congestion window has room for a full one beside what is on the way.
+#[derive(Clone, Copy)]
+pub enum Filling {
+    /// In loss recovery: what NextSeg gives (RFC 6675, section 5, step C).
+    NextSeg,
+    /// By limited transmit: new octets alone (RFC 6675, section 5, step 3; RFC 3042).
+    NewData,
+}
 
 /// One block more is SACKed, if all its octets were sent: whether a block told a new octet, as far as `told` says it of
 /// those before.

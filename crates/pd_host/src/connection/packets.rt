@@ -4,7 +4,7 @@ ghost use Rattle.pd_host.specs.Inner.{IsScalable};
 ghost use Rattle.pd_host.specs.Packets.{own_count, shifted_window, ack_of, syn_ack_of, refusal_of};
 
 use super::Connection;
-use crate::scaling::Scaling;
+use crate::connection::Scaling;
 use pd_seg::{Flags, SegOption, SegOptions, Segment};
 use std::alloc::{AllocError, Global};
 

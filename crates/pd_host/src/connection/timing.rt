@@ -3,8 +3,16 @@ ghost use Rattle.std.specs.Prelude.{◌≡◌, ◌<◌, ◌^◌};
 ghost use Rattle.pd_host.specs.Timing.{overlaps, timed_after, clocked, with_sample, with_timer_moved, with_timer_settled};
 
 use super::Connection;
-use crate::timings::Timing;
 use pd_seg::Span;
+
+/// A segment whose round trip is measured.
+#[derive(Clone, Copy)]
+pub struct Timing {
+    /// Its sequence numbers, those of SYN and FIN too.
+    pub segment: Span,
+    /// When it was sent, in microseconds since the start of the run.
+    pub sent_at: u64,
+}
 
 fn overlaps(a: Span, b: Span) -> bool
     ensures { result ≡ overlaps a b }

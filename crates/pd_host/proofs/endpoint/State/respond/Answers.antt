@@ -5,10 +5,10 @@ use Rattle.pd_host.specs.Acknowledgments.{filled}
 use Rattle.pd_host.specs.Host.{then_on}
 use Rattle.pd_host.specs.Sending.{ordinary}
 use Rattle.pd_host.specs.Steps.{FollowsQueued, led_on}
-use Rattle.pd_host.specs.declared.fillings.Filling.TheVariants.{NextSeg, NewData}
+use Rattle.pd_host.specs.declared.connection.acknowledgments.Filling.TheVariants.{NextSeg, NewData}
 use Rattle.pd_host.proofs.Led.{led_ordinary, led_step_c, led_limited, led_entry, led_again}
 use Rattle.pd_host.proofs.PutOut.{gives_same}
-use Rattle.pd_host.proofs.sender_state.State.respond.Goals as goal
+use Rattle.pd_host.proofs.endpoint.State.respond.Goals as goal
 
 pub send_new-requires-clause-queued : goal.send_new-requires-clause-queued
 send_new-requires-clause-queued c = λ x is. subst (λ (n : Then). FollowsQueued n x) c.in-NewSegment.is (c.requires.queued x is)

@@ -4,7 +4,7 @@ use Rattle.pd_host.specs.Acknowledgments.{filled}
 use Rattle.pd_host.specs.Places.{most_packets}
 use Rattle.pd_host.proofs.PutOut.{holding}
 use Rattle.pd_host.proofs.Recovering.{sender_filled}
-use Rattle.pd_host.proofs.sender_state.State.fill.Given as goal
+use Rattle.pd_host.proofs.endpoint.State.fill.Given as goal
 
 abbrev pub invariant-loop-sent : goal.invariant-loop-sent
 invariant-loop-sent l = sender_filled l.now l.filling (holding l.connection l.outbox l.fn.self, l.pipe) ≡ filled l.now l.filling l.fn.self

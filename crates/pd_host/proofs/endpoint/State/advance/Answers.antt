@@ -1,7 +1,7 @@
 -- One expiry further.
 use Rattle.std.proofs.Common.{sym, ◌∙◌}
 use Rattle.pd_host.proofs.Sends.{expiry_went_on}
-use Rattle.pd_host.proofs.sender_state.State.advance.Goals as goal
+use Rattle.pd_host.proofs.endpoint.State.advance.Goals as goal
 
 pub loop-at-preserved : goal.loop-at-preserved
 loop-at-preserved c =

@@ -1,7 +1,7 @@
 -- One segment further.
 use Rattle.std.proofs.Common.{◌+◌, ◌-◌, refl, sym, ◌∙◌}
 use Rattle.pd_host.proofs.Recovering.{filling_goes}
-use Rattle.pd_host.proofs.sender_state.State.fill.Goals as goal
+use Rattle.pd_host.proofs.endpoint.State.fill.Goals as goal
 
 pub loop-sent-preserved : goal.loop-sent-preserved
 loop-sent-preserved c =

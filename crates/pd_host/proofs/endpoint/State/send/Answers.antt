@@ -1,7 +1,7 @@
 -- One segment further, or the end.
 use Rattle.std.proofs.Common.{sym, ◌∙◌}
 use Rattle.pd_host.proofs.Sends.{sending_went_on}
-use Rattle.pd_host.proofs.sender_state.State.send.Goals as goal
+use Rattle.pd_host.proofs.endpoint.State.send.Goals as goal
 
 pub loop-segment-preserved : goal.loop-segment-preserved
 loop-segment-preserved c =

@@ -2,7 +2,7 @@
 use Rattle.std.proofs.Common.{◌≡◌}
 use Rattle.pd_host.specs.Expiries.{advanced}
 use Rattle.pd_host.specs.Sending.{places_left}
-use Rattle.pd_host.proofs.sender_state.State.advance.Given as goal
+use Rattle.pd_host.proofs.endpoint.State.advance.Given as goal
 
 abbrev pub invariant-loop-at : goal.invariant-loop-at
 invariant-loop-at l = advanced l.until l.self ≡ advanced l.until l.fn.self
