@@ -21,7 +21,6 @@ pub mod InputLaws
 pub mod SendingLaws
 pub mod Invariants
 pub mod Outcome
-pub mod Bare
 pub mod Figures
 pub mod Holds
 pub mod Inner

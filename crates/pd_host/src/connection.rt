@@ -1,5 +1,5 @@
 //! A connection: what was agreed, the numbers that it sends by, and how far it has come.
-ghost use Rattle.std.specs.Prelude.{◌≡◌, ◌+◌, ◌≤◌, ◌<◌, ◌^◌, true, is_some, max, Some};
+ghost use Rattle.std.specs.Prelude.{◌≡◌, ◌+◌, ◌≤◌, ◌<◌, ◌^◌, true, is_some, max, Some, IfOk};
 ghost use Rattle.pd_host.specs.Arrivals.{reset_of, with_peer_fin};
 ghost use Rattle.pd_host.specs.Calls.{stream_of, with_stream, with_nagle, free_of, with_queued, with_fin};
 ghost use Rattle.pd_host.specs.Connection.{peer_fin_in, rcv_nxt};
@@ -12,7 +12,6 @@ ghost use Rattle.pd_host.specs.Timing.{with_sample, with_timer_settled};
 
 pub mod acknowledgments;
 pub mod checks;
-mod copying;
 mod expiring;
 pub mod observing;
 mod packets;
@@ -30,7 +29,7 @@ use pd_recover::Cong;
 use pd_seg::{Segment, Span};
 use pd_settings::Settings;
 use pd_timer::Rto;
-use std::alloc::Global;
+use std::alloc::{AllocError, Global};
 use std::marker::Model;
 
 /// By how many bits windows are shifted, each at most 14 (RFC 7323, section 2.2).
@@ -153,6 +152,20 @@ impl Connection {
             established: None,
             reset: false,
         }
+    }
+
+    /// The same connection once more.
+    ///
+    /// # Errors
+    /// `AllocError` where a growth is refused, or the scoreboard has found no memory before.
+    #[inline(always)]
+    pub fn copy(&self) -> Result<Connection, AllocError>
+        ensures { IfOk result (λ copy. copy ≡ self.now) }
+    {
+        Ok(Connection {
+            board: self.board.copy()?,
+            ..*self
+        })
     }
 
     /// The handshake is finished by this segment at a moment.

@@ -1,5 +1,5 @@
 //! The sender's state: the endpoint that its rules work on, and the settings that it consults.
-ghost use Rattle.std.specs.Prelude.{◌≡◌};
+ghost use Rattle.std.specs.Prelude.{◌≡◌, IfOk};
 ghost use Rattle.pd_host.specs.Host.{fresh_endpoint};
 ghost use Rattle.pd_host.specs.ConnStates.{conn_state};
 
@@ -8,7 +8,7 @@ use crate::connection::states::ConnState;
 use crate::descriptors::Listener;
 use crate::outbox::Outbox;
 use pd_settings::{Settings, UseSet};
-use std::alloc::Global;
+use std::alloc::{AllocError, Global};
 
 /// Descriptor 3, the connection once it was begun, and the packets that were put out and not yet taken.
 #[derive(Drop)]
@@ -31,6 +31,25 @@ impl Endpoint {
             connection: None,
             outbox: Outbox::new(alloc),
         }
+    }
+
+    /// The same endpoint once more.
+    ///
+    /// # Errors
+    /// `AllocError` where a growth is refused, or the scoreboard has found no memory before.
+    #[inline(always)]
+    pub fn copy(&self) -> Result<Endpoint, AllocError>
+        ensures { IfOk result (λ copy. copy ≡ self.now) }
+    {
+        let connection = match &self.connection {
+            None => None,
+            Some(connection) => Some(connection.copy()?),
+        };
+        Ok(Endpoint {
+            listener: self.listener,
+            connection,
+            outbox: self.outbox.copy()?,
+        })
     }
 }
 

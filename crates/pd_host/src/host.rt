@@ -1,7 +1,6 @@
 //! A host: the sender behind one interface, with the reason why it has ended.
 ghost use Rattle.std.specs.Prelude.{◌≡◌, ◌<◌, ◌^◌, true, Some, IfOk, IsErr, slice_get};
 ghost use Rattle.pd_host.specs.Arrivals.{arrived};
-ghost use Rattle.pd_host.specs.Bare.{is_bare, board_of};
 ghost use Rattle.pd_host.specs.Calls.{called};
 ghost use Rattle.pd_host.specs.ConnStates.{conn_state};
 ghost use Rattle.pd_host.specs.Outcome.{Goes, Answers};
@@ -19,7 +18,6 @@ use crate::connection::states::ConnState;
 use crate::endpoint::{Endpoint, State};
 use crate::figures::Figures;
 use crate::halts::{Ending, Halt};
-use crate::held::HeldCopies;
 use crate::outbox::Outbox;
 use crate::requests::Request;
 use pd_script::Call;
@@ -234,76 +232,22 @@ impl Host {
     ///
     /// # Errors
     /// Want of memory, also where the host has ended by it.
+    #[inline(always)]
     pub fn copy(&self) -> Result<Host, AllocError>
         ensures ok { IfOk result (λ copy. copy ≡ self.now) }
-        ensures again { self.now.ended ≡ Some OutOfMemory → IsErr result }
-    {
-        let held = self.held()?;
-        Ok(self.with_held(held))
-    }
-
-    /// Whether nothing has ended it, no connection was begun and no packet is untaken.
-    #[inline(always)]
-    pub fn is_bare(&self) -> bool
-        ensures { result ≡ is_bare self.now }
-    {
-        self.ended.is_none()
-            && self.state.endpoint.connection.is_none()
-            && self.state.endpoint.outbox.is_empty()
-    }
-
-    /// The same host once more, where it is bare. Takes no memory.
-    #[inline(always)]
-    pub fn bare_copy(&self) -> Host
-        requires { is_bare self.now ≡ true }
-        ensures { result ≡ self.now }
-    {
-        let endpoint = Endpoint::new(self.state.endpoint.outbox.allocator());
-        Host {
-            state: State {
-                settings: self.state.settings,
-                uses: self.state.uses,
-                endpoint: Endpoint {
-                    listener: self.state.endpoint.listener,
-                    ..endpoint
-                },
-            },
-            ended: None,
-        }
-    }
-
-    /// Copies of what of it takes memory.
-    ///
-    /// # Errors
-    /// `AllocError` where the host has ended for want of memory, or a growth is refused.
-    #[inline(always)]
-    pub fn held(&self) -> Result<HeldCopies, AllocError>
-        ensures board { IfOk result (λ held. held.board ≡ board_of self.now.state.endpoint.connection) }
-        ensures outbox { IfOk result (λ held. held.outbox ≡ self.now.state.endpoint.outbox) }
         ensures again { self.now.ended ≡ Some OutOfMemory → IsErr result }
     {
         if let Some(Ending::OutOfMemory) = self.ended {
             return Err(AllocError);
         }
-        let held = HeldCopies::of(&self.state.endpoint)?;
-        Ok(held)
-    }
-
-    /// The same host once more, with equal copies of what of it takes memory. Takes none itself.
-    #[inline(always)]
-    pub fn with_held(&self, held: HeldCopies) -> Host
-        requires board { held.board ≡ board_of self.now.state.endpoint.connection }
-        requires outbox { held.outbox ≡ self.now.state.endpoint.outbox }
-        ensures { result ≡ self.now }
-    {
-        Host {
+        Ok(Host {
             state: State {
                 settings: self.state.settings,
                 uses: self.state.uses,
-                endpoint: self.state.endpoint.with_held(held),
+                endpoint: self.state.endpoint.copy()?,
             },
             ended: self.ended,
-        }
+        })
     }
 
     /// The host has ended by this.

@@ -11,7 +11,6 @@ mod established;
 mod expiries;
 mod figures;
 mod halts;
-mod held;
 mod host;
 mod laws;
 mod offers;
@@ -24,7 +23,6 @@ pub use connection::observing::Hold;
 pub use connection::states::ConnState;
 pub use figures::{Figures, Recovery, Windows};
 pub use halts::{Ending, Halt};
-pub use held::HeldCopies;
 pub use host::Host;
 pub use laws::{
     advances_are_lawful, arrivals_are_lawful, calls_are_lawful, growth_is_lawful, holds_are_lawful,

@@ -81,36 +81,10 @@ impl RunState {
         ensures ok { IfOk result (λ copy. copy ≡ self.now) }
         ensures again { self.now.host.ended ≡ Some OutOfMemory → IsErr result }
     {
-        if self.host.is_bare() {
-            Ok(self.with_host(self.host.bare_copy()))
-        } else {
-            self.copy_whole()
-        }
-    }
-
-    /// The same run once more, whatever its host holds.
-    #[inline(never)]
-    fn copy_whole(&self) -> Result<RunState, AllocError>
-        ensures ok { IfOk result (λ copy. copy ≡ self.now) }
-        ensures again { self.now.host.ended ≡ Some OutOfMemory → IsErr result }
-    {
-        let held = self.host.held()?;
-        Ok(self.with_host(self.host.with_held(held)))
-    }
-
-    /// The same run on an equal host.
-    #[inline(always)]
-    fn with_host(&self, host: Host) -> RunState
-        requires { host ≡ self.now.host }
-        ensures { result ≡ self.now }
-    {
-        RunState {
-            host,
-            clock: self.clock,
-            base: self.base,
-            written: self.written,
-            compared: self.compared,
-        }
+        Ok(RunState {
+            host: self.host.copy()?,
+            ..*self
+        })
     }
 
     /// Which of the settings were consulted so far.
