@@ -45,7 +45,8 @@ compared() { # turns, unit, the last line, its edits alone, the first line, its 
     awk -v turns="$1" -v unit="$2" -v last="$3" -v base_last="$4" -v first="$5" -v base_first="$6" 'BEGIN {
         l = (last - base_last) / turns
         f = (first - base_first) / turns
-        printf "in the last line %.0f %s, in the first %.0f %s: %.2f of it\n", l, unit, f, unit, l / f
+        aim = unit == "instructions" ? " (the aim is 14,000)" : ""
+        printf "in the last line %.0f %s%s, in the first %.0f %s: %.2f of it\n", l, unit, aim, f, unit, l / f
     }'
 }
 
@@ -95,7 +96,7 @@ if command -v valgrind >/dev/null; then
     turns=$(((turns + 9) / 10))
     measure "$turns" instructions instructions
     awk -v turns="$turns" -v short="$(last "$turns" 58)" -v long="$(last "$turns" 178)" 'BEGIN {
-        printf "a kept event costs %.0f instructions\n", (long - short) / turns / 360
+        printf "a kept event costs %.0f instructions, the aim is 45\n", (long - short) / turns / 360
     }'
     growing 1 4096 >"$work/grown"
     growing 1 4086 >"$work/growing"

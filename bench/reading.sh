@@ -51,5 +51,5 @@ for input in arguments stopped events; do
     }'
     command -v valgrind >/dev/null || continue
     valgrind --tool=callgrind --callgrind-out-file=/dev/null "$program" <"$work/$input" 2>"$work/said" >/dev/null || [ $? -eq 1 ]
-    awk -v input="$input" -v octets="$count" '/Collected/ { printf "%s: %.0f instructions an octet\n", input, $NF / octets }' "$work/said"
+    awk -v input="$input" -v octets="$count" '/Collected/ { printf "%s: %.0f instructions an octet, the aim is 70\n", input, $NF / octets }' "$work/said"
 done

@@ -48,7 +48,7 @@ compared() { # scripts, turns, unit, shown, settled, each change shown, each cha
     awk -v scripts="$1" -v turns="$2" -v unit="$3" -v shown="$4" -v settled="$5" -v changed="$6" -v answered="$7" 'BEGIN {
         first = (settled - shown) / scripts
         again = (answered - changed) / scripts / turns
-        printf "a script for the first time %.0f %s, behind the setting %.0f %s: %.1f times as fast\n", first, unit, again, unit, first / again
+        printf "a script for the first time %.0f %s, after a setting %.0f %s: %.1f times as fast\n", first, unit, again, unit, first / again
     }'
 }
 

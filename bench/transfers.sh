@@ -21,11 +21,11 @@ awk -v all="$((scripts * events))" -v octets="$octets" -v ns="$((end - begin))" 
 
 if command -v valgrind >/dev/null 2>&1; then
     taken=$(instructions "$work/input")
-    awk -v all="$((scripts * events))" -v n="$taken" 'BEGIN { printf "%.0f instructions an event\n", n / all }'
+    awk -v all="$((scripts * events))" -v n="$taken" 'BEGIN { printf "%.0f instructions an event, the aim is 2,400\n", n / all }'
 fi
 if [ -x /usr/bin/time ]; then
     resident=$(/usr/bin/time -f %M "$program" <"$work/input" 2>&1 >/dev/null | tail -n 1)
     awk -v kib="$resident" -v octets="$octets" 'BEGIN {
-        printf "%d KiB resident, %.1f times the texts\n", kib, kib * 1024 / octets
+        printf "%d KiB resident, %.1f times the texts, the aim is 2.5\n", kib, kib * 1024 / octets
     }'
 fi
