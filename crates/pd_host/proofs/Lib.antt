@@ -31,7 +31,6 @@ pub mod InWindow
 pub mod Karn
 pub mod Kept
 pub mod LastOctet
-pub mod Led
 pub mod Moments
 pub mod OneByOne
 pub mod OptionLists

@@ -1,19 +1,13 @@
 -- A packet is put out exactly where the outbox has a place.
-use Rattle.std.proofs.Common.{◌≡◌, ℕ, suc, ◌-◌, ◌<◌, Bool, true, false, if◌then◌else◌, nat_lt, length, List, [], ◌∷◌, ◌++◌, Some, Result, Ok, Err, refl, sym, subst, arith, length-append}
+use Rattle.std.proofs.Common.{◌≡◌, ℕ, suc, ◌-◌, ◌<◌, Bool, true, false, if◌then◌else◌, nat_lt, length, List, [], ◌∷◌, ◌++◌, Result, Ok, Err, refl, sym, subst, arith, length-append}
 use Rattle.std.proofs.lemmas.Bool.Decides.{nat_tests}
 use Rattle.pd_seg.specs.declared.segments.Segment.{Segment}
 use Rattle.pd_seg.specs.declared.segments.Sent.{Sent}
-use Rattle.pd_host.specs.Connection.{ConnectionView}
 use Rattle.pd_host.specs.Outcome.{Gives}
 use Rattle.pd_host.specs.Host.{with_packet}
 use Rattle.pd_host.specs.declared.halts.Ending.{Ending}
 use Rattle.pd_host.specs.declared.halts.Halt.{Halt}
 use Rattle.pd_host.specs.declared.halts.Halt.TheVariants.{Limit}
-use Rattle.pd_host.specs.declared.endpoint.State.{State}
-
--- the state with this connection and these packets
-abbrev pub holding : ConnectionView → List Sent → State → State
-holding c packets s = record s { endpoint = record s.endpoint { connection = Some c; outbox = packets } }
 
 -- the packets with one more
 abbrev pub and_packet : ℕ → Segment → List Sent → List Sent

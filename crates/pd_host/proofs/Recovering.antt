@@ -1,10 +1,10 @@
--- Step C and limited transmit: without a connection, and one segment further.
+-- Step C and limited transmit, one segment further.
 use Rattle.std.proofs.Common.{◌≡◌, ℕ, ◌+◌, ◌-◌, List, Option, Some, None, Result, Ok, sym, ap, ◌∙◌}
 use Rattle.pd_seg.specs.declared.sack_blocks.Span.{Span}
 use Rattle.pd_seg.specs.declared.segments.Sent.{Sent}
 use Rattle.pd_recover.specs.Choice.{segment_of}
 use Rattle.pd_recover.specs.declared.segments.NextSegment.{NextSegment}
-use Rattle.pd_host.specs.Acknowledgments.{OnTheWay, next_found, sent_as, noted_on, one_filled, sender_of, pipe_of, filled_from, filled}
+use Rattle.pd_host.specs.Acknowledgments.{OnTheWay, next_found, sent_as, noted_on, one_filled, sender_of, filled_from}
 use Rattle.pd_host.specs.Connection.{ConnectionView}
 use Rattle.pd_host.specs.Packets.{data_of}
 use Rattle.pd_host.specs.Host.{with_packet}
@@ -12,7 +12,8 @@ use Rattle.pd_host.specs.Sending.{repeated, places_left}
 use Rattle.pd_host.specs.declared.connection.acknowledgments.Filling.{Filling}
 use Rattle.pd_host.specs.declared.halts.Halt.{Halt}
 use Rattle.pd_host.specs.declared.endpoint.State.{State}
-use Rattle.pd_host.proofs.PutOut.{holding, and_packet, put_ok, one_place_less}
+use Rattle.pd_host.specs.Steps.{holding}
+use Rattle.pd_host.proofs.PutOut.{and_packet, put_ok, one_place_less}
 use Rattle.pd_host.proofs.Repeats.{repeated-more, repeated-none}
 use Rattle.pd_host.proofs.Rules.{next_on}
 
@@ -27,10 +28,9 @@ fill now filling sent t = one_filled now filling sent t.0.endpoint.connection t
 abbrev pub sender_filled : ℕ → Filling → OnTheWay → Result State Halt
 sender_filled now filling t = sender_of (filled_from now filling t)
 
--- without a connection nothing is sent
-pub nothing_filled : (now : ℕ) (filling : Filling) (s : State) → s.endpoint.connection ≡ None → filled now filling s ≡ Ok s
-nothing_filled now filling s none =
-    ap sender_of (repeated-none (next filling) (fill now filling) (places_left s) (s, pipe_of s.endpoint.connection) (ap (next_found filling (pipe_of s.endpoint.connection)) none))
+-- nothing more is found
+pub filling_done : (now : ℕ) (filling : Filling) (t : OnTheWay) → next filling t ≡ None → sender_filled now filling t ≡ Ok t.0
+filling_done now filling t none = ap sender_of (repeated-none (next filling) (fill now filling) (places_left t.0) t none)
 
 -- one segment further
 pub filling_goes : (now : ℕ) (filling : Filling) (s : State) (c d : ConnectionView) (packets new : List Sent) (n m : ℕ) (sent : NextSegment) (segment : Span)

@@ -1,53 +1,46 @@
 -- One time of ordinary sending and one expiry, and what follows.
-use Rattle.std.proofs.Common.{◌≡◌, ℕ, suc, ◌<◌, length, length-append, Option, None, Some, Result, Ok, Err, refl, sym, ◌∙◌, arith}
+use Rattle.std.proofs.Common.{◌≡◌, ℕ, suc, ◌<◌, length, length-append, Option, None, Some, Result, Ok, Err, refl, sym, ◌∙◌, arith, List, ap}
 use Rattle.pd_seg.specs.declared.sack_blocks.Span.{Span}
 use Rattle.pd_seg.specs.declared.segments.Sent.{Sent}
 use Rattle.pd_host.specs.Connection.{ConnectionView}
 use Rattle.pd_host.specs.Expiries.{due_by, deadline_of, expired, advanced}
 use Rattle.pd_host.specs.Outcome.{Gives}
-use Rattle.pd_host.specs.Sending.{places_left, found, sent_ordinarily, sent_until_done}
-use Rattle.pd_host.specs.Steps.{with_place, sent_next, expired_next}
+use Rattle.pd_host.specs.Sending.{places_left, found, sent_until_done, past_sacked, sent_on, repeated}
+use Rattle.pd_host.specs.Steps.{with_place, expired_next, holding}
 use Rattle.pd_host.specs.declared.halts.Halt.{Halt}
 use Rattle.pd_host.specs.declared.halts.Ending.{Ending}
 use Rattle.pd_host.specs.declared.halts.Ending.TheVariants.{Halted, OutOfMemory}
 use Rattle.pd_host.specs.declared.endpoint.State.{State}
-use Rattle.pd_host.proofs.Repeats.{repeated-none, went_on, halted}
+use Rattle.pd_host.proofs.Repeats.{repeated-none, went_on, halted, repeated-more}
 use Rattle.pd_host.proofs.Rules.{deadline_on}
+use Rattle.pd_host.specs.Host.{with_packet}
+use Rattle.pd_host.specs.Packets.{data_of}
+use Rattle.pd_host.proofs.PutOut.{put_ok, one_place_less}
+use Rattle.pd_host.proofs.SentOn.{finds, sends}
 
 -- an error stays one, where its halt is that of the whole
 pub gives_error : {S : Type 0} (a b : Result S Halt) (e : Ending) (s t : S) → ((halt : Halt) → a ≡ Err halt → b ≡ Err halt) → Gives a (Err e) s → Gives b (Err e) t
 gives_error a b (Halted halt) s t f g = f halt g
 gives_error a b OutOfMemory s t f g = tt
 
--- Ordinary sending
+-- Ordinary sending, one segment further
+pub sending_goes : (now : ℕ) (s : State) (c d : ConnectionView) (packets new : List Sent) (segment : Span) → found (Some c) ≡ Some segment
+    → with_packet now (data_of c segment) packets ≡ Ok new
+    → d ≡ past_sacked (sent_on now segment c)
+    → sent_until_done now (holding d new s) ≡ sent_until_done now (holding c packets s)
+sending_goes now s c d packets new segment is put left =
+    let p = put_ok now (data_of c segment) packets new put in
+    let t : State = holding c packets s in
+    let after : State = sends now segment t in
+    let more : sent_until_done now t ≡ sent_until_done now after =
+    ap (λ (k : ℕ). repeated finds (sends now) k t) (one_place_less now (data_of c segment) packets p.0)
+    ∙ repeated-more finds (sends now) (places_left after) t segment is in
+    ap (λ (x : ConnectionView). sent_until_done now (holding x new s)) left
+    ∙ ap (λ (x : List Sent). sent_until_done now (holding (past_sacked (sent_on now segment c)) x s)) p.1
+    ∙ sym more
 
-sent_is : (now : ℕ) (segment : Span) (s : State) (o : Option ConnectionView) → found o ≡ Some segment
-    → sent_next now segment o s ≡ with_place s (sent_ordinarily now segment o s)
-sent_is now segment s None h = absurd cc
-sent_is now segment s (Some c) h = refl
-
-sent_one : (now : ℕ) (segment : Span) (s : State) (o : Option ConnectionView) → found o ≡ Some segment
-    → length (sent_ordinarily now segment o s).endpoint.outbox ≡ suc (length s.endpoint.outbox)
-sent_one now segment s None h = absurd cc
-sent_one now segment s (Some c) h = omega (arith, length-append {A = Sent})
-
-pub sending_went_on : (now : ℕ) (segment : Span) (s t : State) → found s.endpoint.connection ≡ Some segment
-    → sent_next now segment s.endpoint.connection s ≡ Ok t
-    → (sent_until_done now s ≡ sent_until_done now t) × (places_left t < places_left s)
-sending_went_on now segment s t h came =
-    went_on (λ u. found u.endpoint.connection) (λ x u. sent_ordinarily now x u.endpoint.connection u) s t segment h
-    (sent_one now segment s s.endpoint.connection h) (sym (sent_is now segment s s.endpoint.connection h) ∙ came)
-
-pub sending_halted : (now : ℕ) (segment : Span) (s : State) (halt : Halt) → found s.endpoint.connection ≡ Some segment
-    → sent_next now segment s.endpoint.connection s ≡ Err halt
-    → sent_until_done now s ≡ Err halt
-sending_halted now segment s halt h came =
-    halted (λ u. found u.endpoint.connection) (λ x u. sent_ordinarily now x u.endpoint.connection u) s segment halt h
-    (sym (sent_is now segment s s.endpoint.connection h) ∙ came)
-
-pub sending_done : (now : ℕ) (s : State) → found s.endpoint.connection ≡ None → sent_until_done now s ≡ Ok s
-sending_done now s h =
-    repeated-none (λ u. found u.endpoint.connection) (λ x u. sent_ordinarily now x u.endpoint.connection u) (places_left s) s h
+pub sending_done : (now : ℕ) (s : State) → finds s ≡ None → sent_until_done now s ≡ Ok s
+sending_done now s none = repeated-none finds (sends now) (places_left s) s none
 
 -- Expiries
 

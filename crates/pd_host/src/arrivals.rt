@@ -6,6 +6,7 @@ ghost use Rattle.pd_host.specs.Outcome.{Gives};
 ghost use Rattle.pd_host.specs.Steps.{ruled_on};
 ghost use Rattle.pd_host.specs.declared.connection.checks.Ruling.TheVariants.{FirstAck};
 
+use crate::acknowledgments::respond;
 use crate::connection::checks::{Ruling, goes_on};
 use crate::connection::{Connection, refusal};
 use crate::descriptors::Listener;
@@ -75,7 +76,7 @@ impl State {
             }
             None => {
                 let then = connection.take(segment, now)?;
-                self.respond(then, now)
+                respond(connection, outbox, then, now)
             }
         }
     }

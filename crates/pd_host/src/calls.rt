@@ -8,6 +8,7 @@ use crate::descriptors::{Descriptor, Listener};
 use crate::endpoint::{Endpoint, State};
 use crate::halts::{Ending, Halt};
 use crate::requests::{Operation, Request};
+use crate::sending::send;
 use crate::uses::with_write;
 use pd_seg::{Answer, Errno};
 
@@ -196,7 +197,7 @@ impl State {
         let count = n.min(u64::from(free)) as u32;
         connection.queue(count);
         if !connection.is_recovering() {
-            self.send(now)?;
+            send(connection, &mut self.endpoint.outbox, now)?;
         }
         Ok(Answer::Number(count))
     }
@@ -232,7 +233,7 @@ impl State {
         if !connection.is_reset() {
             connection.queue_fin();
             if !connection.is_recovering() {
-                self.send(now)?;
+                send(connection, &mut self.endpoint.outbox, now)?;
             }
         }
         Ok(DONE)
