@@ -15,7 +15,7 @@ use Rattle.pd_recover.specs.Laws.{IsWithin, StaysWithin}
 use Rattle.pd_recover.specs.declared.feedback.Ack.{Ack}
 use Rattle.pd_recover.specs.declared.responses.Then.{Then}
 use Rattle.pd_recover.specs.declared.responses.Then.TheVariants.{Ordinary, StepC, Entry, LimitedTransmit, NewSegment, FastRetransmit, Nothing}
-use Rattle.pd_host.specs.Acknowledgments.{newly_acked, with_number, blocks_of, told_blocks, scored, with_blocks, with_timing, is_current, with_new_window, with_ack, ack_of_segment, answering, taking, delivered_data, window_after}
+use Rattle.pd_host.specs.Acknowledgments.{newly_acked, with_number, blocks_of, told_blocks, scored, with_blocks, with_timing, is_current, with_new_window, with_ack, ack_of_segment, taking, delivered_data, window_after, responding}
 use Rattle.pd_host.specs.Arrivals.{ruling_of}
 use Rattle.pd_host.specs.Connection.{ConnectionView}
 use Rattle.pd_host.specs.Handshake.{looked_at}
@@ -63,6 +63,10 @@ none_new n una una' e is le = let zero : n ≤ 0 = ge 0 n e in omega (arith, zer
 fin_small : (fin : Bool) → fin_octets fin ≤ 1
 fin_small true = omega arith
 fin_small false = omega arith
+
+-- a connection with what it has since its establishment
+abbrev whole : ConnectionView × Established → ConnectionView
+whole p = record p.0 { established = Some p.1 }
 
 module _ (b : Settings) (now : ℕ) where
   -- the board has moved up
@@ -149,9 +153,9 @@ module _ (b : Settings) (now : ℕ) where
       (same_timed c.board.una s.una c.board.top s.top c.timed same up.top h.reached.timed))
 
   -- the window
-  window_live : (c : ConnectionView) (e : Established) (segment : Segment) → IsOn e c → IsLive b now (with_new_window segment e c)
+  window_live : (c : ConnectionView) (e : Established) (segment : Segment) → IsOn e c → IsLive b now (whole (with_new_window segment e c))
   window_live c e segment h =
-      by_test (IsLive b now) (is_current e segment) _ c
+      by_test (λ (p : ConnectionView × Established). IsLive b now (whole p)) (is_current e segment) _ (c, e)
       (λ _.
       let k : IsInBounds b c.board.smss c.board.top c.widest e = at_some (IsInBounds b c.board.smss c.board.top c.widest) c.established e h.is h.live.reached.bounds in
       record {
@@ -173,7 +177,7 @@ module _ (b : Settings) (now : ℕ) where
         };
         live = h.live.live;
       })
-      (λ _. h.live)
+      (λ _. subst (λ o. IsLive b now (record c { established = o })) h.is h.live)
 
   -- the number and the blocks
   scored_keeps : (segment : Segment) (c : ConnectionView) → IsOrdered c.board → HasNumbersOf c.board (scored segment c).0
@@ -183,7 +187,7 @@ module _ (b : Settings) (now : ℕ) where
       (λ _. blocks_keep c.board (blocks_of (looked_at segment.options)) (c.board, false) same) (λ _. same)
 
   with_ack_live : (segment : Segment) (c : ConnectionView) (e : Established) → IsReached b now c → Passes c segment → c.established ≡ Some e
-      → IsLive b now (with_ack now segment e c).0
+      → IsLive b now (whole (with_ack now segment e c).0)
   with_ack_live segment c e h passed is =
       let s : BoardView = (scored segment (with_number segment c)).0 in
       let k : HasNumbersOf (acknowledged segment.ack c.board) s =
@@ -214,60 +218,58 @@ module _ (b : Settings) (now : ℕ) where
     window-within initial (FastRetransmit segment) c w h = h
     window-within initial Nothing c w h = h
 
-    answered_live : (segment : Segment) (n delivered : ℕ) (fresh : Bool) (e : Established) (c : ConnectionView) (o : Option Established)
-        → IsLive b now c → c.established ≡ o → IsLive b now (answering segment n delivered fresh e c o).0
-    answered_live segment n delivered fresh e c None h is = h
-    answered_live segment n delivered fresh e c (Some after) h is =
-        let k : IsInBounds b c.board.smss c.board.top c.widest after = at_some (IsInBounds b c.board.smss c.board.top c.widest) c.established after is h.reached.bounds in
-        let ack : Ack = ack_of_segment segment n delivered fresh e after c in
-        let step : CongView × Then = acked ack after.congestion in
-        let below = (acked_leads ack (some_segment c h.reached) (sent_above c h.reached) after.congestion (numbers b now c after h is)).below in
-        congestion_live b now c after (record step.0 { cwnd = window_after step.1 c step.0 }) h is
-        (window-within b.initial_ssthresh step.1 c step.0
-        (windows.ack b.initial_ssthresh ack after.congestion h.reached.board.smss_high (few c h.reached) k.windows))
-        (record { recovery_point = below.recovery_point; high_rxt = below.high_rxt; rescue_rxt = below.rescue_rxt })
+    -- an answer to an ACK
+    module _ (segment : Segment) (n delivered : ℕ) (fresh : Bool) (rwnd : ℕ) (d : ConnectionView) (e : Established) (h : IsLive b now (whole (d, e))) where
+      abbrev ack : Ack
+      ack = ack_of_segment segment n delivered fresh rwnd e d
 
-    named : (segment : Segment) (n delivered : ℕ) (fresh : Bool) (e : Established) (c : ConnectionView) (after : Established) → IsLive b now c → c.established ≡ Some after
-        → IsNamed (ack_of_segment segment n delivered fresh e after c) (answering segment n delivered fresh e c (Some after)).1
-    named segment n delivered fresh e c after h is =
-        (acked_leads (ack_of_segment segment n delivered fresh e after c) (some_segment c h.reached) (sent_above c h.reached) after.congestion (numbers b now c after h is)).named
+      answered_live : IsLive b now (responding d e ack).0
+      answered_live =
+          let c : ConnectionView = whole (d, e) in
+          let step : CongView × Then = acked ack e.congestion in
+          let below = (acked_leads ack (some_segment c h.reached) (sent_above c h.reached) e.congestion (numbers b now c e h refl)).below in
+          congestion_live b now c e (record step.0 { cwnd = window_after step.1 d step.0 }) h refl
+          (window-within b.initial_ssthresh step.1 d step.0
+          (windows.ack b.initial_ssthresh ack e.congestion h.reached.board.smss_high (few c h.reached) h.reached.bounds.windows))
+          (record { recovery_point = below.recovery_point; high_rxt = below.high_rxt; rescue_rxt = below.rescue_rxt })
 
-    new_live : (segment : Segment) (n delivered : ℕ) (fresh : Bool) (e : Established) (c : ConnectionView) (new : Span) (o : Option Established)
-        → IsLive b now c → c.established ≡ o → (answering segment n delivered fresh e c o).1 ≡ NewSegment new → IsLive b now (sent_on now new (answering segment n delivered fresh e c o).0)
-    new_live segment n delivered fresh e c new None h is x = absurd cc
-    new_live segment n delivered fresh e c new (Some after) h is x =
-        let k : IsNamed (ack_of_segment segment n delivered fresh e after c) (NewSegment new) =
-        subst (IsNamed (ack_of_segment segment n delivered fresh e after c)) x (named segment n delivered fresh e c after h is) in
-        sent_live b now (answering segment n delivered fresh e c (Some after)).0 _ new (answered_live segment n delivered fresh e c (Some after) h is) refl
-        (new_leaves c.board new h.reached.board (record { start = k.0; some = k.1; end = k.2 }))
+      named : IsNamed ack (responding d e ack).1
+      named =
+          let c : ConnectionView = whole (d, e) in
+          (acked_leads ack (some_segment c h.reached) (sent_above c h.reached) e.congestion (numbers b now c e h refl)).named
 
-    again_live : (segment : Segment) (n delivered : ℕ) (fresh : Bool) (e : Established) (c : ConnectionView) (first : Span) (o : Option Established)
-        → IsLive b now c → c.established ≡ o → (answering segment n delivered fresh e c o).1 ≡ FastRetransmit first → IsLive b now (clocked now first (answering segment n delivered fresh e c o).0)
-    again_live segment n delivered fresh e c first None h is x = absurd cc
-    again_live segment n delivered fresh e c first (Some after) h is x =
-        let k : IsNamed (ack_of_segment segment n delivered fresh e after c) (FastRetransmit first) =
-        subst (IsNamed (ack_of_segment segment n delivered fresh e after c)) x (named segment n delivered fresh e c after h is) in
-        clocked_live b now (answering segment n delivered fresh e c (Some after)).0 first (answered_live segment n delivered fresh e c (Some after) h is)
-        (omega (arith, k.0, k.1, k.2)) (omega (arith, k.1, k.2))
+      new_live : (new : Span) → (responding d e ack).1 ≡ NewSegment new → IsLive b now (sent_on now new (responding d e ack).0)
+      new_live new x =
+          let k : IsNamed ack (NewSegment new) = subst (IsNamed ack) x named in
+          sent_live b now (responding d e ack).0 _ new answered_live refl
+          (new_leaves d.board new h.reached.board (record { start = k.0; some = k.1; end = k.2 }))
+
+      again_live : (first : Span) → (responding d e ack).1 ≡ FastRetransmit first → IsLive b now (clocked now first (responding d e ack).0)
+      again_live first x =
+          let k : IsNamed ack (FastRetransmit first) = subst (IsNamed ack) x named in
+          clocked_live b now (responding d e ack).0 first answered_live (omega (arith, k.0, k.1, k.2)) (omega (arith, k.1, k.2))
 
     -- a segment that passed all checks
     pub taking_live : (segment : Segment) (c : ConnectionView) (o : Option Established) → IsReached b now c → ruling_of c segment ≡ None → c.established ≡ o
         → IsLive b now (taking now segment c o).0
     taking_live segment c None h passed is = record { reached = h; live = (passes c segment passed).live }
     taking_live segment c (Some e) h passed is =
-        answered_live segment (newly_acked c segment) (delivered_data (newly_acked c segment) c.board (with_ack now segment e c).0.board) (with_ack now segment e c).1 e (with_ack now segment e c).0 (with_ack now segment e c).0.established
-        (with_ack_live segment c e h (passes c segment passed) is) refl
+        let after : (ConnectionView × Established) × Bool = with_ack now segment e c in
+        answered_live segment (newly_acked c segment) (delivered_data (newly_acked c segment) c.board after.0.0.board) after.1 e.rwnd after.0.0 after.0.1
+        (with_ack_live segment c e h (passes c segment passed) is)
 
     pub taking_new : (segment : Segment) (c : ConnectionView) (new : Span) (o : Option Established) → IsReached b now c → ruling_of c segment ≡ None → c.established ≡ o
         → (taking now segment c o).1 ≡ NewSegment new → IsLive b now (sent_on now new (taking now segment c o).0)
     taking_new segment c new None h passed is x = absurd cc
     taking_new segment c new (Some e) h passed is x =
-        new_live segment (newly_acked c segment) (delivered_data (newly_acked c segment) c.board (with_ack now segment e c).0.board) (with_ack now segment e c).1 e (with_ack now segment e c).0 new (with_ack now segment e c).0.established
-        (with_ack_live segment c e h (passes c segment passed) is) refl x
+        let after : (ConnectionView × Established) × Bool = with_ack now segment e c in
+        new_live segment (newly_acked c segment) (delivered_data (newly_acked c segment) c.board after.0.0.board) after.1 e.rwnd after.0.0 after.0.1
+        (with_ack_live segment c e h (passes c segment passed) is) new x
 
     pub taking_again : (segment : Segment) (c : ConnectionView) (first : Span) (o : Option Established) → IsReached b now c → ruling_of c segment ≡ None → c.established ≡ o
         → (taking now segment c o).1 ≡ FastRetransmit first → IsLive b now (clocked now first (taking now segment c o).0)
     taking_again segment c first None h passed is x = absurd cc
     taking_again segment c first (Some e) h passed is x =
-        again_live segment (newly_acked c segment) (delivered_data (newly_acked c segment) c.board (with_ack now segment e c).0.board) (with_ack now segment e c).1 e (with_ack now segment e c).0 first (with_ack now segment e c).0.established
-        (with_ack_live segment c e h (passes c segment passed) is) refl x
+        let after : (ConnectionView × Established) × Bool = with_ack now segment e c in
+        again_live segment (newly_acked c segment) (delivered_data (newly_acked c segment) c.board after.0.0.board) after.1 e.rwnd after.0.0 after.0.1
+        (with_ack_live segment c e h (passes c segment passed) is) first x

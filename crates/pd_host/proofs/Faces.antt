@@ -2,7 +2,7 @@
 use Rattle.std.proofs.Common.{◌≡◌, ℕ, ◌==◌, max, Bool, if◌then◌else◌, Option, None, Some, refl, sym, ap, ◌∙◌}
 use Rattle.std.specs.Prelude.{option_map}
 use Rattle.pd_seg.specs.declared.segments.Segment.{Segment}
-use Rattle.pd_host.specs.Acknowledgments.{newly_acked, is_current, with_number, with_blocks, with_timing, with_ack, answering, taking, delivered_data}
+use Rattle.pd_host.specs.Acknowledgments.{newly_acked, is_current, with_number, with_blocks, with_timing, with_ack, taking}
 use Rattle.pd_host.specs.Arrivals.{with_peer_fin}
 use Rattle.pd_host.specs.ConnStates.{synchronized, state_since, state_of, state_on}
 use Rattle.pd_host.specs.Connection.{ConnectionView}
@@ -15,7 +15,7 @@ use Rattle.pd_host.specs.declared.established.PeerFin.{PeerFin}
 use Rattle.pd_host.specs.declared.established.PeerFin.TheVariants.{BeforeOurs, AfterOurs}
 use Rattle.pd_host.specs.declared.endpoint.State.{State}
 use Rattle.pd_host.proofs.SentOn.{IsSentOn, still, stills, at_rest}
-use Rattle.pd_host.proofs.Taken.{same_either, timing_keeps, taking_keeps}
+use Rattle.pd_host.proofs.Taken.{same_either, taking_keeps}
 
 -- whether an RST came, the peer's FIN from the establishment on, whether ours is queued, and whether all that is queued is
 -- acknowledged
@@ -83,27 +83,16 @@ sent_faces now s t h = sym (still_faces t.endpoint.connection) ∙ ap faces h.co
 
 -- What an ACK makes of it
 
-ack_peer : (now : ℕ) (segment : Segment) (e : Established) (c : ConnectionView) → c.established ≡ Some e
-    → peer_of (with_ack now segment e c).0.established ≡ Some e.peer_fin
-ack_peer now segment e c has =
+ack_peer : (now : ℕ) (segment : Segment) (e : Established) (c : ConnectionView) → (with_ack now segment e c).0.1.peer_fin ≡ e.peer_fin
+ack_peer now segment e c =
     let d : ConnectionView = with_timing now e.granularity_us (newly_acked c segment) (with_blocks segment (with_number segment c)) in
-    let same : d.established ≡ c.established =
-    ap (λ (x : ConnectionView). x.established) (timing_keeps now e.granularity_us (newly_acked c segment) (with_blocks segment (with_number segment c))) in
-    same_either (λ (x : ConnectionView). peer_of x.established) (is_current e segment)
-    (record d { widest = max d.widest (window_in d segment); established = Some (with_window (window_in d segment) segment e) }) d
-    (Some e.peer_fin) refl (ap peer_of (same ∙ has))
-
-answer_peer : (segment : Segment) (n delivered : ℕ) (fresh : Bool) (before : Established) (c : ConnectionView) (o : Option Established) → c.established ≡ o
-    → peer_of (answering segment n delivered fresh before c o).0.established ≡ peer_of o
-answer_peer segment n delivered fresh before c None e = ap peer_of e
-answer_peer segment n delivered fresh before c (Some x) e = refl
+    same_either (λ (x : ConnectionView × Established). x.1.peer_fin) (is_current e segment)
+    (record d { widest = max d.widest (window_in d segment) }, with_window (window_in d segment) segment e) (d, e) e.peer_fin refl refl
 
 pub taking_peer : (now : ℕ) (segment : Segment) (c : ConnectionView) (o : Option Established) → c.established ≡ o
     → peer_of (taking now segment c o).0.established ≡ peer_of o
 taking_peer now segment c None e = ap peer_of e
-taking_peer now segment c (Some x) e =
-    let after : ConnectionView × Bool = with_ack now segment x c in
-    answer_peer segment (newly_acked c segment) (delivered_data (newly_acked c segment) c.board after.0.board) after.1 x after.0 after.0.established refl ∙ ack_peer now segment x c e
+taking_peer now segment c (Some x) e = ap (λ (p : PeerFin). Some p) (ack_peer now segment x c)
 
 -- the same face but for what is acknowledged
 

@@ -10,7 +10,7 @@ use Rattle.pd_seg.specs.declared.segments.Segment.{Segment}
 use Rattle.pd_board.specs.Board.{BoardView, marked, has_new}
 use Rattle.pd_recover.specs.declared.segments.NextSegment.{NextSegment}
 use Rattle.pd_recover.specs.declared.segments.NextSegment.TheVariants.{Lost, New, Hole, Rescue}
-use Rattle.pd_host.specs.Acknowledgments.{is_block_sent, told_block, told_blocks, blocks_of, scored, with_number, with_blocks, newly_acked, with_timing, with_new_window, is_current, noted_on, sent_as, entered_on, with_ack, answering, taking, delivered_data}
+use Rattle.pd_host.specs.Acknowledgments.{is_block_sent, told_block, told_blocks, blocks_of, scored, with_number, with_blocks, newly_acked, with_timing, with_new_window, is_current, noted_on, sent_as, entered_on, with_ack, taking}
 use Rattle.pd_host.specs.Calls.{Reply, answered, with_listener, with_stored, with_stream, with_nagle, with_queued, with_fin, with_answer, socket_reply, bind_reply, listen_reply, accept_reply, handed_out, no_delay_reply, queued, free_of, write_uses, written_on, write_reply, closed_stream, closed_on, close_reply, operated, on_open, open_descriptor, requested, called, is_pending, is_waiting, stream_of}
 use Rattle.pd_host.specs.Connection.{ConnectionView}
 use Rattle.pd_host.specs.Expiries.{advanced, deadline_of, due_by, expired, expired_on}
@@ -70,25 +70,18 @@ timing_end now granularity n c =
     either (nat_lt 0 n) (with_timer_moved now (with_sample now granularity c.board.una c)) c c.board.end
     (measured_end now granularity c.board.una c c.timed) refl
 
-window_end : (segment : Segment) (e : Established) (c : ConnectionView) → (with_new_window segment e c).board.end ≡ c.board.end
-window_end segment e c = either (is_current e segment) _ c c.board.end refl refl
+window_end : (segment : Segment) (e : Established) (c : ConnectionView) → (with_new_window segment e c).0.board.end ≡ c.board.end
+window_end segment e c = by_test (λ (p : ConnectionView × Established). p.0.board.end ≡ c.board.end) (is_current e segment) _ (c, e) (λ _. refl) (λ _. refl)
 
-with_ack_end : (now : ℕ) (segment : Segment) (e : Established) (c : ConnectionView) → (with_ack now segment e c).0.board.end ≡ c.board.end
+with_ack_end : (now : ℕ) (segment : Segment) (e : Established) (c : ConnectionView) → (with_ack now segment e c).0.0.board.end ≡ c.board.end
 with_ack_end now segment e c =
     let told : ConnectionView = with_blocks segment (with_number segment c) in
     window_end segment e (with_timing now e.granularity_us (newly_acked c segment) told)
     ∙ (timing_end now e.granularity_us (newly_acked c segment) told ∙ scored_end segment (with_number segment c))
 
-answering_end : (segment : Segment) (n delivered : ℕ) (fresh : Bool) (before : Established) (c : ConnectionView) (o : Option Established)
-    → (answering segment n delivered fresh before c o).0.board.end ≡ c.board.end
-answering_end segment n delivered fresh before c None = refl
-answering_end segment n delivered fresh before c (Some after) = refl
-
 taking_end : (now : ℕ) (segment : Segment) (c : ConnectionView) (o : Option Established) → (taking now segment c o).0.board.end ≡ c.board.end
 taking_end now segment c None = refl
-taking_end now segment c (Some e) =
-    let after : ConnectionView × Bool = with_ack now segment e c in
-    answering_end segment (newly_acked c segment) (delivered_data (newly_acked c segment) c.board after.0.board) after.1 e after.0 after.0.established ∙ with_ack_end now segment e c
+taking_end now segment c (Some e) = with_ack_end now segment e c
 
 -- What is sent leaves the end
 

@@ -9,7 +9,7 @@ use Rattle.pd_seg.specs.declared.answers.Answer.{Answer}
 use Rattle.pd_seg.specs.declared.sack_blocks.Span.{Span}
 use Rattle.pd_seg.specs.declared.segments.Segment.{Segment}
 use Rattle.pd_seg.specs.declared.segments.Sent.{Sent}
-use Rattle.pd_host.specs.Acknowledgments.{newly_acked, ack_of_segment, answering, with_ack, taking, ack_taken, delivered_data}
+use Rattle.pd_host.specs.Acknowledgments.{newly_acked, ack_of_segment, with_ack, taking, ack_taken, delivered_data, responding}
 use Rattle.std.specs.Prelude.{option_map}
 use Rattle.pd_board.specs.Board.{unmarked}
 use Rattle.pd_script.specs.declared.calls.Call.{Call}
@@ -245,20 +245,15 @@ named ack c (NewSegment segment) window top end h =
 named ack c (FastRetransmit segment) window top end h = subst (λ (n : ℕ). segment.end ≤ n) top h
 named ack c Nothing window top end h = tt
 
-answer_named : (segment : Segment) (n delivered : ℕ) (fresh : Bool) (before : Established) (c : ConnectionView) (o : Option Established)
-    → IsNamed (answering segment n delivered fresh before c o).0 (answering segment n delivered fresh before c o).1
-answer_named segment n delivered fresh before c None = tt
-answer_named segment n delivered fresh before c (Some e) =
-    let ack : Ack = ack_of_segment segment n delivered fresh before e c in
-    let step : ConnectionView × Then = answering segment n delivered fresh before c (Some e) in
-    named ack step.0 step.1 refl refl refl (what_follows ack e.congestion)
-
 pub taking_named : (now : ℕ) (segment : Segment) (c : ConnectionView) (o : Option Established)
     → IsNamed (taking now segment c o).0 (taking now segment c o).1
 taking_named now segment c None = tt
 taking_named now segment c (Some e) =
-    let after : ConnectionView × Bool = with_ack now segment e c in
-    answer_named segment (newly_acked c segment) (delivered_data (newly_acked c segment) c.board after.0.board) after.1 e after.0 after.0.established
+    let after : (ConnectionView × Established) × Bool = with_ack now segment e c in
+    let n : ℕ = newly_acked c segment in
+    let ack : Ack = ack_of_segment segment n (delivered_data n c.board after.0.0.board) after.1 e.rwnd after.0.1 after.0.0 in
+    let step : ConnectionView × Then = responding after.0.0 after.0.1 ack in
+    named ack step.0 step.1 refl refl refl (what_follows ack after.0.1.congestion)
 
 pub taking_top : (now : ℕ) (segment : Segment) (c : ConnectionView) (o : Option Established) → (taking now segment c o).0.board.top ≡ c.board.top
 taking_top now segment c None = refl

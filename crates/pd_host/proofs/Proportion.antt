@@ -1,5 +1,5 @@
 -- Recovery by PRR puts out sndcnt octets at most after each ACK.
-use Rattle.std.proofs.Common.{◌≡◌, ◌⊎◌, ℕ, ◌+◌, ◌-◌, ◌<◌, ◌≤◌, max, nat_lt, Bool, true, false, Option, Some, None, Ok, refl, sym, subst, ap, ◌∙◌, arith}
+use Rattle.std.proofs.Common.{◌≡◌, ℕ, ◌+◌, ◌-◌, ◌≤◌, nat_lt, Bool, true, Option, Some, None, Ok, refl, sym, subst, ap, ◌∙◌, arith}
 use Rattle.pd_board.specs.Choice.{run_at}
 use Rattle.pd_board.specs.Loss.{pipe}
 use Rattle.pd_recover.specs.Acks.{acked}
@@ -10,15 +10,14 @@ use Rattle.pd_recover.specs.declared.responses.Then.{Then}
 use Rattle.pd_recover.specs.declared.responses.Then.TheVariants.{StepC}
 use Rattle.pd_seg.specs.declared.sack_blocks.Span.{Span}
 use Rattle.pd_seg.specs.declared.segments.Segment.{Segment}
-use Rattle.pd_host.specs.Acknowledgments.{window_after, paced_on, pipe_of, filled, put_segment, entered_on, entry, led_to, answering, ack_of_segment, newly_acked, delivered_data, with_ack, taking, ack_taken}
+use Rattle.pd_host.specs.Acknowledgments.{window_after, pipe_of, filled, put_segment, entered_on, entry, led_to, ack_of_segment, newly_acked, delivered_data, with_ack, taking, ack_taken}
 use Rattle.pd_host.specs.Connection.{ConnectionView}
 use Rattle.pd_host.specs.Places.{has_place}
-use Rattle.pd_host.specs.Sending.{with_block, with_segment}
+use Rattle.pd_host.specs.Sending.{with_block}
 use Rattle.pd_host.specs.SendingLaws.{cwnd_in, reducing_in, out_in, sndcnt_in, LetsOut, RecoversInProportion}
 use Rattle.pd_host.specs.Timing.{clocked}
 use Rattle.pd_host.specs.declared.established.Established.{Established}
 use Rattle.pd_host.specs.declared.connection.acknowledgments.Filling.TheVariants.{NextSeg}
-use Rattle.pd_host.specs.declared.halts.Halt.TheVariants.{Limit}
 use Rattle.pd_host.specs.declared.endpoint.State.{State}
 use Rattle.pd_host.proofs.Outcomes.{Leaves, came, either}
 use Rattle.pd_host.proofs.Room.{filled_out}
@@ -34,19 +33,15 @@ module _ (laws : LetsOutInProportion) where
       subst (λ (n : Then). window_after n c w - pipe w.high_rxt c.board ≤ sndcnt c.board.smss (pipe w.high_rxt c.board) w) (sym step)
       (laws.window c.board.smss (pipe w.high_rxt c.board) w reducing)
 
-  answer_paced : (segment : Segment) (n delivered : ℕ) (fresh : Bool) (before : Established) (c : ConnectionView) (o : Option Established)
-      → (answering segment n delivered fresh before c o).1 ≡ StepC → IsPaced (Some (answering segment n delivered fresh before c o).0)
-  answer_paced segment n delivered fresh before c None step = absurd cc
-  answer_paced segment n delivered fresh before c (Some e) step =
-      let response : CongView × Then = acked (ack_of_segment segment n delivered fresh before e c) e.congestion in
-      paced_by response.1 c response.0 step
-
   taking_paced : (now : ℕ) (segment : Segment) (c : ConnectionView) (o : Option Established) → (taking now segment c o).1 ≡ StepC
       → IsPaced (Some (taking now segment c o).0)
   taking_paced now segment c None step = absurd cc
   taking_paced now segment c (Some e) step =
-      let after : ConnectionView × Bool = with_ack now segment e c in
-      answer_paced segment (newly_acked c segment) (delivered_data (newly_acked c segment) c.board after.0.board) after.1 e after.0 after.0.established step
+      let after : (ConnectionView × Established) × Bool = with_ack now segment e c in
+      let n : ℕ = newly_acked c segment in
+      let ack : Ack = ack_of_segment segment n (delivered_data n c.board after.0.0.board) after.1 e.rwnd after.0.1 after.0.0 in
+      let response : CongView × Then = acked ack after.0.1.congestion in
+      paced_by response.1 after.0.0 response.0 step
 
   entered_paced : (segment : Span) (c : ConnectionView) (o : Option Established) → c.established ≡ o → IsPaced (Some (entered_on segment c o))
   entered_paced segment c None none reducing = absurd (nothing c.established none reducing)

@@ -15,7 +15,7 @@ use Rattle.pd_recover.specs.declared.responses.Then.{Then}
 use Rattle.pd_recover.specs.declared.segments.NextSegment.{NextSegment}
 use Rattle.pd_recover.specs.declared.segments.NextSegment.TheVariants.{Lost, New, Hole, Rescue}
 use Rattle.pd_board.specs.Loss.{is_lost}
-use Rattle.pd_host.specs.Acknowledgments.{newly_acked, with_number, is_block_sent, blocks_of, told_block, told_blocks, scored, with_timing, is_current, with_new_window, with_blocks, with_ack, news_of, ack_of_segment, answering, taking, sent_as, noted_by, noted_on, entered_on, delivered_data, paced_on}
+use Rattle.pd_host.specs.Acknowledgments.{newly_acked, with_number, is_block_sent, blocks_of, told_block, told_blocks, scored, with_timing, is_current, with_new_window, with_blocks, with_ack, news_of, ack_of_segment, taking, sent_as, noted_by, noted_on, entered_on, delivered_data, paced_on, responding}
 use Rattle.pd_host.specs.Arrivals.{with_peer_fin}
 use Rattle.pd_host.specs.Calls.{with_stream, with_nagle}
 use Rattle.pd_host.specs.Connection.{ConnectionView}
@@ -95,10 +95,10 @@ module _ (s : BoardView) where
       by_test (HasBoard s) (nat_lt 0 n) _ c
       (λ _. moved_board now (with_sample now granularity c.board.una c) (measured_board now granularity c.board.una c c.timed h)) (λ _. h)
 
-  window_board : (segment : Segment) (e : Established) (c : ConnectionView) → HasBoard s c → HasBoard s (with_new_window segment e c)
-  window_board segment e c h = by_test (HasBoard s) (is_current e segment) _ c (λ _. h) (λ _. h)
+  window_board : (segment : Segment) (e : Established) (c : ConnectionView) → HasBoard s c → HasBoard s (with_new_window segment e c).0
+  window_board segment e c h = by_test (λ (p : ConnectionView × Established). HasBoard s p.0) (is_current e segment) _ (c, e) (λ _. h) (λ _. h)
 
-ack_board : (now : ℕ) (segment : Segment) (e : Established) (c : ConnectionView) → HasBoard (scored segment (with_number segment c)).0 (with_ack now segment e c).0
+ack_board : (now : ℕ) (segment : Segment) (e : Established) (c : ConnectionView) → HasBoard (scored segment (with_number segment c)).0 (with_ack now segment e c).0.0
 ack_board now segment e c =
     let s : BoardView = (scored segment (with_number segment c)).0 in
     window_board s segment e (with_timing now e.granularity_us (newly_acked c segment) (with_blocks segment (with_number segment c)))
@@ -127,11 +127,11 @@ module _ (ack : Ack) where
       (λ fresh. duplicate_below news.lost (counted (grown_by ack w)) (grown_same w ∙ still) (out fresh))
       (λ _ r. absurd (unlike w.recovering (sym (grown_same w) ∙ r) still))))
 
-answered_below : (segment : Segment) (n delivered : ℕ) (fresh : Bool) (e : Established) (c : ConnectionView) (o : Option Established)
-    → c.established ≡ o → (fresh ≡ true → c.board.una < c.board.top) → IsBelowPoint (answering segment n delivered fresh e c o).0
-answered_below segment n delivered fresh e c None is out sack = subst (RecoversBelow c.board.una) (sym is) tt
-answered_below segment n delivered fresh e c (Some after) is out sack =
-    let ack : Ack = ack_of_segment segment n delivered fresh e after c in
+answered_below : (segment : Segment) (n delivered : ℕ) (fresh : Bool) (rwnd : ℕ) (c : ConnectionView) (after : Established)
+    → (fresh ≡ true → c.board.una < c.board.top)
+    → IsBelowPoint (responding c after (ack_of_segment segment n delivered fresh rwnd after c)).0
+answered_below segment n delivered fresh rwnd c after out sack =
+    let ack : Ack = ack_of_segment segment n delivered fresh rwnd after c in
     let news : News = record { fresh = fresh; lost = fresh && is_lost c.board.una c.board } in
     let told_so : news_of fresh c ≡ Some news = ap (λ (b : Bool). if b then Some news else None) sack in
     subst (λ (x : Option News). Below ack (told ack x (renewed ack after.congestion))) (sym told_so) (sack_below ack news (renewed ack after.congestion) out)
@@ -144,9 +144,10 @@ taking_below now segment c None h = h
 taking_below now segment c (Some e) h =
     let told_at : TellsWithin segment.ack c.board.top (scored segment (with_number segment c)) = scored_within segment (with_number segment c) in
     let k = ack_board now segment e c in
-    answered_below segment (newly_acked c segment) (delivered_data (newly_acked c segment) c.board (with_ack now segment e c).0.board) (with_ack now segment e c).1 e (with_ack now segment e c).0 (with_ack now segment e c).0.established refl
+    let after : (ConnectionView × Established) × Bool = with_ack now segment e c in
+    answered_below segment (newly_acked c segment) (delivered_data (newly_acked c segment) c.board after.0.0.board) after.1 e.rwnd after.0.0 after.0.1
     (λ fresh. let out = told_at.fresh fresh in
-    moved_within (scored segment (with_number segment c)).0 (with_ack now segment e c).0.board k (omega (arith, out, told_at.low, told_at.high)))
+    moved_within (scored segment (with_number segment c)).0 after.0.0.board k (omega (arith, out, told_at.low, told_at.high)))
 
 -- What else changes congestion control
 

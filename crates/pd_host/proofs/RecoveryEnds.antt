@@ -7,7 +7,7 @@ use Rattle.pd_recover.specs.Laws.{EndsInTime}
 use Rattle.pd_recover.specs.declared.feedback.Ack.{Ack}
 use Rattle.pd_recover.specs.declared.feedback.News.{News}
 use Rattle.pd_seg.specs.declared.segments.Segment.{Segment}
-use Rattle.pd_host.specs.Acknowledgments.{newly_acked, news_of, ack_of_segment, answering, with_ack, taking, ack_taken, delivered_data}
+use Rattle.pd_host.specs.Acknowledgments.{newly_acked, news_of, ack_of_segment, with_ack, taking, ack_taken, delivered_data, responding}
 use Rattle.pd_host.specs.Connection.{ConnectionView}
 use Rattle.pd_host.specs.Sending.{with_block, is_recovering}
 use Rattle.pd_host.specs.SendingLaws.{recovers, EndsRecovery}
@@ -15,7 +15,7 @@ use Rattle.pd_host.specs.declared.established.Established.{Established}
 use Rattle.pd_host.specs.declared.endpoint.State.{State}
 use Rattle.pd_host.proofs.Outcomes.{came}
 use Rattle.pd_host.proofs.SentOn.{IsSentOn, at_rest, stills}
-use Rattle.pd_host.proofs.Taken.{congestions, ack_keeps, ack_leaves_congestion, taken_sends}
+use Rattle.pd_host.proofs.Taken.{ack_keeps, ack_leaves_congestion, taken_sends}
 
 -- what is sent leaves recovery
 
@@ -42,33 +42,31 @@ record Tells (ack : Ack) (una n : ℕ) (news : Option News) : Type 0 where
   pub octets : ack.acked ≡ n
   pub blocks : ack.sack ≡ news
 
-answer_ends : (segment : Segment) (n delivered : ℕ) (fresh : Bool) (before : Established) (d : ConnectionView) (o : Option Established) (w : CongView) (X : Type 0)
-    → congestions o ≡ Some w
+answer_ends : (segment : Segment) (n delivered : ℕ) (fresh : Bool) (rwnd : ℕ) (d : ConnectionView) (e : Established) (w : CongView) (X : Type 0)
+    → e.congestion ≡ w
     → ((ack : Ack) → Tells ack d.board.una n (news_of fresh d) → Ends ack w X)
-    → (is_recovering (answering segment n delivered fresh before d o).0.established ≡ false) ↔ X
-answer_ends segment n delivered fresh before d None w X has ends = absurd cc
-answer_ends segment n delivered fresh before d (Some e) w X has ends =
-    let same : e.congestion ≡ w = cc in
-    let ack : Ack = ack_of_segment segment n delivered fresh before e d in
+    → (is_recovering (responding d e (ack_of_segment segment n delivered fresh rwnd e d)).0.established ≡ false) ↔ X
+answer_ends segment n delivered fresh rwnd d e w X same ends =
+    let ack : Ack = ack_of_segment segment n delivered fresh rwnd e d in
     subst (λ (v : CongView). Ends ack v X) (sym same) (ends ack (record { number = refl; octets = refl; blocks = refl }))
 
 taken_ends : (now : ℕ) (segment : Segment) (c : ConnectionView) (s t : State) (e : Established) (X : Type 0)
     → c.established ≡ Some e
-    → ((ack : Ack) (fresh : Bool) → Tells ack segment.ack (newly_acked c segment) (news_of fresh (with_ack now segment e c).0) → Ends ack e.congestion X)
+    → ((ack : Ack) (fresh : Bool) → Tells ack segment.ack (newly_acked c segment) (news_of fresh (with_ack now segment e c).0.0) → Ends ack e.congestion X)
     → ack_taken now segment c s c.established ≡ Ok t
     → (recovers t.endpoint.connection ≡ false) ↔ X
 taken_ends now segment c s t e X has ends h =
-    let after : ConnectionView × Bool = with_ack now segment e c in
+    let after : (ConnectionView × Established) × Bool = with_ack now segment e c in
     let left : ConnectionView = (taking now segment c (Some e)).0 in
     let same : ack_taken now segment c s (Some e) ≡ Ok t = ap (ack_taken now segment c s) (sym has) ∙ h in
     let sent : IsSentOn now (with_block left s) t = came (IsSentOn now (with_block left s)) (ack_taken now segment c s (Some e)) t same (taken_sends now segment c s (Some e)) in
-    let una : after.0.board.una ≡ segment.ack = ap (λ (x : ConnectionView). x.board.una) (ack_keeps now segment e c) in
+    let una : after.0.0.board.una ≡ segment.ack = ap (λ (x : ConnectionView). x.board.una) (ack_keeps now segment e c) in
     subst (λ (b : Bool). (b ≡ false) ↔ X) (sym (sent_recovers now (with_block left s) t sent))
-    (answer_ends segment (newly_acked c segment) (delivered_data (newly_acked c segment) c.board after.0.board) after.1 e after.0 after.0.established e.congestion X (ack_leaves_congestion now segment e c has)
+    (answer_ends segment (newly_acked c segment) (delivered_data (newly_acked c segment) c.board after.0.0.board) after.1 e.rwnd after.0.0 after.0.1 e.congestion X (ack_leaves_congestion now segment e c)
     (λ ack tells. ends ack after.1 (record { number = tells.number ∙ una; octets = tells.octets; blocks = tells.blocks })))
 
 -- whether SACK was agreed
-agreed : (now : ℕ) (segment : Segment) (e : Established) (c : ConnectionView) → (with_ack now segment e c).0.sack ≡ c.sack
+agreed : (now : ℕ) (segment : Segment) (e : Established) (c : ConnectionView) → (with_ack now segment e c).0.0.sack ≡ c.sack
 agreed now segment e c = ap (λ (x : ConnectionView). x.sack) (ack_keeps now segment e c)
 
 abbrev news_if : Bool → Bool → ConnectionView → Option News
@@ -78,7 +76,7 @@ pub ends_recovery : EndsInTime → EndsRecovery
 ends_recovery ends = record {
   with_sack = λ now segment c s t e has sack recovering h.
       let w : CongView = e.congestion in
-      let d : ConnectionView = (with_ack now segment e c).0 in
+      let d : ConnectionView = (with_ack now segment e c).0.0 in
       taken_ends now segment c s t e (w.recovery_point ≤ segment.ack) has
       (λ ack fresh tells.
       let told : is_some ack.sack ≡ true =
@@ -86,7 +84,7 @@ ends_recovery ends = record {
       subst (λ (n : ℕ). Ends ack w (w.recovery_point ≤ n)) tells.number (ends.with_sack ack w told recovering)) h;
   without_sack = λ now segment c s t e has sack recovering h.
       let w : CongView = e.congestion in
-      let d : ConnectionView = (with_ack now segment e c).0 in
+      let d : ConnectionView = (with_ack now segment e c).0.0 in
       taken_ends now segment c s t e (0 < newly_acked c segment) has
       (λ ack fresh tells.
       let none : ack.sack ≡ None =

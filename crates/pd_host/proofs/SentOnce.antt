@@ -9,7 +9,7 @@ use Rattle.pd_seg.specs.declared.sack_blocks.Span.{Span}
 use Rattle.pd_seg.specs.declared.segments.Segment.{Segment}
 use Rattle.pd_seg.specs.declared.segments.Sent.{Sent}
 use Rattle.pd_timer.specs.Rto.{sampled}
-use Rattle.pd_host.specs.Acknowledgments.{newly_acked, answering, with_blocks, with_number, with_ack, with_timing, is_current, taking, ack_taken, delivered_data}
+use Rattle.pd_host.specs.Acknowledgments.{newly_acked, with_blocks, with_number, with_ack, with_timing, is_current, taking, ack_taken}
 use Rattle.pd_host.specs.Arrivals.{ruled, arrived_on, arrived, ruling_of, reset_of, with_peer_fin}
 use Rattle.pd_host.specs.Calls.{called}
 use Rattle.pd_host.specs.Connection.{ConnectionView}
@@ -306,28 +306,21 @@ moved_so true now granularity c x h = measured_timed now granularity c.board.una
 moved_so false now granularity c x h = h
 
 window_so : (b : Bool) (segment : Segment) (e : Established) (c : ConnectionView) (x : Timing)
-    → (if b then record c { widest = max c.widest (window_in c segment); established = Some (with_window (window_in c segment) segment e) } else c).timed ≡ Some x
+    → (if◌then◌else◌ {A = ConnectionView × Established} b (record c { widest = max c.widest (window_in c segment) }, with_window (window_in c segment) segment e) (c, e)).0.timed ≡ Some x
     → c.timed ≡ Some x
 window_so true segment e c x h = h
 window_so false segment e c x h = h
 
-ack_timed : (now : ℕ) (segment : Segment) (e : Established) (c : ConnectionView) (x : Timing) → (with_ack now segment e c).0.timed ≡ Some x → c.timed ≡ Some x
+ack_timed : (now : ℕ) (segment : Segment) (e : Established) (c : ConnectionView) (x : Timing) → (with_ack now segment e c).0.0.timed ≡ Some x → c.timed ≡ Some x
 ack_timed now segment e c x h =
     let told : ConnectionView = with_blocks segment (with_number segment c) in
     let n : ℕ = newly_acked c segment in
     moved_so (nat_lt 0 n) now e.granularity_us told x
     (window_so (is_current e segment) segment e (with_timing now e.granularity_us n told) x h)
 
-answer_timed : (segment : Segment) (n delivered : ℕ) (fresh : Bool) (before : Established) (c : ConnectionView) (o : Option Established)
-    → (answering segment n delivered fresh before c o).0.timed ≡ c.timed
-answer_timed segment n delivered fresh before c None = refl
-answer_timed segment n delivered fresh before c (Some e) = refl
-
 taking_timed : (now : ℕ) (segment : Segment) (c : ConnectionView) (o : Option Established) (x : Timing) → (taking now segment c o).0.timed ≡ Some x → c.timed ≡ Some x
 taking_timed now segment c None x h = h
-taking_timed now segment c (Some e) x h =
-    let after : ConnectionView × Bool = with_ack now segment e c in
-    ack_timed now segment e c x (sym (answer_timed segment (newly_acked c segment) (delivered_data (newly_acked c segment) c.board after.0.board) after.1 e after.0 after.0.established) ∙ h)
+taking_timed now segment c (Some e) x h = ack_timed now segment e c x h
 
 taken_times_new : (now : ℕ) (segment : Segment) (c : ConnectionView) (s : State) (o : Option Established) → s.endpoint.connection ≡ Some c
     → Leaves (TimesNew s) (ack_taken now segment c s o)

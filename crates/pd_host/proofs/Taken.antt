@@ -1,12 +1,11 @@
 -- What an ACK that is taken leaves of a connection.
 use Rattle.std.proofs.Common.{◌≡◌, ℕ, ◌-◌, ◌||◌, Bool, true, false, nat_lt, max, List, [], ◌∷◌, Option, None, Some, if◌then◌else◌, refl, ap, ◌∙◌}
 use Rattle.pd_board.specs.Board.{BoardView, marked, has_new}
-use Rattle.pd_recover.specs.Cong.{CongView}
 use Rattle.pd_recover.specs.declared.responses.Then.{Then}
 use Rattle.pd_seg.specs.declared.sack_blocks.Span.{Span}
 use Rattle.pd_seg.specs.declared.segments.Segment.{Segment}
 use Rattle.pd_timer.specs.Rto.{initial, sampled}
-use Rattle.pd_host.specs.Acknowledgments.{newly_acked, with_number, blocks_of, is_block_sent, told_block, told_blocks, scored, with_timing, is_current, with_new_window, answering, with_blocks, with_ack, taking, ack_taken, delivered_data}
+use Rattle.pd_host.specs.Acknowledgments.{newly_acked, with_number, blocks_of, is_block_sent, told_block, told_blocks, scored, with_timing, is_current, with_new_window, with_blocks, with_ack, taking, ack_taken}
 use Rattle.pd_host.specs.Connection.{ConnectionView}
 use Rattle.pd_host.specs.Handshake.{looked_at, window_in, with_window}
 use Rattle.pd_host.specs.Sending.{with_block}
@@ -61,11 +60,10 @@ timing_keeps now granularity n c =
 abbrev pub basic : ConnectionView → ConnectionView
 basic c = record c { board = unsacked c.board; timer = initial 0 0; timed = None; widest = 0; established = None }
 
-window_keeps : (segment : Segment) (e : Established) (c : ConnectionView) → basic (with_new_window segment e c) ≡ basic c
+window_keeps : (segment : Segment) (e : Established) (c : ConnectionView) → basic (with_new_window segment e c).0 ≡ basic c
 window_keeps segment e c =
-    same_either basic (is_current e segment)
-    (record c { widest = max c.widest (window_in c segment); established = Some (with_window (window_in c segment) segment e) }) c
-    (basic c) refl refl
+    same_either (λ (x : ConnectionView × Established). basic x.0) (is_current e segment)
+    (record c { widest = max c.widest (window_in c segment) }, with_window (window_in c segment) segment e) (c, e) (basic c) refl refl
 
 -- the connection after the number, its blocks told
 abbrev told_to : Segment → ConnectionView → ConnectionView
@@ -79,7 +77,7 @@ abbrev timed_to : ℕ → Segment → Established → ConnectionView → Connect
 timed_to now segment e c = with_timing now e.granularity_us (newly_acked c segment) (told_to segment c)
 
 -- an ACK moves the number, and what isn't basic
-pub ack_keeps : (now : ℕ) (segment : Segment) (e : Established) (c : ConnectionView) → basic (with_ack now segment e c).0 ≡ basic (with_number segment c)
+pub ack_keeps : (now : ℕ) (segment : Segment) (e : Established) (c : ConnectionView) → basic (with_ack now segment e c).0.0 ≡ basic (with_number segment c)
 ack_keeps now segment e c =
     window_keeps segment e (timed_to now segment e c)
     ∙ ap basic (timing_keeps now e.granularity_us (newly_acked c segment) (told_to segment c))
@@ -87,31 +85,17 @@ ack_keeps now segment e c =
 
 -- congestion control's state is the one before it
 
-abbrev pub congestions : Option Established → Option CongView
-congestions None = None
-congestions (Some e) = Some e.congestion
-
-pub ack_leaves_congestion : (now : ℕ) (segment : Segment) (e : Established) (c : ConnectionView) → c.established ≡ Some e
-    → congestions (with_ack now segment e c).0.established ≡ Some e.congestion
-ack_leaves_congestion now segment e c has =
+pub ack_leaves_congestion : (now : ℕ) (segment : Segment) (e : Established) (c : ConnectionView)
+    → (with_ack now segment e c).0.1.congestion ≡ e.congestion
+ack_leaves_congestion now segment e c =
     let d : ConnectionView = timed_to now segment e c in
-    let same : d.established ≡ c.established =
-    ap (λ (x : ConnectionView). x.established) (timing_keeps now e.granularity_us (newly_acked c segment) (told_to segment c)) in
-    same_either (λ (x : ConnectionView). congestions x.established) (is_current e segment)
-    (record d { widest = max d.widest (window_in d segment); established = Some (with_window (window_in d segment) segment e) }) d
-    (Some e.congestion) refl (ap congestions (same ∙ has))
-
-answer_keeps : (segment : Segment) (n delivered : ℕ) (fresh : Bool) (before : Established) (c : ConnectionView) (o : Option Established)
-    → basic (answering segment n delivered fresh before c o).0 ≡ basic c
-answer_keeps segment n delivered fresh before c None = refl
-answer_keeps segment n delivered fresh before c (Some e) = refl
+    same_either (λ (x : ConnectionView × Established). x.1.congestion) (is_current e segment)
+    (record d { widest = max d.widest (window_in d segment) }, with_window (window_in d segment) segment e) (d, e) e.congestion refl refl
 
 -- taking a segment on an established connection moves the number, and what isn't basic
 pub taking_keeps : (now : ℕ) (segment : Segment) (c : ConnectionView) (e : Established)
     → basic (taking now segment c (Some e)).0 ≡ basic (with_number segment c)
-taking_keeps now segment c e =
-    let d : ConnectionView × Bool = with_ack now segment e c in
-    answer_keeps segment (newly_acked c segment) (delivered_data (newly_acked c segment) c.board d.0.board) d.1 e d.0 d.0.established ∙ ack_keeps now segment e c
+taking_keeps now segment c e = ack_keeps now segment e c
 
 -- what is sent after a segment was taken follows the connection that it left
 pub taken_sends : (now : ℕ) (segment : Segment) (c : ConnectionView) (s : State) (o : Option Established)

@@ -8,7 +8,7 @@ use Rattle.pd_timer.specs.Laws.{GoesBy, StaysWithin}
 use Rattle.pd_timer.specs.Rto.{RtoView, initial, sampled, started, restarted, stopped, expired_rto, reinitialized}
 use Rattle.pd_recover.specs.declared.segments.NextSegment.{NextSegment}
 use Rattle.pd_recover.specs.declared.segments.NextSegment.TheVariants.{Lost, New, Hole, Rescue}
-use Rattle.pd_host.specs.Acknowledgments.{newly_acked, with_number, with_blocks, with_timing, is_current, with_new_window, with_ack, answering, taking, sent_as, noted_on, entered_on, delivered_data}
+use Rattle.pd_host.specs.Acknowledgments.{newly_acked, with_number, with_blocks, with_timing, is_current, with_new_window, with_ack, taking, sent_as, noted_on, entered_on}
 use Rattle.pd_host.specs.Calls.{with_fin, closed_stream}
 use Rattle.pd_host.specs.Connection.{ConnectionView}
 use Rattle.pd_host.specs.Handshake.{syn_acked}
@@ -85,26 +85,19 @@ module _ (within : StaysWithin) where
       (λ _. moved_timely b now (with_sample now granularity c.board.una c) (measured_timely b now granularity c.board.una c c.timed h)) (λ _. h)
 
   window_timely : (b : Settings) (now : ℕ) (segment : Segment) (e : Established) (c : ConnectionView) → Timely b now c
-      → Timely b now (with_new_window segment e c)
-  window_timely b now segment e c h = by_test (Timely b now) (is_current e segment) _ c (λ _. h) (λ _. h)
+      → Timely b now (with_new_window segment e c).0
+  window_timely b now segment e c h = by_test (λ (p : ConnectionView × Established). Timely b now p.0) (is_current e segment) _ (c, e) (λ _. h) (λ _. h)
 
   ack_timely : (b : Settings) (now : ℕ) (segment : Segment) (e : Established) (c : ConnectionView) → Timely b now c
-      → Timely b now (with_ack now segment e c).0
+      → Timely b now (with_ack now segment e c).0.0
   ack_timely b now segment e c h =
       window_timely b now segment e _
       (timing_timely b now e.granularity_us (newly_acked c segment) (with_blocks segment (with_number segment c)) h)
 
-  answering_timely : (b : Settings) (now : ℕ) (segment : Segment) (n delivered : ℕ) (fresh : Bool) (e : Established) (c : ConnectionView) (o : Option Established)
-      → Timely b now c → Timely b now (answering segment n delivered fresh e c o).0
-  answering_timely b now segment n delivered fresh e c None h = h
-  answering_timely b now segment n delivered fresh e c (Some after) h = h
-
   taking_timely : (b : Settings) (now : ℕ) (segment : Segment) (c : ConnectionView) (o : Option Established) → Timely b now c
       → Timely b now (taking now segment c o).0
   taking_timely b now segment c None h = h
-  taking_timely b now segment c (Some e) h =
-      answering_timely b now segment (newly_acked c segment) (delivered_data (newly_acked c segment) c.board (with_ack now segment e c).0.board) (with_ack now segment e c).1 e (with_ack now segment e c).0
-      (with_ack now segment e c).0.established (ack_timely b now segment e c h)
+  taking_timely b now segment c (Some e) h = ack_timely b now segment e c h
 
   -- what is noted of loss recovery leaves the timer
   noted_timely : (b : Settings) (now : ℕ) (filling : Filling) (sent : NextSegment) (c : ConnectionView) (o : Option Established) → Timely b now c

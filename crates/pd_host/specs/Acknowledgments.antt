@@ -82,11 +82,11 @@ abbrev pub is_current : Established → Segment → Bool
 is_current e segment = nat_lt e.wl1 segment.start || (e.wl1 == segment.start && nat_le e.wl2 segment.ack)
 
 -- the window is taken unless the segment is old (RFC 9293, section 3.10.7.4: SND.WL1 and SND.WL2)
-abbrev pub with_new_window : Segment → Established → ConnectionView → ConnectionView
+abbrev pub with_new_window : Segment → Established → ConnectionView → ConnectionView × Established
 with_new_window segment e c =
     if is_current e segment
-    then record c { widest = max c.widest (window_in c segment); established = Some (with_window (window_in c segment) segment e) }
-    else c
+    then (record c { widest = max c.widest (window_in c segment) }, with_window (window_in c segment) segment e)
+    else (c, e)
 
 -- What congestion control makes of the ACK
 
@@ -99,17 +99,17 @@ news_of fresh c = if c.sack then Some (record { fresh = fresh; lost = fresh && i
 abbrev pub delivered_data : ℕ → BoardView → BoardView → ℕ
 delivered_data n before after = n + sacked_octets after - sacked_octets before
 
--- what the ACK tells congestion control: where the connection is after it
-abbrev pub ack_of_segment : Segment → ℕ → ℕ → Bool → Established → Established → ConnectionView → Ack
-ack_of_segment segment n delivered fresh before after c = record {
+-- what the ACK tells congestion control: where the connection is after it, and the peer's window before it
+abbrev pub ack_of_segment : Segment → ℕ → ℕ → Bool → ℕ → Established → ConnectionView → Ack
+ack_of_segment segment n delivered fresh rwnd e c = record {
   smss = c.board.smss;
   una = c.board.una;
   top = c.board.top;
   end = c.board.end;
-  rwnd = after.rwnd;
+  rwnd = e.rwnd;
   acked = n;
   delivered = delivered;
-  same_window = window_in c segment == before.rwnd;
+  same_window = window_in c segment == rwnd;
   fin = segment.flags.fin;
   sack = news_of fresh c;
 }
@@ -130,20 +130,15 @@ responding c e ack =
     let after = record response.0 { cwnd = window_after response.1 c response.0 } in
     (record c { established = Some (record e { congestion = after }) }, response.1)
 
--- the same of a segment, on the connection after it: nothing follows before the end of the handshake
-abbrev pub answering : Segment → ℕ → ℕ → Bool → Established → ConnectionView → Option Established → ConnectionView × Then
-answering segment n delivered fresh before c None = (c, Nothing)
-answering segment n delivered fresh before c (Some after) =
-    responding c after (ack_of_segment segment n delivered fresh before after c)
-
 -- A segment that passed all checks, on a connection
 
 -- the octets of its blocks are SACKed (RFC 2018, section 5)
 abbrev pub with_blocks : Segment → ConnectionView → ConnectionView
 with_blocks segment c = record c { board = (scored segment c).0 }
 
--- the connection after the ack number, the SACK blocks, the timer and the window, and whether the blocks told a new octet
-abbrev pub with_ack : ℕ → Segment → Established → ConnectionView → ConnectionView × Bool
+-- the connection after the ack number, the SACK blocks, the timer and the window, with what it has since its establishment,
+-- and whether the blocks told a new octet
+abbrev pub with_ack : ℕ → Segment → Established → ConnectionView → (ConnectionView × Established) × Bool
 with_ack now segment e c =
     let numbered = with_number segment c in
     let timed = with_timing now e.granularity_us (newly_acked c segment) (with_blocks segment numbered) in
@@ -155,7 +150,8 @@ taking now segment c None = (c, Nothing)
 taking now segment c (Some e) =
     let after = with_ack now segment e c in
     let n = newly_acked c segment in
-    answering segment n (delivered_data n c.board after.0.board) after.1 e after.0 after.0.established
+    responding after.0.0 after.0.1
+    (ack_of_segment segment n (delivered_data n c.board after.0.0.board) after.1 e.rwnd after.0.1 after.0.0)
 
 -- What follows
 

@@ -3,7 +3,7 @@ ghost use Rattle.std.specs.Prelude.{◌≡◌, ◌+◌, ◌-◌, ◌≤◌, ◌<
 ghost use Rattle.pd_board.specs.Choice.{run_at};
 ghost use Rattle.pd_board.specs.Loss.{sacked_octets};
 ghost use Rattle.pd_recover.specs.Choice.{IsSendable, segment_of};
-ghost use Rattle.pd_host.specs.Acknowledgments.{told_block, told_blocks, blocks_in, blocks_of, with_blocks, scored, with_timing, with_new_window, news_of, paced_on, with_ack, answering, taking, next_found, sent_as, noted_by, noted_on, octets_of, pipe_of, entered_on};
+ghost use Rattle.pd_host.specs.Acknowledgments.{told_block, told_blocks, blocks_in, blocks_of, with_blocks, scored, with_timing, with_new_window, news_of, paced_on, with_ack, ack_of_segment, responding, taking, next_found, sent_as, noted_by, noted_on, octets_of, pipe_of, entered_on};
 ghost use Rattle.pd_host.specs.Handshake.{looked_at};
 ghost use Rattle.pd_host.specs.Steps.{FollowsQueued};
 
@@ -101,35 +101,36 @@ impl Connection {
         ensures next { IfOk result (λ next. next ≡ (taking now segment.now self.old self.old.established).1) }
         ensures queued { IfOk result (λ next. FollowsQueued next self.new) }
     {
-        let Some(before) = self.established else {
+        let Some(mut established) = self.established else {
             return Ok(Then::Nothing);
         };
+        let rwnd = established.rwnd;
         let acked = segment.ack - self.board.una();
         let sacked = self.board.sacked_octets();
-        let fresh = self.take_ack(segment, &before, now)?;
+        let fresh = self.take_ack(segment, &mut established, now)?;
         let delivered = self.delivered(acked, sacked);
-        Ok(self.answer(segment, acked, delivered, fresh, &before))
+        Ok(self.answer(segment, acked, delivered, fresh, rwnd, established))
     }
 
     /// The number, the blocks, the timer and the window of a segment are taken: whether the blocks told a new octet.
     fn take_ack(
         &mut self,
         segment: &Segment,
-        before: &Established,
+        established: &mut Established,
         now: u64,
     ) -> Result<bool, AllocError>
         requires early { now < 2 ^ 62 }
-        requires established { self.old.established ≡ Some before.now }
+        requires established { self.old.established ≡ Some established.old }
         requires known { self.old.board.una ≤ segment.now.ack }
         requires sent { segment.now.ack ≤ self.old.board.top }
-        ensures taken { OnOk result (self.new ≡ (with_ack now segment.now before.now self.old).0) }
-        ensures fresh { IfOk result (λ fresh. fresh ≡ (with_ack now segment.now before.now self.old).1) }
+        ensures taken { OnOk result ((self.new, established.new) ≡ (with_ack now segment.now established.old self.old).0) }
+        ensures fresh { IfOk result (λ fresh. fresh ≡ (with_ack now segment.now established.old self.old).1) }
     {
         let acked = segment.ack - self.board.una();
         self.board.take_ack(segment.ack);
         let fresh = self.score(segment)?;
-        self.time(acked, before.granularity_us, now);
-        self.renew_window(segment, before);
+        self.time(acked, established.granularity_us, now);
+        self.renew_window(segment, established);
         Ok(fresh)
     }
 
@@ -167,17 +168,14 @@ impl Connection {
     }
 
     /// The window is taken, unless the segment is old.
-    fn renew_window(&mut self, segment: &Segment, before: &Established)
-        ensures { self.new ≡ with_new_window segment.now before.now self.old }
+    fn renew_window(&mut self, segment: &Segment, established: &mut Established)
+        ensures { (self.new, established.new) ≡ with_new_window segment.now established.old self.old }
     {
-        if !before.is_current(segment) {
-            return;
+        if established.is_current(segment) {
+            let window = self.window_in(segment);
+            established.take_window(segment, window);
+            self.widest = self.widest.max(window);
         }
-        let window = self.window_in(segment);
-        let mut after = *before;
-        after.take_window(segment, window);
-        self.widest = self.widest.max(window);
-        self.established = Some(after);
     }
 
     /// What the blocks tell, where SACK was agreed.
@@ -198,15 +196,13 @@ impl Connection {
         acked: u32,
         delivered: u32,
         fresh: bool,
-        before: &Established,
+        rwnd: u32,
+        mut after: Established,
     ) -> Then
-        ensures told { self.new ≡ (answering segment.now acked delivered fresh before.now self.old self.old.established).0 }
-        ensures next { result ≡ (answering segment.now acked delivered fresh before.now self.old self.old.established).1 }
+        ensures told { self.new ≡ (responding self.old after (ack_of_segment segment.now acked delivered fresh rwnd after self.old)).0 }
+        ensures next { result ≡ (responding self.old after (ack_of_segment segment.now acked delivered fresh rwnd after self.old)).1 }
         ensures queued { FollowsQueued result self.new }
     {
-        let Some(mut after) = self.established else {
-            return Then::Nothing;
-        };
         let ack = Ack {
             smss: self.board.smss(),
             una: self.board.una(),
@@ -215,7 +211,7 @@ impl Connection {
             rwnd: after.rwnd,
             acked,
             delivered,
-            same_window: self.window_in(segment) == before.rwnd,
+            same_window: self.window_in(segment) == rwnd,
             fin: segment.flags.fin,
             sack: self.news(fresh),
         };
