@@ -1,12 +1,12 @@
 //! The scoreboard of a sender.
 ghost use Rattle.std.specs.Prelude.{◌≡◌, ◌+◌, ◌≤◌, ◌<◌, ◌^◌, true, false, IfOk, OnOk, OnErr, IsErr, ◌↔◌};
 ghost use Rattle.pd_board.specs.Board.{IsBoardView, opened, written, sent_to, acknowledged, marked, has_new, unmarked, skipped, without_memory};
-ghost use Rattle.pd_board.specs.Loss.{is_lost, pipe, sacked_octets};
+ghost use Rattle.pd_board.specs.Loss.{is_lost, pipe, sacked_octets, sacked_above, runs_above};
 ghost use Rattle.pd_board.specs.Choice.{run_at, next_lost, next_hole, rescue};
 ghost use Rattle.pd_board.specs.Runs.{AreRuns};
 
 use crate::counts::{
-    after_last_free, after_last_marked, count_above, count_pipe, first_free, first_marked,
+    Above, after_last_free, after_last_marked, count_above, count_pipe, first_free, first_marked,
 };
 use crate::ranges::Ranges;
 use pd_seg::Span;
@@ -221,6 +221,16 @@ impl Board {
         }
         let first = self.una.max(x + 1);
         count_above(&self.ranges, self.una, first, self.top).makes_lost(self.smss)
+    }
+
+    /// How many SACKed octets lie above `x`, and how many runs of them wholly above it (RFC 6675, section 4, IsLost).
+    pub fn above(&self, x: u32) -> Above
+        requires low { self.now.una ≤ x }
+        requires high { x ≤ self.now.top }
+        ensures octets { result.octets ≡ sacked_above x self.now }
+        ensures runs { result.runs ≡ runs_above x self.now }
+    {
+        count_above(&self.ranges, self.una, x + 1, self.top)
     }
 
     /// How many octets from `una` on and below `top` SACK blocks told (RFC 6937, section 3: SACKd).

@@ -7,5 +7,5 @@ mod laws;
 mod ranges;
 
 pub use board::Board;
-pub use counts::DUP_THRESH;
+pub use counts::{Above, DUP_THRESH};
 pub use laws::losses_are_lawful;

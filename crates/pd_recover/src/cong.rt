@@ -203,6 +203,13 @@ impl Cong {
         self.recovering
     }
 
+    /// RecoveryPoint, as the number after its octet (RFC 6675, section 5, step 4.1; an expiry's, section 5.1).
+    pub fn recovery_point(&self) -> u32
+        ensures { result ≡ self.now.recovery_point }
+    {
+        self.recovery_point
+    }
+
     /// HighRxt, as the number after the highest octet that this recovery has sent again; `una` at the duplicates
     /// before one begins (RFC 6675, sections 2 and 5).
     pub fn high_rxt(&self) -> u32

@@ -1,7 +1,8 @@
 -- The retransmission timer (RFC 6298). All times are in microseconds.
-use Rattle.std.specs.Prelude.{ℕ, ◌+◌, ◌-◌, ◌*◌, ◌/◌, ◌^◌, ◌<◌, ◌≤◌, min, max, Option, Some, None, is_some, if◌then◌else◌}
+use Rattle.std.specs.Prelude.{ℕ, ◌+◌, ◌-◌, ◌*◌, ◌/◌, ◌^◌, ◌<◌, ◌≤◌, min, max, nat_lt, Option, Some, None, is_some, option_map, if◌then◌else◌}
 use Rattle.std.specs.Option.{ForSome}
 use Rattle.pd_timer.specs.declared.estimate.Estimate.{Estimate}
+use Rattle.pd_timer.specs.declared.estimate.Timeout.{Timeout}
 
 -- the retransmission timer with what was measured, RTO and its bounds (section 2)
 pub record RtoView : Type 0 where
@@ -70,6 +71,23 @@ estimate_after r (Some e) = next_estimate r e
 -- RTO = SRTT + max(G, 4 RTTVAR) (sections 2.2 and 2.3)
 abbrev pub timeout_of : ℕ → Estimate → ℕ
 timeout_of granularity e = e.srtt + max granularity (4 * e.rttvar)
+
+-- G, where it stands in the place of a smaller 4 RTTVAR (sections 2.2 and 2.3)
+abbrev pub granularity_in : ℕ → Estimate → Option ℕ
+granularity_in granularity e = if nat_lt (4 * e.rttvar) granularity then Some granularity else None
+
+-- how RTO comes from what was measured: before its bounds and within them (sections 2.2 to 2.5)
+abbrev pub timeout_by : ℕ → ℕ → ℕ → Estimate → Timeout
+timeout_by least greatest granularity e = record {
+  estimate = e;
+  granularity_us = granularity_in granularity e;
+  computed_us = timeout_of granularity e;
+  bounded_us = clamped least greatest (timeout_of granularity e);
+}
+
+-- the same of a timer, once a round trip was measured
+abbrev pub timeout_in : ℕ → RtoView → Option Timeout
+timeout_in granularity t = option_map {T = Estimate} (timeout_by t.min_rto_us t.max_rto_us granularity) t.estimate
 
 -- a round trip is measured (sections 2.2 to 2.5)
 abbrev pub sampled : ℕ → ℕ → RtoView → RtoView

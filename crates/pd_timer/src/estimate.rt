@@ -1,6 +1,6 @@
 //! What was measured of the round trip.
 ghost use Rattle.std.specs.Prelude.{◌≡◌, ◌<◌, ◌^◌};
-ghost use Rattle.pd_timer.specs.Rto.{IsEstimate, first_estimate, next_estimate, timeout_of};
+ghost use Rattle.pd_timer.specs.Rto.{IsEstimate, first_estimate, next_estimate, timeout_of, granularity_in};
 
 /// SRTT and RTTVAR, the smoothed round-trip time and its variation, in microseconds (RFC 6298, section 2).
 #[derive(Clone, Copy)]
@@ -9,6 +9,19 @@ pub struct Estimate {
     pub srtt: u64,
     /// RTTVAR, the round-trip time variation, in microseconds below 2^62 (RFC 6298, section 2).
     pub rttvar: u64,
+}
+
+/// How RTO comes from what was measured, in microseconds (RFC 6298, section 2).
+#[derive(Clone, Copy)]
+pub struct Timeout {
+    /// SRTT and RTTVAR.
+    pub estimate: Estimate,
+    /// G, the clock's granularity, where it stands in the place of a smaller 4 * RTTVAR.
+    pub granularity_us: Option<u64>,
+    /// SRTT + max(G, 4 * RTTVAR), before it is held within its bounds: below 2^65.
+    pub computed_us: u128,
+    /// The same within its bounds.
+    pub bounded_us: u64,
 }
 
 impl Estimate {
@@ -46,5 +59,17 @@ impl Estimate {
         ensures { result ≡ timeout_of granularity_us self }
     {
         u128::from(self.srtt) + u128::from(granularity_us.max(4 * self.rttvar))
+    }
+
+    /// The clock's granularity, in microseconds, where it stands in the place of a smaller 4 * RTTVAR.
+    pub fn granularity(self, granularity_us: u64) -> Option<u64>
+        requires { IsEstimate self }
+        ensures { result ≡ granularity_in granularity_us self }
+    {
+        if 4 * self.rttvar < granularity_us {
+            Some(granularity_us)
+        } else {
+            None
+        }
     }
 }

@@ -5,6 +5,6 @@ mod estimate;
 mod laws;
 mod timer;
 
-pub use estimate::Estimate;
+pub use estimate::{Estimate, Timeout};
 pub use laws::timers_are_lawful;
 pub use timer::Rto;

@@ -1,8 +1,8 @@
 //! The timer: its timeout, and the moment of the next expiry while it runs.
 ghost use Rattle.std.specs.Prelude.{◌≡◌, ◌<◌, ◌^◌};
-ghost use Rattle.pd_timer.specs.Rto.{IsRtoView, initial, clamped, sampled, started, restarted, stopped, expired_rto, reinitialized};
+ghost use Rattle.pd_timer.specs.Rto.{IsRtoView, initial, clamped, sampled, started, restarted, stopped, expired_rto, reinitialized, timeout_in};
 
-use crate::estimate::Estimate;
+use crate::estimate::{Estimate, Timeout};
 use pd_settings::Settings;
 use std::alloc::AllocError;
 use std::marker::Model;
@@ -93,6 +93,25 @@ impl Rto {
         ensures known { IsRtoView self.now }
     {
         self.deadline
+    }
+
+    /// How the timeout comes from what was measured, with a clock of this granularity in microseconds; nothing before any
+    /// measurement.
+    pub fn timeout(&self, granularity_us: u64) -> Option<Timeout>
+        ensures { result ≡ timeout_in granularity_us self.now }
+    {
+        match self.estimate {
+            None => None,
+            Some(estimate) => {
+                let computed_us = estimate.timeout(granularity_us);
+                Some(Timeout {
+                    estimate,
+                    granularity_us: estimate.granularity(granularity_us),
+                    computed_us,
+                    bounded_us: clamp(computed_us, self.min_rto_us, self.max_rto_us),
+                })
+            }
+        }
     }
 
     /// Takes a measured round-trip time and the clock's granularity, both in microseconds (RFC 6298, sections 2.2
