@@ -32,6 +32,7 @@ pub mod Karn
 pub mod Kept
 pub mod LastOctet
 pub mod Moments
+pub mod Needed
 pub mod OneByOne
 pub mod OptionLists
 pub mod Outcomes

@@ -22,5 +22,6 @@ pub mod SendingLaws
 pub mod Invariants
 pub mod Outcome
 pub mod Figures
+pub mod Evidence
 pub mod Holds
 pub mod Inner

@@ -12,6 +12,7 @@ ghost use Rattle.pd_host.specs.Timing.{with_sample, with_timer_settled};
 
 pub mod acknowledgments;
 pub mod checks;
+pub mod evidence;
 mod expiring;
 pub mod observing;
 mod packets;

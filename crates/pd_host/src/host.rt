@@ -4,6 +4,7 @@ ghost use Rattle.pd_host.specs.Arrivals.{arrived};
 ghost use Rattle.pd_host.specs.Calls.{called};
 ghost use Rattle.pd_host.specs.ConnStates.{conn_state};
 ghost use Rattle.pd_host.specs.Outcome.{Goes, Answers};
+ghost use Rattle.pd_host.specs.Evidence.{duplicates_in, measured_in, AreSacked};
 ghost use Rattle.pd_host.specs.Expiries.{advanced, deadline_of};
 ghost use Rattle.pd_host.specs.Figures.{figures_in, wanted_in};
 ghost use Rattle.pd_host.specs.Growth.{asked_by, HasRoomFor};
@@ -13,6 +14,7 @@ ghost use Rattle.pd_host.specs.Requests.{request_of};
 ghost use Rattle.pd_host.specs.Host.{fresh_host, without_oldest, exhausted, end_of};
 ghost use Rattle.pd_host.specs.declared.halts.Ending.TheVariants.{OutOfMemory};
 
+use crate::connection::evidence::Duplicate;
 use crate::connection::observing::Hold;
 use crate::connection::states::ConnState;
 use crate::endpoint::{Endpoint, State};
@@ -21,8 +23,9 @@ use crate::halts::{Ending, Halt};
 use crate::outbox::Outbox;
 use crate::requests::Request;
 use pd_script::Call;
-use pd_seg::{Answer, Segment, Sent};
+use pd_seg::{Answer, Segment, Sent, Span};
 use pd_settings::{Settings, UseSet};
+use pd_timer::Timeout;
 use std::alloc::{AllocError, Global};
 use std::marker::Model;
 
@@ -168,6 +171,36 @@ impl Host {
         match &self.state.endpoint.connection {
             None => Ok(None),
             Some(connection) => Ok(Some(connection.wanted_octet()?)),
+        }
+    }
+
+    /// What a duplicate leads to; nothing where no octet is outstanding, loss recovery goes on, or no connection is established.
+    pub fn duplicates(&self) -> Option<Duplicate>
+        ensures { result ≡ duplicates_in self.now.state }
+    {
+        match &self.state.endpoint.connection {
+            None => None,
+            Some(connection) => connection.duplicates(),
+        }
+    }
+
+    /// How the timeout comes from what was measured of round trips; nothing before any measurement.
+    pub fn timeout(&self) -> Option<Timeout>
+        ensures { result ≡ measured_in self.now.state }
+    {
+        match &self.state.endpoint.connection {
+            None => None,
+            Some(connection) => connection.timeout(),
+        }
+    }
+
+    /// The maximal runs of octets that SACK blocks told, in ascending order; none before a SYN has begun a connection.
+    pub fn sacked_runs(&self) -> &[Span]
+        ensures { AreSacked self.now.state result.now }
+    {
+        match &self.state.endpoint.connection {
+            None => &[],
+            Some(connection) => connection.sacked_runs(),
         }
     }
 

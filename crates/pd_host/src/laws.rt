@@ -1,5 +1,6 @@
 //! Laws of the rules: functions without code, whose contracts are the laws.
 ghost use Rattle.pd_host.specs.Growth.{ExpiriesQueueNothing, ArrivalsQueueOurSyn, CallsQueueWhatTheyAsk, CallsAskFew};
+ghost use Rattle.pd_host.specs.Evidence.{NeededIsNeeded};
 ghost use Rattle.pd_host.specs.Figure.{FollowsFigure};
 ghost use Rattle.pd_host.specs.Holds.{OpenHoldsSend};
 ghost use Rattle.pd_host.specs.Laws.{StartsUpToDate, AdvancesKeepUp, ArrivalsKeepUp, CallsKeepUp, TakingKeepsUp};
@@ -86,6 +87,11 @@ pub fn states_are_lawful()
 /// Where nothing holds a segment back ordinary sending finds one, and only there.
 pub fn holds_are_lawful()
     ensures { OpenHoldsSend }
+{}
+
+/// What is said to begin loss recovery begins it, and nothing less does.
+pub fn evidence_is_needed()
+    ensures { NeededIsNeeded }
 {}
 
 /// How much an input queues at most.
