@@ -32,6 +32,9 @@ _FACTS = {
     "tolerance_us": "tolerance",
     "early_us": "early by",
     "timer_us": "timer expires",
+    "rto_words": "RTO",
+    "recovery_words": "recovery",
+    "sacked_words": "SACKed",
     "rule_words": "rule",
     "limit": "limit",
 }

@@ -16,6 +16,7 @@ use Rattle.pd_run.specs.declared.stops.Stopped.{Stopped}
 use Rattle.pd_run.specs.declared.whys.Why.{Why}
 use Rattle.pd_run.specs.declared.whys.Why.TheVariants as why
 use Rattle.pd_explain.specs.Columns.{time_since, comment_of, lined_up}
+use Rattle.pd_explain.specs.Prospects.{IsProspects}
 use Rattle.pd_explain.specs.Senders.{standing_of, reason_of}
 use Rattle.pd_explain.specs.Shown.{shown}
 use Rattle.pd_explain.specs.Unasked.{CountsUnasked}
@@ -52,6 +53,7 @@ Tells time e before (why.Differs kind sent r) (failed.Packet c) =
     (c.kind ≡ kind) × (c.at ≡ sent.at) × ShowsPackets (shown time) e.action sent r.base c × CountsUnasked e r c.unasked
 Tells time e before why.Missing (failed.Missing w) =
     (w.reason ≡ reason_of e.action (hold_in before.host.state)) × (w.expiry ≡ deadline_of before.host.state)
+    × IsProspects before.host.state w.prospects
 Tells time e before (why.Answered answer r) (failed.Result reply) = reply.answer.items ≡ answer_text answer
 Tells time e before (why.Barred Backwards) (failed.Backwards setback) = setback.base ≡ before.base
 Tells time e before _ _ = ⊥

@@ -3,6 +3,7 @@ pub mod Columns
 pub mod Senders
 pub mod Reasons
 pub mod Unasked
+pub mod Prospects
 pub mod Failures
 pub mod Causes
 pub mod Pasted

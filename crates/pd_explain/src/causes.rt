@@ -7,6 +7,8 @@ mod failing;
 mod failures;
 mod moments;
 mod pasted_laws;
+mod phrases;
+mod prospects;
 mod reasons;
 mod unasked;
 mod untaken;
@@ -19,6 +21,8 @@ pub use self::failures::{
     Awaited, Comparison, Failed, Failure, Reply, SenderSnapshot, Setback, Untaken, Wait,
 };
 pub use self::pasted_laws::actual_packets_pass;
+pub use self::prospects::{Prospects, Sacked};
+pub(crate) use self::prospects::{bound_of, computed_us, span_text};
 pub use self::reasons::Reason;
 pub(crate) use self::untaken::list_untaken;
 pub use self::window_laws::named_windows_hold;

@@ -21,8 +21,8 @@ mod taking_up;
 
 pub use blocks::{block_json, block_text, cause_text, ending_json, ending_text, write_standing};
 pub use causes::{
-    Awaited, Cause, Comparison, Failed, Failure, Reason, Reply, SenderSnapshot, Setback, Untaken,
-    Wait, actual_packets_pass, cause_at, named_windows_hold,
+    Awaited, Cause, Comparison, Failed, Failure, Prospects, Reason, Reply, Sacked, SenderSnapshot,
+    Setback, Untaken, Wait, actual_packets_pass, cause_at, named_windows_hold,
 };
 pub use endings::{Ending, find_ending, passes_have_ends};
 pub use explaining::{explain, explain_job};

@@ -2,9 +2,13 @@
 ghost use Rattle.std.specs.Prelude.{◌≡◌};
 ghost use Rattle.pd_explain.specs.States.{state_word};
 
-use crate::causes::{Awaited, Cause, Comparison, Failed, Reply, SenderSnapshot, Setback, Wait};
+use crate::causes::{
+    Awaited, Cause, Comparison, Failed, Prospects, Reply, SenderSnapshot, Setback, Wait, bound_of,
+    computed_us,
+};
 use crate::rules::Rule;
-use pd_host::{ConnState, Figures, Recovery, Windows};
+use pd_host::{ConnState, Duplicate, Evidence, Figures, Recovery, Windows};
+use pd_timer::Timeout;
 use std::alloc::{AllocError, Global};
 
 /// A fact that is reported.
@@ -124,14 +128,93 @@ fn put_wait<'a>(facts: &mut Facts<'a>, wait: &'a Wait) -> Result<(), AllocError>
         )])?,
         Some(awaited) => put_awaited(facts, awaited)?,
     }
+    facts.extend_from_slice(&[named(
+        "timer expires",
+        "timer_us",
+        at_or(wait.expiry, "never, it doesn't run"),
+    )])?;
+    put_timeout(facts, &wait.prospects)?;
     facts.extend_from_slice(&[
-        named(
-            "timer expires",
-            "timer_us",
-            at_or(wait.expiry, "never, it doesn't run"),
-        ),
         named("reason", "reason_words", Octets(&wait.words)),
         named("", "reason", Words(wait.reason.key())),
+    ])?;
+    put_duplicates(facts, &wait.prospects)?;
+    put_sacked(facts, &wait.prospects)
+}
+
+/// Adds how RTO comes about, where the timer runs and a round trip was measured.
+fn put_timeout<'a>(facts: &mut Facts<'a>, prospects: &'a Prospects) -> Result<(), AllocError> {
+    let words = &prospects.timeout_words;
+    match prospects.timeout {
+        Some(timeout) if !words.is_empty() => {
+            facts.extend_from_slice(&[
+                named("RTO", "rto_words", Octets(words)),
+                named("", "srtt_us", Moment(timeout.estimate.srtt)),
+                named("", "rttvar_us", Moment(timeout.estimate.rttvar)),
+                named("", "computed_rto_us", Moment(computed_us(timeout))),
+                named("", "bounded_rto_us", Moment(timeout.bounded_us)),
+            ])?;
+            put_movers(facts, timeout)
+        }
+        _ => Ok(()),
+    }
+}
+
+/// Adds the settings that move RTO.
+fn put_movers<'a>(facts: &mut Facts<'a>, timeout: Timeout) -> Result<(), AllocError> {
+    if let Some(granularity_us) = timeout.granularity_us {
+        facts.extend_from_slice(&[named("", "granularity_us", Moment(granularity_us))])?;
+    }
+    match bound_of(timeout) {
+        Some(setting) => facts.extend_from_slice(&[named("", "rto_bound", Words(setting))]),
+        None => Ok(()),
+    }
+}
+
+/// Adds what a duplicate leads to, where that is told.
+fn put_duplicates<'a>(facts: &mut Facts<'a>, prospects: &'a Prospects) -> Result<(), AllocError> {
+    let words = &prospects.duplicates_words;
+    match prospects.duplicates {
+        Some(duplicates) if !words.is_empty() => {
+            facts.extend_from_slice(&[named("recovery", "recovery_words", Octets(words))])?;
+            match duplicates {
+                Duplicate::Below(number) => {
+                    facts.extend_from_slice(&[figure("", "counts_from", number)])
+                }
+                Duplicate::Counted(evidence) => put_evidence(facts, evidence),
+            }
+        }
+        _ => Ok(()),
+    }
+}
+
+/// Adds what has come of what shows a loss, and how much has to come.
+fn put_evidence<'a>(facts: &mut Facts<'a>, evidence: Evidence) -> Result<(), AllocError> {
+    facts.extend_from_slice(&[
+        figure("", "duplicates", evidence.dup_acks),
+        figure("", "duplicates_needed", evidence.needed),
+    ])?;
+    match evidence.sacked {
+        None => Ok(()),
+        Some(above) => facts.extend_from_slice(&[
+            figure("", "sacked_octets", above.octets),
+            figure("", "sacked_octets_exceeded", above.most),
+            named("", "sacked_ranges", Number(above.runs as u64)),
+            named("", "sacked_ranges_needed", Number(above.needed as u64)),
+        ]),
+    }
+}
+
+/// Adds what is SACKed, where something is.
+fn put_sacked<'a>(facts: &mut Facts<'a>, prospects: &'a Prospects) -> Result<(), AllocError> {
+    let words = &prospects.sacked_words;
+    if words.is_empty() {
+        return Ok(());
+    }
+    let more = Number(prospects.sacked.more as u64);
+    facts.extend_from_slice(&[
+        named("SACKed", "sacked_words", Octets(words)),
+        named("", "more_sacked", more),
     ])
 }
 

@@ -1,7 +1,7 @@
 //! The block of an explanation as a JSON object.
 use crate::blocks::facts::{Fact, Told, facts_of, facts_of_sender, named, state_name};
 use crate::blocks::headings::{ending_words, first_words, verdict_name};
-use crate::causes::{Cause, SenderSnapshot, Untaken};
+use crate::causes::{Cause, Failed, SenderSnapshot, Untaken, span_text};
 use crate::endings::Ending;
 use crate::explanations::Explanation;
 use crate::refusals::Refusal;
@@ -104,8 +104,27 @@ fn put_cause(alloc: Global, object: &mut Members, cause: &Cause) -> Result<(), A
     match cause {
         Cause::Syntax(refusal) => put_refusal(alloc, object, refusal),
         Cause::Rule(ruling) => put_ruling(alloc, object, ruling),
-        Cause::Failed(failure) => put_left(alloc, object, &failure.untaken, &failure.standing),
+        Cause::Failed(failure) => {
+            put_sacked(alloc, object, &failure.failed)?;
+            put_left(alloc, object, &failure.untaken, &failure.standing)
+        }
     }
+}
+
+/// Adds the ranges of octets that are SACKed as a list, where a packet wasn't sent and some are.
+fn put_sacked(alloc: Global, object: &mut Members, failed: &Failed) -> Result<(), AllocError> {
+    let Failed::Missing(wait) = failed else {
+        return Ok(());
+    };
+    let runs = &wait.prospects.sacked.runs;
+    if runs.is_empty() {
+        return Ok(());
+    }
+    let mut list = Vec::new(alloc);
+    for run in runs {
+        list.push(letters(alloc, &span_text(alloc, *run)?)?)?;
+    }
+    put(object, alloc, "sacked", Value::Array(list))
 }
 
 fn put_facts(alloc: Global, object: &mut Members, facts: &[Fact<'_>]) -> Result<(), AllocError> {

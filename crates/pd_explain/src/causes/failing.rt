@@ -7,6 +7,7 @@ ghost use Rattle.pd_print.specs.Answers.{answer_text};
 ghost use Rattle.pd_run.specs.Limits.{is_long, written_times};
 ghost use Rattle.pd_run.specs.Times.{moments_of};
 ghost use Rattle.pd_explain.specs.Failures.{is_failure, sender_at, ShowsPackets, Tells, IsFailureOf};
+ghost use Rattle.pd_explain.specs.Prospects.{IsProspects};
 ghost use Rattle.pd_explain.specs.Senders.{standing_of, reason_of};
 ghost use Rattle.pd_explain.specs.Unasked.{CountsUnasked};
 ghost use Rattle.pd_explain.specs.Inner.{awaited_of};
@@ -17,6 +18,7 @@ use crate::causes::failures::{
     Awaited, Comparison, Failed, Failure, Reply, SenderSnapshot, Setback, Wait,
 };
 use crate::causes::moments::moments_of;
+use crate::causes::prospects::prospects_of;
 use crate::causes::reasons::Reason;
 use crate::causes::unasked::count_unasked;
 use crate::causes::untaken::list_untaken;
@@ -139,6 +141,7 @@ fn wait(
 ) -> Result<Wait, AllocError>
     ensures reason { IfOk result (λ wait. wait.reason ≡ reason_of event.now.action (hold_in before.now.host.state)) }
     ensures expiry { IfOk result (λ wait. wait.expiry ≡ deadline_of before.now.host.state) }
+    ensures prospects { IfOk result (λ wait. IsProspects before.now.host.state wait.prospects) }
 {
     let host = before.host();
     let reason = Reason::of(&event.action, host.hold()?);
@@ -148,6 +151,7 @@ fn wait(
         expiry: host.deadline(),
         reason,
         words: words_of(alloc, reason, host)?,
+        prospects: prospects_of(alloc, host)?,
     })
 }
 

@@ -1,4 +1,5 @@
 //! What is reported of an event that didn't happen as written. Texts are octets as a script has them, neither shown nor cut.
+use crate::causes::prospects::Prospects;
 use crate::causes::reasons::Reason;
 use pd_host::{ConnState, Figures};
 use pd_match::Kind;
@@ -69,6 +70,8 @@ pub struct Wait {
     pub reason: Reason,
     /// The same in words, with the numbers concerned.
     pub words: Vec<u8>,
+    /// What may lead to sending next.
+    pub prospects: Prospects,
 }
 
 /// A call that answered something else.

@@ -3,7 +3,7 @@ ghost use Rattle.std.specs.Prelude.{◌≡◌};
 ghost use Rattle.pd_explain.specs.Reasons.{hold_key, reason_key};
 ghost use Rattle.pd_explain.specs.Senders.{is_answer, reason_of};
 
-use itoa::Buffer;
+use crate::causes::phrases::{Phrase, put_phrases};
 use pd_host::{Figures, Hold, Recovery};
 use pd_script::Action;
 use std::alloc::{AllocError, Global};
@@ -18,14 +18,7 @@ pub enum Reason {
     Held(Hold),
 }
 
-/// A piece of a sentence.
-#[derive(Clone, Copy)]
-enum Phrase {
-    Words(&'static str),
-    Number(u32),
-}
-
-use Phrase::{Number, Words};
+use Phrase::Words;
 
 /// The numbers that reasons name, 0 where there is no connection.
 #[derive(Clone, Copy)]
@@ -148,14 +141,14 @@ fn said_with(alloc: Global, hold: Hold, numbers: Numbers) -> Result<Vec<u8>, All
             alloc,
             &[
                 Words("all that was handed over is acknowledged: una is end, "),
-                Number(numbers.end),
+                number(numbers.end),
             ],
         ),
         Hold::AllSent => said(
             alloc,
             &[
                 Words("all that is queued was sent, up to "),
-                Number(numbers.end),
+                number(numbers.end),
                 Words(", and only the timer sends the oldest again (RFC 6298, section 5.4)"),
             ],
         ),
@@ -163,9 +156,9 @@ fn said_with(alloc: Global, hold: Hold, numbers: Numbers) -> Result<Vec<u8>, All
             alloc,
             &[
                 Words("octet "),
-                Number(numbers.wanted),
+                number(numbers.wanted),
                 Words(" lies beyond the peer's window, which ends before octet "),
-                Number(numbers.peer_edge),
+                number(numbers.peer_edge),
                 Words(" (RFC 9293, section 3.8.6)"),
             ],
         ),
@@ -173,9 +166,9 @@ fn said_with(alloc: Global, hold: Hold, numbers: Numbers) -> Result<Vec<u8>, All
             alloc,
             &[
                 Words("octet "),
-                Number(numbers.wanted),
+                number(numbers.wanted),
                 Words(" lies beyond the congestion window, which ends before octet "),
-                Number(numbers.congestion_edge),
+                number(numbers.congestion_edge),
                 Words(" (RFC 5681, section 3.1)"),
             ],
         ),
@@ -190,11 +183,11 @@ fn said_of_segment(alloc: Global, hold: Hold, numbers: Numbers) -> Result<Vec<u8
             alloc,
             &[
                 Words("in recovery with SACK, cwnd "),
-                Number(numbers.cwnd),
+                number(numbers.cwnd),
                 Words(" less the pipe "),
-                Number(numbers.pipe),
+                number(numbers.pipe),
                 Words(" is below SMSS "),
-                Number(numbers.smss),
+                number(numbers.smss),
                 Words(" (RFC 6675, section 5, step C)"),
             ],
         ),
@@ -202,9 +195,9 @@ fn said_of_segment(alloc: Global, hold: Hold, numbers: Numbers) -> Result<Vec<u8
             alloc,
             &[
                 Words("the windows leave only "),
-                Number(numbers.usable),
+                number(numbers.usable),
                 Words(" octets of a segment of "),
-                Number(numbers.unsent.min(numbers.smss)),
+                number(numbers.unsent.min(numbers.smss)),
                 Words(" (RFC 9293, section 3.8.6.2.1)"),
             ],
         ),
@@ -212,31 +205,29 @@ fn said_of_segment(alloc: Global, hold: Hold, numbers: Numbers) -> Result<Vec<u8
             alloc,
             &[
                 Words("Nagle's algorithm holds "),
-                Number(numbers.held()),
+                number(numbers.held()),
                 Words(if numbers.held() == 1 {
                     " octet, less than SMSS "
                 } else {
                     " octets, less than SMSS "
                 }),
-                Number(numbers.smss),
+                number(numbers.smss),
                 Words(", while "),
-                Number(numbers.flight),
+                number(numbers.flight),
                 Words(" are outstanding (RFC 9293, section 3.7.4)"),
             ],
         ),
     }
 }
 
+fn number(number: u32) -> Phrase {
+    Phrase::Number(u64::from(number))
+}
+
 /// The pieces one after the other.
 fn said(alloc: Global, pieces: &[Phrase]) -> Result<Vec<u8>, AllocError> {
-    let mut buffer = Buffer::new();
     let mut words = Vec::new(alloc);
-    for piece in pieces {
-        match piece {
-            Words(text) => words.extend_from_slice(text.as_bytes())?,
-            Number(number) => words.extend_from_slice(buffer.format(*number).as_bytes())?,
-        }
-    }
+    put_phrases(&mut words, pieces)?;
     Ok(words)
 }
 
