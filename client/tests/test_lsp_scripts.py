@@ -99,14 +99,15 @@ def test_packets_before_the_awaited_one_are_inserted() -> None:
     untaken = ["* > P. 3001:4001(1000) ack 1 win 5 // 0.200000", "+0 > P. 4001:5001(1000) ack 1 win 5 // 0.300000"]
     actual = "* > . 2001:3001(1000) ack 1 win 5 // 0.200000"
     text = f"0 a() = 1\r\n  {event}\r\n"
-    first, _ = taking(
-        failing(text, Row(Verdict.FAIL, 2, "time"), script_packet=event, actual_packet=actual, untaken_packets=untaken)
-    )
+    told = {"script_packet": event, "actual_packet": actual, "untaken_packets": untaken}
+    first, _ = taking(failing(text, Row(Verdict.FAIL, 2, "time"), unasked_packets=2, **told))
     assert (first.title, first.shift) == ("Insert 2 packets that were sent before it", 2)
     assert first.text.split("\r\n")[1:3] == [
         "  * > . 2001:3001(1000) ack 1 win 5",
         "  * > P. 3001:4001(1000) ack 1 win 5",
     ]
+    _, last = taking(failing(text, Row(Verdict.FAIL, 2, "time"), **told))
+    assert (last.title, last.shift) == ("Insert 3 packets that were sent before it", 3)
 
 
 def test_a_result_is_taken() -> None:

@@ -71,8 +71,9 @@ def taking(failing: Failing) -> Iterator[Action]:
     untaken = sent_in(failing.cause.get("untaken_packets"))
     if sent is not None and failing.row.word in _PACKET_KINDS:
         packets = [sent, *untaken]
-        count = _count_before_awaited(failing, event, packets)
-        each = [_inserting(failing, event, packets[:count]), _taking_packet(failing, event, sent)]
+        count = failing.cause.get("unasked_packets")
+        unasked = packets[:count] if isinstance(count, int) else packets
+        each = [_inserting(failing, event, unasked), _taking_packet(failing, event, sent)]
         yield from each if count else reversed(each)
     result = failing.cause.get("actual_result")
     if isinstance(result, str) and "result" in event.fields:
@@ -88,14 +89,6 @@ def _taking_packet(failing: Failing, event: Event, sent: Sent) -> Action:
     is_time_alone = _put(text, time, sent.time)[event.item.start :].startswith(packet)
     title = "Take the time at which it was sent" if with_time and is_time_alone else "Take the packet that was sent"
     return Action(title, QUICK, _put(text, event.extent, packet))
-
-
-def _count_before_awaited(failing: Failing, event: Event, packets: Sequence[Sent]) -> int | None:
-    """How many packets come before the one that the line asks for, where that is among them and isn't the first."""
-    text = failing.lines.text
-    asked = text[event.item.start : event.item.end]
-    found = (place for place, it in enumerate(packets) if place and taken(text, event, it, False) == asked)
-    return next(found, None)
 
 
 def _inserting(failing: Failing, event: Event, packets: Sequence[Sent]) -> Action:
