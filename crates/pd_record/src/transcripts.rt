@@ -6,6 +6,7 @@ use crate::tape::{Recorded, Take};
 use crate::tracks::Tracks;
 use crate::writer::Writer;
 use pd_layout::{Layout, LayoutReader};
+use pd_lex::Place;
 use pd_text::Lines;
 use std::alloc::Global;
 
@@ -19,7 +20,7 @@ pub fn write_tracks(
     script: &Script,
     tracks: &Tracks,
 ) -> Result<Recording, NotRecorded> {
-    let mut layouts = LayoutReader::new(alloc, lines)?;
+    let mut layouts = LayoutReader::new(alloc, lines, Place::first())?;
     let standings = match &tracks.standings {
         Some(list) => list.as_slice(),
         None => &[],

@@ -60,7 +60,7 @@ impl<'a> Writer<'a> {
     /// `TooLarge` and `OutOfMemory`.
     pub fn put_item(&mut self, layout: &Layout) -> Result<(), NotRecorded> {
         self.put_pieces(&layout.lead)?;
-        put_extent(&mut self.line, self.source, layout.own)?;
+        put_extent(&mut self.line, self.source, layout.parts.time)?;
         self.put_trail(&layout.trail)?;
         self.end_line()
     }
@@ -137,10 +137,10 @@ impl<'a> Writer<'a> {
         }
         put_time(&mut self.line, time)?;
         self.line.extend_from_slice(b" ")?;
-        put_extent(&mut self.line, self.source, layout.own)?;
+        put_extent(&mut self.line, self.source, layout.parts.call)?;
         self.line.extend_from_slice(b" ")?;
         put_answer(&mut self.line, reply.answer)?;
-        if let Some(note) = layout.note {
+        if let Some(note) = layout.parts.note {
             if reply.is_written {
                 self.line.extend_from_slice(b" ")?;
                 put_extent(&mut self.line, self.source, note)?;
