@@ -1,18 +1,16 @@
 //! Runs that are taken up in a state which an earlier one kept, to find where they stop.
-ghost use Rattle.std.specs.Prelude.{◌≡◌, ◌≤◌, ◌<◌, ◌^◌, None, length, IfOk, IfSome};
-ghost use Rattle.pd_host.specs.Host.{IsShort};
+ghost use Rattle.std.specs.Prelude.{◌≡◌, ◌≤◌, length, IfOk, IfSome};
 ghost use Rattle.pd_reparse.specs.Reading.{script_part};
 ghost use Rattle.pd_reparse.specs.Steps.{events_after};
 ghost use Rattle.pd_run.specs.Laws.{IsUnderway};
-ghost use Rattle.pd_run.specs.Stops.{reason_on, stop_from, stop_in};
+ghost use Rattle.pd_run.specs.Stops.{stop_from, stop_in};
 ghost use Rattle.pd_script.specs.Script.{script_of};
 ghost use Rattle.pd_explain.specs.Inner.{IsTakenUp};
 
 use pd_reparse::{Decided, Reading, SharedList};
 use pd_run::{
-    Plain, RunState, StepEnd, Stepper, Stopped, Why, runs_are_bounded, verdicts_have_reasons,
+    Plain, RunState, StepEnd, Stepper, Stopped, reason_on, runs_are_bounded, verdicts_have_reasons,
 };
-use pd_script::Event;
 use pd_settings::Settings;
 use pd_track::Track;
 use std::alloc::{AllocError, Global};
@@ -126,19 +124,4 @@ fn stop_among(
         }
     }
     Ok(None)
-}
-
-/// Why an event on the line stops a run.
-fn reason_on(run: &RunState, event: &Event, line: usize) -> Result<Option<Why>, AllocError>
-    requires live { run.now.host.ended ≡ None }
-    requires clock { run.now.clock < 2 ^ 61 }
-    requires base { run.now.base < 2 ^ 61 }
-    requires short { IsShort run.now.host.state }
-    ensures { IfOk result (λ reason. reason ≡ reason_on line run.now event.now) }
-{
-    if event.line == line {
-        run.why(event)
-    } else {
-        Ok(None)
-    }
 }

@@ -25,7 +25,7 @@ pub use pd_match::Kind;
 pub use run_state::RunState;
 pub use running::{run_all, run_with};
 pub use stepping::{Plain, StepEnd, Stepper};
-pub use stops::{Stopped, find_stop};
+pub use stops::{Stopped, find_stop, reason_on};
 pub use times::{base_after, is_in_reach, moment_of, moments_of};
 pub use verdicts::Verdict;
 pub use whys::Why;

@@ -43,7 +43,10 @@ pub fn find_stop(
 }
 
 /// Why an event on the line stops a run.
-fn reason_on(run: &RunState, event: &Event, line: usize) -> Result<Option<Why>, AllocError>
+///
+/// # Errors
+/// `AllocError` where a growth is refused.
+pub fn reason_on(run: &RunState, event: &Event, line: usize) -> Result<Option<Why>, AllocError>
     requires live { run.now.host.ended ≡ None }
     requires clock { run.now.clock < 2 ^ 61 }
     requires base { run.now.base < 2 ^ 61 }
