@@ -1,22 +1,12 @@
 //! A packet that was sent against the packet that a script expects.
 ghost use Rattle.std.specs.Prelude.{◌≡◌};
-ghost use Rattle.pd_match.specs.Packets.{compared, in_time, same_flags, same_seq, same_if_written, mismatch, passes};
+ghost use Rattle.pd_match.specs.Packets.{compared, in_time, same_flags, same_seq, same_if_written, mismatch};
 ghost use Rattle.pd_match.specs.Agreement.{Agrees, IsFirstFailing};
 
 use crate::kinds::Kind;
 use crate::written_options::has_options;
 use pd_script::{Flags, Packet};
 use pd_seg::{Segment, Sent};
-
-/// The fields that are compared, in their order.
-const COMPARED: [Kind; 6] = [
-    Kind::Time,
-    Kind::Flags,
-    Kind::Seq,
-    Kind::Ack,
-    Kind::Win,
-    Kind::Options,
-];
 
 /// An outbound packet of a script, and when it may be sent.
 #[derive(Clone, Copy)]
@@ -43,26 +33,22 @@ pub fn check_packet(expect: &Expect<'_>, sent: &Sent, tolerance: u64) -> Option<
 fn first_difference(expect: &Expect<'_>, sent: &Sent, tolerance: u64) -> Option<Kind>
     ensures { result ≡ mismatch expect.now.packet.now expect.now.moments sent.now tolerance }
 {
-    COMPARED
-        .iter()
-        .copied()
-        .find(|field| !agrees(expect, sent, tolerance, *field))
-}
-
-/// Whether the sent packet agrees with the expected one in the field; where the field isn't compared, it does.
-fn agrees(expect: &Expect<'_>, sent: &Sent, tolerance: u64, field: Kind) -> bool
-    ensures { result ≡ passes expect.now.packet.now expect.now.moments sent.now tolerance field }
-{
     let packet = expect.packet;
     let segment = &sent.segment;
-    match field {
-        Kind::Time => is_in_time(expect.moments, sent.at, tolerance),
-        Kind::Flags => has_flags(&packet.flags, &segment.flags),
-        Kind::Seq => has_seq(packet, segment),
-        Kind::Ack => is_if_written(packet.ack, segment.ack),
-        Kind::Win => is_if_written(packet.win, u32::from(segment.win)),
-        Kind::Options => has_options(&packet.options, &segment.options),
-        Kind::Result | Kind::Missing | Kind::Backwards => true,
+    if !is_in_time(expect.moments, sent.at, tolerance) {
+        Some(Kind::Time)
+    } else if !has_flags(&packet.flags, &segment.flags) {
+        Some(Kind::Flags)
+    } else if !has_seq(packet, segment) {
+        Some(Kind::Seq)
+    } else if !is_if_written(packet.ack, segment.ack) {
+        Some(Kind::Ack)
+    } else if !is_if_written(packet.win, u32::from(segment.win)) {
+        Some(Kind::Win)
+    } else if !has_options(&packet.options, &segment.options) {
+        Some(Kind::Options)
+    } else {
+        None
     }
 }
 
