@@ -113,6 +113,7 @@ impl OpenPairs {
     ///
     /// # Errors
     /// `Syntax` where the token opens a pair while so many are open, or closes another than the innermost, or none is open.
+    #[inline(always)]
     pub fn pass(&mut self, token: &Token, most: usize) -> Result<(), Stop>
         requires { most ≤ 16 }
         ensures ok { OnOk result (pairs_after most self.old (shown token.now) ≡ Some self.new) }

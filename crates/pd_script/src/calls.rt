@@ -125,10 +125,12 @@ impl Arguments {
     ///
     /// # Errors
     /// `AllocError` where a growth is refused.
+    #[inline(always)]
     pub fn push(&mut self, argument: Argument) -> Result<(), AllocError>
         ensures { OnOk result (self.new ≡ self.old ++ argument ∷ []) }
     {
-        self.arguments.push(argument)?;
+        self.arguments.reserve(1)?;
+        self.arguments.push_reserved(argument);
         Ok(())
     }
 

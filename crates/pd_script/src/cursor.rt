@@ -122,6 +122,7 @@ impl<'a> Cursor<'a> {
     ///
     /// # Errors
     /// `Syntax` where no token comes next, or its bracket doesn't go with the open pairs; the cursor stays there.
+    #[inline(always)]
     pub fn part(&mut self, inside: &mut Inside) -> Result<(), Stop>
         ensures { Moves result inside.new self.new (part_at inside.old self.old) }
     {

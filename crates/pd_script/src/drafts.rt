@@ -43,6 +43,7 @@ impl Draft {
     }
 
     /// Takes one token more; a mixed draft stays as it is.
+    #[inline(always)]
     pub fn add(&mut self, token: &Token)
         ensures { self.new ≡ longer_draft self.old (shown token.now) }
     {

@@ -49,6 +49,7 @@ impl<'a> Cursor<'a> {
         Ok((line, Time::AbsoluteRange(first, second)))
     }
 
+    #[inline(always)]
     fn relative_time(&mut self) -> Result<(usize, Time), Stop>
         ensures { Leaves result self.new (relative_at self.old) }
     {

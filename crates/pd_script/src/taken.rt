@@ -186,6 +186,7 @@ impl<'a> Cursor<'a> {
     /// # Errors
     /// `Syntax` where the next token is no word. It isn't taken then.
     #[tactic(auto, unfolding(pd_lex::specs::Lexing::lexeme_of))]
+    #[inline(always)]
     pub fn function(&mut self) -> Result<Function, Stop>
         ensures { Leaves result self.new (function_at self.old) }
     {
