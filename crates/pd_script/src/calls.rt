@@ -10,10 +10,10 @@ use std::marker::Model;
 pub struct Call {
     /// The name of the call.
     pub function: Function,
-    /// What it is called with.
-    pub arguments: Arguments,
     /// The result that the script expects.
     pub result: Outcome,
+    /// What it is called with.
+    pub arguments: Arguments,
 }
 
 /// The name of a call.

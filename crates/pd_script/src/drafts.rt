@@ -55,6 +55,7 @@ impl Draft {
     }
 
     /// Takes one token more, not the first. It is apart, since most drafts are empty or mixed.
+    #[cold]
     #[inline(never)]
     fn go_on(&mut self, token: &Token)
         requires { is_empty self.old ≡ false }

@@ -9,6 +9,8 @@ use std::marker::Model;
 /// A TCP segment as written. Sequence numbers are relative, the SYN at 0.
 #[derive(Drop)]
 pub struct Packet {
+    /// The TCP options as written.
+    pub options: Options,
     /// The flags as written.
     pub flags: Flags,
     /// The number of the first octet of data.
@@ -21,8 +23,6 @@ pub struct Packet {
     pub ack: Option<u32>,
     /// The window field, if written; an inbound packet always has one.
     pub win: Option<u32>,
-    /// The TCP options as written.
-    pub options: Options,
 }
 
 impl Packet {
