@@ -1,37 +1,23 @@
 -- A run that is taken up in a state on its way stops where the whole run does.
-use Rattle.std.proofs.Common.{◌≡◌, ℕ, zero, suc, ◌+◌, ◌==◌, Bool, true, false, if◌then◌else◌, List, [], ◌∷◌, drop, slice_get, Option, Some, None, option_map, Result, Ok, Err, refl, sym, ap, subst, ◌∙◌, arith}
+use Rattle.std.proofs.Common.{◌≡◌, ℕ, zero, suc, ◌+◌, List, [], ◌∷◌, drop, slice_get, Option, Some, None, Result, Ok, Err, refl, sym, ap, subst, ◌∙◌, arith}
 use Rattle.pd_settings.specs.declared.fields.Settings.{Settings}
 use Rattle.pd_script.specs.declared.parsing.Parsed.{Parsed}
 use Rattle.pd_script.specs.declared.script_events.Event.{Event}
 use Rattle.pd_run.specs.Laws.{IsUnderway, StartsUnderway, StepsGoOn}
 use Rattle.pd_run.specs.Run.{start_of, states_from, states_in}
 use Rattle.pd_run.specs.Step.{RunStateView, on_step, step}
-use Rattle.pd_run.specs.Stops.{reason_on, stop_by, stop_from, stop_in}
-use Rattle.pd_run.specs.Why.{why, verdict_at, verdict_by_step, ReasonsGiveVerdicts}
+use Rattle.pd_run.specs.Stops.{stop_from, stop_in}
+use Rattle.pd_run.specs.Why.{ReasonsGiveVerdicts}
 use Rattle.pd_run.specs.declared.verdicts.Verdict.{Verdict}
-use Rattle.pd_run.specs.declared.whys.Why.{Why}
 use Rattle.pd_run.proofs.States.{states_underway}
+use Rattle.pd_run.proofs.StopsFound.{silent, stop_after}
 use Rattle.pd_explain.specs.Inner.{IsTakenUp}
 
-no_reason : (line : ℕ) (reason : Option Why) → option_map (verdict_at line) reason ≡ None → reason ≡ None
-no_reason line None h = refl
-no_reason line (Some w) h = absurd cc
-
-none_either : (b : Bool) (reason : Option Why) → reason ≡ None → (if b then reason else None) ≡ None
-none_either true reason h = h
-none_either false reason h = refl
-
--- no reason stops an event that passes, on whatever line
-silent : ReasonsGiveVerdicts → (line : ℕ) (r s : RunStateView) (e : Event) → step r e ≡ Ok s → reason_on line r e ≡ None
-silent law line r s e h =
-    none_either (e.line == line) (why r e) (no_reason e.line (why r e) (law r e ∙ ap verdict_by_step h))
-
--- what stops a run after such an event stops what is left of it
+-- what stops a run after an event that passes stops what is left of it
 pub stops_later : ReasonsGiveVerdicts → (line n : ℕ) (es : List Event) (r s : RunStateView) (e : Event) → step r e ≡ Ok s
     → stop_from line n (e ∷ es) r ≡ stop_from line (n + 1) es s
 stops_later law line n es r s e h =
-    ap (λ (reason : Option Why). stop_by n r reason (on_step (stop_from line (n + 1) es) (λ v. None) (step r e))) (silent law line r s e h)
-    ∙ ap (on_step (stop_from line (n + 1) es) (λ v. None)) h
+    stop_after line n (e ∷ es) es r s e refl (silent law line r s e h) h
 
 stops_after : ReasonsGiveVerdicts → (line n : ℕ) (es : List Event) (m : ℕ) (r s : RunStateView) → slice_get (states_from es r) m ≡ Some s
     → stop_from line n es r ≡ stop_from line (n + suc m) (drop (suc m) es) s

@@ -5,11 +5,11 @@ use pd_lex::Place;
 /// Where the parts of an event stand, as far as it was read.
 #[derive(Clone, Copy)]
 pub struct Parts {
-    /// The event, a call's note among it.
+    /// The event, a call's note among it, or a header item.
     pub event: Extent,
-    /// Its time, or a header item.
+    /// The time of a packet.
     pub time: Extent,
-    /// A call up to `=`.
+    /// A call up to `=`, without its time.
     pub call: Extent,
     /// The result of a call.
     pub result: Extent,
@@ -59,7 +59,6 @@ impl Parts {
     /// Reads the next token: a symbol by its octet, a word by a letter.
     #[inline(always)]
     pub(crate) fn read(&mut self, octet: u8, token: Extent) {
-        self.event.to = token.to;
         match self.reading {
             TextPart::Time => self.read_in_time(octet, token),
             TextPart::Packet => {}
@@ -75,27 +74,29 @@ impl Parts {
                 }
             }
         }
+        self.event.to = token.to;
     }
 
     /// Reads a token of a time, or the one after it.
     fn read_in_time(&mut self, octet: u8, token: Extent) {
         if matches!(octet, b'<' | b'>') {
             self.reading = TextPart::Packet;
+            self.time.to = self.event.to;
         } else if is_letter(octet) {
             self.reading = TextPart::Call;
-            self.call = token;
-        } else {
-            self.time.to = token.to;
+            self.call.from = token.from;
         }
     }
 
     /// Reads a token of a call before its result.
     fn read_in_call(&mut self, octet: u8, token: Extent) {
-        self.call.to = token.to;
         match octet {
             b'(' | b'[' | b'{' => self.depth = self.depth.saturating_add(1),
             b')' | b']' | b'}' => self.depth = self.depth.saturating_sub(1),
-            b'=' if self.depth == 0 => self.reading = TextPart::Equals,
+            b'=' if self.depth == 0 => {
+                self.reading = TextPart::Equals;
+                self.call.to = token.to;
+            }
             _ => {}
         }
     }

@@ -60,7 +60,7 @@ impl<'a> Writer<'a> {
     /// `TooLarge` and `OutOfMemory`.
     pub fn put_item(&mut self, layout: &Layout) -> Result<(), NotRecorded> {
         self.put_pieces(&layout.lead)?;
-        put_extent(&mut self.line, self.source, layout.parts.time)?;
+        put_extent(&mut self.line, self.source, layout.parts.event)?;
         self.put_trail(&layout.trail)?;
         self.end_line()
     }

@@ -42,6 +42,10 @@ no_reason : (line : ℕ) (reason : Option Why) → option_map (verdict_at line) 
 no_reason line None h = refl
 no_reason line (Some w) h = absurd cc
 
+-- no reason stops an event that goes on, on whatever line
+pub silent : ReasonsGiveVerdicts → (line : ℕ) (r s : RunStateView) (e : Event) → step r e ≡ Ok s → reason_on line r e ≡ None
+silent law line r s e is = none_on (e.line == line) (why r e) (no_reason e.line (why r e) (law r e ∙ ap verdict_by_step is))
+
 -- the event that stops the run on its line
 stopping : (line n : ℕ) (r : RunStateView) (reason : Option Why) (rest : Option Stopped) (v : Verdict)
     → option_map (verdict_at line) reason ≡ Some v → Found line (stop_by n r reason rest) v
@@ -75,7 +79,7 @@ onwards : ReasonsGiveVerdicts → (line n : ℕ) (r s : RunStateView) (e : Event
 onwards law line n r s e es is later =
     subst (Claim line n r e es) (sym is)
     (passed_over line n r (reason_on line r e) (stop_from line (n + 1) es s) (verdict_from (n + 1) es s)
-    (none_on (e.line == line) (why r e) (no_reason e.line (why r e) (law r e ∙ ap verdict_by_step is))) later)
+    (silent law line r s e is) later)
 
 -- a run that stops here
 here : ReasonsGiveVerdicts → (line n : ℕ) (r : RunStateView) (v : Verdict) (e : Event) (es : List Event)
