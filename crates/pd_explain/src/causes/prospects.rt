@@ -67,11 +67,12 @@ fn sacked_of(alloc: Global, host: &Host) -> Result<Sacked, AllocError>
 }
 
 /// The lowest of some runs, and how many more there are.
+#[tactic(auto, using(crate::proofs::ProspectLemmas::first_listed))]
 fn sacked_among(alloc: Global, runs: &[Span]) -> Result<Sacked, AllocError>
     ensures listed { IfOk result (λ sacked. sacked.runs.items ≡ take sacked_limit runs.now) }
     ensures more { IfOk result (λ sacked. sacked.more ≡ length runs.now - sacked_limit) }
 {
-    let listed = runs.len().min(MAX_SACKED);
+    let listed = MAX_SACKED.min(runs.len());
     Ok(Sacked {
         runs: Vec::from_slice(alloc, &runs[..listed])?,
         more: runs.len() - listed,
