@@ -22,9 +22,25 @@ pub fn parts_alone(lines: &Lines, from: Place, until: Place) -> Option<Parts> {
                     return None;
                 }
                 parts.read(octet, octet_at(from.line, at));
+                if parts.reading() == TextPart::Packet {
+                    return packet_alone(parts, line, at.saturating_add(1));
+                }
             }
         }
     }
+    Some(parts)
+}
+
+/// The parts of a packet whose direction ends at a place of its line: what follows only moves the event's end.
+fn packet_alone(mut parts: Parts, line: &[u8], at: usize) -> Option<Parts> {
+    let rest = line.get(at..)?;
+    let is_special = |octet: &u8| matches!(octet, b'/' | b'"' | b'`' | b'%' | b'-');
+    if rest.iter().any(is_special) {
+        return None;
+    }
+    let is_blank = |octet: &&u8| matches!(octet, b' ' | b'\t' | b'\r');
+    let blanks = rest.iter().rev().take_while(is_blank).count();
+    parts.event.to.at = line.len().saturating_sub(blanks);
     Some(parts)
 }
 
