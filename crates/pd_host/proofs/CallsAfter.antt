@@ -1,15 +1,13 @@
 -- What a call puts out follows the packets that nobody has taken.
-use Rattle.std.proofs.Common.{ℕ, ◌==◌, min, Bool, true, false, not, ◌&&◌, if◌then◌else◌, Option, None, Some, is_some, option_map, Result, Ok, Err, refl}
+use Rattle.std.proofs.Common.{ℕ, ◌==◌, min, Bool, true, false, not, ◌&&◌, if◌then◌else◌, Option, None, Some, is_some, Result, Ok, Err, refl}
 use Rattle.pd_seg.specs.declared.answers.Answer.{Answer}
 use Rattle.pd_seg.specs.declared.answers.Answer.TheVariants.{Number, Error}
 use Rattle.pd_seg.specs.declared.answers.Errno.TheVariants.{Eagain, Epipe}
-use Rattle.pd_host.specs.Calls.{Reply, answered, with_listener, with_stored, with_answer, socket_reply, bind_reply, listen_reply, accept_reply, handed_out, no_delay_reply, free_of, with_queued, write_uses, queued, written_on, write_reply, closed_stream, closed_on, close_reply, operated, on_open, open_descriptor, reply_to, requested, called, is_pending, is_waiting, stream_of, with_stream, with_nagle}
+use Rattle.pd_host.specs.Calls.{Descriptor, Listening, Connected, Reply, answered, with_listener, with_stored, with_answer, socket_reply, bind_reply, listen_reply, accept_reply, handed_out, no_delay_reply, free_of, with_queued, write_uses, queued, written_on, write_reply, closed_stream, closed_on, close_reply, operated, on_open, open_descriptor, reply_to, requested, called, is_pending, is_waiting, stream_of, with_stream, with_nagle}
 use Rattle.pd_host.specs.Requests.{request_of}
 use Rattle.pd_host.specs.Connection.{ConnectionView}
 use Rattle.pd_host.specs.InputLaws.{IsAfter, CallsPutOutAfter}
 use Rattle.pd_host.specs.Sending.{ordinary, ordinary_outside_recovery, is_recovering}
-use Rattle.pd_host.specs.declared.descriptors.Descriptor.{Descriptor}
-use Rattle.pd_host.specs.declared.descriptors.Descriptor.TheVariants.{Listening, Connected}
 use Rattle.pd_host.specs.declared.halts.Halt.{Halt}
 use Rattle.pd_host.specs.declared.halts.Halt.TheVariants.{Unsupported}
 use Rattle.pd_host.specs.declared.descriptors.Listener.{Listener}
@@ -77,12 +75,10 @@ accept_after now s _ _ = none_after now s s refl
 
 no_delay_after : (now : ℕ) (s : State) (set : Bool) (d : Descriptor) → Replies (IsAfter now s) (no_delay_reply s set d)
 no_delay_after now s set Listening = none_after now s s refl
-no_delay_after now s set Connected =
-    none_after now s (with_stored (option_map (with_nagle (not set)) s.endpoint.connection) s) refl
+no_delay_after now s set (Connected c) = none_after now s (with_stored (Some (with_nagle (not set) c)) s) refl
 
-written_after : (now n : ℕ) (s : State) (o : Option ConnectionView) → Replies (IsAfter now s) (written_on now n o s)
-written_after now n s None = none_after now s s refl
-written_after now n s (Some c) =
+written_after : (now n : ℕ) (s : State) (c : ConnectionView) → Replies (IsAfter now s) (written_on now n c s)
+written_after now n s c =
     let noted : State = record s { uses = write_uses s.uses } in
     let free : ℕ = free_of s.settings.sndbuf c in
     let rest : Reply = if n == 0 then answered s (Number 0) else queued now n free c noted in
@@ -92,11 +88,10 @@ written_after now n s (Some c) =
 
 write_after : (now : ℕ) (s : State) (n : ℕ) (d : Descriptor) → Replies (IsAfter now s) (write_reply now s n d)
 write_after now s n Listening = none_after now s s refl
-write_after now s n Connected = written_after now n s s.endpoint.connection
+write_after now s n (Connected c) = written_after now n s c
 
-closed_after : (now : ℕ) (s : State) (o : Option ConnectionView) → Replies (IsAfter now s) (closed_on now o s)
-closed_after now s None = none_after now s s refl
-closed_after now s (Some c) =
+closed_after : (now : ℕ) (s : State) (c : ConnectionView) → Replies (IsAfter now s) (closed_on now c s)
+closed_after now s c =
     let closed : State = with_stored (Some (closed_stream c)) s in
     let r : Result State Halt = if c.reset then Ok closed else ordinary_outside_recovery now c closed in
     reply_leaves (IsAfter now s) (Number 0) r
@@ -107,7 +102,7 @@ close_after : (now : ℕ) (s : State) (d : Descriptor) → Replies (IsAfter now 
 close_after now s Listening =
     either_reply (IsAfter now s) (is_pending s.endpoint.connection) (Err Unsupported) (answered (with_listener Closed s) (Number 0)) tt
     (none_after now s (with_listener Closed s) refl)
-close_after now s Connected = closed_after now s s.endpoint.connection
+close_after now s (Connected c) = closed_after now s c
 
 operated_after : (now : ℕ) (s : State) (d : Descriptor) (o : Operation) → Replies (IsAfter now s) (operated now s d o)
 operated_after now s d Bind = bind_after now s s.endpoint.listener d

@@ -7,13 +7,11 @@ use Rattle.pd_settings.specs.Uses.{Agree}
 use Rattle.pd_settings.specs.declared.fields.Settings.{Settings}
 use Rattle.pd_settings.specs.declared.keys.Key.TheVariants.{Sndbuf}
 use Rattle.pd_settings.specs.declared.use_set.UseSet.{UseSet}
-use Rattle.pd_host.specs.Calls.{Reply, answered, with_listener, with_stored, with_answer, socket_reply, bind_reply, listen_reply, accept_reply, handed_out, no_delay_reply, free_of, with_queued, write_uses, queued, written_on, write_reply, closed_stream, closed_on, close_reply, operated, on_open, open_descriptor, reply_to, requested, is_pending, is_waiting, stream_of, with_stream}
+use Rattle.pd_host.specs.Calls.{Descriptor, Listening, Connected, Reply, answered, with_listener, with_stored, with_answer, socket_reply, bind_reply, listen_reply, accept_reply, handed_out, no_delay_reply, free_of, with_queued, write_uses, queued, written_on, write_reply, closed_stream, closed_on, close_reply, operated, on_open, open_descriptor, reply_to, requested, is_pending, is_waiting, stream_of, with_stream}
 use Rattle.pd_host.specs.Requests.{request_of}
 use Rattle.pd_host.specs.Connection.{ConnectionView}
 use Rattle.pd_host.specs.InputLaws.{CallsOnlyUse, rebound}
 use Rattle.pd_host.specs.Sending.{ordinary, ordinary_outside_recovery, is_recovering}
-use Rattle.pd_host.specs.declared.descriptors.Descriptor.{Descriptor}
-use Rattle.pd_host.specs.declared.descriptors.Descriptor.TheVariants.{Listening, Connected}
 use Rattle.pd_host.specs.declared.halts.Halt.{Halt}
 use Rattle.pd_host.specs.declared.halts.Halt.TheVariants.{Unsupported}
 use Rattle.pd_host.specs.declared.descriptors.Listener.{Listener}
@@ -83,7 +81,7 @@ accept_again b s _ _ = refl
 
 no_delay_again : (b : Settings) (s : State) (set : Bool) (d : Descriptor) → no_delay_reply (rebound b s) set d ≡ reply_again b (no_delay_reply s set d)
 no_delay_again b s set Listening = refl
-no_delay_again b s set Connected = refl
+no_delay_again b s set (Connected c) = refl
 
 -- what a `write` consulted
 queued_uses : (now n free : ℕ) (c : ConnectionView) (s t : State) (a : Answer) → queued now n free c s ≡ Ok (t, a) → t.uses ≡ s.uses
@@ -110,23 +108,21 @@ wrote_again b false false now n c s t a h agree =
     let same : b.sndbuf ≡ s.settings.sndbuf = sym (number_of (agree Sndbuf (ap (λ (x : UseSet). x.sndbuf) uses))) in
     ap (λ (x : ℕ). queued now n (free_of x c) c (rebound b u)) same ∙ queued_again b now n (free_of s.settings.sndbuf c) c u
 
-written_again : (b : Settings) (now n : ℕ) (o : Option ConnectionView) (s t : State) (a : Answer)
-    → written_on now n o s ≡ Ok (t, a)
+written_again : (b : Settings) (now n : ℕ) (c : ConnectionView) (s t : State) (a : Answer)
+    → written_on now n c s ≡ Ok (t, a)
     → Agree t.uses s.settings b
-    → written_on now n o (rebound b s) ≡ reply_again b (written_on now n o s)
-written_again b now n None s t a h agree = refl
-written_again b now n (Some c) s t a h agree = wrote_again b c.reset (n == 0) now n c s t a h agree
+    → written_on now n c (rebound b s) ≡ reply_again b (written_on now n c s)
+written_again b now n c s t a h agree = wrote_again b c.reset (n == 0) now n c s t a h agree
 
 write_again : (b : Settings) (now : ℕ) (s : State) (n : ℕ) (d : Descriptor) (t : State) (a : Answer)
     → write_reply now s n d ≡ Ok (t, a)
     → Agree t.uses s.settings b
     → write_reply now (rebound b s) n d ≡ reply_again b (write_reply now s n d)
 write_again b now s n Listening t a h agree = refl
-write_again b now s n Connected t a h agree = written_again b now n s.endpoint.connection s t a h agree
+write_again b now s n (Connected c) t a h agree = written_again b now n c s t a h agree
 
-closed_again : (b : Settings) (now : ℕ) (o : Option ConnectionView) (s : State) → closed_on now o (rebound b s) ≡ reply_again b (closed_on now o s)
-closed_again b now None s = refl
-closed_again b now (Some c) s =
+closed_again : (b : Settings) (now : ℕ) (c : ConnectionView) (s : State) → closed_on now c (rebound b s) ≡ reply_again b (closed_on now c s)
+closed_again b now c s =
     let closed : State = with_stored (Some (closed_stream c)) s in
     let r : Result State Halt = if c.reset then Ok closed else ordinary_outside_recovery now c closed in
     ap (with_answer (Number 0))
@@ -139,7 +135,7 @@ close_again b now s Listening =
     either_mapped (rebound_with b) (is_pending s.endpoint.connection)
     (Err Unsupported) (answered (with_listener Closed s) (Number 0))
     (Err Unsupported) (answered (rebound b (with_listener Closed s)) (Number 0)) refl refl
-close_again b now s Connected = closed_again b now s.endpoint.connection s
+close_again b now s (Connected c) = closed_again b now c s
 
 operated_again : (b : Settings) (now : ℕ) (s : State) (d : Descriptor) (o : Operation) (t : State) (a : Answer)
     → operated now s d o ≡ Ok (t, a)

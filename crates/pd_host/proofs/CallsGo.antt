@@ -4,13 +4,11 @@ use Rattle.pd_script.specs.declared.calls.Call.{Call}
 use Rattle.pd_seg.specs.declared.answers.Answer.{Answer}
 use Rattle.pd_seg.specs.declared.answers.Answer.TheVariants.{Number, Error}
 use Rattle.pd_seg.specs.declared.answers.Errno.TheVariants.{Eagain, Epipe}
-use Rattle.pd_host.specs.Calls.{Reply, answered, with_listener, with_stored, with_answer, socket_reply, bind_reply, listen_reply, accept_reply, handed_out, no_delay_reply, free_of, with_queued, write_uses, queued, written_on, write_reply, closed_stream, with_fin, closed_on, close_reply, operated, on_open, open_descriptor, reply_to, requested, called, is_pending, is_waiting, stream_of, with_stream, with_nagle}
+use Rattle.pd_host.specs.Calls.{Descriptor, Listening, Connected, Reply, answered, with_listener, with_stored, with_answer, socket_reply, bind_reply, listen_reply, accept_reply, handed_out, no_delay_reply, free_of, with_queued, write_uses, queued, written_on, write_reply, closed_stream, with_fin, closed_on, close_reply, operated, on_open, open_descriptor, reply_to, requested, called, is_pending, is_waiting, stream_of, with_stream, with_nagle}
 use Rattle.pd_host.specs.Connection.{ConnectionView}
 use Rattle.pd_host.specs.Requests.{request_of}
 use Rattle.pd_host.specs.Sending.{ordinary, ordinary_outside_recovery, is_recovering}
 use Rattle.pd_host.specs.SendingLaws.{sent_in, taken_in, timed_in}
-use Rattle.pd_host.specs.declared.descriptors.Descriptor.{Descriptor}
-use Rattle.pd_host.specs.declared.descriptors.Descriptor.TheVariants.{Listening, Connected}
 use Rattle.pd_host.specs.declared.established.Established.{Established}
 use Rattle.pd_host.specs.declared.halts.Halt.{Halt}
 use Rattle.pd_host.specs.declared.halts.Halt.TheVariants.{Unsupported}
@@ -24,6 +22,7 @@ use Rattle.pd_host.specs.declared.endpoint.State.{State}
 use Rattle.pd_host.specs.declared.descriptors.Stream.{Stream}
 use Rattle.pd_host.specs.declared.descriptors.Stream.TheVariants as stream
 use Rattle.pd_host.proofs.CallsAfter.{Replies, either_reply, reply_leaves}
+use Rattle.pd_host.proofs.CallsKept.{IsOpenOn, open_on}
 use Rattle.pd_host.proofs.Goes.{window_end, Goes, ordinary_goes}
 use Rattle.pd_host.proofs.Outcomes.{Leaves, came, leaves_too, either}
 
@@ -39,9 +38,6 @@ record IsAlike (x y : Option ConnectionView) : Type 0 where
   pub timed : timed_in x ≡ timed_in y
   pub sent : sent_in x ≡ sent_in y
   pub taken : taken_in x ≡ taken_in y
-
-self : (x : Option ConnectionView) → IsAlike x x
-self x = record { timed = refl; sent = refl; taken = refl }
 
 quiet : (s t : State) → t.endpoint.outbox ≡ s.endpoint.outbox → t.endpoint.connection ≡ s.endpoint.connection → IsQuiet s t
 quiet s t out same = record { outbox = out; timed = ap timed_in same; sent = ap sent_in same; taken = ap taken_in same }
@@ -71,9 +67,8 @@ nagle_window : (on : Bool) (c : ConnectionView) (o : Option Established) → win
 nagle_window on c None = refl
 nagle_window on c (Some e) = refl
 
-nagled : (on : Bool) (o : Option ConnectionView) → IsAlike (option_map (with_nagle on) o) o
-nagled on None = self None
-nagled on (Some c) = record { timed = refl; sent = refl; taken = nagle_window on c c.established }
+nagled : (on : Bool) (c : ConnectionView) → IsAlike (Some (with_nagle on c)) (Some c)
+nagled on c = record { timed = refl; sent = refl; taken = nagle_window on c c.established }
 
 bounded : (c : ConnectionView) (n : ℕ) → IsAlike (Some (with_queued n c)) (Some c)
 bounded c n = record { timed = refl; sent = refl; taken = queued_window c.established }
@@ -135,11 +130,11 @@ module _ (now : ℕ) (R : State → State → Type 0) (rules : Goes now R) where
   accept_goes s Listens Listening = handed_goes s s.endpoint.connection refl
   accept_goes s _ _ = stayed s
 
-  no_delay_goes : (s : State) (set : Bool) (d : Descriptor) → Replies (Went s) (no_delay_reply s set d)
-  no_delay_goes s set Listening = stayed s
-  no_delay_goes s set Connected =
-      let x : Option ConnectionView = option_map (with_nagle (not set)) s.endpoint.connection in
-      (with_stored x s, stored s x s.endpoint.connection refl (nagled (not set) s.endpoint.connection), rules.none (with_stored x s))
+  no_delay_goes : (s : State) (set : Bool) (d : Descriptor) → IsOpenOn s d → Replies (Went s) (no_delay_reply s set d)
+  no_delay_goes s set Listening unclosed = stayed s
+  no_delay_goes s set (Connected c) unclosed =
+      let x : Option ConnectionView = Some (with_nagle (not set) c) in
+      (with_stored x s, stored s x (Some c) unclosed.0 (nagled (not set) c), rules.none (with_stored x s))
 
   -- what a call queues is sent on
   sends_on : (c : ConnectionView) (s u : State) (answer : Answer) → IsQuiet s u → Replies (Went s) (with_answer answer (ordinary_outside_recovery now c u))
@@ -147,9 +142,8 @@ module _ (now : ℕ) (R : State → State → Type 0) (rules : Goes now R) where
       reply_leaves (Went s) answer (ordinary_outside_recovery now c u)
       (leaves_too (R u) (Went s) (ordinary_outside_recovery now c u) (λ t r. (u, h, r)) (outside_goes c u))
 
-  written_goes : (n : ℕ) (s : State) (o : Option ConnectionView) → s.endpoint.connection ≡ o → Replies (Went s) (written_on now n o s)
-  written_goes n s None e = stayed s
-  written_goes n s (Some c) e =
+  written_goes : (n : ℕ) (s : State) (c : ConnectionView) → s.endpoint.connection ≡ Some c → Replies (Went s) (written_on now n c s)
+  written_goes n s c e =
       let noted : State = record s { uses = write_uses s.uses } in
       let free : ℕ = free_of s.settings.sndbuf c in
       let x : Option ConnectionView = Some (with_queued (min n free) c) in
@@ -160,13 +154,12 @@ module _ (now : ℕ) (R : State → State → Type 0) (rules : Goes now R) where
       (either_reply (Went s) (free == 0) (answered noted (Error Eagain)) sending (changed s noted refl refl)
       (sends_on c s (with_stored x noted) (Number (min n free)) (stored_in s noted x (Some c) refl e (bounded c (min n free))))))
 
-  write_goes : (s : State) (n : ℕ) (d : Descriptor) → Replies (Went s) (write_reply now s n d)
-  write_goes s n Listening = stayed s
-  write_goes s n Connected = written_goes n s s.endpoint.connection refl
+  write_goes : (s : State) (n : ℕ) (d : Descriptor) → IsOpenOn s d → Replies (Went s) (write_reply now s n d)
+  write_goes s n Listening unclosed = stayed s
+  write_goes s n (Connected c) unclosed = written_goes n s c unclosed.0
 
-  closed_goes : (s : State) (o : Option ConnectionView) → s.endpoint.connection ≡ o → Replies (Went s) (closed_on now o s)
-  closed_goes s None e = stayed s
-  closed_goes s (Some c) e =
+  closed_goes : (s : State) (c : ConnectionView) → s.endpoint.connection ≡ Some c → Replies (Went s) (closed_on now c s)
+  closed_goes s c e =
       let x : Option ConnectionView = Some (closed_stream c) in
       let u : State = with_stored x s in
       let h : IsQuiet s u = stored s x (Some c) e (closed_so c.reset c) in
@@ -175,29 +168,29 @@ module _ (now : ℕ) (R : State → State → Type 0) (rules : Goes now R) where
       (either (Went s) c.reset (Ok u) (ordinary_outside_recovery now c u) (u, h, rules.none u)
       (leaves_too (R u) (Went s) (ordinary_outside_recovery now c u) (λ t k. (u, h, k)) (outside_goes c u)))
 
-  close_goes : (s : State) (d : Descriptor) → Replies (Went s) (close_reply now s d)
-  close_goes s Listening =
+  close_goes : (s : State) (d : Descriptor) → IsOpenOn s d → Replies (Went s) (close_reply now s d)
+  close_goes s Listening unclosed =
       either_reply (Went s) (is_pending s.endpoint.connection) (Err Unsupported) (answered (with_listener Closed s) (Number 0)) tt
       (changed s (with_listener Closed s) refl refl)
-  close_goes s Connected = closed_goes s s.endpoint.connection refl
+  close_goes s (Connected c) unclosed = closed_goes s c unclosed.0
 
-  operated_goes : (s : State) (d : Descriptor) (o : Operation) → Replies (Went s) (operated now s d o)
-  operated_goes s d Bind = bind_goes s s.endpoint.listener d
-  operated_goes s d Listen = listen_goes s s.endpoint.listener d
-  operated_goes s d Accept = accept_goes s s.endpoint.listener d
-  operated_goes s d ReuseAddress = stayed s
-  operated_goes s d (NoDelay set) = no_delay_goes s set d
-  operated_goes s d SetFlags = stayed s
-  operated_goes s d (Write n) = write_goes s n d
-  operated_goes s d Close = close_goes s d
+  operated_goes : (s : State) (d : Descriptor) (o : Operation) → IsOpenOn s d → Replies (Went s) (operated now s d o)
+  operated_goes s d Bind unclosed = bind_goes s s.endpoint.listener d
+  operated_goes s d Listen unclosed = listen_goes s s.endpoint.listener d
+  operated_goes s d Accept unclosed = accept_goes s s.endpoint.listener d
+  operated_goes s d ReuseAddress unclosed = stayed s
+  operated_goes s d (NoDelay set) unclosed = no_delay_goes s set d unclosed
+  operated_goes s d SetFlags unclosed = stayed s
+  operated_goes s d (Write n) unclosed = write_goes s n d unclosed
+  operated_goes s d Close unclosed = close_goes s d unclosed
 
-  open_goes : (s : State) (o : Operation) (d : Option Descriptor) → Replies (Went s) (on_open now s o d)
-  open_goes s o None = stayed s
-  open_goes s o (Some d) = operated_goes s d o
+  open_goes : (s : State) (fd : ℕ) (o : Operation) (d : Option Descriptor) → open_descriptor s.endpoint fd ≡ d → Replies (Went s) (on_open now s o d)
+  open_goes s fd o None e = stayed s
+  open_goes s fd o (Some d) e = operated_goes s d o (open_on s fd d e)
 
   reply_goes : (s : State) (r : Request) → Replies (Went s) (reply_to now s r)
   reply_goes s Socket = socket_goes s s.endpoint.listener
-  reply_goes s (On fd o) = open_goes s o (open_descriptor s.endpoint fd)
+  reply_goes s (On fd o) = open_goes s fd o (open_descriptor s.endpoint fd) refl
 
   requested_goes : (s : State) (r : Option Request) → Replies (Went s) (requested now s r)
   requested_goes s None = tt

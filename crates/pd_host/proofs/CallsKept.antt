@@ -1,17 +1,15 @@
 -- What each rule keeps of a connection, calls keep.
-use Rattle.std.proofs.Common.{◌≡◌, ℕ, ◌==◌, ◌&&◌, min, not, Bool, true, false, if◌then◌else◌, List, Option, Some, None, Result, Ok, Err, refl}
-use Rattle.std.specs.Prelude.{is_some, option_map, IfSome}
+use Rattle.std.proofs.Common.{◌≡◌, ℕ, ◌==◌, ◌&&◌, min, not, Bool, true, false, if◌then◌else◌, List, Option, Some, None, Result, Ok, Err, refl, ap, subst}
+use Rattle.std.specs.Prelude.{is_some, IfSome}
 use Rattle.pd_script.specs.declared.calls.Call.{Call}
 use Rattle.pd_settings.specs.declared.fields.Settings.{Settings}
 use Rattle.pd_seg.specs.declared.answers.Answer.{Answer}
 use Rattle.pd_seg.specs.declared.answers.Answer.TheVariants.{Number}
 use Rattle.pd_seg.specs.declared.segments.Sent.{Sent}
-use Rattle.pd_host.specs.Calls.{Reply, with_answer, with_listener, with_stored, is_listener_open, is_waiting, is_open, is_stream_open, is_pending, stream_of, open_descriptor, socket_reply, bind_reply, listen_reply, handed_out, accept_reply, with_stream, with_nagle, no_delay_reply, free_of, with_queued, write_uses, queued, written_on, write_reply, closed_stream, closed_on, close_reply, operated, on_open, reply_to, requested, called}
+use Rattle.pd_host.specs.Calls.{Descriptor, Listening, Connected, Reply, with_answer, with_listener, with_stored, is_listener_open, is_waiting, is_open, open_stream, is_pending, stream_of, open_descriptor, socket_reply, bind_reply, listen_reply, handed_out, accept_reply, with_stream, with_nagle, no_delay_reply, free_of, with_queued, write_uses, queued, written_on, write_reply, closed_stream, closed_on, close_reply, operated, on_open, reply_to, requested, called}
 use Rattle.pd_host.specs.Connection.{ConnectionView}
 use Rattle.pd_host.specs.Requests.{request_of}
 use Rattle.pd_host.specs.Sending.{is_recovering, ordinary, ordinary_outside_recovery}
-use Rattle.pd_host.specs.declared.descriptors.Descriptor.{Descriptor}
-use Rattle.pd_host.specs.declared.descriptors.Descriptor.TheVariants.{Listening, Connected}
 use Rattle.pd_host.specs.declared.endpoint.Endpoint.{Endpoint}
 use Rattle.pd_host.specs.declared.halts.Halt.{Halt}
 use Rattle.pd_host.specs.declared.halts.Halt.TheVariants.{Unsupported}
@@ -36,14 +34,39 @@ answered_leaves P answer (Ok s) h = h
 answered_leaves P answer (Err halt) h = tt
 
 -- descriptor 4 is open where it was found
-connected_so : (a b is : Bool) → (if a then Some Listening else if b && is then Some Connected else None) ≡ Some Connected → is ≡ true
-connected_so true b is e = absurd cc
-connected_so false true true e = refl
-connected_so false true false e = absurd cc
-connected_so false false is e = absurd cc
 
-pub connected : (e : Endpoint) (fd : ℕ) → open_descriptor e fd ≡ Some Connected → is_stream_open e.connection ≡ true
-connected e fd is = connected_so (fd == 3 && is_listener_open e.listener) (fd == 4) (is_stream_open e.connection) is
+opened_so : (b : Bool) (c d : ConnectionView) → is_open (stream_of c) ≡ b → (if b then Some (Connected c) else None) ≡ Some (Connected d)
+    → (Some c ≡ Some d) × (is_open (stream_of d) ≡ true)
+opened_so true c d is e =
+    let same : c ≡ d = cc in
+    (ap (λ (x : ConnectionView). Some x) same, subst (λ (x : ConnectionView). is_open (stream_of x) ≡ true) same is)
+opened_so false c d is e = absurd cc
+
+opened : (o : Option ConnectionView) (d : ConnectionView) → open_stream o ≡ Some (Connected d) → (o ≡ Some d) × (is_open (stream_of d) ≡ true)
+opened None d e = absurd cc
+opened (Some c) d e = opened_so (is_open (stream_of c)) c d refl e
+
+connected_so : (a b : Bool) (o : Option ConnectionView) (d : ConnectionView) → (if a then Some Listening else if b then open_stream o else None) ≡ Some (Connected d)
+    → (b ≡ true) × (open_stream o ≡ Some (Connected d))
+connected_so true b o d e = absurd cc
+connected_so false true o d e = (refl, e)
+connected_so false false o d e = absurd cc
+
+pub connected : (e : Endpoint) (fd : ℕ) (d : ConnectionView) → open_descriptor e fd ≡ Some (Connected d)
+    → ((fd == 4) ≡ true) × (e.connection ≡ Some d) × (is_open (stream_of d) ≡ true)
+connected e fd d is =
+    let p = connected_so (fd == 3 && is_listener_open e.listener) (fd == 4) e.connection d is in
+    let o = opened e.connection d p.1 in
+    (p.0, o.0, o.1)
+
+-- so it is on a state
+abbrev pub IsOpenOn : State → Descriptor → Type 0
+IsOpenOn s Listening = Unit {0}
+IsOpenOn s (Connected c) = (s.endpoint.connection ≡ Some c) × (is_open (stream_of c) ≡ true)
+
+pub open_on : (s : State) (fd : ℕ) (d : Descriptor) → open_descriptor s.endpoint fd ≡ Some d → IsOpenOn s d
+open_on s fd Listening is = tt
+open_on s fd (Connected c) is = let found = connected s.endpoint fd c is in (found.1, found.2)
 
 module _ (now : ℕ) (O : List Sent → Type 0) (C D : Settings → ConnectionView → Type 0) (Q : ConnectionView → Type 0)
     (more : (b : Settings) (c : ConnectionView) → D b c → TakesOne now O) (rules : (b : Settings) → KeptByCalls now b Q (C b) (D b)) where
@@ -81,14 +104,10 @@ module _ (now : ℕ) (O : List Sent → Type 0) (C D : Settings → ConnectionVi
   accept_leaves s _ _ h = h
 
   -- Nagle's algorithm
-  switched : (b : Settings) (on : Bool) (o : Option ConnectionView) → IfSome o (C b) → IfSome (option_map (with_nagle on) o) (C b)
-  switched b on None d = tt
-  switched b on (Some c) d = (rules b).nagle on c d
-
-  no_delay_leaves : (s : State) (set : Bool) (d : Descriptor) → All s → Leaves All (no_delay_reply s set d)
-  no_delay_leaves s set Listening h = h
-  no_delay_leaves s set Connected h =
-      stored (option_map (with_nagle (not set)) s.endpoint.connection) s h (switched s.settings (not set) s.endpoint.connection h.connection)
+  no_delay_leaves : (s : State) (set : Bool) (d : Descriptor) → All s → IsOpenOn s d → Leaves All (no_delay_reply s set d)
+  no_delay_leaves s set Listening h unclosed = h
+  no_delay_leaves s set (Connected c) h unclosed =
+      stored (Some (with_nagle (not set) c)) s h ((rules s.settings).nagle (not set) c (subst (λ o. IfSome o (C s.settings)) unclosed.0 h.connection))
 
   -- octets are queued, and sent
   went_on : (s : State) → (o : Option ConnectionView) → IfSome o (D s.settings) → IfSome o (C s.settings)
@@ -111,18 +130,16 @@ module _ (now : ℕ) (O : List Sent → Type 0) (C D : Settings → ConnectionVi
       (outside_recovery c (with_stored (Some (with_queued (min n (free_of s.settings.sndbuf c)) c)) s)
       (record { packets = h.packets; connection = (rules s.settings).queued n c q d unclosed still })))
 
-  written_leaves : (n : ℕ) (o : Option ConnectionView) (s : State) → IfSome o Q → All s → IfSome o (C s.settings) → is_stream_open o ≡ true
-      → Leaves All (written_on now n o s)
-  written_leaves n None s q h d unclosed = h
-  written_leaves n (Some c) s q h d unclosed =
+  written_leaves : (n : ℕ) (c : ConnectionView) (s : State) → Q c → All s → C s.settings c → is_open (stream_of c) ≡ true
+      → Leaves All (written_on now n c s)
+  written_leaves n c s q h d unclosed =
       by_test (Leaves All) c.reset _ _ (λ _. h)
       (λ still. by_test (Leaves All) (n == 0) _ _ (λ _. h)
       (λ _. queued_leaves n c (record s { uses = write_uses s.uses }) q (record { packets = h.packets; connection = h.connection }) d unclosed still))
 
-  closed_leaves : (o : Option ConnectionView) (s : State) → IfSome o Q → All s → IfSome o (C s.settings) → is_stream_open o ≡ true
-      → Leaves All (closed_on now o s)
-  closed_leaves None s q h d unclosed = h
-  closed_leaves (Some c) s q h d unclosed =
+  closed_leaves : (c : ConnectionView) (s : State) → Q c → All s → C s.settings c → is_open (stream_of c) ≡ true
+      → Leaves All (closed_on now c s)
+  closed_leaves c s q h d unclosed =
       let closed : State = with_stored (Some (closed_stream c)) s in
       answered_leaves All (Number 0) (if c.reset then Ok closed else ordinary_outside_recovery now c closed)
       (by_test (Comes All) c.reset (Ok closed) (ordinary_outside_recovery now c closed)
@@ -133,25 +150,23 @@ module _ (now : ℕ) (O : List Sent → Type 0) (C D : Settings → ConnectionVi
   abbrev MayCall : State → Type 0
   MayCall s = IfSome s.endpoint.connection Q
 
-  abbrev IsOpenOn : State → Descriptor → Type 0
-  IsOpenOn s Listening = Unit {0}
-  IsOpenOn s Connected = is_stream_open s.endpoint.connection ≡ true
-
   write_leaves : (s : State) (n : ℕ) (d : Descriptor) → MayCall s → All s → IsOpenOn s d → Leaves All (write_reply now s n d)
   write_leaves s n Listening q h unclosed = h
-  write_leaves s n Connected q h unclosed = written_leaves n s.endpoint.connection s q h h.connection unclosed
+  write_leaves s n (Connected c) q h unclosed =
+      written_leaves n c s (subst (λ o. IfSome o Q) unclosed.0 q) h (subst (λ o. IfSome o (C s.settings)) unclosed.0 h.connection) unclosed.1
 
   close_leaves : (s : State) (d : Descriptor) → MayCall s → All s → IsOpenOn s d → Leaves All (close_reply now s d)
   close_leaves s Listening q h unclosed =
       by_test (Leaves All) (is_pending s.endpoint.connection) (Err Unsupported) _ (λ _. tt) (λ _. listens Closed s h)
-  close_leaves s Connected q h unclosed = closed_leaves s.endpoint.connection s q h h.connection unclosed
+  close_leaves s (Connected c) q h unclosed =
+      closed_leaves c s (subst (λ o. IfSome o Q) unclosed.0 q) h (subst (λ o. IfSome o (C s.settings)) unclosed.0 h.connection) unclosed.1
 
   operated_leaves : (s : State) (d : Descriptor) (o : Operation) → MayCall s → All s → IsOpenOn s d → Leaves All (operated now s d o)
   operated_leaves s d Bind q h unclosed = bind_leaves s s.endpoint.listener d h
   operated_leaves s d Listen q h unclosed = listen_leaves s s.endpoint.listener d h
   operated_leaves s d Accept q h unclosed = accept_leaves s s.endpoint.listener d h
   operated_leaves s d ReuseAddress q h unclosed = h
-  operated_leaves s d (NoDelay set) q h unclosed = no_delay_leaves s set d h
+  operated_leaves s d (NoDelay set) q h unclosed = no_delay_leaves s set d h unclosed
   operated_leaves s d SetFlags q h unclosed = h
   operated_leaves s d (Write n) q h unclosed = write_leaves s n d q h unclosed
   operated_leaves s d Close q h unclosed = close_leaves s d q h unclosed
@@ -159,8 +174,7 @@ module _ (now : ℕ) (O : List Sent → Type 0) (C D : Settings → ConnectionVi
   open_leaves : (s : State) (fd : ℕ) (o : Operation) (d : Option Descriptor) → MayCall s → All s → open_descriptor s.endpoint fd ≡ d
       → Leaves All (on_open now s o d)
   open_leaves s fd o None q h is = h
-  open_leaves s fd o (Some Listening) q h is = operated_leaves s Listening o q h tt
-  open_leaves s fd o (Some Connected) q h is = operated_leaves s Connected o q h (connected s.endpoint fd is)
+  open_leaves s fd o (Some d) q h is = operated_leaves s d o q h (open_on s fd d is)
 
   reply_leaves : (s : State) (r : Request) → MayCall s → All s → Leaves All (reply_to now s r)
   reply_leaves s Socket q h = socket_leaves s s.endpoint.listener h

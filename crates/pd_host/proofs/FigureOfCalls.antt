@@ -6,7 +6,7 @@ use Rattle.pd_script.specs.declared.calls.Call.{Call}
 use Rattle.pd_seg.specs.declared.answers.Answer.{Answer}
 use Rattle.pd_seg.specs.declared.answers.Answer.TheVariants.{Number, Error}
 use Rattle.pd_seg.specs.declared.answers.Errno.TheVariants.{Eagain, Epipe}
-use Rattle.pd_host.specs.Calls.{answered, with_listener, with_stored, socket_reply, bind_reply, listen_reply, accept_reply, handed_out, no_delay_reply, free_of, with_queued, write_uses, queued, written_on, write_reply, closed_stream, with_fin, closed_on, close_reply, operated, on_open, open_descriptor, requested, called, is_open, is_pending, is_waiting, is_stream_open, stream_in, stream_of, with_stream, with_nagle}
+use Rattle.pd_host.specs.Calls.{Descriptor, Listening, Connected, answered, with_listener, with_stored, socket_reply, bind_reply, listen_reply, accept_reply, handed_out, no_delay_reply, free_of, with_queued, write_uses, queued, written_on, write_reply, closed_stream, with_fin, closed_on, close_reply, operated, on_open, open_descriptor, requested, called, is_open, is_pending, is_waiting, stream_in, stream_of, with_stream, with_nagle}
 use Rattle.pd_host.specs.ConnStates.{synchronized, state_since, state_of, state_on, conn_state}
 use Rattle.pd_host.specs.Connection.{ConnectionView, peer_fin_in}
 use Rattle.pd_host.specs.Expiries.{block_expired, expired, advanced}
@@ -16,8 +16,6 @@ use Rattle.pd_host.specs.Requests.{request_of}
 use Rattle.pd_host.specs.Sending.{ordinary_outside_recovery, places_left}
 use Rattle.pd_host.specs.declared.connection.states.ConnState.{ConnState}
 use Rattle.pd_host.specs.declared.connection.states.ConnState.TheVariants as state
-use Rattle.pd_host.specs.declared.descriptors.Descriptor.{Descriptor}
-use Rattle.pd_host.specs.declared.descriptors.Descriptor.TheVariants.{Listening, Connected}
 use Rattle.pd_host.specs.declared.established.Established.{Established}
 use Rattle.pd_host.specs.declared.halts.Halt.TheVariants.{Unsupported}
 use Rattle.pd_host.specs.declared.descriptors.Listener.{Listener}
@@ -34,7 +32,7 @@ use Rattle.pd_host.specs.declared.descriptors.Stream.TheVariants as stream
 use Rattle.pd_host.proofs.Advances.{expiry_finds, expiry_sends}
 use Rattle.pd_host.proofs.Boards.{sure}
 use Rattle.pd_host.proofs.CallsAfter.{Replies, reply_leaves, either_reply, queued_sends, outside_sends}
-use Rattle.pd_host.proofs.CallsKept.{connected}
+use Rattle.pd_host.proofs.CallsKept.{IsOpenOn, open_on}
 use Rattle.pd_host.proofs.Faces.{peer_of, face, faces, since, state_named, same_state, sent_faces}
 use Rattle.pd_host.proofs.Kept.{by_test}
 use Rattle.pd_host.proofs.Outcomes.{came, leaves_too, either, kept}
@@ -131,14 +129,9 @@ accept_moves : (s : State) (l : Listener) (d : Descriptor) → Replies (Moves (c
 accept_moves s Listens Listening = handed_moves s s.endpoint.connection refl
 accept_moves s _ _ = inl refl
 
-switched_on : (on : Bool) (s : State) (o : Option ConnectionView) → s.endpoint.connection ≡ o
-    → conn_state (with_stored (option_map (with_nagle on) o) s) ≡ conn_state s
-switched_on on s None e = sym (ap (state_on s.endpoint.listener) e)
-switched_on on s (Some c) e = restored s c (with_nagle on c) e (switched on c)
-
-no_delay_moves : (s : State) (set : Bool) (d : Descriptor) → Replies (Moves (conn_state s)) (no_delay_reply s set d)
-no_delay_moves s set Listening = inl refl
-no_delay_moves s set Connected = inl (switched_on (not set) s s.endpoint.connection refl)
+no_delay_moves : (s : State) (set : Bool) (d : Descriptor) → IsOpenOn s d → Replies (Moves (conn_state s)) (no_delay_reply s set d)
+no_delay_moves s set Listening unclosed = inl refl
+no_delay_moves s set (Connected c) unclosed = inl (restored s c (with_nagle (not set) c) unclosed.0 (switched (not set) c))
 
 -- what an open descriptor 4 tells
 
@@ -165,7 +158,7 @@ queued_state n c h =
     ∙ sym (state_named c)
 
 write_moves : (now : ℕ) (s : State) (n : ℕ) (c : ConnectionView) → s.endpoint.connection ≡ Some c → c.fin ≡ false
-    → Replies (Moves (conn_state s)) (written_on now n (Some c) s)
+    → Replies (Moves (conn_state s)) (written_on now n c s)
 write_moves now s n c e h =
     let after : State = record s { uses = write_uses s.uses } in
     either_reply (Moves (conn_state s)) c.reset (answered s (Error Epipe)) _ (inl refl)
@@ -213,7 +206,7 @@ closed_moves b now c h unclosed =
     (λ _. inl (streamed stream.Closed c)) (λ live. closing_moves b now c k.0 h k.1 unclosed live)
 
 close_moves : (now : ℕ) (s : State) (c : ConnectionView) → s.endpoint.connection ≡ Some c → IsReached s.settings now c → is_open (stream_of c) ≡ true
-    → Replies (Moves (conn_state s)) (closed_on now (Some c) s)
+    → Replies (Moves (conn_state s)) (closed_on now c s)
 close_moves now s c e h unclosed =
     let closed : State = with_stored (Some (closed_stream c)) s in
     let here : Moves (conn_state s) closed =
@@ -226,25 +219,13 @@ close_moves now s c e h unclosed =
 
 -- the rows
 
-abbrev IsOpenOn : State → Descriptor → Type 0
-IsOpenOn s Listening = Unit {0}
-IsOpenOn s Connected = is_stream_open s.endpoint.connection ≡ true
-
 module _ (now : ℕ) (s : State) (h : IsLawful now s) where
   reached : (c : ConnectionView) → s.endpoint.connection ≡ Some c → IsReached s.settings now c
   reached c e = at_some (IsReached s.settings now) s.endpoint.connection c e h.connection
 
-  written_moves : (n : ℕ) (o : Option ConnectionView) → s.endpoint.connection ≡ o → is_stream_open o ≡ true → Replies (Moves (conn_state s)) (written_on now n o s)
-  written_moves n None e unclosed = inl refl
-  written_moves n (Some c) e unclosed = write_moves now s n c e (unfinished s.settings now c (reached c e) unclosed)
-
-  close_on : (o : Option ConnectionView) → s.endpoint.connection ≡ o → is_stream_open o ≡ true → Replies (Moves (conn_state s)) (closed_on now o s)
-  close_on None e unclosed = inl refl
-  close_on (Some c) e unclosed = close_moves now s c e (reached c e) unclosed
-
   write_row : (n : ℕ) (d : Descriptor) → IsOpenOn s d → Replies (Moves (conn_state s)) (write_reply now s n d)
   write_row n Listening unclosed = inl refl
-  write_row n Connected unclosed = written_moves n s.endpoint.connection refl unclosed
+  write_row n (Connected c) unclosed = write_moves now s n c unclosed.0 (unfinished s.settings now c (reached c unclosed.0) unclosed.1)
 
   -- a listener that closes
   unlistens : (l : Listener) → MovesByCall (state_on l None) (state_on Closed None)
@@ -258,22 +239,21 @@ module _ (now : ℕ) (s : State) (h : IsLawful now s) where
   close_row Listening unclosed =
       either_reply (Moves (conn_state s)) (is_pending s.endpoint.connection) (Err Unsupported) (answered (with_listener Closed s) (Number 0)) tt
       (relistened s.endpoint.listener Closed s refl (unlistens s.endpoint.listener))
-  close_row Connected unclosed = close_on s.endpoint.connection refl unclosed
+  close_row (Connected c) unclosed = close_moves now s c unclosed.0 (reached c unclosed.0) unclosed.1
 
   operated_moves : (d : Descriptor) (o : Operation) → IsOpenOn s d → Replies (Moves (conn_state s)) (operated now s d o)
   operated_moves d Bind unclosed = bind_moves s s.endpoint.listener d refl
   operated_moves d Listen unclosed = listen_moves s s.endpoint.listener d refl
   operated_moves d Accept unclosed = accept_moves s s.endpoint.listener d
   operated_moves d ReuseAddress unclosed = inl refl
-  operated_moves d (NoDelay set) unclosed = no_delay_moves s set d
+  operated_moves d (NoDelay set) unclosed = no_delay_moves s set d unclosed
   operated_moves d SetFlags unclosed = inl refl
   operated_moves d (Write n) unclosed = write_row n d unclosed
   operated_moves d Close unclosed = close_row d unclosed
 
   open_moves : (fd : ℕ) (o : Operation) (d : Option Descriptor) → open_descriptor s.endpoint fd ≡ d → Replies (Moves (conn_state s)) (on_open now s o d)
   open_moves fd o None e = inl refl
-  open_moves fd o (Some Listening) e = operated_moves Listening o tt
-  open_moves fd o (Some Connected) e = operated_moves Connected o (connected s.endpoint fd e)
+  open_moves fd o (Some d) e = operated_moves d o (open_on s fd d e)
 
   requested_moves : (r : Option Request) → Replies (Moves (conn_state s)) (requested now s r)
   requested_moves None = tt

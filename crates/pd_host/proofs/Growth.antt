@@ -1,6 +1,6 @@
 -- How much an input queues.
-use Rattle.std.proofs.Common.{◌≡◌, ℕ, ◌+◌, ◌≤◌, ◌==◌, ◌&&◌, ◌||◌, min, nat_lt, not, Bool, true, false, if◌then◌else◌, Option, None, Some, is_some, List, [], ◌∷◌, Result, Ok, Err, refl, sym, ap, subst, ◌∙◌, arith}
-use Rattle.std.specs.Prelude.{option_map, IfSome}
+use Rattle.std.proofs.Common.{◌≡◌, ℕ, ◌+◌, ◌≤◌, ◌==◌, ◌&&◌, ◌||◌, min, nat_lt, Bool, true, false, if◌then◌else◌, Option, None, Some, is_some, List, [], ◌∷◌, Result, Ok, Err, refl, sym, ap, subst, ◌∙◌, arith}
+use Rattle.std.specs.Prelude.{IfSome}
 use Rattle.pd_settings.specs.declared.fields.Settings.{Settings}
 use Rattle.pd_seg.specs.declared.answers.Answer.{Answer}
 use Rattle.pd_seg.specs.declared.answers.Answer.TheVariants.{Number, Error}
@@ -11,7 +11,7 @@ use Rattle.pd_board.specs.Board.{BoardView, marked, has_new}
 use Rattle.pd_recover.specs.declared.segments.NextSegment.{NextSegment}
 use Rattle.pd_recover.specs.declared.segments.NextSegment.TheVariants.{Lost, New, Hole, Rescue}
 use Rattle.pd_host.specs.Acknowledgments.{is_block_sent, told_block, told_blocks, blocks_of, scored, with_number, with_blocks, newly_acked, with_timing, with_new_window, is_current, noted_on, sent_as, entered_on, with_ack, taking}
-use Rattle.pd_host.specs.Calls.{Reply, answered, with_listener, with_stored, with_stream, with_nagle, with_queued, with_fin, with_answer, socket_reply, bind_reply, listen_reply, accept_reply, handed_out, no_delay_reply, queued, free_of, write_uses, written_on, write_reply, closed_stream, closed_on, close_reply, operated, on_open, open_descriptor, requested, called, is_pending, is_waiting, stream_of}
+use Rattle.pd_host.specs.Calls.{Descriptor, Listening, Connected, Reply, answered, with_listener, with_stored, with_stream, with_queued, with_fin, with_answer, socket_reply, bind_reply, listen_reply, accept_reply, handed_out, no_delay_reply, queued, free_of, write_uses, written_on, write_reply, closed_stream, closed_on, close_reply, operated, on_open, open_descriptor, requested, called, is_pending, is_waiting, stream_of}
 use Rattle.pd_host.specs.Connection.{ConnectionView}
 use Rattle.pd_host.specs.Expiries.{advanced, deadline_of, due_by, expired, expired_on}
 use Rattle.pd_host.specs.Growth.{asked_of, asked_by, ExpiriesQueueNothing, ArrivalsQueueOurSyn, CallsQueueWhatTheyAsk, CallsAskFew}
@@ -20,8 +20,6 @@ use Rattle.pd_host.specs.Requests.{request_of}
 use Rattle.pd_host.specs.Host.{queued_to}
 use Rattle.pd_host.specs.Sending.{places_left, ordinary, is_recovering, ordinary_outside_recovery}
 use Rattle.pd_host.specs.Timing.{clocked, measured, is_measured, with_sample, with_timer_moved}
-use Rattle.pd_host.specs.declared.descriptors.Descriptor.{Descriptor}
-use Rattle.pd_host.specs.declared.descriptors.Descriptor.TheVariants.{Listening, Connected}
 use Rattle.pd_host.specs.declared.established.Established.{Established}
 use Rattle.pd_host.specs.declared.connection.acknowledgments.Filling.{Filling}
 use Rattle.pd_host.specs.declared.halts.Halt.{Halt}
@@ -35,6 +33,7 @@ use Rattle.pd_host.specs.declared.requests.Request.TheVariants.{Socket, On}
 use Rattle.pd_host.specs.declared.endpoint.State.{State}
 use Rattle.pd_host.specs.declared.descriptors.Stream.TheVariants as stream
 use Rattle.pd_host.specs.declared.connection.timing.Timing.{Timing}
+use Rattle.pd_host.proofs.CallsKept.{IsOpenOn, open_on}
 use Rattle.pd_host.proofs.ArrivalsKept.{arrived_holds}
 use Rattle.pd_host.proofs.Kept.{Comes, by_test, came, repeated_holds}
 use Rattle.pd_host.proofs.Rules.{Holds, KeptBySending, KeptByArrivals, first_run}
@@ -218,13 +217,9 @@ accept_ends : (n : ℕ) (s : State) (l : Listener) (d : Descriptor) → Ends n s
 accept_ends n s Listens Listening h = handed_ends n s s.endpoint.connection refl h
 accept_ends n s _ _ h = h
 
-nagle_end : (on : Bool) (o : Option ConnectionView) → queued_to (option_map (with_nagle on) o) ≡ queued_to o
-nagle_end on None = refl
-nagle_end on (Some c) = refl
-
-no_delay_ends : (n : ℕ) (s : State) (set : Bool) (d : Descriptor) → Ends n s → AtMost n (no_delay_reply s set d)
-no_delay_ends n s set Listening h = h
-no_delay_ends n s set Connected h = omega (arith, nagle_end (not set) s.endpoint.connection, h)
+no_delay_ends : (n : ℕ) (s : State) (set : Bool) (d : Descriptor) → IsOpenOn s d → Ends n s → AtMost n (no_delay_reply s set d)
+no_delay_ends n s set Listening unclosed h = h
+no_delay_ends n s set (Connected c) unclosed h = subst (λ o. queued_to o ≤ n) unclosed.0 h
 
 queued_ends : (now octets free n : ℕ) (c : ConnectionView) (s : State) → c.board.end + min octets free ≤ n → Ends n s → AtMost n (queued now octets free c s)
 queued_ends now octets free n c s le h =
@@ -232,10 +227,9 @@ queued_ends now octets free n c s le h =
     (λ _. answered_at_most n (Number (min octets free)) _
     (outside_recovery_ends n now c (with_stored (Some (with_queued (min octets free) c)) s) (omega (arith, le))))
 
-written_ends : (now octets : ℕ) (s : State) (o : Option ConnectionView) → s.endpoint.connection ≡ o
-    → AtMost (queued_to s.endpoint.connection + min octets s.settings.sndbuf) (written_on now octets o s)
-written_ends now octets s None is = more (queued_to s.endpoint.connection) (min octets s.settings.sndbuf)
-written_ends now octets s (Some c) is =
+written_ends : (now octets : ℕ) (s : State) (c : ConnectionView) → s.endpoint.connection ≡ Some c
+    → AtMost (queued_to s.endpoint.connection + min octets s.settings.sndbuf) (written_on now octets c s)
+written_ends now octets s c is =
     let n : ℕ = queued_to s.endpoint.connection + min octets s.settings.sndbuf in
     let kept : Ends n s = more (queued_to s.endpoint.connection) (min octets s.settings.sndbuf) in
     let same : queued_to s.endpoint.connection ≡ c.board.end = ap queued_to is in
@@ -244,18 +238,17 @@ written_ends now octets s (Some c) is =
     (λ _. by_test (AtMost n) (octets == 0) (answered s (Number 0)) (queued now octets (free_of s.settings.sndbuf c) c after) (λ _. kept)
     (λ _. queued_ends now octets (free_of s.settings.sndbuf c) n c after (omega (arith, same)) kept))
 
-write_ends : (now : ℕ) (s : State) (octets : ℕ) (d : Descriptor)
+write_ends : (now : ℕ) (s : State) (octets : ℕ) (d : Descriptor) → IsOpenOn s d
     → AtMost (queued_to s.endpoint.connection + min octets s.settings.sndbuf) (write_reply now s octets d)
-write_ends now s octets Listening = more (queued_to s.endpoint.connection) (min octets s.settings.sndbuf)
-write_ends now s octets Connected = written_ends now octets s s.endpoint.connection refl
+write_ends now s octets Listening unclosed = more (queued_to s.endpoint.connection) (min octets s.settings.sndbuf)
+write_ends now s octets (Connected c) unclosed = written_ends now octets s c unclosed.0
 
 closed_stream_end : (c : ConnectionView) → (closed_stream c).board.end ≤ c.board.end + 1
 closed_stream_end c = by_test (λ (d : ConnectionView). d.board.end ≤ c.board.end + 1) c.reset c (with_fin c) (λ _. more c.board.end 1) (λ _. omega arith)
 
-closed_ends : (now : ℕ) (s : State) (o : Option ConnectionView) → s.endpoint.connection ≡ o
-    → AtMost (queued_to s.endpoint.connection + 1) (closed_on now o s)
-closed_ends now s None is = more (queued_to s.endpoint.connection) 1
-closed_ends now s (Some c) is =
+closed_ends : (now : ℕ) (s : State) (c : ConnectionView) → s.endpoint.connection ≡ Some c
+    → AtMost (queued_to s.endpoint.connection + 1) (closed_on now c s)
+closed_ends now s c is =
     let n : ℕ = queued_to s.endpoint.connection + 1 in
     let same : queued_to s.endpoint.connection ≡ c.board.end = ap queued_to is in
     let closed : State = with_stored (Some (closed_stream c)) s in
@@ -263,32 +256,32 @@ closed_ends now s (Some c) is =
     answered_at_most n (Number 0) _
     (by_test (Comes (Ends n)) c.reset (Ok closed) (ordinary_outside_recovery now c closed) (λ _. kept) (λ _. outside_recovery_ends n now c closed kept))
 
-close_ends : (now : ℕ) (s : State) (d : Descriptor) → AtMost (queued_to s.endpoint.connection + 1) (close_reply now s d)
-close_ends now s Listening =
+close_ends : (now : ℕ) (s : State) (d : Descriptor) → IsOpenOn s d → AtMost (queued_to s.endpoint.connection + 1) (close_reply now s d)
+close_ends now s Listening unclosed =
     by_test (AtMost (queued_to s.endpoint.connection + 1)) (is_pending s.endpoint.connection) (Err Unsupported) (answered (with_listener Closed s) (Number 0))
     (λ _. tt) (λ _. more (queued_to s.endpoint.connection) 1)
-close_ends now s Connected = closed_ends now s s.endpoint.connection refl
+close_ends now s (Connected c) unclosed = closed_ends now s c unclosed.0
 
-operated_ends : (now : ℕ) (s : State) (d : Descriptor) (o : Operation)
+operated_ends : (now : ℕ) (s : State) (d : Descriptor) (o : Operation) → IsOpenOn s d
     → AtMost (queued_to s.endpoint.connection + asked_of s.settings.sndbuf o) (operated now s d o)
-operated_ends now s d Bind = bind_ends (queued_to s.endpoint.connection + 0) s s.endpoint.listener d (more (queued_to s.endpoint.connection) 0)
-operated_ends now s d Listen = listen_ends (queued_to s.endpoint.connection + 0) s s.endpoint.listener d (more (queued_to s.endpoint.connection) 0)
-operated_ends now s d Accept = accept_ends (queued_to s.endpoint.connection + 0) s s.endpoint.listener d (more (queued_to s.endpoint.connection) 0)
-operated_ends now s d ReuseAddress = more (queued_to s.endpoint.connection) 0
-operated_ends now s d (NoDelay set) = no_delay_ends (queued_to s.endpoint.connection + 0) s set d (more (queued_to s.endpoint.connection) 0)
-operated_ends now s d SetFlags = more (queued_to s.endpoint.connection) 0
-operated_ends now s d (Write octets) = write_ends now s octets d
-operated_ends now s d Close = close_ends now s d
+operated_ends now s d Bind unclosed = bind_ends (queued_to s.endpoint.connection + 0) s s.endpoint.listener d (more (queued_to s.endpoint.connection) 0)
+operated_ends now s d Listen unclosed = listen_ends (queued_to s.endpoint.connection + 0) s s.endpoint.listener d (more (queued_to s.endpoint.connection) 0)
+operated_ends now s d Accept unclosed = accept_ends (queued_to s.endpoint.connection + 0) s s.endpoint.listener d (more (queued_to s.endpoint.connection) 0)
+operated_ends now s d ReuseAddress unclosed = more (queued_to s.endpoint.connection) 0
+operated_ends now s d (NoDelay set) unclosed = no_delay_ends (queued_to s.endpoint.connection + 0) s set d unclosed (more (queued_to s.endpoint.connection) 0)
+operated_ends now s d SetFlags unclosed = more (queued_to s.endpoint.connection) 0
+operated_ends now s d (Write octets) unclosed = write_ends now s octets d unclosed
+operated_ends now s d Close unclosed = close_ends now s d unclosed
 
-open_ends : (now : ℕ) (s : State) (o : Operation) (d : Option Descriptor)
+open_ends : (now fd : ℕ) (s : State) (o : Operation) (d : Option Descriptor) → open_descriptor s.endpoint fd ≡ d
     → AtMost (queued_to s.endpoint.connection + asked_of s.settings.sndbuf o) (on_open now s o d)
-open_ends now s o None = more (queued_to s.endpoint.connection) (asked_of s.settings.sndbuf o)
-open_ends now s o (Some d) = operated_ends now s d o
+open_ends now fd s o None e = more (queued_to s.endpoint.connection) (asked_of s.settings.sndbuf o)
+open_ends now fd s o (Some d) e = operated_ends now s d o (open_on s fd d e)
 
 requested_ends : (now : ℕ) (s : State) (r : Option Request) → AtMost (queued_to s.endpoint.connection + asked_by s.settings.sndbuf r) (requested now s r)
 requested_ends now s None = tt
 requested_ends now s (Some Socket) = socket_ends (queued_to s.endpoint.connection + 0) s s.endpoint.listener (more (queued_to s.endpoint.connection) 0)
-requested_ends now s (Some (On fd o)) = open_ends now s o (open_descriptor s.endpoint fd)
+requested_ends now s (Some (On fd o)) = open_ends now fd s o (open_descriptor s.endpoint fd) refl
 
 pub calls_queue_what_they_ask : CallsQueueWhatTheyAsk
 calls_queue_what_they_ask call now s t answer is =

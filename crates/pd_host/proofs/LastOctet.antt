@@ -1,18 +1,15 @@
 -- The FIN is the last octet that is queued, and `close` alone queues it.
-use Rattle.std.proofs.Common.{◌≡◌, ◌⊎◌, inl, inr, ℕ, ◌==◌, ◌<◌, ◌≤◌, min, Bool, true, false, true≢false, not, ◌&&◌, nat_lt, nat_le, if◌then◌else◌, Option, None, Some, is_some, option_map, Ok, Err, refl, sym, ap, ◌∙◌, arith}
+use Rattle.std.proofs.Common.{◌≡◌, ◌⊎◌, inl, inr, ℕ, ◌==◌, ◌<◌, ◌≤◌, min, Bool, true, false, true≢false, ◌&&◌, nat_lt, nat_le, if◌then◌else◌, Option, None, Some, is_some, Ok, Err, refl, sym, ap, ◌∙◌, arith}
 use Rattle.std.proofs.lemmas.Bool.Decides.{nat_tests}
 use Rattle.pd_script.specs.declared.calls.Call.{Call}
 use Rattle.pd_seg.specs.declared.answers.Answer.{Answer}
 use Rattle.pd_seg.specs.declared.answers.Answer.TheVariants.{Number, Error}
 use Rattle.pd_seg.specs.declared.answers.Errno.TheVariants.{Eagain, Epipe}
 use Rattle.pd_seg.specs.declared.sack_blocks.Span.{Span}
-use Rattle.pd_host.specs.Calls.{Reply, answered, with_listener, with_stored, socket_reply, bind_reply, listen_reply, accept_reply, handed_out, no_delay_reply, free_of, with_queued, write_uses, queued, written_on, write_reply, operated, on_open, open_descriptor, reply_to, requested, called, is_pending, is_waiting, is_open, is_stream_open, is_listener_open, stream_of, with_stream, with_nagle}
+use Rattle.pd_host.specs.Calls.{Descriptor, Listening, Connected, Reply, answered, with_listener, with_stored, socket_reply, bind_reply, listen_reply, accept_reply, handed_out, no_delay_reply, free_of, with_queued, write_uses, queued, written_on, write_reply, operated, on_open, open_descriptor, reply_to, requested, called, is_pending, is_waiting, is_open, stream_of, with_stream}
 use Rattle.pd_host.specs.Connection.{ConnectionView, data_end}
 use Rattle.pd_host.specs.Packets.{data_of}
 use Rattle.pd_host.specs.Requests.{request_of}
-use Rattle.pd_host.specs.declared.descriptors.Descriptor.{Descriptor}
-use Rattle.pd_host.specs.declared.descriptors.Descriptor.TheVariants.{Listening, Connected}
-use Rattle.pd_host.specs.declared.endpoint.Endpoint.{Endpoint}
 use Rattle.pd_host.specs.declared.halts.Halt.TheVariants.{Unsupported}
 use Rattle.pd_host.specs.declared.descriptors.Listener.{Listener}
 use Rattle.pd_host.specs.declared.descriptors.Listener.TheVariants.{Absent, Open, Bound, Listens, Closed}
@@ -22,6 +19,7 @@ use Rattle.pd_host.specs.declared.requests.Request.{Request}
 use Rattle.pd_host.specs.declared.requests.Request.TheVariants.{Socket, On}
 use Rattle.pd_host.specs.declared.endpoint.State.{State}
 use Rattle.pd_host.specs.declared.descriptors.Stream.TheVariants as stream
+use Rattle.pd_host.proofs.CallsKept.{connected, IsOpenOn, open_on}
 use Rattle.pd_host.proofs.CallsAfter.{Replies, either_reply, queued_sends}
 use Rattle.pd_host.proofs.Chosen.{first_of_two, second_of_two, is_above, is_within}
 use Rattle.pd_host.proofs.Outcomes.{came}
@@ -48,27 +46,8 @@ ends_before c segment = lesser segment.end (data_end c)
 
 -- Descriptors
 
-nothing : (d : Descriptor) → None ≡ Some d → ⊥
-nothing d e = cc
-
-apart : Some Listening ≡ Some Connected → ⊥
-apart e = cc
-
--- which descriptor is open, by four tests
-abbrev tested : Bool → Bool → Bool → Option Descriptor
-tested listening four stands = if listening then Some Listening else if four && stands then Some Connected else None
-
-connected_so : (listening four stands : Bool) → tested listening four stands ≡ Some Connected → (four ≡ true) × (stands ≡ true)
-connected_so true four stands e = absurd (apart e)
-connected_so false true true e = (refl, refl)
-connected_so false true false e = absurd (nothing Connected e)
-connected_so false false stands e = absurd (nothing Connected e)
-
 equal : (m n : ℕ) → (m == n) ≡ true → m ≡ n
 equal m n h = grind (arith, nat_tests)
-
-is_connected : (e : Endpoint) (fd : ℕ) → open_descriptor e fd ≡ Some Connected → ((fd == 4) ≡ true) × (is_stream_open e.connection ≡ true)
-is_connected e fd h = connected_so (fd == 3 && is_listener_open e.listener) (fd == 4) (is_stream_open e.connection) h
 
 -- Only `close` queues the FIN
 
@@ -109,17 +88,12 @@ accept_fin : (s : State) (l : Listener) (d : Descriptor) → Replies (SameFin s)
 accept_fin s Listens Listening = handed_fin s s.endpoint.connection refl
 accept_fin s _ _ = refl
 
-nagle_fin : (on : Bool) (o : Option ConnectionView) → fins (option_map (with_nagle on) o) ≡ fins o
-nagle_fin on None = refl
-nagle_fin on (Some c) = refl
+no_delay_fin : (s : State) (set : Bool) (d : Descriptor) → IsOpenOn s d → Replies (SameFin s) (no_delay_reply s set d)
+no_delay_fin s set Listening unclosed = refl
+no_delay_fin s set (Connected c) unclosed = sym (ap fins unclosed.0)
 
-no_delay_fin : (s : State) (set : Bool) (d : Descriptor) → Replies (SameFin s) (no_delay_reply s set d)
-no_delay_fin s set Listening = refl
-no_delay_fin s set Connected = nagle_fin (not set) s.endpoint.connection
-
-written_fin : (now n : ℕ) (s : State) (o : Option ConnectionView) → s.endpoint.connection ≡ o → Replies (SameFin s) (written_on now n o s)
-written_fin now n s None e = refl
-written_fin now n s (Some c) e =
+written_fin : (now n : ℕ) (s : State) (c : ConnectionView) → s.endpoint.connection ≡ Some c → Replies (SameFin s) (written_on now n c s)
+written_fin now n s c e =
     let noted : State = record s { uses = write_uses s.uses } in
     let free : ℕ = free_of s.settings.sndbuf c in
     let u : State = with_stored (Some (with_queued (min n free) c)) noted in
@@ -128,9 +102,9 @@ written_fin now n s (Some c) e =
     (either_reply (SameFin s) (n == 0) (answered s (Number 0)) (queued now n free c noted) refl
     (queued_sends now n free c noted (SameFin s) refl (λ t h. sent_fin now u t h ∙ sym (ap fins e))))
 
-write_fin : (now : ℕ) (s : State) (n : ℕ) (d : Descriptor) → Replies (SameFin s) (write_reply now s n d)
-write_fin now s n Listening = refl
-write_fin now s n Connected = written_fin now n s s.endpoint.connection refl
+write_fin : (now : ℕ) (s : State) (n : ℕ) (d : Descriptor) → IsOpenOn s d → Replies (SameFin s) (write_reply now s n d)
+write_fin now s n Listening unclosed = refl
+write_fin now s n (Connected c) unclosed = written_fin now n s c unclosed.0
 
 -- what is asked of an open descriptor leaves the FIN, or is the closing of the connection's
 operated_fin : (now fd : ℕ) (s : State) (d : Option Descriptor) (o : Operation) → open_descriptor s.endpoint fd ≡ d
@@ -140,13 +114,13 @@ operated_fin now fd s (Some d) Bind e = inr (bind_fin s s.endpoint.listener d)
 operated_fin now fd s (Some d) Listen e = inr (listen_fin s s.endpoint.listener d)
 operated_fin now fd s (Some d) Accept e = inr (accept_fin s s.endpoint.listener d)
 operated_fin now fd s (Some d) ReuseAddress e = inr refl
-operated_fin now fd s (Some d) (NoDelay set) e = inr (no_delay_fin s set d)
+operated_fin now fd s (Some d) (NoDelay set) e = inr (no_delay_fin s set d (open_on s fd d e))
 operated_fin now fd s (Some d) SetFlags e = inr refl
-operated_fin now fd s (Some d) (Write n) e = inr (write_fin now s n d)
+operated_fin now fd s (Some d) (Write n) e = inr (write_fin now s n d (open_on s fd d e))
 operated_fin now fd s (Some Listening) Close e =
     inr (either_reply (SameFin s) (is_pending s.endpoint.connection) (Err Unsupported) (answered (with_listener Closed s) (Number 0)) tt refl)
-operated_fin now fd s (Some Connected) Close e =
-    inl (ap (λ (n : ℕ). On n Close) (equal fd 4 (is_connected s.endpoint fd e).0))
+operated_fin now fd s (Some (Connected c)) Close e =
+    inl (ap (λ (n : ℕ). On n Close) (equal fd 4 (connected s.endpoint fd c e).0))
 
 reply_fin : (now : ℕ) (s : State) (r : Request) → (r ≡ On 4 Close) ⊎ Replies (SameFin s) (reply_to now s r)
 reply_fin now s Socket = inr (socket_fin s s.endpoint.listener)
@@ -221,12 +195,17 @@ listening_same now s c (Write n) e closed = refl
 listening_same now s c Close e closed =
     either_reply (SameConnection s) (is_pending s.endpoint.connection) (Err Unsupported) (answered (with_listener Closed s) (Number 0)) tt refl
 
+given_some : (d c : ConnectionView) → Some d ≡ Some c → d ≡ c
+given_some d c e = cc
+
 open_same : (now fd : ℕ) (s : State) (c : ConnectionView) (o : Operation) (d : Option Descriptor) → s.endpoint.connection ≡ Some c → stream_of c ≡ stream.Closed
     → open_descriptor s.endpoint fd ≡ d → Replies (SameConnection s) (on_open now s o d)
 open_same now fd s c o None e closed h = refl
 open_same now fd s c o (Some Listening) e closed h = listening_same now s c o e closed
-open_same now fd s c o (Some Connected) e closed h =
-    absurd (true≢false (sym (is_connected s.endpoint fd h).1 ∙ ap is_stream_open e ∙ ap is_open closed))
+open_same now fd s c o (Some (Connected d)) e closed h =
+    let found = connected s.endpoint fd d h in
+    let same : d ≡ c = given_some d c (sym found.1 ∙ e) in
+    absurd (true≢false (sym found.2 ∙ ap (λ (x : ConnectionView). is_open (stream_of x)) same ∙ ap is_open closed))
 
 reply_same : (now : ℕ) (s : State) (c : ConnectionView) (o : Option Request) → s.endpoint.connection ≡ Some c → stream_of c ≡ stream.Closed
     → Replies (SameConnection s) (requested now s o)

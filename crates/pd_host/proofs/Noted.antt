@@ -1,5 +1,5 @@
 -- Settings stay as they are, and what was consulted stays noted.
-use Rattle.std.proofs.Common.{◌≡◌, ℕ, ◌==◌, min, Bool, not, ◌&&◌, if◌then◌else◌, Option, None, Some, is_some, option_map, Result, Ok, Err, refl, sym, subst, ◌∙◌}
+use Rattle.std.proofs.Common.{◌≡◌, ℕ, ◌==◌, min, Bool, not, ◌&&◌, if◌then◌else◌, Option, None, Some, is_some, Result, Ok, Err, refl, sym, subst, ◌∙◌}
 use Rattle.pd_settings.specs.Uses.{Includes}
 use Rattle.pd_settings.specs.declared.keys.Key.TheVariants.{Mss}
 use Rattle.pd_settings.specs.declared.use_set.UseSet.{UseSet}
@@ -9,7 +9,7 @@ use Rattle.pd_seg.specs.declared.answers.Errno.TheVariants.{Eagain, Epipe}
 use Rattle.pd_seg.specs.declared.segments.Segment.{Segment}
 use Rattle.pd_host.specs.Acknowledgments.{taking, ack_taken}
 use Rattle.pd_host.specs.Arrivals.{ruled, arrived_on, arrived, ruling_of, reset_of}
-use Rattle.pd_host.specs.Calls.{Reply, answered, with_listener, with_stored, socket_reply, bind_reply, listen_reply, accept_reply, handed_out, no_delay_reply, free_of, with_queued, write_uses, queued, written_on, write_reply, closed_stream, closed_on, close_reply, operated, on_open, open_descriptor, reply_to, requested, called, is_pending, is_waiting, stream_of, with_stream, with_nagle}
+use Rattle.pd_host.specs.Calls.{Descriptor, Listening, Connected, Reply, answered, with_listener, with_stored, socket_reply, bind_reply, listen_reply, accept_reply, handed_out, no_delay_reply, free_of, with_queued, write_uses, queued, written_on, write_reply, closed_stream, closed_on, close_reply, operated, on_open, open_descriptor, reply_to, requested, called, is_pending, is_waiting, stream_of, with_stream, with_nagle}
 use Rattle.pd_host.specs.Connection.{ConnectionView}
 use Rattle.pd_host.specs.Expiries.{expired, advanced}
 use Rattle.pd_host.specs.Handshake.{is_opening, block_begun, answered_syn, syn_uses, establishment_uses}
@@ -17,8 +17,6 @@ use Rattle.pd_host.specs.InputLaws.{Notes, ArrivalsNote, CallsNote, AdvancesNote
 use Rattle.pd_host.specs.Requests.{request_of}
 use Rattle.pd_host.specs.Host.{beside}
 use Rattle.pd_host.specs.Sending.{ordinary_outside_recovery, places_left, with_block}
-use Rattle.pd_host.specs.declared.descriptors.Descriptor.{Descriptor}
-use Rattle.pd_host.specs.declared.descriptors.Descriptor.TheVariants.{Listening, Connected}
 use Rattle.pd_host.specs.declared.endpoint.Endpoint.{Endpoint}
 use Rattle.pd_host.specs.declared.halts.Halt.{Halt}
 use Rattle.pd_host.specs.declared.halts.Halt.TheVariants.{Unsupported}
@@ -139,12 +137,10 @@ accept_notes now s _ _ = same_notes s s refl refl
 
 no_delay_notes : (now : ℕ) (s : State) (set : Bool) (d : Descriptor) → Replies (Notes s) (no_delay_reply s set d)
 no_delay_notes now s set Listening = same_notes s s refl refl
-no_delay_notes now s set Connected =
-    same_notes s (with_stored (option_map (with_nagle (not set)) s.endpoint.connection) s) refl refl
+no_delay_notes now s set (Connected c) = same_notes s (with_stored (Some (with_nagle (not set) c)) s) refl refl
 
-written_notes : (now n : ℕ) (s : State) (o : Option ConnectionView) → Replies (Notes s) (written_on now n o s)
-written_notes now n s None = same_notes s s refl refl
-written_notes now n s (Some c) =
+written_notes : (now n : ℕ) (s : State) (c : ConnectionView) → Replies (Notes s) (written_on now n c s)
+written_notes now n s c =
     let noted : State = record s { uses = write_uses s.uses } in
     let wrote : Notes s noted = record { settings = refl; uses = more_by_write s.uses } in
     let free : ℕ = free_of s.settings.sndbuf c in
@@ -155,11 +151,10 @@ written_notes now n s (Some c) =
 
 write_notes : (now : ℕ) (s : State) (n : ℕ) (d : Descriptor) → Replies (Notes s) (write_reply now s n d)
 write_notes now s n Listening = same_notes s s refl refl
-write_notes now s n Connected = written_notes now n s s.endpoint.connection
+write_notes now s n (Connected c) = written_notes now n s c
 
-closed_notes : (now : ℕ) (s : State) (o : Option ConnectionView) → Replies (Notes s) (closed_on now o s)
-closed_notes now s None = same_notes s s refl refl
-closed_notes now s (Some c) =
+closed_notes : (now : ℕ) (s : State) (c : ConnectionView) → Replies (Notes s) (closed_on now c s)
+closed_notes now s c =
     let closed : State = with_stored (Some (closed_stream c)) s in
     let r : Result State Halt = if c.reset then Ok closed else ordinary_outside_recovery now c closed in
     reply_leaves (Notes s) (Number 0) r
@@ -170,7 +165,7 @@ close_notes : (now : ℕ) (s : State) (d : Descriptor) → Replies (Notes s) (cl
 close_notes now s Listening =
     either_reply (Notes s) (is_pending s.endpoint.connection) (Err Unsupported) (answered (with_listener Closed s) (Number 0)) tt
     (same_notes s (with_listener Closed s) refl refl)
-close_notes now s Connected = closed_notes now s s.endpoint.connection
+close_notes now s (Connected c) = closed_notes now s c
 
 operated_notes : (now : ℕ) (s : State) (d : Descriptor) (o : Operation) → Replies (Notes s) (operated now s d o)
 operated_notes now s d Bind = bind_notes now s s.endpoint.listener d

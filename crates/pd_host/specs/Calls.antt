@@ -5,8 +5,6 @@ use Rattle.pd_script.specs.declared.calls.Call.{Call}
 use Rattle.pd_seg.specs.declared.answers.Answer.{Answer}
 use Rattle.pd_seg.specs.declared.answers.Answer.TheVariants.{Number, Error}
 use Rattle.pd_seg.specs.declared.answers.Errno.TheVariants.{Ebadf, Einval, Eagain, Epipe}
-use Rattle.pd_host.specs.declared.descriptors.Descriptor.{Descriptor}
-use Rattle.pd_host.specs.declared.descriptors.Descriptor.TheVariants.{Listening, Connected}
 use Rattle.pd_host.specs.declared.established.Established.{Established}
 use Rattle.pd_host.specs.declared.halts.Halt.{Halt}
 use Rattle.pd_host.specs.declared.halts.Halt.TheVariants.{Unsupported}
@@ -67,21 +65,26 @@ stream_in (Some e) = e.stream
 abbrev pub stream_of : ConnectionView → Stream
 stream_of c = stream_in c.established
 
--- whether descriptor 4 is open, on a connection if one was begun
-abbrev pub is_stream_open : Option ConnectionView → Bool
-is_stream_open None = false
-is_stream_open (Some c) = is_open (stream_of c)
-
 -- whether a connection was begun that isn't accepted
 abbrev pub is_pending : Option ConnectionView → Bool
 is_pending None = false
 is_pending (Some c) = is_waiting (stream_of c)
 
--- the open descriptor of a number: 3 is the listener, 4 the accepted connection
+-- a descriptor that is open: 3, which listens or may come to listen, and 4, the connection that `accept` has handed out
+pub data Descriptor : Type 0 where
+  Listening : Descriptor
+  Connected : ConnectionView → Descriptor
+
+-- descriptor 4, where it is open on a connection
+abbrev pub open_stream : Option ConnectionView → Option Descriptor
+open_stream None = None
+open_stream (Some c) = if is_open (stream_of c) then Some (Connected c) else None
+
+-- the open descriptor of a number
 abbrev pub open_descriptor : Endpoint → ℕ → Option Descriptor
 open_descriptor e fd =
     if fd == 3 && is_listener_open e.listener then Some Listening
-    else if fd == 4 && is_stream_open e.connection then Some Connected
+    else if fd == 4 then open_stream e.connection
     else None
 
 -- `socket`: 3; a second one isn't run
@@ -124,7 +127,7 @@ with_nagle on c = record c { established = option_map {T = Established} (λ e. r
 -- `setsockopt` with `TCP_NODELAY`: 0; on 4 Nagle's algorithm is off where it is set
 abbrev pub no_delay_reply : State → Bool → Descriptor → Reply
 no_delay_reply s set Listening = answered s (Number 0)
-no_delay_reply s set Connected = answered (with_stored (option_map (with_nagle (not set)) s.endpoint.connection) s) (Number 0)
+no_delay_reply s set (Connected c) = answered (with_stored (Some (with_nagle (not set) c)) s) (Number 0)
 
 -- `setsockopt` with `SO_REUSEADDR`, and `fcntl` with `F_SETFL`: 0, no effect
 abbrev pub idle_reply : State → Reply
@@ -154,9 +157,8 @@ queued now n free c s =
     else with_answer (Number (min n free)) (ordinary_outside_recovery now c (with_stored (Some (with_queued (min n free) c)) s))
 
 -- `write` on an open 4: EPIPE after a reset, 0 for no octets
-abbrev pub written_on : ℕ → ℕ → Option ConnectionView → State → Reply
-written_on now n None s = answered s (Error Ebadf)
-written_on now n (Some c) s =
+abbrev pub written_on : ℕ → ℕ → ConnectionView → State → Reply
+written_on now n c s =
     if c.reset then answered s (Error Epipe)
     else if n == 0 then answered s (Number 0)
     else queued now n (free_of s.settings.sndbuf c) c (record s { uses = write_uses s.uses })
@@ -164,7 +166,7 @@ written_on now n (Some c) s =
 -- `write` at a moment: EINVAL on 3
 abbrev pub write_reply : ℕ → State → ℕ → Descriptor → Reply
 write_reply now s n Listening = answered s (Error Einval)
-write_reply now s n Connected = written_on now n s.endpoint.connection s
+write_reply now s n (Connected c) = written_on now n c s
 
 -- our FIN is queued after the data (RFC 9293, section 3.10.4)
 abbrev pub with_fin : ConnectionView → ConnectionView
@@ -175,9 +177,8 @@ abbrev pub closed_stream : ConnectionView → ConnectionView
 closed_stream c = with_stream stream.Closed (if c.reset then c else with_fin c)
 
 -- `close` on an open 4: 0, and the FIN is sent as the windows let it
-abbrev pub closed_on : ℕ → Option ConnectionView → State → Reply
-closed_on now None s = answered s (Error Ebadf)
-closed_on now (Some c) s =
+abbrev pub closed_on : ℕ → ConnectionView → State → Reply
+closed_on now c s =
     let closed = with_stored (Some (closed_stream c)) s in
     with_answer (Number 0) (if c.reset then Ok closed else ordinary_outside_recovery now c closed)
 
@@ -185,7 +186,7 @@ closed_on now (Some c) s =
 abbrev pub close_reply : ℕ → State → Descriptor → Reply
 close_reply now s Listening =
     if is_pending s.endpoint.connection then Err Unsupported else answered (with_listener Closed s) (Number 0)
-close_reply now s Connected = closed_on now s.endpoint.connection s
+close_reply now s (Connected c) = closed_on now c s
 
 -- the row of an operation on an open descriptor
 abbrev pub operated : ℕ → State → Descriptor → Operation → Reply

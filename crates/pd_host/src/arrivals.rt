@@ -1,18 +1,18 @@
 //! A segment that arrives.
-ghost use Rattle.std.specs.Prelude.{◌≡◌, ◌≤◌, ◌<◌, ◌^◌, Some, IfSome, IfNone};
-ghost use Rattle.pd_host.specs.Arrivals.{finished_on, arrived};
+ghost use Rattle.std.specs.Prelude.{◌≡◌, ◌<◌, ◌^◌, None};
+ghost use Rattle.pd_host.specs.Arrivals.{finished_by, arrived};
 ghost use Rattle.pd_host.specs.Handshake.{is_syn_alone, is_opening, opened_by};
 ghost use Rattle.pd_host.specs.Outcome.{Gives};
-ghost use Rattle.pd_host.specs.Steps.{ruled_on};
-ghost use Rattle.pd_host.specs.declared.connection.checks.Ruling.TheVariants.{FirstAck};
+ghost use Rattle.pd_host.specs.Steps.{GivesOn};
 
 use crate::acknowledgments::respond;
-use crate::connection::checks::{Ruling, goes_on};
+use crate::connection::checks::Ruling;
 use crate::connection::{Connection, refusal};
 use crate::descriptors::Listener;
 use crate::endpoint::State;
 use crate::halts::{Ending, Halt};
 use crate::offers::{Offers, is_mss_run};
+use crate::outbox::Outbox;
 use crate::uses::{with_establishment, with_syn};
 use pd_seg::{Flags, Segment};
 
@@ -30,33 +30,13 @@ impl State {
         requires early { now < 2 ^ 62 }
         ensures { Gives (arrived segment.now now self.old) result self.new }
     {
-        let Some(connection) = &self.endpoint.connection else {
+        let Some(connection) = &mut self.endpoint.connection else {
             return self.open(segment, now);
         };
-        let ruling = connection.ruling(segment);
-        self.rule(ruling, segment, now)?;
-        if goes_on(ruling) && segment.flags.fin {
-            self.finish(now)?;
-        }
-        Ok(())
-    }
-
-    /// What a ruling makes of a segment, but for its FIN.
-    #[inline(always)]
-    fn rule(&mut self, ruling: Option<Ruling>, segment: &Segment, now: u64) -> Result<(), Ending>
-        requires early { now < 2 ^ 62 }
-        requires known { IfSome self.old.endpoint.connection (λ c. IfNone ruling (c.board.una ≤ segment.now.ack)) }
-        requires sent { IfSome self.old.endpoint.connection (λ c. IfNone ruling (segment.now.ack ≤ c.board.top)) }
-        requires first { IfSome self.old.endpoint.connection (λ c. ruling ≡ Some FirstAck → (c.board.una ≤ 1) × (1 ≤ c.board.top)) }
-        ensures { Gives (ruled_on now segment.now self.old ruling self.old.endpoint.connection) result self.new }
-    {
-        let Some(connection) = &mut self.endpoint.connection else {
-            return Ok(());
-        };
         let outbox = &mut self.endpoint.outbox;
-        match ruling {
+        match connection.ruling(segment) {
             Some(Ruling::NotRun) => Err(NOT_RUN),
-            Some(Ruling::StrayRst | Ruling::WithoutAck | Ruling::OldAck) => Ok(()),
+            Some(Ruling::StrayRst | Ruling::WithoutAck) => Ok(()),
             Some(Ruling::OutsideWindow | Ruling::ChallengedRst | Ruling::EarlyAck) => {
                 let ack = connection.acknowledgment(outbox.allocator());
                 outbox.put_out(ack, now)
@@ -65,33 +45,22 @@ impl State {
                 connection.reset();
                 Ok(())
             }
-            Some(Ruling::FirstAck) => {
-                connection.establish(&self.settings, segment, now);
-                self.uses = with_establishment(self.uses);
-                Ok(())
-            }
             Some(Ruling::RefusedAck) => {
                 let rst = refusal(segment.ack, outbox.allocator());
                 outbox.put_out(rst, now)
             }
+            Some(Ruling::OldAck) => finish(connection, outbox, segment, now),
+            Some(Ruling::FirstAck) => {
+                connection.establish(&self.settings, segment, now);
+                self.uses = with_establishment(self.uses);
+                finish(connection, outbox, segment, now)
+            }
             None => {
                 let then = connection.take(segment, now)?;
-                respond(connection, outbox, then, now)
+                respond(connection, outbox, then, now)?;
+                finish(connection, outbox, segment, now)
             }
         }
-    }
-
-    /// The peer's FIN is taken and answered by an ACK.
-    fn finish(&mut self, now: u64) -> Result<(), Ending>
-        ensures { Gives (finished_on now self.old self.old.endpoint.connection) result self.new }
-    {
-        let Some(connection) = &mut self.endpoint.connection else {
-            return Ok(());
-        };
-        connection.take_fin();
-        let outbox = &mut self.endpoint.outbox;
-        let ack = connection.acknowledgment(outbox.allocator());
-        outbox.put_out(ack, now)
     }
 
     /// The first segment begins the connection, or isn't run.
@@ -109,6 +78,24 @@ impl State {
         self.endpoint.connection = Some(connection);
         self.endpoint.outbox.put_out(syn_ack, now)
     }
+}
+
+/// The peer's FIN, where the segment has one, is taken and answered by an ACK.
+#[inline(always)]
+fn finish(
+    connection: &mut Connection,
+    outbox: &mut Outbox,
+    segment: &Segment,
+    now: u64,
+) -> Result<(), Ending>
+    ensures { GivesOn (finished_by now segment.now None) connection.old outbox.old result connection.new outbox.new }
+{
+    if !segment.flags.fin {
+        return Ok(());
+    }
+    connection.take_fin();
+    let ack = connection.acknowledgment(outbox.allocator());
+    outbox.put_out(ack, now)
 }
 
 fn is_syn_alone(flags: Flags) -> bool

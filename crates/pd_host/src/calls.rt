@@ -1,12 +1,15 @@
 //! The table of calls.
-ghost use Rattle.std.specs.Prelude.{◌≡◌, ◌<◌, ◌^◌, min, Ok, Some};
-ghost use Rattle.pd_host.specs.Calls.{open_descriptor, is_stream_open, is_pending, socket_reply, bind_reply, listen_reply, accept_reply, handed_out, no_delay_reply, write_reply, close_reply, closed_on, operated, reply_to};
+ghost use Rattle.std.specs.Prelude.{◌≡◌, ℕ, ◌+◌, ◌<◌, ◌^◌, min, Some, Ok};
+ghost use Rattle.pd_host.specs.Calls.{Listening, open_stream, is_pending, socket_reply, bind_reply, listen_reply, accept_reply, handed_out, free_of, queued, closed_on, close_reply, operated, on_open, reply_to};
 ghost use Rattle.pd_host.specs.Outcome.{GivesAnswer};
 ghost use Rattle.pd_host.specs.Growth.{asked_by, asked_of, HasRoomFor};
+ghost use Rattle.pd_host.specs.Steps.{AnswersOn};
 
-use crate::descriptors::{Descriptor, Listener};
+use crate::connection::Connection;
+use crate::descriptors::Listener;
 use crate::endpoint::{Endpoint, State};
 use crate::halts::{Ending, Halt};
+use crate::outbox::Outbox;
 use crate::requests::{Operation, Request};
 use crate::sending::send;
 use crate::uses::with_write;
@@ -25,28 +28,6 @@ const DONE: Answer = Answer::Number(0);
 const NOT_RUN: Ending = Ending::Halted(Halt::Unsupported);
 
 impl Endpoint {
-    /// The open descriptor of a number.
-    fn open_descriptor(&self, fd: u64) -> Option<Descriptor>
-        ensures { result ≡ open_descriptor self.now fd }
-    {
-        if fd == u64::from(LISTENER) && self.listener.is_open() {
-            Some(Descriptor::Listening)
-        } else if fd == u64::from(CONNECTION) && self.is_stream_open() {
-            Some(Descriptor::Connected)
-        } else {
-            None
-        }
-    }
-
-    fn is_stream_open(&self) -> bool
-        ensures { result ≡ is_stream_open self.now.connection }
-    {
-        match &self.connection {
-            None => false,
-            Some(connection) => connection.stream().is_open(),
-        }
-    }
-
     fn is_pending(&self) -> bool
         ensures { result ≡ is_pending self.now.connection }
     {
@@ -69,34 +50,15 @@ impl State {
         requires room { HasRoomFor (asked_by self.old.settings.sndbuf (Some request)) self.old }
         ensures { GivesAnswer (reply_to now self.old request) result self.new }
     {
-        match request {
-            Request::Socket => self.socket(),
-            Request::On(fd, operation) => match self.endpoint.open_descriptor(fd) {
-                None => Ok(Answer::Error(Errno::Ebadf)),
-                Some(descriptor) => self.operate(descriptor, operation, now),
-            },
-        }
-    }
-
-    /// The row of an operation on an open descriptor.
-    fn operate(
-        &mut self,
-        descriptor: Descriptor,
-        operation: Operation,
-        now: u64,
-    ) -> Result<Answer, Ending>
-        requires early { now < 2 ^ 62 }
-        requires room { HasRoomFor (asked_of self.old.settings.sndbuf operation) self.old }
-        ensures { GivesAnswer (operated now self.old descriptor operation) result self.new }
-    {
-        match operation {
-            Operation::Bind => Ok(self.bind(descriptor)),
-            Operation::Listen => Ok(self.listen(descriptor)),
-            Operation::Accept => Ok(self.accept(descriptor)),
-            Operation::ReuseAddress | Operation::SetFlags => Ok(DONE),
-            Operation::NoDelay(set) => Ok(self.set_no_delay(descriptor, set)),
-            Operation::Write(n) => self.write(descriptor, n, now),
-            Operation::Close => self.close(descriptor, now),
+        let Request::On(fd, operation) = request else {
+            return self.socket();
+        };
+        if fd == u64::from(LISTENER) && self.endpoint.listener.is_open() {
+            self.on_listener(operation)
+        } else if fd == u64::from(CONNECTION) {
+            self.on_connection(operation, now)
+        } else {
+            Ok(Answer::Error(Errno::Ebadf))
         }
     }
 
@@ -112,11 +74,25 @@ impl State {
         }
     }
 
-    fn bind(&mut self, descriptor: Descriptor) -> Answer
-        ensures { bind_reply self.old self.old.endpoint.listener descriptor ≡ Ok (self.new, result) }
+    /// The row of an operation on descriptor 3, which is open.
+    fn on_listener(&mut self, operation: Operation) -> Result<Answer, Ending>
+        ensures { (now : ℕ) → GivesAnswer (operated now self.old Listening operation) result self.new }
     {
-        match (self.endpoint.listener, descriptor) {
-            (Listener::Open, Descriptor::Listening) => {
+        match operation {
+            Operation::Bind => Ok(self.bind()),
+            Operation::Listen => Ok(self.listen()),
+            Operation::Accept => Ok(self.accept()),
+            Operation::ReuseAddress | Operation::NoDelay(_) | Operation::SetFlags => Ok(DONE),
+            Operation::Write(_) => Ok(Answer::Error(Errno::Einval)),
+            Operation::Close => self.close_listener(),
+        }
+    }
+
+    fn bind(&mut self) -> Answer
+        ensures { bind_reply self.old self.old.endpoint.listener Listening ≡ Ok (self.new, result) }
+    {
+        match self.endpoint.listener {
+            Listener::Open => {
                 self.endpoint.listener = Listener::Bound;
                 DONE
             }
@@ -124,24 +100,24 @@ impl State {
         }
     }
 
-    fn listen(&mut self, descriptor: Descriptor) -> Answer
-        ensures { listen_reply self.old self.old.endpoint.listener descriptor ≡ Ok (self.new, result) }
+    fn listen(&mut self) -> Answer
+        ensures { listen_reply self.old self.old.endpoint.listener Listening ≡ Ok (self.new, result) }
     {
-        match (self.endpoint.listener, descriptor) {
-            (Listener::Bound, Descriptor::Listening) => {
+        match self.endpoint.listener {
+            Listener::Bound => {
                 self.endpoint.listener = Listener::Listens;
                 DONE
             }
-            (Listener::Listens, Descriptor::Listening) => DONE,
+            Listener::Listens => DONE,
             _ => Answer::Error(Errno::Einval),
         }
     }
 
-    fn accept(&mut self, descriptor: Descriptor) -> Answer
-        ensures { accept_reply self.old self.old.endpoint.listener descriptor ≡ Ok (self.new, result) }
+    fn accept(&mut self) -> Answer
+        ensures { accept_reply self.old self.old.endpoint.listener Listening ≡ Ok (self.new, result) }
     {
-        match (self.endpoint.listener, descriptor) {
-            (Listener::Listens, Descriptor::Listening) => self.hand_out(),
+        match self.endpoint.listener {
+            Listener::Listens => self.hand_out(),
             _ => Answer::Error(Errno::Einval),
         }
     }
@@ -161,81 +137,85 @@ impl State {
         }
     }
 
-    fn set_no_delay(&mut self, descriptor: Descriptor, set: bool) -> Answer
-        ensures { no_delay_reply self.old set descriptor ≡ Ok (self.new, result) }
+    fn close_listener(&mut self) -> Result<Answer, Ending>
+        ensures { GivesAnswer (close_reply 0 self.old Listening) result self.new }
     {
-        if let Descriptor::Connected = descriptor {
-            if let Some(connection) = &mut self.endpoint.connection {
-                connection.set_nagle(!set);
-            }
+        if self.endpoint.is_pending() {
+            return Err(NOT_RUN);
         }
-        DONE
-    }
-
-    fn write(&mut self, descriptor: Descriptor, n: u64, now: u64) -> Result<Answer, Ending>
-        requires early { now < 2 ^ 62 }
-        requires room { HasRoomFor (min n self.old.settings.sndbuf) self.old }
-        ensures { GivesAnswer (write_reply now self.old n descriptor) result self.new }
-    {
-        let Descriptor::Connected = descriptor else {
-            return Ok(Answer::Error(Errno::Einval));
-        };
-        let Some(connection) = &mut self.endpoint.connection else {
-            return Ok(Answer::Error(Errno::Ebadf));
-        };
-        if connection.is_reset() {
-            return Ok(Answer::Error(Errno::Epipe));
-        }
-        if n == 0 {
-            return Ok(DONE);
-        }
-        self.uses = with_write(self.uses);
-        let free = connection.free(self.settings.sndbuf);
-        if free == 0 {
-            return Ok(Answer::Error(Errno::Eagain));
-        }
-        let count = n.min(u64::from(free)) as u32;
-        connection.queue(count);
-        if !connection.is_recovering() {
-            send(connection, &mut self.endpoint.outbox, now)?;
-        }
-        Ok(Answer::Number(count))
-    }
-
-    fn close(&mut self, descriptor: Descriptor, now: u64) -> Result<Answer, Ending>
-        requires early { now < 2 ^ 62 }
-        requires room { HasRoomFor 1 self.old }
-        ensures { GivesAnswer (close_reply now self.old descriptor) result self.new }
-    {
-        match descriptor {
-            Descriptor::Listening => {
-                if self.endpoint.is_pending() {
-                    Err(NOT_RUN)
-                } else {
-                    self.endpoint.listener = Listener::Closed;
-                    Ok(DONE)
-                }
-            }
-            Descriptor::Connected => self.close_stream(now),
-        }
-    }
-
-    /// Descriptor 4 is closed, and a FIN queued and sent unless the connection was reset.
-    fn close_stream(&mut self, now: u64) -> Result<Answer, Ending>
-        requires early { now < 2 ^ 62 }
-        requires room { HasRoomFor 1 self.old }
-        ensures { GivesAnswer (closed_on now self.old.endpoint.connection self.old) result self.new }
-    {
-        let Some(connection) = &mut self.endpoint.connection else {
-            return Ok(Answer::Error(Errno::Ebadf));
-        };
-        connection.close();
-        if !connection.is_reset() {
-            connection.queue_fin();
-            if !connection.is_recovering() {
-                send(connection, &mut self.endpoint.outbox, now)?;
-            }
-        }
+        self.endpoint.listener = Listener::Closed;
         Ok(DONE)
     }
+
+    /// The row of an operation on descriptor 4, where it is open.
+    fn on_connection(&mut self, operation: Operation, now: u64) -> Result<Answer, Ending>
+        requires early { now < 2 ^ 62 }
+        requires room { HasRoomFor (asked_of self.old.settings.sndbuf operation) self.old }
+        ensures { GivesAnswer (on_open now self.old operation (open_stream self.old.endpoint.connection)) result self.new }
+    {
+        let Some(connection) = &mut self.endpoint.connection else {
+            return Ok(Answer::Error(Errno::Ebadf));
+        };
+        if !connection.stream().is_open() {
+            return Ok(Answer::Error(Errno::Ebadf));
+        }
+        match operation {
+            Operation::Bind | Operation::Listen | Operation::Accept => {
+                Ok(Answer::Error(Errno::Einval))
+            }
+            Operation::ReuseAddress | Operation::SetFlags => Ok(DONE),
+            Operation::NoDelay(set) => {
+                connection.set_nagle(!set);
+                Ok(DONE)
+            }
+            Operation::Write(_) if connection.is_reset() => Ok(Answer::Error(Errno::Epipe)),
+            Operation::Write(0) => Ok(DONE),
+            Operation::Write(n) => {
+                self.uses = with_write(self.uses);
+                let sndbuf = self.settings.sndbuf;
+                write(connection, &mut self.endpoint.outbox, n, sndbuf, now)
+            }
+            Operation::Close => close(connection, &mut self.endpoint.outbox, now),
+        }
+    }
+}
+
+/// Octets are queued, as many as the setting `sndbuf` has room for, and sent.
+fn write(
+    connection: &mut Connection,
+    outbox: &mut Outbox,
+    n: u64,
+    sndbuf: u32,
+    now: u64,
+) -> Result<Answer, Ending>
+    requires early { now < 2 ^ 62 }
+    requires room { connection.old.board.end + min n sndbuf < 2 ^ 31 }
+    ensures { AnswersOn (queued now n (free_of sndbuf connection.old) connection.old) connection.old outbox.old result connection.new outbox.new }
+{
+    let free = connection.free(sndbuf);
+    if free == 0 {
+        return Ok(Answer::Error(Errno::Eagain));
+    }
+    let count = n.min(u64::from(free)) as u32;
+    connection.queue(count);
+    if !connection.is_recovering() {
+        send(connection, outbox, now)?;
+    }
+    Ok(Answer::Number(count))
+}
+
+/// Descriptor 4 is closed, and a FIN queued and sent unless the connection was reset.
+fn close(connection: &mut Connection, outbox: &mut Outbox, now: u64) -> Result<Answer, Ending>
+    requires early { now < 2 ^ 62 }
+    requires room { connection.old.board.end + 1 < 2 ^ 31 }
+    ensures { AnswersOn (closed_on now connection.old) connection.old outbox.old result connection.new outbox.new }
+{
+    connection.close();
+    if !connection.is_reset() {
+        connection.queue_fin();
+        if !connection.is_recovering() {
+            send(connection, outbox, now)?;
+        }
+    }
+    Ok(DONE)
 }

@@ -155,18 +155,23 @@ impl Connection {
         }
     }
 
-    /// The same connection once more.
+    /// Its scoreboard once more.
     ///
     /// # Errors
     /// `AllocError` where a growth is refused, or the scoreboard has found no memory before.
-    #[inline(always)]
-    pub fn copy(&self) -> Result<Connection, AllocError>
-        ensures { IfOk result (λ copy. copy ≡ self.now) }
+    pub fn copy_board(&self) -> Result<Board, AllocError>
+        ensures { IfOk result (λ board. board ≡ self.now.board) }
     {
-        Ok(Connection {
-            board: self.board.copy()?,
-            ..*self
-        })
+        self.board.copy()
+    }
+
+    /// The same connection on an equal scoreboard.
+    #[inline(always)]
+    pub fn with_board(&self, board: Board) -> Connection
+        requires { board ≡ self.now.board }
+        ensures { result ≡ self.now }
+    {
+        Connection { board, ..*self }
     }
 
     /// The handshake is finished by this segment at a moment.

@@ -3,15 +3,6 @@ ghost use Rattle.std.specs.Prelude.{◌≡◌};
 ghost use Rattle.pd_host.specs.Calls.{is_listener_open, is_waiting, is_open};
 ghost use Rattle.pd_host.specs.Handshake.{is_listening};
 
-/// An open descriptor.
-#[derive(Clone, Copy, PartialEq, Eq)]
-pub enum Descriptor {
-    /// Descriptor 3, which listens or may come to listen.
-    Listening,
-    /// Descriptor 4, the connection that `accept` has handed out.
-    Connected,
-}
-
 /// How far descriptor 3 has come.
 #[derive(Clone, Copy, PartialEq, Eq)]
 pub enum Listener {

@@ -1,5 +1,5 @@
 //! The sender's state: the endpoint that its rules work on, and the settings that it consults.
-ghost use Rattle.std.specs.Prelude.{◌≡◌, IfOk};
+ghost use Rattle.std.specs.Prelude.{◌≡◌, IfOk, option_map};
 ghost use Rattle.pd_host.specs.Host.{fresh_endpoint};
 ghost use Rattle.pd_host.specs.ConnStates.{conn_state};
 
@@ -7,6 +7,7 @@ use crate::connection::Connection;
 use crate::connection::states::ConnState;
 use crate::descriptors::Listener;
 use crate::outbox::Outbox;
+use pd_board::Board;
 use pd_settings::{Settings, UseSet};
 use std::alloc::{AllocError, Global};
 
@@ -33,24 +34,52 @@ impl Endpoint {
         }
     }
 
-    /// The same endpoint once more.
+    /// Copies of what of it takes memory.
     ///
     /// # Errors
     /// `AllocError` where a growth is refused, or the scoreboard has found no memory before.
     #[inline(always)]
-    pub fn copy(&self) -> Result<Endpoint, AllocError>
-        ensures { IfOk result (λ copy. copy ≡ self.now) }
+    pub fn copies(&self) -> Result<Copies, AllocError>
+        ensures board { IfOk result (λ copies. copies.board ≡ option_map (λ c. c.board) self.now.connection) }
+        ensures outbox { IfOk result (λ copies. copies.outbox ≡ self.now.outbox) }
     {
-        let connection = match &self.connection {
+        let board = match &self.connection {
             None => None,
-            Some(connection) => Some(connection.copy()?),
+            Some(connection) => Some(connection.copy_board()?),
         };
-        Ok(Endpoint {
-            listener: self.listener,
-            connection,
+        Ok(Copies {
+            board,
             outbox: self.outbox.copy()?,
         })
     }
+
+    /// The same endpoint once more, with copies of what takes memory.
+    #[inline(always)]
+    pub fn with_copies(&self, copies: Copies) -> Endpoint
+        requires board { copies.board ≡ option_map (λ c. c.board) self.now.connection }
+        requires outbox { copies.outbox ≡ self.now.outbox }
+        ensures { result ≡ self.now }
+    {
+        let Copies { board, outbox } = copies;
+        let connection = match (&self.connection, board) {
+            (Some(connection), Some(board)) => Some(connection.with_board(board)),
+            _ => None,
+        };
+        Endpoint {
+            listener: self.listener,
+            connection,
+            outbox,
+        }
+    }
+}
+
+/// Copies of what of an endpoint takes memory.
+#[derive(Drop)]
+pub struct Copies {
+    /// The scoreboard of the connection, once it was begun.
+    pub board: Option<Board>,
+    /// The packets that were put out and not yet taken.
+    pub outbox: Outbox,
 }
 
 /// The endpoint, and beside it the settings and which of them were consulted so far.

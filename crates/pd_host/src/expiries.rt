@@ -1,11 +1,13 @@
 //! Expiries of the retransmission timer.
-ghost use Rattle.std.specs.Prelude.{◌≡◌, ◌<◌, ◌≤◌, ◌^◌, IfSome};
-ghost use Rattle.pd_host.specs.Expiries.{deadline_of, due_by, advanced};
+ghost use Rattle.std.specs.Prelude.{◌≡◌, ◌<◌, ◌^◌, IfOk};
+ghost use Rattle.pd_host.specs.Expiries.{deadline_of, segment_again, block_expired, advanced};
+ghost use Rattle.pd_host.specs.Host.{with_packet};
 ghost use Rattle.pd_host.specs.Outcome.{Gives};
-ghost use Rattle.pd_host.specs.Steps.{expired_next};
 
+use crate::connection::Connection;
 use crate::endpoint::State;
 use crate::halts::Ending;
+use crate::outbox::Outbox;
 
 impl State {
     /// Performs all expiries up to a moment, in order, each at its own.
@@ -18,8 +20,12 @@ impl State {
         requires early { until < 2 ^ 62 }
         ensures { Gives (advanced until self.old) result self.new }
     {
-        while let Some(at) = self.due(until) {
-            self.expire(at)?;
+        let Some(connection) = &mut self.endpoint.connection else {
+            return Ok(());
+        };
+        let outbox = &mut self.endpoint.outbox;
+        while let Some(at) = connection.due(until) {
+            expire(connection, outbox, at)?;
         }
         Ok(())
     }
@@ -33,29 +39,15 @@ impl State {
             Some(connection) => connection.deadline(),
         }
     }
+}
 
-    /// The same, where it lies at or before a moment.
-    fn due(&self, until: u64) -> Option<u64>
-        ensures value { result ≡ due_by until (deadline_of self.now) }
-        ensures early { IfSome result (λ at. at ≤ until) }
-    {
-        match self.deadline() {
-            Some(at) if at <= until => Some(at),
-            _ => None,
-        }
-    }
-
-    /// An expiry at a moment: what is sent again is put out.
-    #[inline(never)]
-    fn expire(&mut self, at: u64) -> Result<(), Ending>
-        requires early { at < 2 ^ 62 }
-        ensures { Gives (expired_next at self.old.endpoint.connection self.old) result self.new }
-    {
-        let Some(connection) = &mut self.endpoint.connection else {
-            return Ok(());
-        };
-        let outbox = &mut self.endpoint.outbox;
-        let packet = connection.expire(at, outbox.allocator())?;
-        outbox.put_out(packet, at)
-    }
+/// An expiry at a moment: what is sent again is put out.
+#[inline(never)]
+fn expire(connection: &mut Connection, outbox: &mut Outbox, at: u64) -> Result<(), Ending>
+    requires early { at < 2 ^ 62 }
+    ensures packet { Gives (with_packet at (segment_again connection.old connection.old.established) outbox.old) result outbox.new }
+    ensures state { IfOk result (λ done. connection.new ≡ block_expired at connection.old connection.old.established) }
+{
+    let packet = connection.expire(at, outbox.allocator())?;
+    outbox.put_out(packet, at)
 }

@@ -1,5 +1,5 @@
 //! A host: the sender behind one interface, with the reason why it has ended.
-ghost use Rattle.std.specs.Prelude.{◌≡◌, ◌<◌, ◌^◌, true, Some, IfOk, IsErr, slice_get};
+ghost use Rattle.std.specs.Prelude.{◌≡◌, ◌<◌, ◌^◌, true, Some, IfOk, IsErr, option_map, slice_get};
 ghost use Rattle.pd_host.specs.Arrivals.{arrived};
 ghost use Rattle.pd_host.specs.Calls.{called};
 ghost use Rattle.pd_host.specs.ConnStates.{conn_state};
@@ -17,7 +17,7 @@ ghost use Rattle.pd_host.specs.declared.halts.Ending.TheVariants.{OutOfMemory};
 use crate::connection::evidence::Duplicate;
 use crate::connection::observing::Hold;
 use crate::connection::states::ConnState;
-use crate::endpoint::{Endpoint, State};
+use crate::endpoint::{Copies, Endpoint, State};
 use crate::figures::Figures;
 use crate::halts::{Ending, Halt};
 use crate::outbox::Outbox;
@@ -265,22 +265,44 @@ impl Host {
     ///
     /// # Errors
     /// Want of memory, also where the host has ended by it.
-    #[inline(always)]
     pub fn copy(&self) -> Result<Host, AllocError>
         ensures ok { IfOk result (λ copy. copy ≡ self.now) }
+        ensures again { self.now.ended ≡ Some OutOfMemory → IsErr result }
+    {
+        let copies = self.copies()?;
+        Ok(self.with_copies(copies))
+    }
+
+    /// Copies of what of it takes memory.
+    ///
+    /// # Errors
+    /// Want of memory, also where the host has ended by it.
+    #[inline(always)]
+    pub fn copies(&self) -> Result<Copies, AllocError>
+        ensures board { IfOk result (λ copies. copies.board ≡ option_map (λ c. c.board) self.now.state.endpoint.connection) }
+        ensures outbox { IfOk result (λ copies. copies.outbox ≡ self.now.state.endpoint.outbox) }
         ensures again { self.now.ended ≡ Some OutOfMemory → IsErr result }
     {
         if let Some(Ending::OutOfMemory) = self.ended {
             return Err(AllocError);
         }
-        Ok(Host {
+        self.state.endpoint.copies()
+    }
+
+    /// The same host once more, with copies of what takes memory.
+    #[inline(always)]
+    pub fn with_copies(&self, copies: Copies) -> Host
+        requires board { copies.board ≡ option_map (λ c. c.board) self.now.state.endpoint.connection }
+        requires outbox { copies.outbox ≡ self.now.state.endpoint.outbox }
+        ensures { result ≡ self.now }
+    {
+        Host {
             state: State {
-                settings: self.state.settings,
-                uses: self.state.uses,
-                endpoint: self.state.endpoint.copy()?,
+                endpoint: self.state.endpoint.with_copies(copies),
+                ..self.state
             },
             ended: self.ended,
-        })
+        }
     }
 
     /// The host has ended by this.

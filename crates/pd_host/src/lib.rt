@@ -22,6 +22,7 @@ mod uses;
 pub use connection::evidence::{Duplicate, Evidence, SackedAbove};
 pub use connection::observing::Hold;
 pub use connection::states::ConnState;
+pub use endpoint::Copies;
 pub use figures::{Figures, Recovery, Windows};
 pub use halts::{Ending, Halt};
 pub use host::Host;

@@ -81,8 +81,9 @@ impl RunState {
         ensures ok { IfOk result (λ copy. copy ≡ self.now) }
         ensures again { self.now.host.ended ≡ Some OutOfMemory → IsErr result }
     {
+        let copies = self.host.copies()?;
         Ok(RunState {
-            host: self.host.copy()?,
+            host: self.host.with_copies(copies),
             ..*self
         })
     }

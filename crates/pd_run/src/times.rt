@@ -26,18 +26,19 @@ pub fn moment_of(base: u64, time: Time) -> u64
     }
 }
 
-/// The first and the last moment of a time, from a base, in microseconds since the start of the run; `None` for `*`.
+/// The first and the last moment of a time, from a base, in microseconds since the start of the run; `None` for `*`. A moment
+/// beyond the greatest `u64` counts as that.
 pub fn moments_of(base: u64, time: Time) -> Option<(u64, u64)>
-    requires base { base < 2 ^ 61 }
-    requires short { list_any is_long (written_times time) ≡ false }
-    ensures { result ≡ moments_of base time }
+    ensures { base < 2 ^ 61 → list_any is_long (written_times time) ≡ false → result ≡ moments_of base time }
 {
     match time {
         Time::Any => None,
         Time::Absolute(t) => Some((t, t)),
-        Time::Relative(t) => Some((base + t, base + t)),
+        Time::Relative(t) => Some((base.saturating_add(t), base.saturating_add(t))),
         Time::AbsoluteRange(first, last) => Some((first, last)),
-        Time::RelativeRange(first, last) => Some((base + first, base + last)),
+        Time::RelativeRange(first, last) => {
+            Some((base.saturating_add(first), base.saturating_add(last)))
+        }
     }
 }
 

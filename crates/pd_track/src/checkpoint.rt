@@ -38,7 +38,8 @@ impl Checkpoint {
         }
     }
 
-    /// A copy of a state.
+    /// A copy of a state. It is apart, since a list copies several.
+    #[inline(never)]
     pub(crate) fn new(state: &RunState) -> Result<Checkpoint, AllocError>
         ensures { IfOk result (λ checkpoint. checkpoint ≡ state.now) }
     {

@@ -1,7 +1,7 @@
 //! The checks of a segment that arrives on a connection.
 ghost use Rattle.std.specs.Prelude.{◌≡◌, ◌≤◌, Some, IfNone};
 ghost use Rattle.pd_host.specs.declared.connection.checks.Ruling.TheVariants.{FirstAck};
-ghost use Rattle.pd_host.specs.Arrivals.{is_in_window, is_next_fin, is_stray_fin, check_contents, check_window, check_rst, check_ack_flag, check_handshake, check_ack, ruling_of, goes_on};
+ghost use Rattle.pd_host.specs.Arrivals.{is_in_window, is_next_fin, is_stray_fin, check_contents, check_window, check_rst, check_ack_flag, check_handshake, check_ack, ruling_of};
 
 use super::Connection;
 use pd_seg::Segment;
@@ -29,13 +29,6 @@ pub enum Ruling {
     EarlyAck,
     /// An ACK below what is acknowledged: of its segment the FIN alone is looked at.
     OldAck,
-}
-
-/// Whether the FIN of a segment so ruled is looked at; without a ruling it passed all checks.
-pub fn goes_on(ruling: Option<Ruling>) -> bool
-    ensures { result ≡ goes_on ruling }
-{
-    matches!(ruling, None | Some(Ruling::FirstAck | Ruling::OldAck))
 }
 
 impl Connection {

@@ -1,6 +1,6 @@
 //! What an expiry of its timer does to a connection.
-ghost use Rattle.std.specs.Prelude.{◌≡◌, ◌<◌, ◌^◌, IfOk};
-ghost use Rattle.pd_host.specs.Expiries.{segment_again, block_expired};
+ghost use Rattle.std.specs.Prelude.{◌≡◌, ◌<◌, ◌≤◌, ◌^◌, IfOk, IfSome};
+ghost use Rattle.pd_host.specs.Expiries.{due_by, segment_again, block_expired};
 
 use super::Connection;
 use pd_seg::Segment;
@@ -12,6 +12,17 @@ impl Connection {
         ensures { result ≡ self.now.timer.deadline }
     {
         self.timer.deadline()
+    }
+
+    /// The same, where it lies at or before a moment.
+    pub fn due(&self, until: u64) -> Option<u64>
+        ensures value { result ≡ due_by until self.now.timer.deadline }
+        ensures early { IfSome result (λ at. at ≤ until) }
+    {
+        match self.deadline() {
+            Some(at) if at <= until => Some(at),
+            _ => None,
+        }
     }
 
     /// The timer expires at a moment: what is sent again.

@@ -120,7 +120,7 @@ impl Connection {
     fn past_sacked(&self) -> Result<Connection, AllocError>
         ensures { IfOk result (λ ready. ready ≡ past_sacked self.now) }
     {
-        let mut ready = self.copy()?;
+        let mut ready = self.with_board(self.board.copy()?);
         ready.skip_sacked();
         Ok(ready)
     }
