@@ -11,6 +11,30 @@ pub fn parts_alone(lines: &Lines, from: Place, until: Place) -> Option<Parts> {
         return None;
     }
     let line = lines.line(from.line)?;
+    let rest = line.get(from.at..)?;
+    let time = rest.iter().take_while(|octet| is_in_time(octet)).count();
+    match rest.get(time..) {
+        Some([b'<' | b'>', packet @ ..]) => packet_alone(&rest[..time], packet, from),
+        _ => call_alone(line, from),
+    }
+}
+
+/// The parts of a packet with this time before its direction, and this after it.
+fn packet_alone(time: &[u8], packet: &[u8], from: Place) -> Option<Parts> {
+    let is_special = |octet: &u8| matches!(octet, b'/' | b'"' | b'`' | b'%' | b'-');
+    if packet.iter().any(is_special) {
+        return None;
+    }
+    let after = from.at.saturating_add(time.len()).saturating_add(1);
+    Some(Parts::of_packet(
+        from,
+        from.at.saturating_add(len_without_blanks(time)),
+        after.saturating_add(len_without_blanks(packet)),
+    ))
+}
+
+/// The parts of an event that isn't a packet.
+fn call_alone(line: &[u8], from: Place) -> Option<Parts> {
     let mut parts = Parts::at(from);
     for at in from.at..line.len() {
         match line[at] {
@@ -22,26 +46,22 @@ pub fn parts_alone(lines: &Lines, from: Place, until: Place) -> Option<Parts> {
                     return None;
                 }
                 parts.read(octet, octet_at(from.line, at));
-                if parts.reading() == TextPart::Packet {
-                    return packet_alone(parts, line, at.saturating_add(1));
-                }
             }
         }
     }
     Some(parts)
 }
 
-/// The parts of a packet whose direction ends at a place of its line: what follows only moves the event's end.
-fn packet_alone(mut parts: Parts, line: &[u8], at: usize) -> Option<Parts> {
-    let rest = line.get(at..)?;
-    let is_special = |octet: &u8| matches!(octet, b'/' | b'"' | b'`' | b'%' | b'-');
-    if rest.iter().any(is_special) {
-        return None;
-    }
+/// How many octets there are without the blanks at the end.
+fn len_without_blanks(octets: &[u8]) -> usize {
     let is_blank = |octet: &&u8| matches!(octet, b' ' | b'\t' | b'\r');
-    let blanks = rest.iter().rev().take_while(is_blank).count();
-    parts.event.to.at = line.len().saturating_sub(blanks);
-    Some(parts)
+    let blanks = octets.iter().rev().take_while(is_blank).count();
+    octets.len().saturating_sub(blanks)
+}
+
+/// Whether an octet may stand in a time, or is a blank beside it.
+fn is_in_time(octet: &u8) -> bool {
+    matches!(octet, b'0'..=b'9' | b'+' | b'.' | b'~' | b'*' | b' ' | b'\t' | b'\r')
 }
 
 /// Whether a letter, which would begin a call, may be in the middle of a token.

@@ -51,6 +51,23 @@ impl Parts {
         }
     }
 
+    /// Those of a packet that stands in a line from a place up to an octet, its time up to another.
+    pub(crate) fn of_packet(from: Place, time_to: usize, to: usize) -> Parts {
+        let up_to = |at: usize| Extent {
+            from,
+            to: Place {
+                line: from.line,
+                at,
+            },
+        };
+        Parts {
+            event: up_to(to),
+            time: up_to(time_to),
+            reading: TextPart::Packet,
+            ..Parts::at(from)
+        }
+    }
+
     /// What was read last.
     pub(crate) fn reading(&self) -> TextPart {
         self.reading

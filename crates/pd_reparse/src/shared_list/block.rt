@@ -6,7 +6,7 @@ use std::marker::Model;
 use std::sync::Arc;
 
 /// Fewer items than these are copied, so that no list consists of many small blocks.
-const FEW: usize = 8;
+const FEW: usize = 4;
 
 /// The first of some items, which are held once however many blocks they are the first of.
 #[derive(Drop)]
