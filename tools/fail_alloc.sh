@@ -157,6 +157,7 @@ try_rows() { # NAME PROGRAM: the rows of $input
         n=$((n + step))
     done
     [ "$status" -eq 0 ] || complain "fails with memory"
+    [ "$again" -gt 0 ] || complain "no call and no worker met a refusal"
     end "; $again of them by a call or a worker"
 }
 
