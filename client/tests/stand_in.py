@@ -15,14 +15,20 @@ KILL, SEGV = 9, 11
 
 # What is told by keys of a script that doesn't pass, by its verdict and, where it fails, its kind.
 KEYS: dict[str, dict[str, object]] = {
-    "fail": {"untaken_packets": [], "more_untaken_packets": 0, "state": {"name": "ESTABLISHED"}},
+    "fail": {
+        **{"untaken_packets": [], "untaken_sent_by": [], "more_untaken_packets": 0},
+        "state": {"name": "ESTABLISHED"},
+    },
     "syntax": {"text": "?", "text_line": 1, "column": 0, "expected": []},
     "unsupported": {"rule": "command", "rule_words": "a command", "text": "?", "text_line": 1, "column": 0},
     "limit": {"rule": "time", "rule_words": "a time", "limit": 3_600, "text": "?", "text_line": 1, "column": 0},
-    "packet": {"script_packet": "+0 > . 1:2(1) ack 1", "actual_packet": "+0 > . 1:3(2) ack 1 win 5", "sent_us": 7},
+    "packet": {
+        **{"script_packet": "+0 > . 1:2(1) ack 1", "actual_packet": "+0 > . 1:3(2) ack 1 win 5", "sent_us": 7},
+        "sent_by": {"line": 1},
+    },
     "time": {
         **{"script_packet": "+0 > . 1:2(1) ack 1", "actual_packet": "+1 > . 1:2(1) ack 1 win 5", "sent_us": 7},
-        **{"awaited_until_us": None, "early_us": 3},
+        **{"sent_by": {"timer_us": 7}, "awaited_until_us": None, "early_us": 3},
     },
     "missing": {
         **{"script_packet": "* > . 1:2(1) ack 1", "awaited_until_us": None, "timer_us": None},

@@ -1,4 +1,4 @@
--- Lemmas on rules, reasons, what is shown, explanations, ends of runs, parts of events, the lines of a block, runs that are taken up, packets that no line asks for, and ranges that are SACKed.
+-- Lemmas on rules, reasons, what is shown, explanations, ends of runs, parts of events, the lines of a block, runs that are taken up, packets that no line asks for, ranges that are SACKed, and who let packets go.
 pub mod RuleLemmas
 pub mod ShownLemmas
 pub mod InputLemmas
@@ -11,3 +11,7 @@ pub mod PartLemmas
 pub mod TakenUp
 pub mod UnaskedLemmas
 pub mod ProspectLemmas
+pub mod NotingLemmas
+pub mod NotedStop
+pub mod OriginLemmas
+pub mod TracedLemmas

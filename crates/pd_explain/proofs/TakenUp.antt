@@ -64,6 +64,7 @@ taken_up law starts steps settings p m n s count found =
         let there : slice_get (states_from p.events r) m ≡ Some s =
         ap (λ (rs : List RunStateView). slice_get rs m) (sym (states_begun settings p r fault is)) ∙ found in
         record {
+          stage = rw is there;
           underway = subst (λ (k : ℕ). IsUnderway k s) (none_before (suc m)) (states_underway steps p.events 0 m r s (starts p.header.items settings r is) there);
           stops = λ line. stop_begun settings p r line is
               ∙ (stops_after law line 0 p.events m r s there

@@ -9,6 +9,8 @@ use Rattle.pd_explain.specs.Rules.{event_rule}
 use Rattle.pd_explain.specs.Rulings.{IsRuling}
 use Rattle.pd_explain.specs.declared.causes.Cause.{Cause}
 use Rattle.pd_explain.specs.declared.causes.Cause.TheVariants as cause
+use Rattle.pd_explain.specs.declared.causes.failures.Failure.{Failure}
+use Rattle.pd_explain.specs.declared.causes.origins.Origin.{Origin}
 
 -- what is reported of an event that stopped a run, and stands at a place of its text: what didn't happen as written, with the time
 -- shown as some octets are, or the rule that stopped it, with the part of the event that it is about
@@ -18,3 +20,8 @@ IsCauseOf lines place e stop (cause.Rule ruling) =
     let rule = event_rule e stop in
     (is_failure stop.why ≡ false) × IsRuling lines place (part_of rule e) rule ruling
 IsCauseOf lines place e stop (cause.Syntax refusal) = ⊥
+
+-- a cause is another one, and where an event failed these origins are told
+abbrev pub HasOriginsOf : Cause → List Origin → Cause → Type 0
+HasOriginsOf (cause.Failed f) origins told = (g : Failure) × (told ≡ cause.Failed g) × (g.origins.items ≡ origins) × (g.failed ≡ f.failed) × (g.standing ≡ f.standing)
+HasOriginsOf before origins told = told ≡ before

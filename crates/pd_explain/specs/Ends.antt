@@ -4,8 +4,6 @@ use Rattle.std.specs.List.{list_any}
 use Rattle.pd_settings.specs.declared.fields.Settings.{Settings}
 use Rattle.pd_script.specs.Script.{script_of}
 use Rattle.pd_script.specs.declared.parsing.Parsed.{Parsed}
-use Rattle.pd_script.specs.declared.script_events.Action.{Action}
-use Rattle.pd_script.specs.declared.script_events.Action.TheVariants.{Outbound}
 use Rattle.pd_script.specs.declared.script_events.Event.{Event}
 use Rattle.pd_seg.specs.declared.segments.Sent.{Sent}
 use Rattle.pd_run.specs.Laws.{untaken}
@@ -14,6 +12,8 @@ use Rattle.pd_run.specs.Step.{RunStateView, on_step, step}
 use Rattle.pd_run.specs.declared.verdicts.Verdict.{Verdict}
 use Rattle.pd_run.specs.declared.verdicts.Verdict.TheVariants.{Pass}
 use Rattle.pd_explain.specs.Columns.{sent_text}
+pub use Rattle.pd_explain.specs.Origins.{is_awaited}
+use Rattle.pd_explain.specs.Origins.{AreOrigins}
 use Rattle.pd_explain.specs.Senders.{standing_of}
 use Rattle.pd_explain.specs.declared.causes.failures.Untaken.{Untaken}
 use Rattle.pd_explain.specs.declared.endings.Ending.{Ending}
@@ -36,11 +36,6 @@ is_pass _ = false
 abbrev pub PassesHaveEnds : Type 0
 PassesHaveEnds = (settings : Settings) (parsed : Parsed) → is_some (end_in settings parsed) ≡ is_pass (verdict_in settings parsed)
 
--- an action awaits a packet
-abbrev pub is_awaited : Action → Bool
-is_awaited (Outbound p) = true
-is_awaited _ = false
-
 -- some event awaits a packet
 abbrev pub awaits_any : List Event → Bool
 awaits_any events = list_any (λ (e : Event). is_awaited e.action) events
@@ -54,13 +49,14 @@ abbrev pub Lists : ℕ → List Sent → Untaken → Type 0
 Lists base packets told = (map (λ packet. packet.items) told.packets.items ≡ map (sent_text base) (take 10 packets)) × (told.more ≡ length packets - 10)
 
 -- what is reported of a run at its end: nothing where a packet was awaited and none is left
-abbrev pub IsEndOf : List Event → RunStateView → Option Ending → Type 0
-IsEndOf events r None = (awaits_any events ≡ true) × (untaken r ≡ [])
-IsEndOf events r (Some told) =
-    ((awaits_any events && length (untaken r) == 0) ≡ false)
-    × (told.line ≡ last_line events)
-    × (told.awaits ≡ awaits_any events)
+abbrev pub IsEndOf : Settings → Parsed → RunStateView → Option Ending → Type 0
+IsEndOf settings parsed r None = (awaits_any parsed.events ≡ true) × (untaken r ≡ [])
+IsEndOf settings parsed r (Some told) =
+    ((awaits_any parsed.events && length (untaken r) == 0) ≡ false)
+    × (told.line ≡ last_line parsed.events)
+    × (told.awaits ≡ awaits_any parsed.events)
     × Lists r.base (untaken r) told.untaken
+    × AreOrigins settings parsed (length parsed.events) (untaken r) told.origins.items
     × (told.standing ≡ standing_of r.host)
 
 -- what is reported of the end of a text's run: nothing where the run stops before
@@ -69,4 +65,4 @@ IsEnd text settings told = by (end_in settings (script_of text))
   where
     by : Option RunStateView → Type 0
     by None = told ≡ None
-    by (Some r) = IsEndOf (script_of text).events r told
+    by (Some r) = IsEndOf settings (script_of text) r told

@@ -4,6 +4,7 @@ pub mod Senders
 pub mod Reasons
 pub mod Unasked
 pub mod Prospects
+pub mod Origins
 pub mod Failures
 pub mod Causes
 pub mod Pasted

@@ -1,11 +1,11 @@
 //! Why a run came to its verdict.
-ghost use Rattle.std.specs.Prelude.{◌≡◌, IfOk};
-ghost use Rattle.pd_explain.specs.Causes.{IsCauseOf};
+ghost use Rattle.std.specs.Prelude.{◌≡◌, [], IfOk};
+ghost use Rattle.pd_explain.specs.Causes.{IsCauseOf, HasOriginsOf};
 
 mod columns;
 mod failing;
 mod failures;
-mod moments;
+mod origins;
 mod pasted_laws;
 mod phrases;
 mod prospects;
@@ -16,10 +16,11 @@ mod window_laws;
 mod writings;
 
 use self::failing::failure_of;
-pub(crate) use self::failing::standing;
+pub(crate) use self::failing::{run_at, standing};
 pub use self::failures::{
     Awaited, Comparison, Failed, Failure, Reply, SenderSnapshot, Setback, Untaken, Wait,
 };
+pub use self::origins::Origin;
 pub use self::pasted_laws::actual_packets_pass;
 pub use self::prospects::{Prospects, Sacked};
 pub(crate) use self::prospects::{bound_of, computed_us, span_text};
@@ -68,5 +69,25 @@ pub fn cause_at(
             let rule = event_rule(event, stop);
             Ok(Cause::Rule(ruling_at(alloc, lines, place, event, rule)?))
         }
+    }
+}
+
+impl Cause {
+    /// The same cause, without what let packets go.
+    pub fn without_origins(self, alloc: Global) -> Cause
+        ensures { HasOriginsOf self [] result }
+    {
+        with_origins(self, Vec::new(alloc))
+    }
+}
+
+/// The same cause, with what let the packets go that nobody has taken.
+pub(crate) fn with_origins(cause: Cause, origins: Vec<Origin>) -> Cause
+    ensures { HasOriginsOf cause origins.items result }
+{
+    match cause {
+        Cause::Failed(failure) => Cause::Failed(Failure { origins, ..failure }),
+        Cause::Syntax(refusal) => Cause::Syntax(refusal),
+        Cause::Rule(ruling) => Cause::Rule(ruling),
     }
 }

@@ -1,11 +1,15 @@
 //! What a script that passes leaves at its end.
-ghost use Rattle.std.specs.Prelude.{◌≡◌, ◌≤◌, IfOk, length};
-ghost use Rattle.pd_run.specs.Laws.{IsUnderway};
-ghost use Rattle.pd_explain.specs.Ends.{awaits_any, end_from, end_in, is_awaited, last_line, IsEnd, IsEndOf, PassesHaveEnds};
+ghost use Rattle.std.specs.Prelude.{◌≡◌, ◌≤◌, IfOk, IfSome, Ok, length, option_map};
+ghost use Rattle.pd_run.specs.Laws.{untaken};
+ghost use Rattle.pd_run.specs.Run.{start_of};
+ghost use Rattle.pd_explain.specs.Ends.{awaits_any, end_from, end_in, last_line, IsEnd, IsEndOf, PassesHaveEnds};
+ghost use Rattle.pd_explain.specs.Inner.{AreToldOf, IsNotedToEnd};
+ghost use Rattle.pd_explain.specs.Origins.{AreOrigins};
 
-use crate::causes::{SenderSnapshot, Untaken, list_untaken, standing};
-use pd_run::{Plain, RunState, StepEnd, Stepper, runs_are_bounded, verdicts_have_reasons};
-use pd_script::{Action, Event, Parsed, parse};
+use crate::causes::{Origin, SenderSnapshot, Untaken, list_untaken, standing};
+use crate::noting::{Sender, is_awaited, origins_of, packets_append, step_noting};
+use pd_run::{Plain, RunState, StepEnd, runs_are_bounded, verdicts_have_reasons};
+use pd_script::{Event, Parsed, parse};
 use pd_settings::Settings;
 use pd_text::Lines;
 use std::alloc::{AllocError, Global};
@@ -19,6 +23,8 @@ pub struct Ending {
     pub awaits: bool,
     /// The packets that were put out and not taken.
     pub untaken: Untaken,
+    /// What let each of those go that are listed, and the next one.
+    pub origins: Vec<Origin>,
     /// The sender at the end.
     pub standing: SenderSnapshot,
 }
@@ -37,8 +43,27 @@ pub fn find_ending(
 {
     let parsed = parse(alloc, lines)?;
     match run_to_end(alloc, &parsed, settings)? {
-        Some(run) => ending_of(alloc, parsed.events.as_slice(), &run),
+        Some(end) => ending_of(alloc, &parsed, settings, &end),
         None => Ok(None),
+    }
+}
+
+/// A run at its end, and who let its packets go.
+#[derive(Drop)]
+struct End {
+    /// The run.
+    run: RunState,
+    /// Who let each packet go that it put out.
+    senders: Vec<Sender>,
+}
+
+impl End {
+    /// What let the oldest packets go that nobody has taken.
+    fn origins(&self, alloc: Global) -> Result<Vec<Origin>, AllocError>
+        requires { length (untaken self.now.run) ≤ length self.now.senders.items }
+        ensures { IfOk result (λ origins. AreToldOf (untaken self.now.run) self.now.senders.items origins.items) }
+    {
+        origins_of(alloc, self.run.host().outbox(), self.senders.as_slice())
     }
 }
 
@@ -47,56 +72,83 @@ fn run_to_end(
     alloc: Global,
     parsed: &Parsed,
     settings: &Settings,
-) -> Result<Option<RunState>, AllocError>
+) -> Result<Option<End>, AllocError>
     requires few { length parsed.now.events ≤ 4096 }
-    ensures { IfOk result (λ end. end ≡ end_in settings.now parsed.now) }
+    ensures run { IfOk result (λ end. option_map (λ e. e.run) end ≡ end_in settings.now parsed.now) }
+    ensures senders { IfOk result (λ end. IfSome end (λ e. IsNotedToEnd settings.now parsed.now e.run e.senders.items)) }
 {
     runs_are_bounded();
     if parsed.fault.is_some() {
         return Ok(None);
     }
     match RunState::new(alloc, &parsed.header, settings) {
-        Ok(start) => run_from(parsed.events.as_slice(), settings, start),
+        Ok(start) => run_from(alloc, parsed, settings, start),
         Err(_) => Ok(None),
     }
 }
 
-/// The run after the last of some events.
+/// The run after the last event, and who let its packets go.
 fn run_from(
-    events: &[Event],
+    alloc: Global,
+    parsed: &Parsed,
     settings: &Settings,
     start: RunState,
-) -> Result<Option<RunState>, AllocError>
-    requires few { length events.now ≤ 4096 }
-    requires start { IsUnderway 0 start }
-    ensures { IfOk result (λ end. end ≡ end_from events.now start) }
+) -> Result<Option<End>, AllocError>
+    requires few { length parsed.now.events ≤ 4096 }
+    requires start { start_of parsed.now.header.items settings.now ≡ Ok start }
+    ensures run { IfOk result (λ end. option_map (λ e. e.run) end ≡ end_from parsed.now.events start) }
+    ensures senders { IfOk result (λ end. IfSome end (λ e. IsNotedToEnd settings.now parsed.now e.run e.senders.items)) }
 {
     runs_are_bounded();
+    packets_append();
     let mut stepper = Plain::new();
+    let mut senders = Vec::new(alloc);
     let mut run = start;
-    for event in events {
-        match stepper.step(&mut run, event, settings)? {
+    for event in parsed.events.as_slice() {
+        match step_noting(&mut stepper, &mut run, event, settings, &mut senders)? {
             StepEnd::Go => {}
             StepEnd::Stop(_) => return Ok(None),
         }
     }
-    Ok(Some(run))
+    Ok(Some(End { run, senders }))
 }
 
 /// What is reported of a run after the last of its events.
-fn ending_of(alloc: Global, events: &[Event], run: &RunState) -> Result<Option<Ending>, AllocError>
-    ensures { IfOk result (IsEndOf events.now run.now) }
+fn ending_of(
+    alloc: Global,
+    parsed: &Parsed,
+    settings: &Settings,
+    end: &End,
+) -> Result<Option<Ending>, AllocError>
+    requires { IsNotedToEnd settings.now parsed.now end.now.run end.now.senders.items }
+    ensures { IfOk result (IsEndOf settings.now parsed.now end.now.run) }
 {
+    let events = parsed.events.as_slice();
     let awaits = awaits_any(events);
-    if awaits && run.host().outbox().is_empty() {
+    if awaits && end.run.host().outbox().is_empty() {
         return Ok(None);
     }
     Ok(Some(Ending {
         line: last_line(events),
         awaits,
-        untaken: list_untaken(alloc, run, 0)?,
-        standing: standing(run),
+        untaken: list_untaken(alloc, &end.run, 0)?,
+        origins: origins_at_end(alloc, parsed, settings, end)?,
+        standing: standing(&end.run),
     }))
+}
+
+/// What let the oldest packets go that nobody has taken at the end.
+fn origins_at_end(
+    alloc: Global,
+    _parsed: &Parsed,
+    _settings: &Settings,
+    end: &End,
+) -> Result<Vec<Origin>, AllocError>
+    requires { IsNotedToEnd _settings.now _parsed.now end.now.run end.now.senders.items }
+    ensures { IfOk result (λ origins. AreOrigins _settings.now _parsed.now (length _parsed.now.events) (untaken end.now.run) origins.items) }
+{
+    let origins = end.origins(alloc)?;
+    Ok(origins)
 }
 
 /// Whether an event awaits a packet.
@@ -104,18 +156,6 @@ fn awaits_any(events: &[Event]) -> bool
     ensures { result ≡ awaits_any events.now }
 {
     events.iter().any(|event| is_awaited(&event.action))
-}
-
-fn is_awaited(action: &Action) -> bool
-    ensures { result ≡ is_awaited action.now }
-{
-    match action {
-        Action::Outbound(_) => true,
-        Action::Inbound(_) => false,
-        Action::Call(_) => false,
-        Action::Command => false,
-        Action::Code => false,
-    }
 }
 
 fn last_line(events: &[Event]) -> usize

@@ -1,19 +1,21 @@
 //! Explains a verdict: looks into the run where it stopped.
-ghost use Rattle.std.specs.Prelude.{◌≡◌, Some, option_map, IfOk, IfSome};
+ghost use Rattle.std.specs.Prelude.{◌≡◌, true, Some, option_map, IfOk, IfSome};
 ghost use Rattle.pd_reparse.specs.Reading.{reading_of, script_part};
 ghost use Rattle.pd_run.specs.Run.{verdict_of};
 ghost use Rattle.pd_run.specs.Stops.{line_of};
 ghost use Rattle.pd_script.specs.Script.{script_of};
-ghost use Rattle.pd_explain.specs.Explained.{row_line, not_run, IsCauseIn, IsCause};
-ghost use Rattle.pd_explain.specs.Inner.{IsTakenUp};
+ghost use Rattle.pd_explain.specs.Causes.{IsCauseOf};
+ghost use Rattle.pd_explain.specs.Explained.{row_line, not_run, HasOrigins, IsCauseIn, IsCause};
+ghost use Rattle.pd_explain.specs.Inner.{IsTakenUp, IsTraced, is_whole};
 
-use crate::causes::{Cause, cause_at};
+use crate::causes::{Cause, cause_at, with_origins};
 use crate::explanations::Explanation;
 use crate::parts::event_place;
 use crate::refusals::find_refusal;
 use crate::rulings::header_ruling;
-use crate::taking_up::{TakenUp, stop_on, take_up};
-use pd_reparse::{Reading, read, readings};
+use crate::taking_up::{TakenUp, Traced, take_up, trace_stop};
+use pd_lex::Place;
+use pd_reparse::{Decided, Reading, read, readings};
 use pd_run::{Verdict, verdicts_have_reasons};
 use pd_script::{Header, HeaderItem, HeaderKind};
 use pd_settings::Settings;
@@ -48,8 +50,8 @@ pub fn explain(
     }))
 }
 
-/// Explains the verdict of a job that was run; nothing for a pass. Its text isn't read again, and of its run at most three events
-/// before those of the line at which it stopped.
+/// Explains the verdict of a job that was run; nothing for a pass. Its text isn't read again, and of its run mostly at most
+/// three events before those of the line at which it stopped.
 ///
 /// # Errors
 /// `AllocError` where a growth is refused.
@@ -155,11 +157,31 @@ fn cause_of_stop(
     if let Some(item) = item_not_run(reading.header()) {
         return Ok(Cause::Rule(header_ruling(alloc, lines, &item)?));
     }
-    let Some(stop) = stop_on(alloc, reading, settings, taken, line)? else {
+    let Some(traced) = trace_stop(alloc, reading, settings, taken, line)? else {
         unreachable!()
     };
-    let place = event_place(reading, stop.passed);
-    cause_at(alloc, lines, place, reading.events().at(stop.passed), &stop)
+    let place = event_place(reading, traced.stop.passed);
+    let decided = reading.events().at(traced.stop.passed);
+    cause_of_traced(alloc, lines, settings, reading, place, decided, &traced)
+}
+
+/// Why an event stopped a run that was traced, and what let the packets go that nobody has taken there.
+fn cause_of_traced(
+    alloc: Global,
+    lines: &Lines,
+    _settings: &Settings,
+    _reading: &Reading,
+    place: Place,
+    decided: &Decided,
+    traced: &Traced,
+) -> Result<Cause, AllocError>
+    requires traced { IsTraced _settings.now (script_part _reading.now) traced.now.stop traced.now.senders.items }
+    requires whole { is_whole traced.now.stop traced.now.senders.items ≡ true }
+    ensures { IfOk result (λ cause. IsCauseOf lines.now place decided.now.event traced.now.stop cause × HasOrigins _settings.now (script_part _reading.now) traced.now.stop cause) }
+{
+    let cause = cause_at(alloc, lines, place, decided, &traced.stop)?;
+    let origins = traced.origins(alloc)?;
+    Ok(with_origins(cause, origins))
 }
 
 /// The first header item that isn't run.

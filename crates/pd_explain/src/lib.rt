@@ -10,6 +10,8 @@ mod endings;
 mod event_ends;
 mod explaining;
 mod explanations;
+mod noting;
+mod origin_laws;
 mod parts;
 mod refusals;
 mod rules;
@@ -21,12 +23,13 @@ mod taking_up;
 
 pub use blocks::{block_json, block_text, cause_text, ending_json, ending_text, write_standing};
 pub use causes::{
-    Awaited, Cause, Comparison, Failed, Failure, Prospects, Reason, Reply, Sacked, SenderSnapshot,
-    Setback, Untaken, Wait, actual_packets_pass, cause_at, named_windows_hold,
+    Awaited, Cause, Comparison, Failed, Failure, Origin, Prospects, Reason, Reply, Sacked,
+    SenderSnapshot, Setback, Untaken, Wait, actual_packets_pass, cause_at, named_windows_hold,
 };
 pub use endings::{Ending, find_ending, passes_have_ends};
 pub use explaining::{explain, explain_job};
 pub use explanations::Explanation;
+pub use origin_laws::origins_are_unique;
 pub use parts::{ShownPart, event_place};
 pub use refusals::{Refusal, find_refusal};
 pub use rules::{Input, Number, Rule, Shape, event_rule, header_rule, rules_are_lawful};

@@ -1,5 +1,6 @@
 //! The packets that a script awaits before its next input.
-use crate::times::{is_in_time, moment_of, moments_of};
+use crate::times::{is_in_time, moment_of};
+use pd_run::moments_of;
 use pd_script::{Action, Event, Packet};
 use std::alloc::{AllocError, Global};
 

@@ -1,19 +1,6 @@
 //! Times of awaited packets.
 use pd_script::Time;
 
-/// The first and the last moment of a time from a base, in microseconds since the start of the run; nothing for `*`.
-pub fn moments_of(base: u64, time: Time) -> Option<(u64, u64)> {
-    match time {
-        Time::Any => None,
-        Time::Absolute(moment) => Some((moment, moment)),
-        Time::Relative(span) => Some((base.saturating_add(span), base.saturating_add(span))),
-        Time::AbsoluteRange(first, last) => Some((first, last)),
-        Time::RelativeRange(first, last) => {
-            Some((base.saturating_add(first), base.saturating_add(last)))
-        }
-    }
-}
-
 /// The moment of a time that is one.
 pub fn moment_of(base: u64, time: Time) -> Option<u64> {
     match time {

@@ -1,16 +1,14 @@
 -- The packets that nobody has taken change nothing of a call.
-use Rattle.std.proofs.Common.{ℕ, ◌==◌, ◌&&◌, min, Bool, if◌then◌else◌, not, Option, None, Some, is_some, option_map, List, Result, Ok, Err, refl, ap}
+use Rattle.std.proofs.Common.{ℕ, ◌==◌, ◌&&◌, min, Bool, if◌then◌else◌, not, Option, None, Some, is_some, List, Result, Ok, Err, refl, ap}
 use Rattle.pd_seg.specs.declared.answers.Answer.{Answer}
 use Rattle.pd_seg.specs.declared.answers.Answer.TheVariants.{Number, Error}
 use Rattle.pd_seg.specs.declared.answers.Errno.TheVariants.{Ebadf, Einval, Eagain, Epipe}
 use Rattle.pd_seg.specs.declared.segments.Sent.{Sent}
 use Rattle.pd_script.specs.declared.calls.Call.{Call}
-use Rattle.pd_host.specs.Calls.{Reply, answered, with_listener, with_stored, with_answer, socket_reply, bind_reply, listen_reply, accept_reply, handed_out, no_delay_reply, free_of, with_queued, write_uses, queued, written_on, write_reply, closed_stream, closed_on, close_reply, operated, on_open, open_descriptor, reply_to, requested, called, is_pending, is_waiting, stream_of, with_stream, with_nagle}
+use Rattle.pd_host.specs.Calls.{Descriptor, Listening, Connected, Reply, answered, with_listener, with_stored, with_answer, socket_reply, bind_reply, listen_reply, accept_reply, handed_out, no_delay_reply, free_of, with_queued, write_uses, queued, written_on, write_reply, closed_stream, closed_on, close_reply, operated, on_open, open_descriptor, reply_to, requested, called, is_pending, is_waiting, stream_of, with_stream, with_nagle}
 use Rattle.pd_host.specs.Connection.{ConnectionView}
 use Rattle.pd_host.specs.Requests.{request_of}
 use Rattle.pd_host.specs.Sending.{ordinary, ordinary_outside_recovery, is_recovering}
-use Rattle.pd_host.specs.declared.descriptors.Descriptor.{Descriptor}
-use Rattle.pd_host.specs.declared.descriptors.Descriptor.TheVariants.{Listening, Connected}
 use Rattle.pd_host.specs.declared.halts.Halt.{Halt}
 use Rattle.pd_host.specs.declared.halts.Halt.TheVariants.{Unsupported}
 use Rattle.pd_host.specs.declared.descriptors.Listener.{Listener}
@@ -79,11 +77,10 @@ accept_freed w s _ _ = ((s, Error Einval), refl, refl)
 
 no_delay_freed : (w : List Sent) (s : State) (set : Bool) (d : Descriptor) → Freed w (no_delay_reply (in_front w s) set d) (no_delay_reply s set d)
 no_delay_freed w s set Listening = ((s, Number 0), refl, refl)
-no_delay_freed w s set Connected = ((with_stored (option_map (with_nagle (not set)) s.endpoint.connection) s, Number 0), refl, refl)
+no_delay_freed w s set (Connected c) = ((with_stored (Some (with_nagle (not set) c)) s, Number 0), refl, refl)
 
-written_freed : (w : List Sent) (now n : ℕ) (o : Option ConnectionView) (s : State) → Freed w (written_on now n o (in_front w s)) (written_on now n o s)
-written_freed w now n None s = ((s, Error Ebadf), refl, refl)
-written_freed w now n (Some c) s =
+written_freed : (w : List Sent) (now n : ℕ) (c : ConnectionView) (s : State) → Freed w (written_on now n c (in_front w s)) (written_on now n c s)
+written_freed w now n c s =
     let noted : State = record s { uses = write_uses s.uses } in
     let free : ℕ = free_of s.settings.sndbuf c in
     either_by (beside_answer w) c.reset
@@ -96,11 +93,10 @@ written_freed w now n (Some c) s =
 
 write_freed : (w : List Sent) (now : ℕ) (s : State) (n : ℕ) (d : Descriptor) → Freed w (write_reply now (in_front w s) n d) (write_reply now s n d)
 write_freed w now s n Listening = ((s, Error Einval), refl, refl)
-write_freed w now s n Connected = written_freed w now n s.endpoint.connection s
+write_freed w now s n (Connected c) = written_freed w now n c s
 
-closed_freed : (w : List Sent) (now : ℕ) (o : Option ConnectionView) (s : State) → Freed w (closed_on now o (in_front w s)) (closed_on now o s)
-closed_freed w now None s = ((s, Error Ebadf), refl, refl)
-closed_freed w now (Some c) s =
+closed_freed : (w : List Sent) (now : ℕ) (c : ConnectionView) (s : State) → Freed w (closed_on now c (in_front w s)) (closed_on now c s)
+closed_freed w now c s =
     let closed : State = with_stored (Some (closed_stream c)) s in
     answer_freed w (Number 0)
     (if c.reset then Ok (in_front w closed) else ordinary_outside_recovery now c (in_front w closed)) (if c.reset then Ok closed else ordinary_outside_recovery now c closed)
@@ -113,7 +109,7 @@ close_freed w now s Listening =
     either_by (beside_answer w) (is_pending s.endpoint.connection)
     (Err Unsupported) (answered (in_front w (with_listener Closed s)) (Number 0)) (Err Unsupported) (answered (with_listener Closed s) (Number 0))
     tt ((with_listener Closed s, Number 0), refl, refl)
-close_freed w now s Connected = closed_freed w now s.endpoint.connection s
+close_freed w now s (Connected c) = closed_freed w now c s
 
 operated_freed : (w : List Sent) (now : ℕ) (s : State) (d : Descriptor) (o : Operation) → Freed w (operated now (in_front w s) d o) (operated now s d o)
 operated_freed w now s d Bind = bind_freed w s s.endpoint.listener d

@@ -89,14 +89,14 @@ fn why_of(alloc: Global, verdict: Verdict, line: usize) -> Result<Vec<u8>, Serve
     Ok(row)
 }
 
-/// What explains the verdict of a text at which no mend helps.
+/// What explains the verdict of a text at which no mend helps. What let packets go isn't told: its lines are those of the mended text.
 #[tactic(auto, using(crate::proofs::Below::no_lines))]
 fn lines_below(alloc: Global, stuck: &Stuck, settings: &Settings) -> Result<Vec<u8>, AllocError>
     requires { stuck.now.verdict ≡ verdict_of stuck.now.lines settings.now }
     ensures { IfOk result (λ below. AreIndented below.items) }
 {
     match explain(alloc, &stuck.lines, settings, stuck.verdict)? {
-        Some(explanation) => cause_text(alloc, &explanation.cause),
+        Some(explanation) => cause_text(alloc, &explanation.cause.without_origins(alloc)),
         None => Ok(Vec::new(alloc)),
     }
 }

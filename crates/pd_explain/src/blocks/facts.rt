@@ -3,8 +3,8 @@ ghost use Rattle.std.specs.Prelude.{◌≡◌};
 ghost use Rattle.pd_explain.specs.States.{state_word};
 
 use crate::causes::{
-    Awaited, Cause, Comparison, Failed, Prospects, Reply, SenderSnapshot, Setback, Wait, bound_of,
-    computed_us,
+    Awaited, Cause, Comparison, Failed, Failure, Origin, Prospects, Reply, SenderSnapshot, Setback,
+    Wait, bound_of, computed_us,
 };
 use crate::rules::Rule;
 use pd_host::{ConnState, Duplicate, Evidence, Figures, Recovery, Windows};
@@ -27,6 +27,8 @@ pub struct Fact<'a> {
 pub enum Told<'a> {
     /// Octets, as a script has them.
     Octets(&'a [u8]),
+    /// A packet that was sent, as a script has it, with what let it go, where that is known; in JSON the packet alone.
+    Packet(&'a [u8], Option<Origin>),
     /// Words of this program.
     Words(&'static str),
     /// Microseconds; in text they are seconds.
@@ -37,7 +39,7 @@ pub enum Told<'a> {
     Nothing(&'static str),
 }
 
-use Told::{Moment, Nothing, Number, Octets, Words};
+use Told::{Moment, Nothing, Number, Octets, Packet, Words};
 
 /// Facts in the order in which they are reported.
 pub type Facts<'a> = Vec<Fact<'a>>;
@@ -61,14 +63,14 @@ pub fn facts_of<'a>(alloc: Global, cause: &'a Cause) -> Result<Facts<'a>, AllocE
     match cause {
         Cause::Syntax(_) => {}
         Cause::Rule(ruling) => put_rule(&mut facts, ruling.rule)?,
-        Cause::Failed(failure) => put_failed(&mut facts, &failure.failed)?,
+        Cause::Failed(failure) => put_failed(&mut facts, failure)?,
     }
     Ok(facts)
 }
 
-fn put_failed<'a>(facts: &mut Facts<'a>, failed: &'a Failed) -> Result<(), AllocError> {
-    match failed {
-        Failed::Packet(packets) => put_packets(facts, packets),
+fn put_failed<'a>(facts: &mut Facts<'a>, failure: &'a Failure) -> Result<(), AllocError> {
+    match &failure.failed {
+        Failed::Packet(packets) => put_packets(facts, packets, failure.compared_origin()),
         Failed::Missing(wait) => put_wait(facts, wait),
         Failed::Result(reply) => put_reply(facts, reply),
         Failed::Backwards(setback) => put_setback(facts, setback),
@@ -86,10 +88,15 @@ fn put_rule<'a>(facts: &mut Facts<'a>, rule: Rule) -> Result<(), AllocError> {
     }
 }
 
-fn put_packets<'a>(facts: &mut Facts<'a>, packets: &'a Comparison) -> Result<(), AllocError> {
+fn put_packets<'a>(
+    facts: &mut Facts<'a>,
+    packets: &'a Comparison,
+    origin: Option<Origin>,
+) -> Result<(), AllocError> {
+    let actual = Packet(&packets.actual, origin);
     facts.extend_from_slice(&[
         named("script packet", "script_packet", Octets(&packets.script)),
-        named("actual packet", "actual_packet", Octets(&packets.actual)),
+        named("actual packet", "actual_packet", actual),
         named("", "sent_us", Moment(packets.at)),
     ])?;
     if packets.unasked > 0 {

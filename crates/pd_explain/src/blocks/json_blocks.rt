@@ -1,7 +1,7 @@
 //! The block of an explanation as a JSON object.
 use crate::blocks::facts::{Fact, Told, facts_of, facts_of_sender, named, state_name};
 use crate::blocks::headings::{ending_words, first_words, verdict_name};
-use crate::causes::{Cause, Failed, SenderSnapshot, Untaken, span_text};
+use crate::causes::{Cause, Failed, Origin, SenderSnapshot, Untaken, span_text};
 use crate::endings::Ending;
 use crate::explanations::Explanation;
 use crate::refusals::Refusal;
@@ -58,7 +58,13 @@ pub fn ending_json(alloc: Global, name: &Name, ending: &Ending) -> Result<Vec<u8
         "awaits_packet",
         Value::Bool(ending.awaits),
     )?;
-    put_left(alloc, &mut object, &ending.untaken, &ending.standing)?;
+    put_left(
+        alloc,
+        &mut object,
+        &ending.untaken,
+        &ending.origins,
+        &ending.standing,
+    )?;
     line_of(alloc, object)
 }
 
@@ -106,7 +112,16 @@ fn put_cause(alloc: Global, object: &mut Members, cause: &Cause) -> Result<(), A
         Cause::Rule(ruling) => put_ruling(alloc, object, ruling),
         Cause::Failed(failure) => {
             put_sacked(alloc, object, &failure.failed)?;
-            put_left(alloc, object, &failure.untaken, &failure.standing)
+            if let Some(origin) = failure.compared_origin() {
+                put(object, alloc, "sent_by", origin_value(alloc, origin)?)?;
+            }
+            put_left(
+                alloc,
+                object,
+                &failure.untaken,
+                failure.listed_origins(),
+                &failure.standing,
+            )
         }
     }
 }
@@ -136,7 +151,7 @@ fn put_facts(alloc: Global, object: &mut Members, facts: &[Fact<'_>]) -> Result<
 
 fn value_of(alloc: Global, told: Told<'_>) -> Result<Value, AllocError> {
     match told {
-        Told::Octets(octets) => shown(alloc, octets),
+        Told::Octets(octets) | Told::Packet(octets, _) => shown(alloc, octets),
         Told::Words(text) => Value::try_from_str(alloc, text),
         Told::Moment(number) | Told::Number(number) => Ok(Value::from(number)),
         Told::Nothing(_) => Ok(Value::Null),
@@ -157,15 +172,38 @@ fn letters(alloc: Global, text: &[u8]) -> Result<Value, AllocError> {
     Ok(Value::String(string))
 }
 
-/// Adds the packets that were put out and not taken, and how the sender stands.
+/// What let a packet go, as an object.
+fn origin_value(alloc: Global, origin: Origin) -> Result<Value, AllocError> {
+    let fact = match origin {
+        Origin::Line(line) => named("", "line", Told::Number(line as u64)),
+        Origin::Timer(moment) => named("", "timer_us", Told::Moment(moment)),
+    };
+    let mut object = Map::new(alloc);
+    put_facts(alloc, &mut object, &[fact])?;
+    Ok(Value::Object(object))
+}
+
+/// What let packets go, as a list.
+fn origin_values(alloc: Global, origins: &[Origin], count: usize) -> Result<Value, AllocError> {
+    let mut list = Vec::new(alloc);
+    for origin in origins.iter().take(count) {
+        list.push(origin_value(alloc, *origin)?)?;
+    }
+    Ok(Value::Array(list))
+}
+
+/// Adds the packets that were put out and not taken, with what let each go, and how the sender stands.
 fn put_left(
     alloc: Global,
     object: &mut Members,
     untaken: &Untaken,
+    origins: &[Origin],
     standing: &SenderSnapshot,
 ) -> Result<(), AllocError> {
     let packets = texts_of(alloc, &untaken.packets)?;
     put(object, alloc, "untaken_packets", packets)?;
+    let senders = origin_values(alloc, origins, untaken.packets.len())?;
+    put(object, alloc, "untaken_sent_by", senders)?;
     let more = Told::Number(untaken.more as u64);
     put_facts(alloc, object, &[named("", "more_untaken_packets", more)])?;
     put(object, alloc, "state", state_of(alloc, standing)?)

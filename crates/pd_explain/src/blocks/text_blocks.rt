@@ -6,7 +6,7 @@ ghost use Rattle.pd_explain.specs.Inner.{AddsLines};
 
 use crate::blocks::facts::{Fact, Told, facts_of, facts_of_sender, state_name};
 use crate::blocks::headings::{ending_words, first_words, verdict_name};
-use crate::causes::{Cause, Comparison, Failed, Failure, SenderSnapshot, Untaken};
+use crate::causes::{Cause, Comparison, Failed, Failure, Origin, SenderSnapshot, Untaken};
 use crate::endings::Ending;
 use crate::explanations::Explanation;
 use crate::refusals::Refusal;
@@ -56,7 +56,13 @@ fn ending_lines(alloc: Global, ending: &Ending) -> Result<Vec<u8>, AllocError>
     ensures { IfOk result (λ lines. AreIndented lines.items) }
 {
     let mut out = Vec::new(alloc);
-    put_left(alloc, &mut out, &ending.untaken, &ending.standing)?;
+    put_left(
+        alloc,
+        &mut out,
+        &ending.untaken,
+        &ending.origins,
+        &ending.standing,
+    )?;
     Ok(out)
 }
 
@@ -115,7 +121,13 @@ fn put_cause(alloc: Global, out: &mut Vec<u8>, cause: &Cause) -> Result<(), Allo
     match cause {
         Cause::Syntax(refusal) => put_refusal(alloc, out, refusal),
         Cause::Rule(ruling) => put_ruling(alloc, out, ruling),
-        Cause::Failed(failure) => put_left(alloc, out, &failure.untaken, &failure.standing),
+        Cause::Failed(failure) => put_left(
+            alloc,
+            out,
+            &failure.untaken,
+            failure.listed_origins(),
+            &failure.standing,
+        ),
     }
 }
 
@@ -229,10 +241,25 @@ fn put_fact(alloc: Global, out: &mut Vec<u8>, label: &str, told: Told<'_>) -> Re
 /// Adds what is reported; octets as they are.
 fn put_told(alloc: Global, out: &mut Vec<u8>, told: Told<'_>) -> Result<(), AllocError> {
     match told {
-        Told::Octets(octets) => out.extend_from_slice(octets),
+        Told::Octets(octets) | Told::Packet(octets, None) => out.extend_from_slice(octets),
+        Told::Packet(octets, Some(origin)) => {
+            out.extend_from_slice(octets)?;
+            put_origin(alloc, out, origin)
+        }
         Told::Words(words) | Told::Nothing(words) => put_words(out, words),
         Told::Moment(moment) => out.extend_from_slice(&write_moment(alloc, moment)?),
         Told::Number(number) => put_number(alloc, out, number),
+    }
+}
+
+/// Adds to a packet, which ends in a comment, what let it go.
+fn put_origin(alloc: Global, out: &mut Vec<u8>, origin: Origin) -> Result<(), AllocError> {
+    match origin {
+        Origin::Timer(_) => put_words(out, ", sent by the timer"),
+        Origin::Line(line) => {
+            put_words(out, ", sent by line ")?;
+            put_number(alloc, out, line as u64)
+        }
     }
 }
 
@@ -242,21 +269,28 @@ fn put_left(
     alloc: Global,
     out: &mut Vec<u8>,
     untaken: &Untaken,
+    origins: &[Origin],
     standing: &SenderSnapshot,
 ) -> Result<(), AllocError>
     ensures { OnOk result (AddsLines out.old.items out.new.items) }
 {
-    put_untaken(alloc, out, untaken)?;
+    put_untaken(alloc, out, untaken, origins)?;
     put_standing(alloc, out, standing)
 }
 
-/// Adds the packets that were put out and not taken.
+/// Adds the packets that were put out and not taken, each with what let it go.
 #[tactic(auto, using(crate::proofs::BlockLemmas::no_lines, crate::proofs::BlockLemmas::then_lines))]
-fn put_untaken(alloc: Global, out: &mut Vec<u8>, untaken: &Untaken) -> Result<(), AllocError>
+fn put_untaken(
+    alloc: Global,
+    out: &mut Vec<u8>,
+    untaken: &Untaken,
+    origins: &[Origin],
+) -> Result<(), AllocError>
     ensures { OnOk result (AddsLines out.old.items out.new.items) }
 {
-    for packet in &untaken.packets {
-        put_fact(alloc, out, "untaken packet", Told::Octets(packet))?;
+    for (place, packet) in untaken.packets.iter().enumerate() {
+        let told = Told::Packet(packet, origins.get(place).copied());
+        put_fact(alloc, out, "untaken packet", told)?;
     }
     if untaken.more > 0 {
         let more = Told::Number(untaken.more as u64);

@@ -17,7 +17,6 @@ use crate::causes::columns::{Pair, event_of, event_sent, pair_of};
 use crate::causes::failures::{
     Awaited, Comparison, Failed, Failure, Reply, SenderSnapshot, Setback, Wait,
 };
-use crate::causes::moments::moments_of;
 use crate::causes::prospects::prospects_of;
 use crate::causes::reasons::Reason;
 use crate::causes::unasked::count_unasked;
@@ -27,7 +26,7 @@ use crate::shown::as_shown;
 use pd_host::Host;
 use pd_match::Kind;
 use pd_print::write_answer;
-use pd_run::{Bar, RunState, Stopped, Why};
+use pd_run::{Bar, RunState, Stopped, Why, moments_of};
 use pd_script::{Action, Event, Packet, Time};
 use pd_seg::{Answer, Sent};
 use std::alloc::{AllocError, Global};
@@ -78,7 +77,7 @@ fn failed_of(
 }
 
 /// The run at the stop, whose sender is shown.
-fn run_at(stop: &Stopped) -> &RunState
+pub fn run_at(stop: &Stopped) -> &RunState
     ensures { result.now.host ≡ sender_at stop.now.before stop.now.why }
 {
     match &stop.why {
@@ -98,6 +97,7 @@ fn failure(alloc: Global, stop: &Stopped, failed: Failed) -> Result<Failure, All
     Ok(Failure {
         failed,
         untaken: list_untaken(alloc, run, compared)?,
+        origins: Vec::new(alloc),
         standing: standing(run),
     })
 }

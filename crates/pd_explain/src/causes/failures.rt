@@ -1,4 +1,5 @@
 //! What is reported of an event that didn't happen as written. Texts are octets as a script has them, neither shown nor cut.
+use crate::causes::origins::Origin;
 use crate::causes::prospects::Prospects;
 use crate::causes::reasons::Reason;
 use pd_host::{ConnState, Figures};
@@ -11,8 +12,29 @@ pub struct Failure {
     pub failed: Failed,
     /// The packets that were put out and not taken, the one compared left out.
     pub untaken: Untaken,
+    /// What let the packet go that was compared, if one was, and then each of those that are listed. None of a run that isn't a
+    /// script's.
+    pub origins: Vec<Origin>,
     /// The sender at the stop.
     pub standing: SenderSnapshot,
+}
+
+impl Failure {
+    /// What let the packet go that was compared, if one was.
+    pub(crate) fn compared_origin(&self) -> Option<Origin> {
+        match self.failed {
+            Failed::Packet(_) => self.origins.first().copied(),
+            Failed::Missing(_) | Failed::Result(_) | Failed::Backwards(_) => None,
+        }
+    }
+
+    /// What let each of the packets go that are listed as untaken.
+    pub(crate) fn listed_origins(&self) -> &[Origin] {
+        match (&self.failed, self.origins.as_slice()) {
+            (Failed::Packet(_), [_, listed @ ..]) => listed,
+            (_, origins) => origins,
+        }
+    }
 }
 
 /// What failed.

@@ -8,9 +8,8 @@ ghost use Rattle.pd_run.specs.Step.{tolerance_of};
 ghost use Rattle.pd_run.specs.Times.{moments_of};
 ghost use Rattle.pd_explain.specs.Unasked.{before_awaited, CountsUnasked, IsEarly};
 
-use crate::causes::moments::moments_of;
 use pd_match::{Expect, check_packet};
-use pd_run::RunState;
+use pd_run::{RunState, moments_of};
 use pd_script::{Action, Event, Packet, Time};
 use pd_seg::Sent;
 

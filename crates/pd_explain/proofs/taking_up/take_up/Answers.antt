@@ -1,5 +1,5 @@
 -- The state that a track kept after so many events takes the run up.
-use Rattle.std.proofs.Common.{◌≡◌, ℕ, ◌+◌, ◌-◌, ◌*◌, ◌/◌, ◌∙◌, Some, slice_get, option_map, option_copied, ap, sym, subst, arith}
+use Rattle.std.proofs.Common.{◌≡◌, ℕ, ◌+◌, ◌-◌, ◌*◌, ◌∙◌, Some, slice_get, option_map, option_copied, ap, sym, subst, arith}
 use Rattle.pd_settings.specs.declared.fields.Settings.{Settings}
 use Rattle.pd_script.specs.Script.{script_of}
 use Rattle.pd_run.specs.Consulted.{rebound_run}
@@ -12,7 +12,7 @@ use Rattle.pd_explain.proofs.taking_up.take_up.Goals as goal
 pub returns : goal.returns
 returns c =
     let settings : Settings = c.args.track.now.settings in
-    let kept : ℕ = c.count_earlier-fourths.result / 4 in
+    let kept : ℕ = c.last_fourth-fourths.result in
     let state : RunStateView = c.in-Some.checkpoint.now in
     let found : slice_get (states_of c.args.track.now.text settings) (4 * (kept - 1) + 3) ≡ Some (rebound_run settings state) =
     sym c.checkpoint.ensures.state ∙ ap (λ o. option_map (rebound_run settings) (option_copied o)) c.in-Some.is in
