@@ -32,7 +32,7 @@ RECORDING = """+0 write(4, ..., 1500) = 1500 // two
 +0.1 < . 1:1(0) ack 1001 win 257
 //= at 0.100000 ESTABLISHED una:1001 next:1501 cwnd:5000
 +0 > P. 1001:1501(500) ack 1 win 511
-//= at 0.100000 ESTABLISHED una:1001 next:1501 cwnd:5000
+//= at 0.100000 ESTABLISHED una:1001 next:1501 cwnd:5000 sent_by:line5
 +0.1 close(4) = 0
 //= at 0.200000 FIN-WAIT-1 una:1001 next:1502 cwnd:5000 expiry:1.2
 +0 > F. 1501:1501(0) ack 1 win 511
@@ -180,16 +180,27 @@ def test_untaken_packets_left_after_inputs() -> None:
     assert [it.item.line for it in lines_of_untaken(events, recorded, 4, 9)] == [6]
 
 
+def test_hover_says_what_the_timer_sent() -> None:
+    expiry = "+1 > . 1:1001(1000) ack 1\n"
+    trace = "//= at 1.000000 ESTABLISHED una:1 pipe:1000 prr_delivered:0 prr_out:1000 recovery:RFC6675 sent_by:timer\n"
+    events, recorded = layout_of(expiry).events, recorded_in(expiry + trace)
+    met = list(met_by(events, recorded, 1, 4_000))
+    words = hover_of(events[0], 0, met, expiry + trace)
+    assert "`> . 1:1001(1000) ack 1` was sent at 1.000000, by the timer\n" in words
+    assert "prr_out        1000\n" in words
+
+
 def test_hover_has_what_changed() -> None:
     recorded = recorded_in(RECORDING)
     events = layout_of(SCRIPT).events
     met = list(met_by(events, recorded, 4, 4_000))
     words = hover_of(events[2], events[2].item.start, met, RECORDING)
     assert "After it at 0.100000: ESTABLISHED\n```text\nuna   1001  was 1\nnext  1501  was 1001\n" in words
-    assert "`> P. 1001:1501(500) ack 1 win 511` was sent at 0.100000" in hover_of(events[3], 0, met, RECORDING)
+    assert "`> P. 1001:1501(500) ack 1 win 511` was sent at 0.100000, by line 3" in hover_of(events[3], 0, met, RECORDING)
     assert "Nothing was sent for it." in hover_of(events[4], 0, met, RECORDING)
     assert "FIN-WAIT-1, was ESTABLISHED" in hover_of(events[5], 0, met, RECORDING)
     assert "expiry  1.2  new" in hover_of(events[5], 0, met, RECORDING)
+    assert "sent_by" not in hover_of(events[3], 0, met, RECORDING)
     assert plain("`> P.` was\n```text\nuna  1\n```\n**x**") == "> P. was\nuna  1\nx"
 
 

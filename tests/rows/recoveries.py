@@ -13,7 +13,7 @@ from rows.recordings import RECORDS, recording
 from rows.tables import Row, Table, Unread
 
 ROW = re.compile(r"([1-9]\d*) by (pipe|prr|prr_crb)(?: from (\d+))?")
-STATE = re.compile(r"//= at (\d+)\.(\d{6}) (.+)")
+STATE = re.compile(r"//= at (\d+)\.(\d{6}) (.+?)(?: sent_by:\w+)?")
 TIME = re.compile(r"\+[0-9.]+ ")
 LAST_OF_OPENING = "accept("
 SECOND = 1_000_000

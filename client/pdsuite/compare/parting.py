@@ -5,7 +5,7 @@ from collections.abc import Iterator
 from dataclasses import dataclass
 from itertools import zip_longest
 
-_STATE = re.compile(r"//= at (\d+\.\d{6}) (.+)")
+_STATE = re.compile(r"//= at (\d+\.\d{6}) (.+?)(?: sent_by:\w+)?")
 _COMMENT = "//"
 
 

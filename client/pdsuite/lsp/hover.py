@@ -10,6 +10,7 @@ from pdsuite.packetdrill.layout import Event
 
 _MARKS = re.compile(r"^```.*\n?|`|\*\*", re.MULTILINE)
 _FIELDS = ("flags", "options", "ack", "win", "seq")
+_TIMER = "timer"
 
 
 def hover_of(event: Event, offset: int, met: Sequence[Met], recording: str) -> str:
@@ -30,7 +31,19 @@ def _sent(event: Event, met: Sequence[Met], recording: str) -> str:
     recorded = met[place].recorded
     if recorded is None:
         return "Nothing was sent for it."
-    return f"`{recording[recorded.action : recorded.end]}` was sent at {seconds(recorded.moment)}"
+    packet = f"`{recording[recorded.action : recorded.end]}` was sent at {seconds(recorded.moment)}"
+    return f"{packet}{_by(place, met)}"
+
+
+def _by(place: int, met: Sequence[Met]) -> str:
+    """What let a packet go: the timer, or the last input before it, by its line in the script."""
+    recorded = met[place].recorded
+    if recorded is None or recorded.sent_by is None:
+        return ""
+    if recorded.sent_by == _TIMER:
+        return ", by the timer"
+    inputs = [it for it in met if it.recorded and it.recorded.is_input and it.recorded.start < recorded.start]
+    return f", by line {inputs[-1].event.item.line}" if inputs else ""
 
 
 def _states(event: Event, met: Sequence[Met]) -> str:

@@ -9,7 +9,7 @@ from pdsuite.packetdrill.items import SECOND, HeaderOption, Time
 from pdsuite.packetdrill.layout import Event
 
 _TRACE = re.compile(
-    r"^//= at (?P<whole>[0-9]+)\.(?P<part>[0-9]{6}) (?P<name>[A-Z0-9-]+)(?P<facts>(?: [A-Za-z]+:[A-Za-z0-9.]+)*)\n?",
+    r"^//= at (?P<whole>[0-9]+)\.(?P<part>[0-9]{6}) (?P<name>[A-Z0-9-]+)(?P<facts>(?: [A-Za-z_]+:[A-Za-z0-9.]+)*)\n?",
     re.MULTILINE,
 )
 _BEFORE = re.compile(r"(?:[ \t\r\n]+|//[^\n]*|/\*.*?\*/|--[^ \t\r\n]*)*", re.DOTALL)
@@ -33,7 +33,7 @@ class State:
 class Recorded:
     """An event of a recording: where it and its action begin, its packet ends, and its lines end with their trace.
 
-    And its moment in microseconds, and the sender after it.
+    And its moment in microseconds, the sender after it, and of a packet that left what sent it, as the trace says it.
     """
 
     start: int
@@ -43,6 +43,7 @@ class Recorded:
     is_input: bool  # a packet that arrives, or a call
     moment: int
     state: State
+    sent_by: str | None = None
 
 
 @dataclass(frozen=True, slots=True)
@@ -78,6 +79,7 @@ def _recorded(recording: str, begin: int, trace: "re.Match[str]") -> Recorded:
     packet = _PACKET.match(recording, start, trace.start())
     time = _TIME.match(recording, start, trace.start())
     facts = dict(it.split(":", 1) for it in trace["facts"].split())
+    sent_by = facts.pop("sent_by", None)
     return Recorded(
         start=start,
         action=start if time is None else time.end(),
@@ -86,6 +88,7 @@ def _recorded(recording: str, begin: int, trace: "re.Match[str]") -> Recorded:
         is_input=packet is None or packet["arrow"] == "<",
         moment=int(trace["whole"]) * SECOND + int(trace["part"]),
         state=State(trace["name"], facts),
+        sent_by=sent_by,
     )
 
 

@@ -7,7 +7,7 @@ from dataclasses import dataclass
 from pdsuite.packetdrill.items import SECOND, Call, Packet
 from pdsuite.packetdrill.reader import read
 
-_STATE = re.compile(r"^//= at ([0-9]+)\.([0-9]{6}) ([A-Z0-9-]+)((?: [A-Za-z]+:[A-Za-z0-9.]+)+)$", re.MULTILINE)
+_STATE = re.compile(r"^//= at ([0-9]+)\.([0-9]{6}) ([A-Z0-9-]+)((?: [A-Za-z_]+:[A-Za-z0-9.]+)+)$", re.MULTILINE)
 
 
 @dataclass(frozen=True, slots=True)

@@ -50,7 +50,9 @@ is_count word =
 
 -- the name of another fact, a colon and a value
 abbrev pub is_course : List ℕ → Bool
-is_course word = is_told word (codes "connection:") || is_told word (codes "RTO:") || is_told word (codes "expiry:") || is_told word (codes "recovery:")
+is_course word =
+    is_told word (codes "connection:") || is_told word (codes "RTO:") || is_told word (codes "expiry:")
+    || is_told word (codes "recovery:") || is_told word (codes "sent_by:")
 
 -- the name of a fact, a colon and a value
 abbrev pub is_fact : List ℕ → Bool

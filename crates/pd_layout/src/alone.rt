@@ -61,7 +61,10 @@ fn len_without_blanks(octets: &[u8]) -> usize {
 
 /// Whether an octet may stand in a time, or is a blank beside it.
 fn is_in_time(octet: &u8) -> bool {
-    matches!(octet, b'0'..=b'9' | b'+' | b'.' | b'~' | b'*' | b' ' | b'\t' | b'\r')
+    matches!(
+        octet,
+        b'0'..=b'9' | b'+' | b'.' | b'~' | b'*' | b' ' | b'\t' | b'\r'
+    )
 }
 
 /// Whether a letter, which would begin a call, may be in the middle of a token.

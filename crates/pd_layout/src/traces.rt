@@ -136,6 +136,7 @@ fn is_course(word: &[u8]) -> bool
         || is_told(word, b"RTO:")
         || is_told(word, b"expiry:")
         || is_told(word, b"recovery:")
+        || is_told(word, b"sent_by:")
 }
 
 /// Whether a word is this name and a value.

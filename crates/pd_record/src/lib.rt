@@ -16,7 +16,7 @@ mod transcripts;
 mod writer;
 
 pub use recording::record;
-pub use recordings::{Mark, Recording};
+pub use recordings::{Mark, Recording, SentBy};
 pub use refusals::NotRecorded;
 pub use stops::{RecordingStop, find_recording_stop};
 pub use tape::Standing;

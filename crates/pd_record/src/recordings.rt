@@ -22,4 +22,15 @@ pub struct Mark {
     pub at: u64,
     /// The sender after the input or expiry that the event belongs to.
     pub standing: Standing,
+    /// Of a packet that left what let it go; nothing of an input.
+    pub sent_by: Option<SentBy>,
+}
+
+/// What let a packet go.
+#[derive(Clone, Copy)]
+pub enum SentBy {
+    /// The input that begins at a line of the trace.
+    Line(usize),
+    /// The timer.
+    Timer,
 }

@@ -15,6 +15,8 @@ pub struct Standing {
     pub figures: Option<Figures>,
     /// When its timer expires next, in microseconds since the start of the run; nothing where it doesn't run.
     pub expiry: Option<u64>,
+    /// How many packets left that no event has taken.
+    pub untaken: usize,
 }
 
 impl Standing {
@@ -28,6 +30,7 @@ impl Standing {
             state: host.state(),
             figures: host.figures(),
             expiry: host.deadline(),
+            untaken: host.outbox().len(),
         }
     }
 }

@@ -2,7 +2,7 @@
 ghost use Rattle.std.specs.Prelude.{◌≡◌};
 ghost use Rattle.pd_text.specs.Text.{is_line};
 
-use crate::recordings::{Mark, Recording};
+use crate::recordings::{Mark, Recording, SentBy};
 use crate::refusals::NotRecorded;
 use crate::tape::{Own, Recorded, Reply, Standing};
 use pd_layout::{Extent, GapPart, Layout, is_trace, put_extent};
@@ -25,6 +25,10 @@ pub struct Writer<'a> {
     standings: &'a [Standing],
     /// What a trace tells of each event so far.
     marks: Vec<Mark>,
+    /// At which line of the trace the last input begins.
+    input: usize,
+    /// How many packets that it let go are still to be written.
+    by_input: usize,
 }
 
 impl<'a> Writer<'a> {
@@ -37,6 +41,8 @@ impl<'a> Writer<'a> {
             list: LineList::new(alloc),
             line: Vec::new(alloc),
             marks: Vec::new(alloc),
+            input: 0,
+            by_input: 0,
         }
     }
 
@@ -173,22 +179,42 @@ impl<'a> Writer<'a> {
 
     /// Ends the line of an event.
     fn end_event(&mut self, recorded: &Recorded) -> Result<(), NotRecorded> {
+        let traced = self.list.len().saturating_add(self.marks.len());
         self.end_line()?;
-        self.mark(recorded)?;
+        self.mark(recorded, traced)?;
         Ok(())
     }
 
-    /// Marks the event whose line was ended, where a trace tells of it.
-    fn mark(&mut self, recorded: &Recorded) -> Result<(), AllocError> {
+    /// Marks the event whose line was ended, where a trace tells of it; the trace has so many lines before it.
+    fn mark(&mut self, recorded: &Recorded, traced: usize) -> Result<(), AllocError> {
         let Some(standing) = self.standings.get(self.marks.len()) else {
             return Ok(());
         };
+        let sent_by = self.sent_by(&recorded.event.action, traced, standing.untaken);
         self.marks.push(Mark {
             lines: self.list.len(),
             at: recorded.at,
             standing: *standing,
+            sent_by,
         })?;
         Ok(())
+    }
+
+    /// What let a packet go. Before an input acts all packets that left are recorded, so those that are untaken after it are its
+    /// own.
+    fn sent_by(&mut self, action: &Action, traced: usize, untaken: usize) -> Option<SentBy> {
+        match action {
+            Action::Outbound(_) if self.by_input == 0 => Some(SentBy::Timer),
+            Action::Outbound(_) => {
+                self.by_input -= 1;
+                Some(SentBy::Line(self.input))
+            }
+            Action::Inbound(_) | Action::Call(_) | Action::Command | Action::Code => {
+                self.input = traced.saturating_add(1);
+                self.by_input = untaken;
+                None
+            }
+        }
     }
 
     /// Ends a line.

@@ -8,7 +8,7 @@ ghost use Rattle.pdrecord.specs.Inner.{GoesOn};
 use crate::script_input::is_dropped;
 use pd_explain::write_standing;
 use pd_print::write_moment;
-use pd_record::{Mark, Recording};
+use pd_record::{Mark, Recording, SentBy};
 use pd_words::ServeFault;
 use std::alloc::{AllocError, Global};
 
@@ -71,7 +71,7 @@ fn put_mark(
     }
 }
 
-/// Adds the line of an event: its moment, and how the sender stands.
+/// Adds the line of an event: its moment, how the sender stands, and of a packet that left what let it go.
 fn put_trace(alloc: Global, out: &mut Vec<u8>, mark: &Mark) -> Result<(), ServeFault>
     ensures line { OnOk result (GoesOn true out.old.items out.new.items) }
     ensures only { IfErr result IsUnmade }
@@ -103,5 +103,13 @@ fn trace_line(alloc: Global, mark: &Mark) -> Result<Vec<u8>, AllocError> {
     line.extend_from_slice(write_moment(alloc, mark.at)?.as_slice())?;
     line.extend_from_slice(b" ")?;
     line.extend_from_slice(write_standing(alloc, &standing)?.as_slice())?;
+    match mark.sent_by {
+        Some(SentBy::Line(number)) => {
+            line.extend_from_slice(b" sent_by:line")?;
+            line.extend_from_slice(number.to_string(alloc)?.as_bytes())?;
+        }
+        Some(SentBy::Timer) => line.extend_from_slice(b" sent_by:timer")?,
+        None => {}
+    }
     Ok(line)
 }
