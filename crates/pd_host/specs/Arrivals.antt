@@ -86,6 +86,14 @@ ruling_of c segment = first_ruling (
     check_contents c segment ∷ check_window c segment ∷ check_rst c segment
     ∷ check_ack_flag segment ∷ check_handshake c segment ∷ check_ack c segment ∷ [])
 
+-- the same on the connection of a sender, if one was begun
+abbrev pub ruling_on : Segment → Option ConnectionView → Option Ruling
+ruling_on segment None = None
+ruling_on segment (Some c) = ruling_of c segment
+
+abbrev pub ruling_in : Segment → State → Option Ruling
+ruling_in segment s = ruling_on segment s.endpoint.connection
+
 -- an RST ends the connection for good (RFC 9293, section 3.10.7.4, second check; in the handshake too: own profile): its
 -- timer stops, and nothing is sent any more
 abbrev pub reset_of : ConnectionView → ConnectionView

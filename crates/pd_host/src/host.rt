@@ -1,6 +1,6 @@
 //! A host: the sender behind one interface, with the reason why it has ended.
 ghost use Rattle.std.specs.Prelude.{◌≡◌, ◌<◌, ◌^◌, true, Some, IfOk, IsErr, option_map, slice_get};
-ghost use Rattle.pd_host.specs.Arrivals.{arrived};
+ghost use Rattle.pd_host.specs.Arrivals.{arrived, ruling_in};
 ghost use Rattle.pd_host.specs.Calls.{called};
 ghost use Rattle.pd_host.specs.ConnStates.{conn_state};
 ghost use Rattle.pd_host.specs.Outcome.{Goes, Answers};
@@ -14,6 +14,7 @@ ghost use Rattle.pd_host.specs.Requests.{request_of};
 ghost use Rattle.pd_host.specs.Host.{fresh_host, without_oldest, exhausted, end_of};
 ghost use Rattle.pd_host.specs.declared.halts.Ending.TheVariants.{OutOfMemory};
 
+use crate::connection::checks::Ruling;
 use crate::connection::evidence::Duplicate;
 use crate::connection::observing::Hold;
 use crate::connection::states::ConnState;
@@ -102,6 +103,17 @@ impl Host {
         match self.state.arrive(segment, now) {
             Ok(()) => Ok(()),
             Err(ending) => Err(self.end(ending)),
+        }
+    }
+
+    /// The check that a segment doesn't pass which arrives on the connection; nothing where it passes all, or no connection was
+    /// begun.
+    pub fn ruling(&self, segment: &Segment) -> Option<Ruling>
+        ensures { result ≡ ruling_in segment.now self.now.state }
+    {
+        match &self.state.endpoint.connection {
+            None => None,
+            Some(connection) => connection.ruling(segment),
         }
     }
 

@@ -19,6 +19,7 @@ mod requests;
 mod sending;
 mod uses;
 
+pub use connection::checks::Ruling;
 pub use connection::evidence::{Duplicate, Evidence, SackedAbove};
 pub use connection::observing::Hold;
 pub use connection::states::ConnState;

@@ -1,6 +1,6 @@
 //! What an event asks of the host, after all expiries up to its moment.
-ghost use Rattle.std.specs.Prelude.{◌≡◌, ◌<◌, ◌^◌, false};
-ghost use Rattle.pd_host.specs.Arrivals.{arrived};
+ghost use Rattle.std.specs.Prelude.{◌≡◌, ◌<◌, ◌^◌, false, IfOk};
+ghost use Rattle.pd_host.specs.Arrivals.{arrived, ruling_in};
 ghost use Rattle.pd_host.specs.Calls.{called};
 ghost use Rattle.pd_host.specs.Outcome.{Goes, Answers};
 ghost use Rattle.pd_host.specs.Expiries.{advanced};
@@ -10,9 +10,10 @@ ghost use Rattle.pd_run.specs.Limits.{is_packet_over};
 
 use crate::inbound::segment_of;
 use crate::laws::sender_is_lawful;
-use pd_host::{Ending, Host};
+use pd_host::{Ending, Host, Ruling};
 use pd_script::{Call, Packet};
 use pd_seg::Answer;
+use std::alloc::AllocError;
 
 /// A packet arrives at a moment.
 ///
@@ -29,6 +30,18 @@ pub fn arrive(host: &mut Host, packet: &Packet, at: u64) -> Result<(), Ending>
         Ok(segment) => host.arrive(&segment, at),
         Err(_) => Err(host.exhaust()),
     }
+}
+
+/// The check that a packet doesn't pass which arrives at a host; nothing where it passes all, or no connection was begun.
+///
+/// # Errors
+/// `AllocError` where a growth is refused.
+pub fn ruling_of(host: &Host, packet: &Packet) -> Result<Option<Ruling>, AllocError>
+    requires fits { is_packet_over packet.now ≡ false }
+    ensures { IfOk result (λ ruling. ruling ≡ ruling_in (segment_in packet.now) host.now.state) }
+{
+    let segment = segment_of(host.outbox().allocator(), packet)?;
+    Ok(host.ruling(&segment))
 }
 
 /// A call is made at a moment.

@@ -15,6 +15,7 @@ mod times;
 mod verdicts;
 mod whys;
 
+pub use acting::ruling_of;
 pub use bars::{Bar, bar_of};
 pub use laws::{
     runs_are_bounded, runs_only_use, steps_are_lawful, verdicts_are_grammatical,
