@@ -15,3 +15,4 @@ pub mod NotingLemmas
 pub mod NotedStop
 pub mod OriginLemmas
 pub mod TracedLemmas
+pub mod DroppedLemmas

@@ -314,6 +314,10 @@ of_due : (until : ℕ) (due : Option ℕ) → is_some due ≡ false → due ≡ 
 of_due until None h = refl
 of_due until (Some at) h = absurd cc
 
+pub none_due : (at moment : ℕ) (s : State) → moment ≡ at → is_some (due_by moment (deadline_of s)) ≡ false → advanced at s ≡ Ok s
+none_due at moment s is none =
+    undue at s (of_due moment (due_by at (deadline_of s)) (subst (λ (m : ℕ). is_some (due_by m (deadline_of s)) ≡ false) is none))
+
 pub not_due : (r : RunStateView) (e : Event) (moment : ℕ) → is_awaited e.action ≡ false → moment ≡ acts_at r e
     → is_some (due_by moment (deadline_of r.host.state)) ≡ false → length (untaken r) ≡ length (after_timer r e)
 not_due r e moment not is none =

@@ -10,8 +10,9 @@ use Rattle.pd_run.specs.Step.{RunStateView, on_step, step}
 use Rattle.pd_run.specs.declared.verdicts.Verdict.{Verdict}
 use Rattle.pd_lex.specs.declared.token.Place.{Place}
 use Rattle.pd_run.specs.declared.stops.Stopped.{Stopped}
-use Rattle.pd_explain.specs.Causes.{IsCauseOf, HasOriginsOf}
-use Rattle.pd_explain.specs.Explained.{HasOrigins}
+use Rattle.pd_explain.specs.Causes.{IsCauseOf, HasHistoryOf}
+use Rattle.pd_explain.specs.Dropped.{dropped_till}
+use Rattle.pd_explain.specs.Explained.{HasHistory}
 use Rattle.pd_explain.specs.Failures.{Tells}
 use Rattle.pd_explain.specs.declared.causes.Cause.{Cause}
 use Rattle.pd_explain.specs.declared.causes.Cause.TheVariants as cause
@@ -19,6 +20,7 @@ use Rattle.pd_explain.specs.Inner.{PacketsAppend, origin_by, AreSenders, AreTold
 use Rattle.pd_explain.specs.Origins.{stages, takes, taken_by, after_input, IsLetGo, IsSentBy, AreOrigins, OriginsAreUnique}
 use Rattle.pd_explain.specs.declared.causes.origins.Origin.{Origin}
 use Rattle.pd_explain.specs.declared.causes.origins.Origin.TheVariants as origin
+use Rattle.pd_explain.specs.declared.dropping.DroppedSegment.{DroppedSegment}
 use Rattle.pd_explain.specs.declared.noting.Sender.{Sender}
 use Rattle.pd_explain.proofs.NotingLemmas.{passes, timer_grows, input_grows}
 
@@ -40,18 +42,19 @@ are_origins settings parsed first passed packets senders origins known enough to
         (subst (λ (m : ℕ). IsSentBy settings parsed m sent.at (origin_by by.0 sent.at)) number
         (known.each (length senders - length packets + place) sent.at by.0 by.1))
 
--- the same cause with these origins
+-- the same cause with these origins and dropped segments
 pub told_with : (lines : List (List ℕ)) (place : Place) (e : Event) (stop : Stopped) (settings : Settings) (parsed : Parsed) (before told : Cause) (origins : List Origin)
-    → HasOriginsOf before origins told → IsCauseOf lines place e stop before → AreOrigins settings parsed stop.passed (untaken_at stop) origins
-    → IsCauseOf lines place e stop told × HasOrigins settings parsed stop told
-told_with lines place e stop settings parsed (cause.Failed f) told origins h is known =
-    subst (λ (t : Cause). IsCauseOf lines place e stop t × HasOrigins settings parsed stop t) (sym h.1) (
-      (is.0, (subst (Tells is.0 e stop.before stop.why) (sym h.3) is.1.0, h.4 ∙ is.1.1)),
-      subst (AreOrigins settings parsed stop.passed (untaken_at stop)) (sym h.2) known,
+    (dropped : List DroppedSegment)
+    → HasHistoryOf before origins dropped told → IsCauseOf lines place e stop before → AreOrigins settings parsed stop.passed (untaken_at stop) origins
+    → dropped ≡ dropped_till settings parsed stop → IsCauseOf lines place e stop told × HasHistory settings parsed stop told
+told_with lines place e stop settings parsed (cause.Failed f) told origins dropped h is known till =
+    subst (λ (t : Cause). IsCauseOf lines place e stop t × HasHistory settings parsed stop t) (sym h.1) (
+      (is.0, (subst (Tells is.0 e stop.before stop.why) (sym h.4) is.1.0, h.5 ∙ is.1.1)),
+      (subst (AreOrigins settings parsed stop.passed (untaken_at stop)) (sym h.2) known, h.3 ∙ till),
     )
-told_with lines place e stop settings parsed (cause.Rule ruling) told origins h is known =
-    subst (λ (t : Cause). IsCauseOf lines place e stop t × HasOrigins settings parsed stop t) (sym h) (is, tt)
-told_with lines place e stop settings parsed (cause.Syntax refusal) told origins h is known = absurd is
+told_with lines place e stop settings parsed (cause.Rule ruling) told origins dropped h is known till =
+    subst (λ (t : Cause). IsCauseOf lines place e stop t × HasHistory settings parsed stop t) (sym h) (is, tt)
+told_with lines place e stop settings parsed (cause.Syntax refusal) told origins dropped h is known till = absurd is
 
 -- One packet, one origin
 

@@ -20,7 +20,7 @@ use Rattle.pd_run.specs.declared.verdicts.Verdict.TheVariants as verdict
 use Rattle.pd_run.specs.declared.whys.Why.{Why}
 use Rattle.pd_explain.specs.Causes.{IsCauseOf}
 use Rattle.pd_explain.specs.declared.causes.Cause.{Cause}
-use Rattle.pd_explain.specs.Explained.{row_line, not_run, StopsAt, HasOrigins, IsCauseIn, IsCause}
+use Rattle.pd_explain.specs.Explained.{row_line, not_run, StopsAt, HasHistory, IsCauseIn, IsCause}
 use Rattle.pd_explain.specs.Parts.{event_place}
 
 -- where a stop is found among so many events after n others
@@ -98,7 +98,7 @@ stops_within law settings parsed line stop h run found =
 
 -- the cause of such a stop at an event is that of the run's verdict
 pub causes_in : (text : List (List ℕ)) (settings : Settings) (parsed : Parsed) (line : ℕ) (v : Verdict) (stop : Stopped) (e : Event) (told : Result Cause AllocError)
-    → not_run parsed.header.items ≡ None → StopsAt line settings parsed v e stop → IfOk told (λ cause. IsCauseOf text (event_place (reading_of text) stop.passed) e stop cause × HasOrigins settings parsed stop cause)
+    → not_run parsed.header.items ≡ None → StopsAt line settings parsed v e stop → IfOk told (λ cause. IsCauseOf text (event_place (reading_of text) stop.passed) e stop cause × HasHistory settings parsed stop cause)
     → IfOk told (IsCauseIn text line settings parsed v)
 causes_in text settings parsed line v stop e (Ok cause) run at is = rw run (e, stop, at, is.0, is.1)
 causes_in text settings parsed line v stop e (Err x) run at is = tt

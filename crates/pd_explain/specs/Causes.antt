@@ -11,6 +11,7 @@ use Rattle.pd_explain.specs.declared.causes.Cause.{Cause}
 use Rattle.pd_explain.specs.declared.causes.Cause.TheVariants as cause
 use Rattle.pd_explain.specs.declared.causes.failures.Failure.{Failure}
 use Rattle.pd_explain.specs.declared.causes.origins.Origin.{Origin}
+use Rattle.pd_explain.specs.declared.dropping.DroppedSegment.{DroppedSegment}
 
 -- what is reported of an event that stopped a run, and stands at a place of its text: what didn't happen as written, with the time
 -- shown as some octets are, or the rule that stopped it, with the part of the event that it is about
@@ -21,7 +22,8 @@ IsCauseOf lines place e stop (cause.Rule ruling) =
     (is_failure stop.why ≡ false) × IsRuling lines place (part_of rule e) rule ruling
 IsCauseOf lines place e stop (cause.Syntax refusal) = ⊥
 
--- a cause is another one, and where an event failed these origins are told
-abbrev pub HasOriginsOf : Cause → List Origin → Cause → Type 0
-HasOriginsOf (cause.Failed f) origins told = (g : Failure) × (told ≡ cause.Failed g) × (g.origins.items ≡ origins) × (g.failed ≡ f.failed) × (g.standing ≡ f.standing)
-HasOriginsOf before origins told = told ≡ before
+-- a cause is another one, and where an event failed these origins and segments are told of
+abbrev pub HasHistoryOf : Cause → List Origin → List DroppedSegment → Cause → Type 0
+HasHistoryOf (cause.Failed f) origins dropped told =
+    (g : Failure) × (told ≡ cause.Failed g) × (g.origins.items ≡ origins) × (g.dropped.items ≡ dropped) × (g.failed ≡ f.failed) × (g.standing ≡ f.standing)
+HasHistoryOf before origins dropped told = told ≡ before

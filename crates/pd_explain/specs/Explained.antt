@@ -15,6 +15,7 @@ use Rattle.pd_run.specs.declared.stops.Stopped.{Stopped}
 use Rattle.pd_run.specs.declared.verdicts.Verdict.{Verdict}
 use Rattle.pd_run.specs.declared.verdicts.Verdict.TheVariants as verdict
 use Rattle.pd_explain.specs.Causes.{IsCauseOf}
+use Rattle.pd_explain.specs.Dropped.{dropped_till}
 use Rattle.pd_explain.specs.Failures.{sender_at}
 use Rattle.pd_explain.specs.Origins.{AreOrigins}
 use Rattle.pd_explain.specs.Parts.{header_part, event_place}
@@ -41,11 +42,13 @@ pub record StopsAt (line : ℕ) (settings : Settings) (parsed : Parsed) (v : Ver
   pub event : slice_get parsed.events stop.passed ≡ Some e
   pub gives : verdict_at line stop.why ≡ v
 
--- what is reported to have let the packets go that nobody has taken at the stop: where an event failed, of the oldest of them
-abbrev pub HasOrigins : Settings → Parsed → Stopped → Cause → Type 0
-HasOrigins settings parsed stop (cause.Failed f) =
+-- what is reported of the run before the stop, where an event failed: what let the oldest of the packets go that nobody has taken,
+-- and the last segments that were dropped
+abbrev pub HasHistory : Settings → Parsed → Stopped → Cause → Type 0
+HasHistory settings parsed stop (cause.Failed f) =
     AreOrigins settings parsed stop.passed (sender_at stop.before stop.why).state.endpoint.outbox f.origins.items
-HasOrigins settings parsed stop _ = Unit {0}
+    × (f.dropped.items ≡ dropped_till settings parsed stop)
+HasHistory settings parsed stop _ = Unit {0}
 
 -- what is reported of a header item that isn't run: its rule, with the item
 abbrev pub IsHeaderCause : List (List ℕ) → HeaderKind → Cause → Type 0
@@ -62,7 +65,7 @@ IsCauseIn lines line settings parsed v told = by_header (not_run parsed.header.i
     by_header None =
         (e : Event) × (stop : Stopped) × StopsAt line settings parsed v e stop
         × IsCauseOf lines (event_place (reading_of lines) stop.passed) e stop told
-        × HasOrigins settings parsed stop told
+        × HasHistory settings parsed stop told
 
 -- a text is refused, and nothing else is reported
 abbrev pub IsRefused : Cause → Type 0

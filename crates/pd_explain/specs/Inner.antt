@@ -1,5 +1,5 @@
 -- Definitions that contracts of private functions cite and no public one does.
-use Rattle.std.specs.Prelude.{◌≡◌, ℕ, List, [], ◌++◌, ◌+◌, ◌-◌, drop, take, replicate, length, min, slice_get, nat_le, Bool, Option, Some, option_map}
+use Rattle.std.specs.Prelude.{◌≡◌, ◌≤◌, ℕ, List, [], ◌++◌, ◌+◌, ◌-◌, drop, take, replicate, length, min, slice_get, nat_le, Bool, Option, Some, option_map}
 use Rattle.pd_settings.specs.declared.fields.Settings.{Settings}
 use Rattle.pd_print.specs.Packets.{arrow}
 use Rattle.pd_print.specs.declared.packet_texts.Direction.TheVariants.{Outbound}
@@ -53,6 +53,12 @@ pub record IsTakenUp (settings : Settings) (parsed : Parsed) (passed : ℕ) (run
   pub underway : IsUnderway passed run
   pub stage : slice_get (stages settings parsed) passed ≡ Some run
   pub stops : (line : ℕ) → stop_in line settings parsed ≡ stop_from line passed (drop passed parsed.events) run
+
+-- a script's run gets as far as an event after so many others, or to its end
+pub record Reaches (settings : Settings) (parsed : Parsed) (passed : ℕ) : Type 0 where
+  pub run : RunStateView
+  pub stage : slice_get (stages settings parsed) passed ≡ Some run
+  pub within : passed ≤ length parsed.events
 
 -- what let a packet with a moment go, by who did
 abbrev pub origin_by : Sender → ℕ → Origin

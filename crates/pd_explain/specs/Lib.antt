@@ -5,6 +5,7 @@ pub mod Reasons
 pub mod Unasked
 pub mod Prospects
 pub mod Origins
+pub mod Dropped
 pub mod Failures
 pub mod Causes
 pub mod Pasted

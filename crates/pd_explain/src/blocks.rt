@@ -1,4 +1,5 @@
 //! Explanations in words: as lines, and as JSON objects.
+mod dropped;
 mod facts;
 mod headings;
 mod json_blocks;

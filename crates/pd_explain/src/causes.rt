@@ -1,13 +1,13 @@
 //! Why a run came to its verdict.
 ghost use Rattle.std.specs.Prelude.{◌≡◌, [], IfOk};
-ghost use Rattle.pd_explain.specs.Causes.{IsCauseOf, HasOriginsOf};
+ghost use Rattle.pd_explain.specs.Causes.{IsCauseOf, HasHistoryOf};
 
 mod columns;
 mod failing;
 mod failures;
 mod origins;
 mod pasted_laws;
-mod phrases;
+pub(crate) mod phrases;
 mod prospects;
 mod reasons;
 mod unasked;
@@ -28,6 +28,7 @@ pub use self::reasons::Reason;
 pub(crate) use self::untaken::list_untaken;
 pub use self::window_laws::named_windows_hold;
 use self::writings::written_at;
+use crate::dropping::DroppedSegment;
 use crate::refusals::Refusal;
 use crate::rules::event_rule;
 use crate::rulings::{Ruling, ruling_at};
@@ -73,20 +74,28 @@ pub fn cause_at(
 }
 
 impl Cause {
-    /// The same cause, without what let packets go.
-    pub fn without_origins(self, alloc: Global) -> Cause
-        ensures { HasOriginsOf self [] result }
+    /// The same cause, without what let packets go and which segments were dropped.
+    pub fn without_history(self, alloc: Global) -> Cause
+        ensures { HasHistoryOf self [] [] result }
     {
-        with_origins(self, Vec::new(alloc))
+        with_history(self, Vec::new(alloc), Vec::new(alloc))
     }
 }
 
-/// The same cause, with what let the packets go that nobody has taken.
-pub(crate) fn with_origins(cause: Cause, origins: Vec<Origin>) -> Cause
-    ensures { HasOriginsOf cause origins.items result }
+/// The same cause, with what let the packets go that nobody has taken, and which segments were dropped.
+pub(crate) fn with_history(
+    cause: Cause,
+    origins: Vec<Origin>,
+    dropped: Vec<DroppedSegment>,
+) -> Cause
+    ensures { HasHistoryOf cause origins.items dropped.items result }
 {
     match cause {
-        Cause::Failed(failure) => Cause::Failed(Failure { origins, ..failure }),
+        Cause::Failed(failure) => Cause::Failed(Failure {
+            origins,
+            dropped,
+            ..failure
+        }),
         Cause::Syntax(refusal) => Cause::Syntax(refusal),
         Cause::Rule(ruling) => Cause::Rule(ruling),
     }

@@ -5,15 +5,17 @@ ghost use Rattle.pd_run.specs.Run.{verdict_of};
 ghost use Rattle.pd_run.specs.Stops.{line_of};
 ghost use Rattle.pd_script.specs.Script.{script_of};
 ghost use Rattle.pd_explain.specs.Causes.{IsCauseOf};
-ghost use Rattle.pd_explain.specs.Explained.{row_line, not_run, HasOrigins, IsCauseIn, IsCause};
+ghost use Rattle.pd_explain.specs.Dropped.{dropped_till};
+ghost use Rattle.pd_explain.specs.Explained.{row_line, not_run, HasHistory, IsCauseIn, IsCause};
 ghost use Rattle.pd_explain.specs.Inner.{IsTakenUp, IsTraced, is_whole};
 
-use crate::causes::{Cause, cause_at, with_origins};
+use crate::causes::{Cause, cause_at, with_history};
+use crate::dropping::{DroppedSegment, dropped_till};
 use crate::explanations::Explanation;
 use crate::parts::event_place;
 use crate::refusals::find_refusal;
 use crate::rulings::header_ruling;
-use crate::taking_up::{TakenUp, Traced, take_up, trace_stop};
+use crate::taking_up::{TakenUp, Traced, take_up, take_up_early, trace_stop};
 use pd_lex::Place;
 use pd_reparse::{Decided, Reading, read, readings};
 use pd_run::{Verdict, verdicts_have_reasons};
@@ -99,7 +101,7 @@ fn cause_of(
         Verdict::Syntax(_) => Ok(Cause::Syntax(find_refusal(alloc, lines, line)?)),
         _ => {
             let reading = read(alloc, lines)?;
-            cause_of_stop(alloc, lines, settings, verdict, line, &reading, None)
+            cause_of_stop(alloc, lines, settings, verdict, line, &reading, None, None)
         }
     }
 }
@@ -121,6 +123,7 @@ fn cause_of_job(
         _ => {
             let track = done.track();
             let taken = take_up(track, line)?;
+            let early = take_up_early(track, verdict, line)?;
             cause_of_stop(
                 alloc,
                 lines,
@@ -129,13 +132,14 @@ fn cause_of_job(
                 line,
                 track.reading(),
                 taken,
+                early,
             )
         }
     }
 }
 
-/// Why the run of a script that was read comes to its verdict at a line. The run is taken up on its way, or else is run from its
-/// first event.
+/// Why the run of a script that was read comes to its verdict at a line. The run is taken up on its way, once more early where
+/// segments are looked for that were dropped, or else is run from its first event.
 fn cause_of_stop(
     alloc: Global,
     lines: &Lines,
@@ -144,11 +148,13 @@ fn cause_of_stop(
     line: usize,
     reading: &Reading,
     taken: Option<TakenUp>,
+    early: Option<TakenUp>,
 ) -> Result<Cause, AllocError>
     requires verdict { verdict ≡ verdict_of lines.now settings.now }
     requires line { line_of verdict ≡ Some line }
     requires reading { reading.now ≡ reading_of lines.now }
     requires taken { IfSome taken (λ t. IsTakenUp settings.now (script_of lines.now) t.passed t.run) }
+    requires early { IfSome early (λ t. IsTakenUp settings.now (script_of lines.now) t.passed t.run) }
     ensures { IfOk result (IsCauseIn lines.now line settings.now (script_of lines.now) verdict) }
 {
     // The laws do no work: that a stop is found rests on them.
@@ -162,10 +168,14 @@ fn cause_of_stop(
     };
     let place = event_place(reading, traced.stop.passed);
     let decided = reading.events().at(traced.stop.passed);
-    cause_of_traced(alloc, lines, settings, reading, place, decided, &traced)
+    let dropped = dropped_till(alloc, reading, settings, early, &traced.stop)?;
+    cause_of_traced(
+        alloc, lines, settings, reading, place, decided, &traced, dropped,
+    )
 }
 
-/// Why an event stopped a run that was traced, and what let the packets go that nobody has taken there.
+/// Why an event stopped a run that was traced, with what let the packets go that nobody has taken there, and which segments were
+/// dropped.
 fn cause_of_traced(
     alloc: Global,
     lines: &Lines,
@@ -174,14 +184,16 @@ fn cause_of_traced(
     place: Place,
     decided: &Decided,
     traced: &Traced,
+    dropped: Vec<DroppedSegment>,
 ) -> Result<Cause, AllocError>
     requires traced { IsTraced _settings.now (script_part _reading.now) traced.now.stop traced.now.senders.items }
     requires whole { is_whole traced.now.stop traced.now.senders.items ≡ true }
-    ensures { IfOk result (λ cause. IsCauseOf lines.now place decided.now.event traced.now.stop cause × HasOrigins _settings.now (script_part _reading.now) traced.now.stop cause) }
+    requires dropped { dropped.items ≡ dropped_till _settings.now (script_part _reading.now) traced.now.stop }
+    ensures { IfOk result (λ cause. IsCauseOf lines.now place decided.now.event traced.now.stop cause × HasHistory _settings.now (script_part _reading.now) traced.now.stop cause) }
 {
     let cause = cause_at(alloc, lines, place, decided, &traced.stop)?;
     let origins = traced.origins(alloc)?;
-    Ok(with_origins(cause, origins))
+    Ok(with_history(cause, origins, dropped))
 }
 
 /// The first header item that isn't run.

@@ -6,6 +6,7 @@
 
 mod blocks;
 mod causes;
+mod dropping;
 mod endings;
 mod event_ends;
 mod explaining;
@@ -26,6 +27,7 @@ pub use causes::{
     Awaited, Cause, Comparison, Failed, Failure, Origin, Prospects, Reason, Reply, Sacked,
     SenderSnapshot, Setback, Untaken, Wait, actual_packets_pass, cause_at, named_windows_hold,
 };
+pub use dropping::DroppedSegment;
 pub use endings::{Ending, find_ending, passes_have_ends};
 pub use explaining::{explain, explain_job};
 pub use explanations::Explanation;

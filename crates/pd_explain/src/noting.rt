@@ -194,7 +194,7 @@ fn count_expired(run: &RunState, event: &Event) -> Result<usize, AllocError>
 }
 
 /// The moment at which an event acts.
-fn acts_at(run: &RunState, event: &Event) -> u64
+pub fn acts_at(run: &RunState, event: &Event) -> u64
     requires clock { run.now.clock < 2 ^ 61 }
     requires base { run.now.base < 2 ^ 61 }
     requires short { list_any is_long (written_times event.now.time) ≡ false }
@@ -205,7 +205,7 @@ fn acts_at(run: &RunState, event: &Event) -> u64
 }
 
 /// Whether an expiry lies at or before a moment.
-fn is_due(run: &RunState, until: u64) -> bool
+pub fn is_due(run: &RunState, until: u64) -> bool
     ensures { result ≡ is_some (due_by until (deadline_of run.now.host.state)) }
 {
     match run.host().deadline() {

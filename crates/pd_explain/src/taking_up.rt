@@ -7,10 +7,12 @@ ghost use Rattle.pd_script.specs.Script.{script_of};
 ghost use Rattle.pd_explain.specs.Inner.{AreToldOf, IsTakenUp, IsTraced, is_whole, untaken_at};
 
 use crate::causes::{Origin, run_at};
+use crate::dropping::MAX_BACK;
 use crate::noting::{Sender, note_stop, origins_of, packets_append, step_noting, takes};
 use pd_reparse::{Decided, Reading, SharedList};
 use pd_run::{
-    Plain, RunState, StepEnd, Stopped, reason_on, runs_are_bounded, verdicts_have_reasons,
+    Kind, Plain, RunState, StepEnd, Stopped, Verdict, reason_on, runs_are_bounded,
+    verdicts_have_reasons,
 };
 use pd_settings::Settings;
 use pd_track::Track;
@@ -63,9 +65,48 @@ impl Traced {
 pub fn take_up(track: &Track, line: usize) -> Result<Option<TakenUp>, AllocError>
     ensures { IfOk result (λ taken. IfSome taken (λ t. IsTakenUp track.now.settings (script_of track.now.text) t.passed t.run)) }
 {
+    take_up_after(track, last_fourth(track, line))
+}
+
+/// The last state that a track kept before those events ahead of a line that are looked at for segments that were dropped, where
+/// a packet is missing there. Nothing where it kept none.
+///
+/// # Errors
+/// `AllocError` where a growth is refused.
+pub fn take_up_early(
+    track: &Track,
+    verdict: Verdict,
+    line: usize,
+) -> Result<Option<TakenUp>, AllocError>
+    ensures { IfOk result (λ taken. IfSome taken (λ t. IsTakenUp track.now.settings (script_of track.now.text) t.passed t.run)) }
+{
+    match verdict {
+        Verdict::Fail(_, Kind::Missing) => take_up_after(track, last_early(track, line)),
+        _ => Ok(None),
+    }
+}
+
+/// After how many fourth events that state was kept; 0 where none was.
+fn last_early(track: &Track, line: usize) -> usize
+    ensures { result ≤ 1024 }
+{
+    let earlier = count_earlier(track.reading().events(), line).min(4096);
+    let last = earlier.saturating_sub(MAX_BACK) / 4;
+    for back in 0..last {
+        if track.checkpoint(last - back - 1).is_some() {
+            return last - back;
+        }
+    }
+    0
+}
+
+/// The state that a track kept after so many fourth events, if it kept one.
+fn take_up_after(track: &Track, fourths: usize) -> Result<Option<TakenUp>, AllocError>
+    requires { fourths ≤ 1024 }
+    ensures { IfOk result (λ taken. IfSome taken (λ t. IsTakenUp track.now.settings (script_of track.now.text) t.passed t.run)) }
+{
     runs_are_bounded();
     verdicts_have_reasons();
-    let fourths = last_fourth(track, line);
     if fourths == 0 {
         return Ok(None);
     }

@@ -96,7 +96,7 @@ fn lines_below(alloc: Global, stuck: &Stuck, settings: &Settings) -> Result<Vec<
     ensures { IfOk result (λ below. AreIndented below.items) }
 {
     match explain(alloc, &stuck.lines, settings, stuck.verdict)? {
-        Some(explanation) => cause_text(alloc, &explanation.cause.without_origins(alloc)),
+        Some(explanation) => cause_text(alloc, &explanation.cause.without_history(alloc)),
         None => Ok(Vec::new(alloc)),
     }
 }

@@ -1,7 +1,9 @@
 //! The block of an explanation as a JSON object.
+use crate::blocks::dropped::{ruling_key, ruling_words};
 use crate::blocks::facts::{Fact, Told, facts_of, facts_of_sender, named, state_name};
 use crate::blocks::headings::{ending_words, first_words, verdict_name};
 use crate::causes::{Cause, Failed, Origin, SenderSnapshot, Untaken, span_text};
+use crate::dropping::DroppedSegment;
 use crate::endings::Ending;
 use crate::explanations::Explanation;
 use crate::refusals::Refusal;
@@ -112,6 +114,7 @@ fn put_cause(alloc: Global, object: &mut Members, cause: &Cause) -> Result<(), A
         Cause::Rule(ruling) => put_ruling(alloc, object, ruling),
         Cause::Failed(failure) => {
             put_sacked(alloc, object, &failure.failed)?;
+            put_dropped(alloc, object, &failure.dropped)?;
             if let Some(origin) = failure.compared_origin() {
                 put(object, alloc, "sent_by", origin_value(alloc, origin)?)?;
             }
@@ -140,6 +143,32 @@ fn put_sacked(alloc: Global, object: &mut Members, failed: &Failed) -> Result<()
         list.push(letters(alloc, &span_text(alloc, *run)?)?)?;
     }
     put(object, alloc, "sacked", Value::Array(list))
+}
+
+/// Adds the segments that were dropped as a list, where some were.
+fn put_dropped(
+    alloc: Global,
+    object: &mut Members,
+    dropped: &[DroppedSegment],
+) -> Result<(), AllocError> {
+    if dropped.is_empty() {
+        return Ok(());
+    }
+    let mut list = Vec::new(alloc);
+    for segment in dropped {
+        let mut member = Map::new(alloc);
+        put_facts(
+            alloc,
+            &mut member,
+            &[
+                named("", "line", Told::Number(segment.line as u64)),
+                named("", "rule", Told::Words(ruling_key(segment.ruling))),
+                named("", "rule_words", Told::Words(ruling_words(segment.ruling))),
+            ],
+        )?;
+        list.push(Value::Object(member))?;
+    }
+    put(object, alloc, "dropped_segments", Value::Array(list))
 }
 
 fn put_facts(alloc: Global, object: &mut Members, facts: &[Fact<'_>]) -> Result<(), AllocError> {

@@ -4,9 +4,11 @@ ghost use Rattle.pd_explain.specs.Shown.{are_printable};
 ghost use Rattle.pd_explain.specs.BlockLines.{AreIndented, IsBlock};
 ghost use Rattle.pd_explain.specs.Inner.{AddsLines};
 
+use crate::blocks::dropped::dropped_text;
 use crate::blocks::facts::{Fact, Told, facts_of, facts_of_sender, state_name};
 use crate::blocks::headings::{ending_words, first_words, verdict_name};
 use crate::causes::{Cause, Comparison, Failed, Failure, Origin, SenderSnapshot, Untaken};
+use crate::dropping::DroppedSegment;
 use crate::endings::Ending;
 use crate::explanations::Explanation;
 use crate::refusals::Refusal;
@@ -121,14 +123,33 @@ fn put_cause(alloc: Global, out: &mut Vec<u8>, cause: &Cause) -> Result<(), Allo
     match cause {
         Cause::Syntax(refusal) => put_refusal(alloc, out, refusal),
         Cause::Rule(ruling) => put_ruling(alloc, out, ruling),
-        Cause::Failed(failure) => put_left(
-            alloc,
-            out,
-            &failure.untaken,
-            failure.listed_origins(),
-            &failure.standing,
-        ),
+        Cause::Failed(failure) => {
+            put_dropped(alloc, out, &failure.dropped)?;
+            put_left(
+                alloc,
+                out,
+                &failure.untaken,
+                failure.listed_origins(),
+                &failure.standing,
+            )
+        }
     }
+}
+
+/// Adds the segments that were dropped.
+#[tactic(auto, using(crate::proofs::BlockLemmas::no_lines, crate::proofs::BlockLemmas::then_lines))]
+fn put_dropped(
+    alloc: Global,
+    out: &mut Vec<u8>,
+    dropped: &[DroppedSegment],
+) -> Result<(), AllocError>
+    ensures { OnOk result (AddsLines out.old.items out.new.items) }
+{
+    for segment in dropped {
+        let text = dropped_text(alloc, *segment)?;
+        put_fact(alloc, out, "dropped", Told::Octets(&text))?;
+    }
+    Ok(())
 }
 
 /// Adds the packets that no line asks for, as lines to insert.

@@ -98,6 +98,7 @@ fn failure(alloc: Global, stop: &Stopped, failed: Failed) -> Result<Failure, All
         failed,
         untaken: list_untaken(alloc, run, compared)?,
         origins: Vec::new(alloc),
+        dropped: Vec::new(alloc),
         standing: standing(run),
     })
 }

@@ -6,8 +6,8 @@ use Rattle.pd_explain.specs.Explained.{IsCauseIn}
 use Rattle.pd_explain.proofs.StopIsThere.{causes_of, at_stop}
 use Rattle.pd_explain.proofs.explaining.cause_of_job.Goals as goal
 
-pub returns-in_ok-taken-in_default : goal.returns-in_ok-taken-in_default
-returns-in_ok-taken-in_default c =
+pub returns-in_ok-early-in_default : goal.returns-in_ok-early-in_default
+returns-in_ok-early-in_default c =
     let lines : c.lines-lines.result.now ≡ c.args.done.now.text = c.lines-lines.ensures ∙ c.text.ensures in
     let settings : c.settings.result.now ≡ c.args.done.now.settings = c.settings.ensures ∙ c.track-track.ensures.settings in
     let cause : IfOk c.cause_of_stop.result (IsCauseIn c.args.done.now.text c.args.line c.args.done.now.settings (script_of c.args.done.now.text) c.args.verdict) =

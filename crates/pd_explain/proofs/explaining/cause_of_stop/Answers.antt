@@ -15,10 +15,11 @@ use Rattle.pd_run.specs.Stops.{line_of, stop_in}
 use Rattle.pd_run.specs.Why.{verdict_at}
 use Rattle.pd_run.specs.declared.stops.Stopped.{Stopped}
 use Rattle.pd_explain.specs.Causes.{IsCauseOf}
-use Rattle.pd_explain.specs.Explained.{not_run, HasOrigins, IsCauseIn}
+use Rattle.pd_explain.specs.Explained.{not_run, HasHistory, IsCauseIn}
 use Rattle.pd_explain.specs.Parts.{event_place}
 use Rattle.pd_explain.specs.declared.taking_up.Traced.{Traced}
 use Rattle.pd_explain.proofs.StopIsThere.{StopsWithin, stops_within, causes_in}
+use Rattle.pd_explain.proofs.DroppedLemmas.{staged_stop}
 use Rattle.pd_explain.proofs.explaining.cause_of_stop.Goals as goal
 
 pub at-decided-requires : goal.at-decided-requires
@@ -66,4 +67,19 @@ returns c =
     subst (λ (p : Parsed). IfOk c.cause_of_traced.result (IsCauseIn c.args.lines.now c.args.line settings p c.args.verdict)) script
     (causes_in c.args.lines.now settings parsed c.args.line c.args.verdict stop c.at-decided.result.now.event c.cause_of_traced.result run
     (record { found = found; event = event; gives = gives })
-    (subst (λ (p : Place). IfOk c.cause_of_traced.result (λ cause. IsCauseOf c.args.lines.now p c.at-decided.result.now.event stop cause × HasOrigins settings parsed stop cause)) place c.cause_of_traced.ensures))
+    (subst (λ (p : Place). IfOk c.cause_of_traced.result (λ cause. IsCauseOf c.args.lines.now p c.at-decided.result.now.event stop cause × HasHistory settings parsed stop cause)) place c.cause_of_traced.ensures))
+
+pub dropped_till-requires-clause-reached : goal.dropped_till-requires-clause-reached
+dropped_till-requires-clause-reached c =
+    let parsed : Parsed = script_part c.args.reading.now in
+    let settings : Settings = c.args.settings.now in
+    let stop : Stopped = c.in-Some-2.traced.stop in
+    let script : parsed ≡ script_of c.args.lines.now = ap script_part c.requires.reading ∙ c.readings.ensures c.args.lines.now in
+    let lined : line_of (verdict_in settings parsed) ≡ Some c.args.line =
+    subst (λ (p : Parsed). line_of (verdict_in settings p) ≡ Some c.args.line) (sym script) (ap line_of (sym c.requires.verdict) ∙ c.requires.line) in
+    let run : not_run parsed.header.items ≡ None =
+    ap (λ (h : Heading). not_run h.items) (sym c.header.ensures) ∙ (sym c.item_not_run.ensures ∙ c.in_default.is) in
+    let found : stop_in c.args.line settings parsed ≡ Some stop = sym c.in_ok-traced.ensures.stop ∙ ap (option_map (λ (t : Traced). t.stop)) c.in-Some-2.is in
+    let there : StopsWithin c.args.line settings parsed stop =
+    stops_within c.verdicts_have_reasons.ensures.verdicts settings parsed c.args.line stop lined run found in
+    staged_stop settings parsed c.args.line stop found there.0

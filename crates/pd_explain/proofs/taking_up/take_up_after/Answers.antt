@@ -7,12 +7,12 @@ use Rattle.pd_run.specs.Run.{states_of}
 use Rattle.pd_run.specs.Step.{RunStateView}
 use Rattle.pd_explain.specs.Inner.{IsTakenUp}
 use Rattle.pd_explain.proofs.TakenUp.{taken_up}
-use Rattle.pd_explain.proofs.taking_up.take_up.Goals as goal
+use Rattle.pd_explain.proofs.taking_up.take_up_after.Goals as goal
 
 pub returns : goal.returns
 returns c =
     let settings : Settings = c.args.track.now.settings in
-    let kept : ℕ = c.last_fourth-fourths.result in
+    let kept : ℕ = c.args.fourths in
     let state : RunStateView = c.in-Some.checkpoint.now in
     let found : slice_get (states_of c.args.track.now.text settings) (4 * (kept - 1) + 3) ≡ Some (rebound_run settings state) =
     sym c.checkpoint.ensures.state ∙ ap (λ o. option_map (rebound_run settings) (option_copied o)) c.in-Some.is in
