@@ -182,7 +182,7 @@ def test_untaken_packets_left_after_inputs() -> None:
 
 def test_hover_says_what_the_timer_sent() -> None:
     expiry = "+1 > . 1:1001(1000) ack 1\n"
-    trace = "//= at 1.000000 ESTABLISHED una:1 pipe:1000 prr_delivered:0 prr_out:1000 recovery:RFC6675 sent_by:timer\n"
+    trace = "//= at 1.000000 ESTABLISHED una:1 prr_delivered:0 prr_out:1000 recovery:RFC6675 sent_by:timer\n"
     events, recorded = layout_of(expiry).events, recorded_in(expiry + trace)
     met = list(met_by(events, recorded, 1, 4_000))
     words = hover_of(events[0], 0, met, expiry + trace)
@@ -196,7 +196,9 @@ def test_hover_has_what_changed() -> None:
     met = list(met_by(events, recorded, 4, 4_000))
     words = hover_of(events[2], events[2].item.start, met, RECORDING)
     assert "After it at 0.100000: ESTABLISHED\n```text\nuna   1001  was 1\nnext  1501  was 1001\n" in words
-    assert "`> P. 1001:1501(500) ack 1 win 511` was sent at 0.100000, by line 3" in hover_of(events[3], 0, met, RECORDING)
+    assert "`> P. 1001:1501(500) ack 1 win 511` was sent at 0.100000, by line 3" in hover_of(
+        events[3], 0, met, RECORDING
+    )
     assert "Nothing was sent for it." in hover_of(events[4], 0, met, RECORDING)
     assert "FIN-WAIT-1, was ESTABLISHED" in hover_of(events[5], 0, met, RECORDING)
     assert "expiry  1.2  new" in hover_of(events[5], 0, met, RECORDING)
@@ -253,6 +255,17 @@ def test_an_edit_makes_the_other_text(old: str, new: str) -> None:
 def test_a_shown_column_is_a_character() -> None:
     assert unshown("\udcff\ud800x", 16) == 2
     assert [unshown("\tab\u00e4c", it) for it in (0, 4, 5, 6, 14, 99)] == [0, 1, 2, 3, 4, 5]
+
+
+def test_a_diagnostic_says_what_sent_a_packet_and_what_was_dropped() -> None:
+    text = "0 a() = 1\n"
+    seq = Outcome("a", (), Row(Verdict.FAIL, 1, "seq"))
+    (found,) = diagnostics_of(seq, {"actual_packet": "x", "sent_by": {"line": 8}}, layout_of(text), Lines(text))
+    assert found.message == "fail seq\nactual packet: x\nsent by: line 8"
+    dropped = [{"line": 5, "rule": "old_ack", "rule_words": "its ACK lies below una"}]
+    missing = Outcome("a", (), Row(Verdict.FAIL, 1, "missing"))
+    (found,) = diagnostics_of(missing, {"dropped_segments": dropped}, layout_of(text), Lines(text))
+    assert found.message == "fail missing\ndropped: line 5: its ACK lies below una"
 
 
 def test_a_known_failure_is_a_hint_and_an_unexpected_pass_an_error() -> None:

@@ -89,7 +89,9 @@ def test_what_the_program_tells_of_a_missing_packet() -> None:
         "timer_us": None,
         "reason": "acknowledged",
         "reason_words": "all that was handed over is acknowledged",
-        "untaken_packets": ["+0 > . 1:2(1) ack 1 // 0.1"],
+        "dropped_segments": [{"line": 1, "rule": "old_ack", "rule_words": "its ACK lies below una"}],
+        "untaken_packets": ["+0 > . 1:2(1) ack 1 // 0.1", "+0 > . 2:3(1) ack 1 // 0.1"],
+        "untaken_sent_by": [{"line": 1}, {"timer_us": 100_000}],
         "more_untaken_packets": 2,
         "state": {"name": "ESTABLISHED", "una": 1, "flight_size": 0, "rto_us": 1_500_000, "expiry_us": None},
     }
@@ -100,8 +102,13 @@ def test_what_the_program_tells_of_a_missing_packet() -> None:
         ("awaited until", "any time"),
         ("tolerance", "0.004000 s"),
         ("timer expires", "never, it doesn't run"),
+        ("dropped", "line 1: its ACK lies below una"),
     ]
-    assert (told.untaken, told.more_untaken) == (("+0 > . 1:2(1) ack 1 // 0.1",), 2)
+    assert told.untaken == (
+        "+0 > . 1:2(1) ack 1 // 0.1, sent by line 1",
+        "+0 > . 2:3(1) ack 1 // 0.1, sent by the timer",
+    )
+    assert told.more_untaken == 2
     assert [(it.name, it.value) for it in told.state] == [
         ("state", "ESTABLISHED"),
         ("una", "1"),
@@ -110,6 +117,12 @@ def test_what_the_program_tells_of_a_missing_packet() -> None:
         ("expiry", "none"),
     ]
     assert [(it.number, it.text, it.is_named) for it in told.lines] == [(1, "one", False), (2, "two", True)]
+
+
+def test_what_sent_a_packet_that_differs() -> None:
+    for origin, words in (({"line": 8}, "line 8"), ({"timer_us": 200_000}, "the timer")):
+        told = sheet(Verdict.FAIL, b"one\n", {"sent_by": origin}, 1, "seq")
+        assert [(it.name, it.value) for it in told.facts] == [("sent by", words)]
 
 
 def test_where_a_text_is_no_script_and_what_could_stand_there() -> None:

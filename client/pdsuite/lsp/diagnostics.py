@@ -10,6 +10,7 @@ from pdsuite.packetdrill.layout import Event, Layout
 from pdsuite.packetdrill.lines import Extent
 from pdsuite.programs.protocol import Cause
 from pdsuite.programs.rows import Verdict
+from pdsuite.programs.told import dropped_segments, sender_of
 from pdsuite.reports.outcome_text import said, warnings
 from pdsuite.run.outcomes import Outcome
 from pdsuite.run.row_place import place_of
@@ -131,6 +132,10 @@ def _facts(cause: Mapping[str, object]) -> Iterator[str]:
     for key, words in _FACTS.items():
         if key in cause:
             yield f"{words}: {_shown(key, cause[key])}"
+        if key == "actual_packet" and (sender := sender_of(cause.get("sent_by"))):
+            yield f"sent by: {sender}"
+    for it in dropped_segments(cause):
+        yield f"dropped: {it}"
     count = len(untaken(cause))
     more = cause.get("more_untaken_packets")
     count += more if isinstance(more, int) else 0

@@ -2,6 +2,7 @@
 
 from collections.abc import Iterator, Mapping
 from dataclasses import dataclass
+from itertools import chain, repeat
 
 from pdsuite.page.diagrams import Diagram
 from pdsuite.page.links import file_of
@@ -9,6 +10,7 @@ from pdsuite.packetdrill.columns import Mark, Packet, Part, columns
 from pdsuite.page.plots import Plot
 from pdsuite.programs.protocol import Cause
 from pdsuite.programs.rows import Verdict
+from pdsuite.programs.told import dropped_segments, sender_of, senders_of
 from pdsuite.reports.outcome_text import block, reason, warnings
 from pdsuite.run.met_lines import Differences, MetLine
 from pdsuite.run.outcomes import Outcome, Tally
@@ -170,14 +172,30 @@ def sheet_of(entry: Entry, cause: Cause | None, diagram: Diagram, met: Differenc
         packets=_packets(told),
         reason=_said(told, "reason_words"),
         refused=_refused(told),
-        facts=tuple(Fact(words, _value(key, told[key])) for key, words in _FACTS.items() if key in told),
-        untaken=_texts(told, "untaken_packets"),
+        facts=tuple(_facts(told)),
+        untaken=tuple(_untaken(told)),
         more_untaken=_number(told, "more_untaken_packets"),
         state=tuple(_state(told)),
         below=() if told else tuple(block(outcome)),
         diagram=diagram,
         met=() if met is None else met.lines,
     )
+
+
+def _facts(told: Cause) -> Iterator[Fact]:
+    if sender := sender_of(told.get("sent_by")):
+        yield Fact("sent by", sender)
+    for key, words in _FACTS.items():
+        if key in told:
+            yield Fact(words, _value(key, told[key]))
+    for it in dropped_segments(told):
+        yield Fact("dropped", _safe(it))
+
+
+def _untaken(told: Cause) -> Iterator[str]:
+    """The untaken packets, each with what sent it, where that is told."""
+    for packet, sender in zip(_texts(told, "untaken_packets"), chain(senders_of(told), repeat(""))):
+        yield f"{packet}, sent by {sender}" if sender else packet
 
 
 def _expected(outcome: Outcome) -> str:
