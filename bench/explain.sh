@@ -1,7 +1,7 @@
 #!/bin/sh
 # Measures what explaining costs: the instructions of pdregress with --explain for generated scripts that transfer data, over
-# those without that word. Where all scripts fail at their last event they may be 1.5 times as many, where none fails 1.02 times;
-# the status tells whether they are no more. Needs valgrind.
+# those without that word. Where all scripts fail at their last event, by another packet or by none, they may be 1.5 times as
+# many, where none fails 1.02 times; the status tells whether they are no more. Needs valgrind.
 #
 #   bench/explain.sh [SCRIPTS]      1,000 scripts of 60 events if nothing is said
 . "$(dirname "$0")/program.sh"
@@ -20,6 +20,16 @@ fail_last() {
     '
 }
 
+# The same scripts, whose last event awaits a packet that isn't sent.
+miss_last() {
+    awk '
+        /^add / { line = 0 }
+        { line++ }
+        line == 61 { print "+0 > . 99:99(0) ack 1"; next }
+        { print }
+    '
+}
+
 compare() { # WHAT INPUT MOST
     plain=$(instructions "$2")
     explained=$(instructions "$2" --explain)
@@ -31,10 +41,12 @@ compare() { # WHAT INPUT MOST
 
 transfers "$scripts" >"$work/passing"
 fail_last <"$work/passing" >"$work/failing"
-for input in passing failing; do
+miss_last <"$work/passing" >"$work/missing"
+for input in passing failing missing; do
     "$program" <"$work/$input" | tail -n 1
 done
 bad=0
 compare "none fails" "$work/passing" 1.02 || bad=1
 compare "all fail" "$work/failing" 1.5 || bad=1
+compare "all miss a packet" "$work/missing" 1.5 || bad=1
 exit $bad
