@@ -61,7 +61,7 @@ def test_what_was_sent_stands_in_the_diagnostic(client: LspClient, workspace: Pa
     (found,) = client.settled(uri)
     assert found["message"].splitlines() == [
         "fail seq: the packet has other octets",
-        "actual packet: +0 > P. 1:1001(1000) ack 1 win 511 // 0.200000",
+        "actual packet: +0 > P. 1:1001(1000) ack 1 win 511 // 0.200000, sent by line 8",
     ]
 
 

@@ -261,7 +261,7 @@ def test_a_diagnostic_says_what_sent_a_packet_and_what_was_dropped() -> None:
     text = "0 a() = 1\n"
     seq = Outcome("a", (), Row(Verdict.FAIL, 1, "seq"))
     (found,) = diagnostics_of(seq, {"actual_packet": "x", "sent_by": {"line": 8}}, layout_of(text), Lines(text))
-    assert found.message == "fail seq\nactual packet: x\nsent by: line 8"
+    assert found.message == "fail seq\nactual packet: x, sent by line 8"
     dropped = [{"line": 5, "rule": "old_ack", "rule_words": "its ACK lies below una"}]
     missing = Outcome("a", (), Row(Verdict.FAIL, 1, "missing"))
     (found,) = diagnostics_of(missing, {"dropped_segments": dropped}, layout_of(text), Lines(text))

@@ -129,11 +129,11 @@ def _message(outcome: Outcome, cause: Cause | None) -> str:
 
 
 def _facts(cause: Mapping[str, object]) -> Iterator[str]:
+    sender = sender_of(cause.get("sent_by"))
     for key, words in _FACTS.items():
         if key in cause:
-            yield f"{words}: {_shown(key, cause[key])}"
-        if key == "actual_packet" and (sender := sender_of(cause.get("sent_by"))):
-            yield f"sent by: {sender}"
+            by = f", sent by {sender}" if sender and key == "actual_packet" else ""
+            yield f"{words}: {_shown(key, cause[key])}{by}"
     for it in dropped_segments(cause):
         yield f"dropped: {it}"
     count = len(untaken(cause))
