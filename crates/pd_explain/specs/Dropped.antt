@@ -1,4 +1,4 @@
--- Segments that a check of the sender dropped, before an event for which nothing was sent.
+-- Segments that a check of the sender dropped, before a packet that differs or is missing.
 use Rattle.std.specs.Prelude.{ℕ, ◌-◌, Bool, true, false, List, [], drop, length, map, take, Option, Some, None, is_none, Result, Ok, Err, if◌then◌else◌}
 use Rattle.std.specs.List.{filter_map, zip}
 use Rattle.pd_settings.specs.declared.fields.Settings.{Settings}
@@ -18,7 +18,7 @@ use Rattle.pd_run.specs.Inbound.{segment_in}
 use Rattle.pd_run.specs.Step.{RunStateView, acts_at}
 use Rattle.pd_run.specs.declared.stops.Stopped.{Stopped}
 use Rattle.pd_run.specs.declared.whys.Why.{Why}
-use Rattle.pd_run.specs.declared.whys.Why.TheVariants.{Missing}
+use Rattle.pd_run.specs.declared.whys.Why.TheVariants.{Missing, Differs}
 use Rattle.pd_explain.specs.Origins.{stages}
 use Rattle.pd_explain.specs.declared.dropping.DroppedSegment.{DroppedSegment}
 
@@ -69,10 +69,11 @@ told_of each = last 4 (filter_map (λ it. it) (last 16 each))
 abbrev pub dropped_before : Settings → Parsed → ℕ → List DroppedSegment
 dropped_before settings parsed passed = told_of (dropped_in settings parsed passed)
 
--- those where a run stops: before a packet that is missing
+-- those where a run stops: before a packet that differs or is missing
 abbrev pub dropped_till : Settings → Parsed → Stopped → List DroppedSegment
 dropped_till settings parsed stop = by stop.why
   where
     by : Why → List DroppedSegment
     by Missing = dropped_before settings parsed stop.passed
+    by (Differs kind sent r) = dropped_before settings parsed stop.passed
     by _ = []

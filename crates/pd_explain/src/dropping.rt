@@ -57,7 +57,7 @@ fn find_dropped(
     }
 }
 
-/// The same where a run stops: before a packet that is missing; else none.
+/// The same where a run stops: before a packet that differs or is missing; else none.
 ///
 /// # Errors
 /// `AllocError` where a growth is refused.
@@ -73,8 +73,10 @@ pub fn dropped_till(
     ensures { IfOk result (λ dropped. dropped.items ≡ dropped_till settings.now (script_part reading.now) stop.now) }
 {
     match stop.why {
-        Why::Missing => find_dropped(alloc, reading, settings, taken, stop.passed),
-        _ => Ok(Vec::new(alloc)),
+        Why::Missing | Why::Differs(_, _, _) => {
+            find_dropped(alloc, reading, settings, taken, stop.passed)
+        }
+        Why::Barred(_) | Why::Halted(_) | Why::Answered(_, _) => Ok(Vec::new(alloc)),
     }
 }
 

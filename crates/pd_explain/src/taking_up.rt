@@ -69,7 +69,7 @@ pub fn take_up(track: &Track, line: usize) -> Result<Option<TakenUp>, AllocError
 }
 
 /// The last state that a track kept before those events ahead of a line that are looked at for segments that were dropped, where
-/// a packet is missing there. Nothing where it kept none.
+/// a packet differs or is missing there. Nothing where it kept none.
 ///
 /// # Errors
 /// `AllocError` where a growth is refused.
@@ -81,9 +81,16 @@ pub fn take_up_early(
     ensures { IfOk result (λ taken. IfSome taken (λ t. IsTakenUp track.now.settings (script_of track.now.text) t.passed t.run)) }
 {
     match verdict {
-        Verdict::Fail(_, Kind::Missing) => take_up_after(track, last_early(track, line)),
+        Verdict::Fail(_, kind) if is_of_packet(kind) => {
+            take_up_after(track, last_early(track, line))
+        }
         _ => Ok(None),
     }
+}
+
+/// Whether a packet fails so.
+fn is_of_packet(kind: Kind) -> bool {
+    !matches!(kind, Kind::Result | Kind::Backwards)
 }
 
 /// After how many fourth events that state was kept; 0 where none was.

@@ -16,8 +16,8 @@ pub struct Failure {
     /// What let the packet go that was compared, if one was, and then each of those that are listed. None of a run that isn't a
     /// script's.
     pub origins: Vec<Origin>,
-    /// Where a packet is missing, the last segments that checks dropped before the event: four at most, of those that arrived in the
-    /// 16 events before it. None of a run that isn't a script's.
+    /// Where a packet differs or is missing, the last segments that checks dropped before the event: four at most, of those that
+    /// arrived in the 16 events before it. None of a run that isn't a script's.
     pub dropped: Vec<DroppedSegment>,
     /// The sender at the stop.
     pub standing: SenderSnapshot,
