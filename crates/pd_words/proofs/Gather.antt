@@ -1,12 +1,14 @@
 -- Lines and commands off the front of an input.
 use Rattle.std.proofs.Common.{◌≡◌, ℕ, ◌+◌, ◌≤◌, ◌<◌, ◌==◌, nat_le, Bool, true, false, List, [], ◌∷◌, ◌++◌, length, take, drop, Option, Some, None, refl, sym, ap, ◌∙◌, arith, cond, suc, zero, append_assoc, if◌then◌else◌, option_and_then, length-append, subst, zero-add}
-use Rattle.std.specs.Str.Lines.{lines}
+use Rattle.std.specs.Str.Lines.{lines, strip_carriage_return}
+use Rattle.std.specs.Io.KnownBytes.{prepend_known}
 use Rattle.std.proofs.lemmas.List.Sums.{sum_by-append}
 use Rattle.std.proofs.lemmas.Bool.Decides.{nat_tests}
 use Rattle.std.proofs.Math.Seq.{take-append_seam, drop-append_seam}
 use Rattle.pd_text.specs.Text.{fits_text, octets_of, is_line}
-use Rattle.pd_words.specs.Pieces.{NoNewline}
-use Rattle.pd_words.specs.Taking.{is_nothing, TakesLines, LinesFault, AsksLine, HasRequest, Gives, FaultIn}
+use Rattle.pd_words.specs.Pieces.{NoNewline, CutsPiece}
+use Rattle.pd_words.specs.Input.{IfKnown}
+use Rattle.pd_words.specs.Taking.{is_nothing, AddsLine, TakesLines, LinesFault, AsksLine, HasRequest, Gives, FaultIn}
 use Rattle.pd_words.specs.Commands.{Item, does, fitted, edit_of, with_lines, items, commands}
 use Rattle.pd_words.specs.declared.requests.Request.{Request}
 use Rattle.pd_words.specs.declared.requests.Request.TheVariants as asks
@@ -14,6 +16,8 @@ use Rattle.pd_words.specs.declared.command.Command.{Command}
 use Rattle.pd_words.specs.declared.command.Command.TheVariants as made
 use Rattle.pd_words.specs.declared.faults.ServeFault.{ServeFault}
 use Rattle.pd_words.specs.declared.faults.ServeFault.TheVariants.{HistoryFull, NoWorkers, Differs, BadCommand, Truncated, Read, Write, OutOfMemory}
+use Rattle.pd_words.proofs.Cuts.{lines_cut}
+use Rattle.pd_words.proofs.Known.{known_map}
 
 -- lines
 
@@ -56,6 +60,21 @@ so_more k g h line x y z s e f = (s.0 ++ line ∷ [], omega (arith, length-appen
 
 pub so_whole : (k : ℕ) (g h : Option (List (List ℕ))) (line : List ℕ) (x y z : List ℕ) → h ≡ option_and_then (λ t. fitted (t ++ line ∷ [])) g → SoFar k g x y → (lines y ≡ line ∷ lines z) × (length line ≤ 65536) → SoFar (k + 1) h x z
 so_whole k g h line x y z e s t = so_more k g h line x y z s t.0 (λ texts q. e ∙ (ap (λ (o : Option (List (List ℕ))). option_and_then (λ t. fitted (t ++ line ∷ [])) o) q ∙ fitted_more texts line))
+
+-- what is to come, where a line lies whole in what was read
+pub known_at_hand : (line old new : List ℕ) (left : Option (List ℕ)) → CutsPiece line true old new → IfKnown (λ y z. lines y ≡ strip_carriage_return line ∷ lines z) (prepend_known old left) (prepend_known new left)
+known_at_hand line old new None cut = tt
+known_at_hand line old new (Some r) cut = ap (λ (o : List ℕ). lines (o ++ r)) cut.1 ∙ (ap lines (append_assoc line (10 ∷ new) r) ∙ lines_cut line (new ++ r) cut.0)
+
+-- a line that lay whole in what was read was added
+abbrev pub Added : Option (List (List ℕ)) → Option (List (List ℕ)) → List ℕ → List ℕ → Type 0
+Added g h y z = (line : List ℕ) × (lines y ≡ line ∷ lines z) × (h ≡ option_and_then (λ t. fitted (t ++ line ∷ [])) g)
+
+pub known_added : (old new : List ℕ) (left : Option (List ℕ)) (g h : Option (List (List ℕ))) → AddsLine old new g h → IfKnown (Added g h) (prepend_known old left) (prepend_known new left)
+known_added old new left g h a = known_map (λ y z. lines y ≡ strip_carriage_return a.line ∷ lines z) (Added g h) (prepend_known old left) (prepend_known new left) (λ y z e. (strip_carriage_return a.line, e, a.added)) (known_at_hand a.line old new left a.cut)
+
+pub so_added : (k : ℕ) (g h : Option (List (List ℕ))) (x y z : List ℕ) → SoFar k g x y → Added g h y z → SoFar (k + 1) h x z
+so_added k g h x y z s t = so_more k g h t.0 x y z s t.1 (λ texts q. t.2 ∙ (ap (λ (o : Option (List (List ℕ))). option_and_then (λ texts. fitted (texts ++ t.0 ∷ [])) o) q ∙ fitted_more texts t.0))
 
 pub so_long : (k : ℕ) (g h : Option (List (List ℕ))) (x y z : List ℕ) → h ≡ None → SoFar k g x y → (line : List ℕ) × (lines y ≡ line ∷ lines z) × (65536 < length line) → SoFar (k + 1) h x z
 so_long k g h x y z e s t = so_more k g h t.0 x y z s t.1 (λ texts q. e ∙ sym (ap (λ (b : Bool). cond b (Some (texts ++ t.0 ∷ [])) None) (long_text texts t.0 t.2)))

@@ -1,5 +1,5 @@
 -- Reads, each of which gives an octet but for the one that finds the end.
-use Rattle.std.proofs.Common.{◌≡◌, ◌⊎◌, inl, inr, ℕ, ◌+◌, ◌-◌, ◌≤◌, ◌<◌, Bool, true, false, List, [], ◌∷◌, ◌++◌, length, Option, Some, None, Result, Ok, Err, IfSome, IsErrAnd, ap, subst, sym, ◌∙◌, arith, length-append}
+use Rattle.std.proofs.Common.{◌≡◌, ◌⊎◌, inl, inr, ℕ, ◌+◌, ◌≤◌, ◌<◌, Bool, true, false, List, [], ◌∷◌, ◌++◌, length, Option, Some, None, Result, Ok, Err, IfSome, IsErrAnd, ap, subst, sym, ◌∙◌, arith, length-append}
 use Rattle.std.specs.Io.KnownBytes.{Consumes}
 use Rattle.std.specs.Str.Lines.{lines}
 use Rattle.pd_words.specs.Input.{IfKnown, to_come, Spends, IsCaused, HasCause, reads_left}
@@ -72,6 +72,9 @@ spends_line limit cap taken kept found old new (Some x) (Some y) k t g l = line_
 
 pub spends_same : (u : List ℕ × ℕ) (a : Option (List ℕ)) → IfKnown (Spends u u) a a
 spends_same u a = known_same (Spends u u) a (λ x. omega arith)
+
+pub spends_at_hand : (old new : List ℕ × ℕ) (line : List ℕ) (a : Option (List ℕ)) → old.0 ≡ line ++ 10 ∷ new.0 → new.1 ≡ old.1 → IfKnown (Spends old new) a a
+spends_at_hand old new line a e f = known_same (Spends old new) a (λ x. omega (arith, ap length e, length-append line (10 ∷ new.0), f))
 
 pub spends_then : (u v w : List ℕ × ℕ) (a b c : Option (List ℕ)) → IfKnown (Spends u v) a b → IfKnown (Spends v w) b c → IfKnown (Spends u w) a c
 spends_then u v w a b c h k = known_then (Spends u v) (Spends v w) (Spends u w) a b c (λ x y z h k. omega (arith, h, k)) h k

@@ -1,5 +1,5 @@
 -- Words that are refused together, and what else is read off the matches of words.
-use Rattle.std.proofs.Common.{◌≡◌, ◌≢◌, ◌⊎◌, ◌||◌, inl, inr, if◌then◌else◌, Bool, true, false, not, ℕ, List, [], ◌∷◌, Result, Ok, Err, IfErr, IfOk, IsErr, Option, Some, None, is_some, option_map, bytes_eq, codes, Bor, refl, sym, ap, ◌∙◌}
+use Rattle.std.proofs.Common.{◌≡◌, ◌≢◌, ◌⊎◌, ◌||◌, inl, inr, if◌then◌else◌, Bool, true, false, ℕ, List, [], ◌∷◌, Result, Ok, Err, IfErr, Option, Some, None, is_some, option_map, Bor, refl, ap, ◌∙◌}
 use Rattle.clap.specs.Kinds.{or_else}
 use Rattle.clap.specs.Words.{HasMatchesOf, Kinds, Text, first_of, first_value, found_of, matches_of}
 use Rattle.clap.specs.declared.parser.matches.ArgMatches.{ArgMatches}

@@ -1,5 +1,5 @@
 -- The octets that are still to come.
-use Rattle.std.specs.Prelude.{◌≡◌, ◌⊎◌, ℕ, ◌+◌, ◌-◌, ◌*◌, ◌≤◌, List, length, Option, Some, None, Result, Ok, Err, IfSome}
+use Rattle.std.specs.Prelude.{◌≡◌, ◌⊎◌, ℕ, ◌+◌, ◌-◌, ◌*◌, ◌≤◌, List, length, Option, Some, None, Result, Err, IfSome}
 use Rattle.pd_words.specs.declared.faults.ServeFault.{ServeFault}
 use Rattle.pd_words.specs.declared.faults.ServeFault.TheVariants.{Read}
 use Rattle.std.specs.Io.KnownBytes.{prepend_known}

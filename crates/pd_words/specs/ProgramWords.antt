@@ -1,5 +1,5 @@
 -- The words of the programs, in the definitions of `clap`.
-use Rattle.std.specs.Prelude.{ℕ, nat_le, Bool, not, ◌==◌, ◌&&◌, ◌||◌, List, [], ◌∷◌, bytes_eq, codes, if◌then◌else◌, Option, Some, is_some, unwrap_or, pos}
+use Rattle.std.specs.Prelude.{ℕ, nat_le, Bool, not, ◌==◌, ◌&&◌, ◌||◌, List, [], ◌∷◌, bytes_eq, codes, if◌then◌else◌, Some, is_some, unwrap_or, pos}
 use Rattle.clap.specs.Kinds.{or_else}
 use Rattle.clap.specs.Words.{App, Kinds, Rule, Text, all_of, fault_of, first_of, matches_of, new_app, new_rule, with_rule}
 use Rattle.clap.specs.declared.builder.ArgAction.TheVariants.{Append, Set, SetTrue}

@@ -1,6 +1,7 @@
 -- How commands come off the front of an input.
-use Rattle.std.specs.Prelude.{◌≡◌, ℕ, ◌≤◌, ◌<◌, false, List, [], ◌∷◌, length, take, drop, Option, Some, None, Bool, true}
-use Rattle.std.specs.Str.Lines.{lines}
+use Rattle.std.specs.Prelude.{◌≡◌, ℕ, ◌≤◌, ◌<◌, false, List, [], ◌∷◌, ◌++◌, length, take, drop, Option, Some, None, Bool, true, option_and_then}
+use Rattle.std.specs.Str.Lines.{lines, strip_carriage_return}
+use Rattle.pd_words.specs.Pieces.{CutsPiece}
 use Rattle.pd_words.specs.Commands.{Item, does, stops, fitted, items, items_at, commands}
 use Rattle.pd_words.specs.declared.requests.Request.{Request}
 use Rattle.pd_words.specs.declared.command.Command.{Command}
@@ -19,6 +20,12 @@ is_nothing (Remove name) = false
 is_nothing (Set key value) = false
 is_nothing Show = false
 is_nothing Settle = false
+
+-- the first line of what was read is added to those gathered
+pub record AddsLine (old new : List ℕ) (before after : Option (List (List ℕ))) : Type 0 where
+  pub line : List ℕ
+  pub cut : CutsPiece line true old new
+  pub added : after ≡ option_and_then (λ lines. fitted (lines ++ strip_carriage_return line ∷ [])) before
 
 -- the lines of a command are taken
 abbrev pub TakesLines : ℕ → Option (List (List ℕ)) → List ℕ → List ℕ → Type 0

@@ -1,14 +1,15 @@
 //! The commands of an input, one after another.
 ghost use Rattle.std.specs.Prelude.{◌≡◌, ◌≤◌, ◌<◌, ℕ, List, [], Option, IfOk, IfErr, IfSome, option_and_then};
+ghost use Rattle.std.specs.Bool.{OnTrue, OnFalse};
 ghost use Rattle.pd_words.specs.Input.{IfKnown, to_come, work_left, Spends, IsCaused};
 ghost use Rattle.pd_words.specs.TakenLines.{TakesLine, IsOfLine, IsLine, IsIo};
 ghost use Rattle.pd_words.specs.Commands.{fitted, edit_of, commands};
-ghost use Rattle.pd_words.specs.Taking.{TakesLines, LinesFault, AsksLine, HasRequest, Gives, FaultIn};
+ghost use Rattle.pd_words.specs.Taking.{AddsLine, TakesLines, LinesFault, AsksLine, HasRequest, Gives, FaultIn};
 
 use crate::faults::ServeFault;
 use crate::gathered::Gathered;
 use crate::input_stream::InputStream;
-use crate::intake::{Intake, Taken};
+use crate::intake::{Intake, Taken, without_return};
 use crate::requests::{MAX_COMMAND, Request};
 use pd_settings::Value;
 use pd_text::{LineEdit, LineList, Lines, MAX_OCTETS, Name};
@@ -121,8 +122,11 @@ fn take_lines<R: InputStream>(
     ensures reads { IfOk result (λ _. IfKnown (Spends intake.old intake.new) (R.remaining reader.old) (R.remaining reader.new)) }
     ensures cause { IfErr result (IsCaused (R.has_failed reader.new) intake.old intake.new (R.remaining reader.old)) }
 {
-    let mut gathered = Gathered::new(alloc);
+    let mut gathered = Gathered::with_room(alloc, count)?;
     for _turn in 0..count {
+        if gather_at_hand(intake, &mut gathered)? {
+            continue;
+        }
         match intake.next_line(alloc, reader, MAX_OCTETS)? {
             Taken::Whole(line) => {
                 gathered.add(line.as_slice())?;
@@ -133,6 +137,26 @@ fn take_lines<R: InputStream>(
         }
     }
     Ok(gathered.into_lines())
+}
+
+/// Adds the next line to those gathered, where it lies whole in what was read.
+///
+/// # Errors
+/// `AllocError` where a growth is refused.
+#[inline(always)]
+fn gather_at_hand(intake: &mut Intake, gathered: &mut Gathered) -> Result<bool, AllocError>
+    ensures some { IfOk result (λ some. OnTrue some (AddsLine intake.old.0 intake.new.0 gathered.old gathered.new)) }
+    ensures none { IfOk result (λ some. OnFalse some ((intake.new ≡ intake.old) × (gathered.new ≡ gathered.old))) }
+    ensures reads { intake.new.1 ≡ intake.old.1 }
+    ensures less { IfOk result (λ _. work_left intake.new ≤ work_left intake.old) }
+{
+    let Some(line) = intake.line_at_hand() else {
+        return Ok(false);
+    };
+    let octets = line.len() + 1;
+    gathered.add(without_return(line))?;
+    intake.pass(octets);
+    Ok(true)
 }
 
 /// The text of lines; none where there are none, or they are over the limits of a text.

@@ -1,11 +1,14 @@
 //! The lines of a command as they come.
-ghost use Rattle.std.specs.Prelude.{◌≡◌, ◌∷◌, ◌++◌, [], None, Some, OnOk, option_and_then, length};
+ghost use Rattle.std.specs.Prelude.{◌≡◌, ◌∷◌, ◌++◌, [], None, Some, IfOk, OnOk, option_and_then, length};
 ghost use Rattle.pd_words.specs.Pieces.{NoNewline};
 ghost use Rattle.pd_words.specs.Commands.{fitted};
 
 use pd_text::{LineList, MAX_LINES, MAX_OCTETS};
 use std::alloc::{AllocError, Global};
 use std::marker::Model;
+
+/// For how many octets of a line room is made.
+const LINE_ROOM: usize = 32;
 
 /// The lines so far; none once they are over the limits of a text.
 #[derive(Drop)]
@@ -39,6 +42,19 @@ impl Gathered {
             octets: 0,
             large: false,
         }
+    }
+
+    /// No lines, and room for so many of 32 octets, or for as many as a text may have.
+    ///
+    /// # Errors
+    /// `AllocError` where the room is refused.
+    pub fn with_room(alloc: Global, lines: usize) -> Result<Gathered, AllocError>
+        ensures { IfOk result (λ gathered. gathered ≡ Some []) }
+    {
+        let most = lines.min(MAX_LINES);
+        let mut gathered = Gathered::new(alloc);
+        gathered.lines.reserve(most, most * LINE_ROOM)?;
+        Ok(gathered)
     }
 
     /// Adds a line.

@@ -91,6 +91,29 @@ impl Intake {
         Ok(taken_of(line, found, limit))
     }
 
+    /// The line that comes next, without its newline, where it lies whole in what was read.
+    #[inline(always)]
+    pub fn line_at_hand(&self) -> Option<&[u8]>
+        ensures some { IfSome result (λ line. CutsPiece line.now true self.now.0 (drop (length line.now + 1) self.now.0)) }
+        ensures none { IfNone result (NoNewline self.now.0) }
+    {
+        let left = &self.block[self.used..];
+        match newline_at(left) {
+            Some(n) => Some(&left[..n]),
+            None => None,
+        }
+    }
+
+    /// Passes by so many octets that were read.
+    #[inline(always)]
+    pub fn pass(&mut self, octets: usize)
+        requires { octets ≤ length self.old.0 }
+        ensures left { self.new.0 ≡ drop octets self.old.0 }
+        ensures reads { self.new.1 ≡ self.old.1 }
+    {
+        self.used += octets;
+    }
+
     /// Takes back a line that was taken, so that the next one takes no room of its own.
     pub fn give_back(&mut self, line: Vec<u8>)
         ensures { self.new ≡ self.old }
@@ -144,19 +167,15 @@ impl Intake {
         ensures room { length line.new.items ≤ cap }
         ensures only { IfErr result (λ fault. fault ≡ ServeFault.OutOfMemory) }
     {
-        let left = &self.block[self.used..];
-        match newline_at(left) {
-            Some(n) => {
-                add_capped(line, &left[..n], cap)?;
-                self.used += n + 1;
-                Ok(true)
-            }
-            None => {
-                add_capped(line, left, cap)?;
-                self.used = self.block.len();
-                Ok(false)
-            }
+        if let Some(piece) = self.line_at_hand() {
+            let octets = piece.len() + 1;
+            add_capped(line, piece, cap)?;
+            self.pass(octets);
+            return Ok(true);
         }
+        add_capped(line, &self.block[self.used..], cap)?;
+        self.used = self.block.len();
+        Ok(false)
     }
 
     /// Reads once more, where nothing is left, and so one read fewer may be made. False says that the input has ended.
@@ -174,14 +193,13 @@ impl Intake {
             return Err(ServeFault::Read);
         }
         self.reads -= 1;
-        let mut block = [0u8; MAX_READ];
-        let n = match reader.read_block(&mut block) {
+        self.used = 0;
+        self.block.resize(MAX_READ, 0)?;
+        let n = match reader.read_block(&mut self.block) {
             Ok(n) => n,
             Err(_) => return Err(ServeFault::Read),
         };
-        self.block.clear();
-        self.used = 0;
-        self.block.extend_from_slice(&block[..n])?;
+        self.block.truncate(n);
         Ok(n > 0)
     }
 }
@@ -231,12 +249,21 @@ fn taken_of(line: Vec<u8>, found: bool, limit: usize) -> Taken
     Taken::Long
 }
 
+/// A line without a carriage return at its end.
+#[inline(always)]
+pub fn without_return(line: &[u8]) -> &[u8]
+    ensures { result.now ≡ strip_carriage_return line.now }
+{
+    match line {
+        [front @ .., b'\r'] => front,
+        _ => line,
+    }
+}
+
 /// Drops one carriage return at the end.
 fn strip(line: &mut Vec<u8>)
     ensures { line.new.items ≡ strip_carriage_return line.old.items }
 {
-    let n = line.len();
-    if n > 0 && line[n - 1] == b'\r' {
-        line.truncate(n - 1);
-    }
+    let octets = without_return(line.as_slice()).len();
+    line.truncate(octets);
 }

@@ -27,7 +27,7 @@ pub use exits::Exit;
 pub use faults::ServeFault;
 pub use gathered::Gathered;
 pub use input_stream::InputStream;
-pub use intake::{Intake, Taken};
+pub use intake::{Intake, Taken, without_return};
 pub use program_faults::ProgramFault;
 pub use program_words::settings_option;
 pub use settings_text::settings_of;

@@ -6,51 +6,72 @@ use Rattle.pd_words.specs.Taking.{TakesLines, LinesFault}
 use Rattle.pd_words.specs.declared.intake.Taken.TheVariants.{Whole, Long, End}
 use Rattle.pd_words.specs.declared.faults.ServeFault.TheVariants.{Truncated}
 use Rattle.pd_words.proofs.Known.{known_then, known_map, known_same, fact_then}
-use Rattle.pd_words.proofs.Spending.{spends_same, spends_then}
-use Rattle.pd_words.proofs.Gather.{SoFar, so_first, so_whole, so_long, so_done, so_short}
+use Rattle.pd_words.proofs.Spending.{spends_same, spends_then, spends_at_hand}
+use Rattle.pd_words.proofs.Gather.{SoFar, Added, known_added, so_added, so_first, so_whole, so_long, so_done, so_short}
 use Rattle.pd_words.proofs.command.take_lines.Goals.{in-Whole+in_ok-add-in-Whole, in-Long}
 use Rattle.pd_words.proofs.command.take_lines.Goals as goal
 
 pub returns-in-End-clause-err : goal.returns-in-End-clause-err
 returns-in-End-clause-err g c =
-    fact_then (SoFar c.loop-turn._turn c.loop-turn.gathered) (TakesLine 65536 End) (LinesFault Truncated c.args.count)
-    (to_come c.args.intake.now (g.R.Read.remaining c.args.reader.now)) (to_come c.loop-turn.intake (g.R.Read.remaining c.loop-turn.reader)) (to_come c.next_line.new.self (g.R.Read.remaining c.next_line.new.reader))
-    (λ x y z s t. so_short c.loop-turn._turn c.args.count c.loop-turn.gathered x y c.loop-turn-test.true s t.0) c.loop-turn.invariant.so_far (rw c.in-End.is at c.in_ok-line.ensures.line)
+    let none = rw c.if-branch.false at c.in_ok-gather_at_hand.ensures.none in
+    let far_now : IfKnown (SoFar c.loop-turn._turn c.gather_at_hand.new.gathered) (to_come c.args.intake.now (g.R.Read.remaining c.args.reader.now)) (to_come c.gather_at_hand.new.intake (g.R.Read.remaining c.loop-turn.reader)) = rw (none.0, none.1) c.loop-turn.invariant.so_far in
+    fact_then (SoFar c.loop-turn._turn c.gather_at_hand.new.gathered) (TakesLine 65536 End) (LinesFault Truncated c.args.count)
+    (to_come c.args.intake.now (g.R.Read.remaining c.args.reader.now)) (to_come c.gather_at_hand.new.intake (g.R.Read.remaining c.loop-turn.reader)) (to_come c.next_line.new.self (g.R.Read.remaining c.next_line.new.reader))
+    (λ x y z s t. so_short c.loop-turn._turn c.args.count c.gather_at_hand.new.gathered x y c.loop-turn-test.true s t.0) far_now (rw c.in-End.is at c.in_ok-line.ensures.line)
+
+pub loop-turn-preserved-then-branch : goal.loop-turn-preserved-then-branch
+loop-turn-preserved-then-branch g c =
+    let added = rw c.if-branch.true at c.in_ok-gather_at_hand.ensures.some in
+    let left = g.R.Read.remaining c.loop-turn.reader in
+    let old = to_come c.args.intake.now (g.R.Read.remaining c.args.reader.now) in
+    let next = SoFar (c.loop-turn._turn + 1) c.gather_at_hand.new.gathered in
+    let kept = Added c.loop-turn.gathered c.gather_at_hand.new.gathered in
+    record {
+      less = omega (arith, c.in_ok-gather_at_hand.ensures.less, c.loop-turn.invariant.less);
+      so_far = known_then (SoFar c.loop-turn._turn c.loop-turn.gathered) kept next old (to_come c.loop-turn.intake left) (to_come c.gather_at_hand.new.intake left)
+          (λ x y z s t. so_added c.loop-turn._turn c.loop-turn.gathered c.gather_at_hand.new.gathered x y z s t) c.loop-turn.invariant.so_far
+          (known_added c.loop-turn.intake.0 c.gather_at_hand.new.intake.0 left c.loop-turn.gathered c.gather_at_hand.new.gathered added);
+      spent = spends_then c.args.intake.now c.loop-turn.intake c.gather_at_hand.new.intake (g.R.Read.remaining c.args.reader.now) left left c.loop-turn.invariant.spent
+          (spends_at_hand c.loop-turn.intake c.gather_at_hand.new.intake added.line left added.cut.1 c.gather_at_hand.ensures.reads);
+    }
 
 pub loop-turn-preserved : goal.loop-turn-preserved
 loop-turn-preserved g c =
+    let none = rw c.if-branch.false at c.in_ok-gather_at_hand.ensures.none in
+    let far_now : IfKnown (SoFar c.loop-turn._turn c.gather_at_hand.new.gathered) (to_come c.args.intake.now (g.R.Read.remaining c.args.reader.now)) (to_come c.gather_at_hand.new.intake (g.R.Read.remaining c.loop-turn.reader)) = rw (none.0, none.1) c.loop-turn.invariant.so_far in
+    let spent_now : IfKnown (Spends c.args.intake.now c.gather_at_hand.new.intake) (g.R.Read.remaining c.args.reader.now) (g.R.Read.remaining c.loop-turn.reader) = rw none.0 c.loop-turn.invariant.spent in
     let old = to_come c.args.intake.now (g.R.Read.remaining c.args.reader.now) in
-    let mid = to_come c.loop-turn.intake (g.R.Read.remaining c.loop-turn.reader) in
+    let mid = to_come c.gather_at_hand.new.intake (g.R.Read.remaining c.loop-turn.reader) in
     let new = to_come c.next_line.new.self (g.R.Read.remaining c.next_line.new.reader) in
-    let far = SoFar c.loop-turn._turn c.loop-turn.gathered in
-    let next = SoFar (c.loop-turn._turn + 1) c.match-branch-2.gathered in
-    let back : c.match-branch-2.intake ≡ c.next_line.new.self =
-    elim c.match-branch-2.branch [
+    let far = SoFar c.loop-turn._turn c.gather_at_hand.new.gathered in
+    let next = SoFar (c.loop-turn._turn + 1) c.match-branch-4.gathered in
+    let back : c.match-branch-4.intake ≡ c.next_line.new.self =
+    elim c.match-branch-4.branch [
       | in-Whole+in_ok-add-in-Whole w ↦ w.intake-is ∙ w.give_back.ensures
       | in-Long w ↦ w.intake-is
     ] in
     let so_far : IfKnown next old new =
-    elim c.match-branch-2.branch [
+    elim c.match-branch-4.branch [
       | in-Whole+in_ok-add-in-Whole w ↦ known_then far (TakesLine 65536 (Whole w.in-Whole.line)) next old mid new
-          (λ x y z s t. so_whole c.loop-turn._turn c.loop-turn.gathered c.match-branch-2.gathered w.in-Whole.line.items x y z (◌∙◌ {c = option_and_then (λ (texts : List (List ℕ)). fitted (texts ++ w.in-Whole.line.items ∷ [])) c.loop-turn.gathered} w.gathered-is (rw w.as_slice.ensures.value at w.in_ok-add-in-Whole.ensures)) s t) c.loop-turn.invariant.so_far (rw w.in-Whole.is at c.in_ok-line.ensures.line)
+          (λ x y z s t. so_whole c.loop-turn._turn c.gather_at_hand.new.gathered c.match-branch-4.gathered w.in-Whole.line.items x y z (◌∙◌ {c = option_and_then (λ (texts : List (List ℕ)). fitted (texts ++ w.in-Whole.line.items ∷ [])) c.gather_at_hand.new.gathered} w.gathered-is (rw w.as_slice.ensures.value at w.in_ok-add-in-Whole.ensures)) s t) far_now (rw w.in-Whole.is at c.in_ok-line.ensures.line)
       | in-Long w ↦ known_then far (TakesLine 65536 Long) next old mid new
-          (λ x y z s t. so_long c.loop-turn._turn c.loop-turn.gathered c.match-branch-2.gathered x y z (w.gathered-is ∙ w.add_long.ensures) s t) c.loop-turn.invariant.so_far (rw w.in-Long.is at c.in_ok-line.ensures.line)
+          (λ x y z s t. so_long c.loop-turn._turn c.gather_at_hand.new.gathered c.match-branch-4.gathered x y z (w.gathered-is ∙ w.add_long.ensures) s t) far_now (rw w.in-Long.is at c.in_ok-line.ensures.line)
     ] in
-    let spent : IfKnown (Spends c.loop-turn.intake c.next_line.new.self) (g.R.Read.remaining c.loop-turn.reader) (g.R.Read.remaining c.next_line.new.reader) =
-    elim c.match-branch-2.branch [
+    let spent : IfKnown (Spends c.gather_at_hand.new.intake c.next_line.new.self) (g.R.Read.remaining c.loop-turn.reader) (g.R.Read.remaining c.next_line.new.reader) =
+    elim c.match-branch-4.branch [
       | in-Whole+in_ok-add-in-Whole w ↦ (rw w.in-Whole.is at c.in_ok-line.ensures.reads) tt
       | in-Long w ↦ (rw w.in-Long.is at c.in_ok-line.ensures.reads) tt
     ] in
     record {
-      less = omega (arith, c.in_ok-line.ensures.less, c.loop-turn.invariant.less, ap work_left back);
+      less = omega (arith, c.in_ok-line.ensures.less, c.loop-turn.invariant.less, ap work_left none.0, ap work_left back);
       so_far = rw back so_far;
-      spent = rw back (spends_then c.args.intake.now c.loop-turn.intake c.next_line.new.self (g.R.Read.remaining c.args.reader.now) (g.R.Read.remaining c.loop-turn.reader) (g.R.Read.remaining c.next_line.new.reader) c.loop-turn.invariant.spent spent);
+      spent = rw back (spends_then c.args.intake.now c.gather_at_hand.new.intake c.next_line.new.self (g.R.Read.remaining c.args.reader.now) (g.R.Read.remaining c.loop-turn.reader) (g.R.Read.remaining c.next_line.new.reader) spent_now spent);
     }
 
 pub loop-turn-init : goal.loop-turn-init
 loop-turn-init g c = record {
   less = omega arith;
-  so_far = known_same (SoFar 0 c.new-gathered.result) (to_come c.args.intake.now (g.R.Read.remaining c.args.reader.now)) (λ x. so_first c.new-gathered.result x c.new-gathered.ensures);
+  so_far = known_same (SoFar 0 c.in_ok-gathered.gathered) (to_come c.args.intake.now (g.R.Read.remaining c.args.reader.now)) (λ x. so_first c.in_ok-gathered.gathered x c.in_ok-gathered.ensures);
   spent = spends_same c.args.intake.now (g.R.Read.remaining c.args.reader.now);
 }
 

@@ -1,6 +1,4 @@
-use Rattle.std.proofs.Common.{codes, ap, refl, List, Bool, Option, ℕ, Bor, ◌≡◌, ◌∙◌}
-use Rattle.clap.specs.Words.{Text}
-use Rattle.pd_words.specs.Chosen.{Asked, asked}
+use Rattle.std.proofs.Common.{codes, ap, refl, List, ℕ, Bor, ◌∙◌}
 use Rattle.pd_words.specs.ProgramWords.{pdregress, workers_in, cache_in}
 use Rattle.pd_words.proofs.SettingsText.{simple_pdregress, chosen_text}
 use Rattle.pd_words.proofs.word_options.chosen.Goals as goal

@@ -1,8 +1,8 @@
-use Rattle.std.proofs.Common.{true, false, map, sym, subst, List, [], ◌≡◌, ◌≢◌, ◌⊎◌, ◌||◌, ◌∙◌}
+use Rattle.std.proofs.Common.{true, false, map, sym, subst, [], ◌≡◌, ◌≢◌, ◌⊎◌, ◌||◌, ◌∙◌}
 use Rattle.clap.specs.Words.{App, app_of, kind_of, is_simple_and_free, HasMatchesOf}
 use Rattle.clap.specs.declared.error.Error.{Error}
 use Rattle.clap.specs.declared.error.kind.ErrorKind.TheVariants.{OutOfMemory}
-use Rattle.pd_words.specs.ProgramWords.{pdregress, word_faults, refusals, are_in_conflict, are_lonely}
+use Rattle.pd_words.specs.ProgramWords.{word_faults, refusals, are_in_conflict, are_lonely}
 use Rattle.pd_words.proofs.SettingsText.{free_pdregress, has_kind, passed_on}
 use Rattle.pd_words.proofs.Together.{alone_too, refused_together, not_refused, if_err}
 use Rattle.pd_words.proofs.word_options.options.Goals as goal

@@ -1,6 +1,6 @@
 use Rattle.std.proofs.Common.{arith, inr}
 use Rattle.pd_words.proofs.Fronts.{front_more, front_cut, front_end}
-use Rattle.pd_words.proofs.Spending.{gave_more, gave_last, held_none, stops_caused}
+use Rattle.pd_words.proofs.Spending.{gave_more, held_none}
 use Rattle.pd_words.proofs.intake.Intake.read_line.Goals as goal
 
 pub returns-then-branch-clause-line : goal.returns-then-branch-clause-line
