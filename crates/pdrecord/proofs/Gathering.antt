@@ -1,14 +1,16 @@
 -- What is gathered of an input.
-use Rattle.std.proofs.Common.{◌≡◌, ℕ, ◌+◌, ◌<◌, ◌≤◌, ◌&&◌, nat_le, Bool, true, false, not, List, [], ◌∷◌, ◌++◌, length, Option, Some, None, IfSome, option_and_then, refl, sym, ap, ◌∙◌, arith, cond, append_assoc, append-nil, length-append}
-use Rattle.std.specs.Str.Lines.{lines}
+use Rattle.std.proofs.Common.{◌≡◌, ℕ, ◌+◌, ◌<◌, ◌≤◌, ◌&&◌, nat_le, Bool, true, false, not, List, [], ◌∷◌, ◌++◌, length, Option, Some, None, option_and_then, refl, sym, ap, ◌∙◌, arith, cond, append_assoc, append-nil, length-append}
+use Rattle.std.specs.Str.Lines.{lines, strip_carriage_return}
+use Rattle.std.specs.Io.KnownBytes.{prepend_known}
 use Rattle.std.proofs.lemmas.List.Sums.{sum_by-append}
 use Rattle.std.proofs.lemmas.Bool.Decides.{nat_tests}
 use Rattle.pd_text.specs.Text.{fits_text}
 use Rattle.pd_layout.specs.Traces.{is_trace}
 use Rattle.pd_words.specs.Commands.{fitted}
 use Rattle.pd_words.specs.Input.{IfKnown, to_come}
-use Rattle.pd_words.specs.TakenLines.{TakesLine}
-use Rattle.pd_words.specs.declared.intake.Taken.TheVariants.{Whole, Long, End}
+use Rattle.pd_words.specs.Pieces.{CutsPiece}
+use Rattle.pd_words.proofs.Gather.{known_at_hand}
+use Rattle.pd_words.proofs.Known.{known_map}
 use Rattle.pdrecord.specs.ScriptInput.{is_dropped, script_in, without_trace}
 use Rattle.pdrecord.specs.Inner.{Gathers, with_line}
 
@@ -76,6 +78,9 @@ so_text g h text x y z e s t = e ∙ (ap (λ (o : Option (List (List ℕ))). opt
 
 pub gathers_whole : (g h : Option (List (List ℕ))) (line x y : List ℕ) → h ≡ with_line line g → (lines x ≡ line ∷ lines y) × (length line ≤ 65536) → Gathers true g h x y
 gathers_whole g h line x y e t = (line, t.0, e)
+
+pub gathers_at_hand : (g h : Option (List (List ℕ))) (line old new : List ℕ) (left : Option (List ℕ)) → h ≡ with_line (strip_carriage_return line) g → CutsPiece line true old new → IfKnown (Gathers true g h) (prepend_known old left) (prepend_known new left)
+gathers_at_hand g h line old new left e cut = known_map (λ x y. lines x ≡ strip_carriage_return line ∷ lines y) (Gathers true g h) (prepend_known old left) (prepend_known new left) (λ x y t. (strip_carriage_return line, t, e)) (known_at_hand line old new left cut)
 
 not_dropped : (line : List ℕ) → 65536 < length line → is_dropped line ≡ false
 not_dropped line h = let e : nat_le (length line) 65536 ≡ false = grind (arith, nat_tests, h) in ap (λ (b : Bool). b && is_trace line) e

@@ -1,5 +1,5 @@
 -- Want of memory before anything is read.
-use Rattle.std.proofs.Common.{◌≡◌, ℕ, Bool, List, Option, Some, None, Result, Ok, Err, IfSome, ◌⊎◌, inl, inr, refl}
+use Rattle.std.proofs.Common.{◌≡◌, ℕ, List, Option, Some, None, Result, Ok, Err, IfSome, ◌⊎◌, inl, inr, refl}
 use Rattle.pd_settings.specs.declared.fields.Settings.{Settings}
 use Rattle.pd_words.specs.declared.faults.ServeFault.TheVariants.{OutOfMemory}
 use Rattle.pd_words.specs.declared.program_faults.ProgramFault.{ProgramFault}

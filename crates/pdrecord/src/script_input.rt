@@ -9,7 +9,7 @@ ghost use Rattle.pdrecord.specs.Inner.{Gathers, with_line};
 
 use pd_layout::is_trace;
 use pd_text::{Lines, MAX_LINES, MAX_OCTETS};
-use pd_words::{Gathered, InputStream, Intake, ServeFault, Taken, text_of};
+use pd_words::{Gathered, InputStream, Intake, ServeFault, Taken, text_of, without_return};
 use std::alloc::{AllocError, Global};
 
 /// The script that an input is.
@@ -93,6 +93,14 @@ fn take_line<R: InputStream>(
     ensures only { IfErr result IsIo }
     ensures cause { IfErr result (IsCaused (R.has_failed reader.new) intake.old intake.new (R.remaining reader.old)) }
 {
+    if let Some(line) = intake.line_at_hand() {
+        let octets = line.len() + 1;
+        let line = without_return(line);
+        numbers.count(line)?;
+        gather(gathered, line)?;
+        intake.pass(octets);
+        return Ok(true);
+    }
     match intake.next_line(alloc, reader, MAX_OCTETS)? {
         Taken::Whole(line) => {
             numbers.count(line.as_slice())?;

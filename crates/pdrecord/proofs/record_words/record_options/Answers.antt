@@ -5,7 +5,7 @@ use Rattle.clap.specs.declared.error.kind.ErrorKind.TheVariants.{OutOfMemory}
 use Rattle.pd_words.specs.ProgramWords.{word_faults}
 use Rattle.pd_words.proofs.SettingsText.{has_kind, passed_on}
 use Rattle.pd_words.proofs.Together.{if_err}
-use Rattle.pdrecord.specs.RecordWords.{pdrecord, is_trace_of_least, is_drop_alone, refusals}
+use Rattle.pdrecord.specs.RecordWords.{is_trace_of_least, is_drop_alone, refusals}
 use Rattle.pdrecord.proofs.Words.{free_pdrecord}
 use Rattle.pdrecord.proofs.Together.{alone_too, refused_together, not_refused}
 use Rattle.pdrecord.proofs.record_words.record_options.Goals as goal
