@@ -7,6 +7,11 @@
 scripts=${1:-1000}
 events=60
 
+# What the program takes for an input at most, in KiB.
+memory() { # the input
+    /usr/bin/time -f %M "$program" <"$1" 2>&1 >/dev/null | tail -n 1
+}
+
 transfers "$scripts" >"$work/input"
 
 octets=$(wc -c <"$work/input")
@@ -24,8 +29,10 @@ if command -v valgrind >/dev/null 2>&1; then
     awk -v all="$((scripts * events))" -v n="$taken" 'BEGIN { printf "%.0f instructions an event, the aim is 2,400\n", n / all }'
 fi
 if [ -x /usr/bin/time ]; then
-    resident=$(/usr/bin/time -f %M "$program" <"$work/input" 2>&1 >/dev/null | tail -n 1)
-    awk -v kib="$resident" -v octets="$octets" 'BEGIN {
-        printf "%d KiB resident, %.1f times the texts, the aim is 2.5\n", kib, kib * 1024 / octets
+    resident=$(memory "$work/input")
+    idle=$(memory /dev/null)
+    awk -v kib="$resident" -v idle="$idle" -v octets="$octets" 'BEGIN {
+        printf "%d KiB resident, %.1f times the texts; ", kib, kib * 1024 / octets
+        printf "%d without a script, and %.1f times the texts without these, the aim is 2.5\n", idle, (kib - idle) * 1024 / octets
     }'
 fi
