@@ -10,8 +10,8 @@ use crate::mends::{Fate, Mend, copy_of, mend_of};
 use crate::origins::Origins;
 use crate::refusals::NotMended;
 use crate::site::Site;
-use pd_run::{Verdict, find_stop};
-use pd_script::{Action, Event, parse};
+use pd_run::{Stopped, Verdict, find_stop};
+use pd_script::{Action, Event, Parsed, parse};
 use pd_settings::Settings;
 use pd_text::{LineEdit, Lines, TextFault};
 use std::alloc::{AllocError, Global};
@@ -91,17 +91,39 @@ impl Mender {
         ensures { IfOk result (λ found. IfSome found (IsChange (script_of text.now).events line)) }
     {
         let parsed = parse(alloc, text)?;
-        let Some(stop) = find_stop(alloc, &parsed, settings, line)? else {
+        match find_stop(alloc, &parsed, settings, line)? {
+            Some(stop) => self.edit_after(alloc, text, settings, &parsed, &stop, line),
+            None => Ok(None),
+        }
+    }
+
+    /// The same where the run of the text, which was read, stops so.
+    fn edit_after(
+        &mut self,
+        alloc: Global,
+        text: &Lines,
+        settings: &Settings,
+        parsed: &Parsed,
+        stop: &Stopped,
+        line: usize,
+    ) -> Result<Option<LineEdit>, AllocError>
+        ensures { IfOk result (λ found. IfSome found (IsChange parsed.now.events line)) }
+    {
+        match Site::at(alloc, text, settings, parsed, stop, line)? {
+            Some(site) => self.edit_at(&site),
+            None => Ok(None),
+        }
+    }
+
+    /// The same at the event that stops it.
+    fn edit_at(&mut self, site: &Site<'_>) -> Result<Option<LineEdit>, AllocError>
+        ensures { IfOk result (λ found. IfSome found (IsChange site.now.parsed.now.events site.now.line)) }
+    {
+        let Some(mend) = self.next_mend(site)? else {
             return Ok(None);
         };
-        let events = parsed.events.as_slice();
-        let Some(site) = Site::at(alloc, text, settings, &parsed, &stop, line)? else {
-            return Ok(None);
-        };
-        let Some(mend) = self.next_mend(&site)? else {
-            return Ok(None);
-        };
-        Ok(changed(events, stop.passed, line, text, mend))
+        let events = site.parsed.events.as_slice();
+        Ok(changed(events, site.stop.passed, site.line, site.lines, mend))
     }
 
     /// The next mend, of which what counts for later ones is noted.

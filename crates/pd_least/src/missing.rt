@@ -1,4 +1,6 @@
 //! What becomes of a packet that isn't sent in time.
+ghost use Rattle.std.specs.Prelude.{◌≤◌, length};
+
 use crate::awaited::look_ahead;
 use crate::differences::Differences;
 use crate::mends::{Mend, fitted};
@@ -6,8 +8,9 @@ use crate::new_lines::one_line;
 use crate::pieces::{Span, part, rest};
 use crate::site::Site;
 use pd_run::{RunState, Stopped, Why, find_stop};
-use pd_script::parse;
+use pd_script::{Parsed, parse};
 use pd_seg::Sent;
+use pd_text::Lines;
 use std::alloc::AllocError;
 
 /// A packet that is awaited at any time and never is sent.
@@ -30,26 +33,54 @@ enum Lateness {
 /// `AllocError` where a growth is refused.
 pub fn mend_missing(site: &Site<'_>, drop: bool) -> Result<Option<Mend>, AllocError> {
     let gone = site.not_sent(drop)?;
-    let Some((sent, run)) = next_packet(site)? else {
-        return Ok(Some(gone));
-    };
-    let lateness = lateness_of(site, &sent, &run)?;
+    match next_packet(site)? {
+        Some((sent, run)) => mend_unless_late(site, gone, &sent, &run),
+        None => Ok(Some(gone)),
+    }
+}
+
+/// The mend of a packet that isn't sent, unless it is this one, which is sent next, and late.
+fn mend_unless_late(
+    site: &Site<'_>,
+    gone: Mend,
+    sent: &Sent,
+    run: &RunState,
+) -> Result<Option<Mend>, AllocError> {
+    let lateness = lateness_of(site, sent, run)?;
     if lateness == Lateness::NotSent {
         return Ok(Some(gone));
     }
-    let Some(late) = fitted(site, &sent, &run)? else {
-        return Ok(None);
-    };
+    match fitted(site, sent, run)? {
+        Some(late) => Ok(Some(likelier(site, lateness, gone, late)?)),
+        None => Ok(None),
+    }
+}
+
+/// That mend of two which the lateness of the packet and how far the script gets speak for.
+fn likelier(
+    site: &Site<'_>,
+    lateness: Lateness,
+    gone: Mend,
+    late: Mend,
+) -> Result<Mend, AllocError> {
     let is_late = if lateness == Lateness::Late {
         !site.gets_further(&gone, &late)?
     } else {
         site.gets_further(&late, &gone)?
     };
-    Ok(Some(if is_late { late } else { gone }))
+    Ok(if is_late { late } else { gone })
 }
 
 /// The packet that is sent next, however late, in the run that took it: what a run meets that awaits another one.
 fn next_packet(site: &Site<'_>) -> Result<Option<(Sent, RunState)>, AllocError> {
+    match text_that_never_meets(site)? {
+        Some(lines) => differing_packet(site, &parse(site.alloc, &lines)?),
+        None => Ok(None),
+    }
+}
+
+/// The text with a packet that never is sent in the place of the awaited one.
+fn text_that_never_meets(site: &Site<'_>) -> Result<Option<Lines>, AllocError> {
     let span = site.span();
     let before = Span {
         from: 0,
@@ -58,12 +89,17 @@ fn next_packet(site: &Site<'_>) -> Result<Option<(Sent, RunState)>, AllocError> 
     let mut line = Vec::from_slice(site.alloc, part(site.octets, before))?;
     line.extend_from_slice(NEVER)?;
     line.extend_from_slice(rest(site.octets, span.to))?;
-    let insert = one_line(site.alloc, line.as_slice())?.lines;
-    let Some(lines) = site.with_lines(insert)? else {
-        return Ok(None);
-    };
-    let parsed = parse(site.alloc, &lines)?;
-    let Some(stop) = find_stop(site.alloc, &parsed, site.settings, site.line)? else {
+    site.with_lines(one_line(site.alloc, line.as_slice())?.lines)
+}
+
+/// The packet that isn't the one that a text awaits on the line of the event, and the run that took it.
+fn differing_packet(
+    site: &Site<'_>,
+    parsed: &Parsed,
+) -> Result<Option<(Sent, RunState)>, AllocError>
+    requires { length parsed.now.events ≤ 4096 }
+{
+    let Some(stop) = find_stop(site.alloc, parsed, site.settings, site.line)? else {
         return Ok(None);
     };
     let Stopped { why, .. } = stop;

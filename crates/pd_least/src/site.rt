@@ -1,4 +1,6 @@
 //! Where a run stopped, as it stands in its text.
+ghost use Rattle.std.specs.Prelude.{◌≡◌, IfOk, IfSome};
+
 use crate::pieces::{EventPieces, Span, event_pieces};
 use crate::swaps::second_column;
 use pd_run::Stopped;
@@ -41,7 +43,9 @@ impl<'a> Site<'a> {
         parsed: &'a Parsed,
         stop: &'a Stopped,
         line: usize,
-    ) -> Result<Option<Site<'a>>, AllocError> {
+    ) -> Result<Option<Site<'a>>, AllocError>
+        ensures { IfOk result (λ found. IfSome found (λ site. (site.parsed.now ≡ parsed.now) × (site.line ≡ line))) }
+    {
         let Some(event) = parsed.events.as_slice().get(stop.passed) else {
             return Ok(None);
         };

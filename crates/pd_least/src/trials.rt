@@ -1,9 +1,11 @@
 //! How far a script gets with a mend.
+ghost use Rattle.std.specs.Prelude.{◌≤◌, length};
+
 use crate::lines_left::line_in;
 use crate::mends::Mend;
 use crate::site::Site;
 use pd_run::{Verdict, find_stop, run_all};
-use pd_script::parse;
+use pd_script::{Parsed, parse};
 use pd_text::{LineEdit, LineList, Lines, TextFault};
 use std::alloc::AllocError;
 
@@ -38,15 +40,25 @@ impl Site<'_> {
 
     /// How many events are left where the run of the text stops with a mend of the event's line.
     fn left_after(&self, mend: &Mend) -> Result<usize, AllocError> {
-        let Some(lines) = self.with_lines(mend.lines.copy()?)? else {
-            return Ok(usize::MAX);
-        };
-        let verdict = run_all(self.alloc, &lines, self.settings)?;
-        if let Verdict::Pass(_) = verdict {
-            return Ok(0);
+        match self.with_lines(mend.lines.copy()?)? {
+            Some(lines) => self.left_in(&lines),
+            None => Ok(usize::MAX),
         }
-        let parsed = parse(self.alloc, &lines)?;
-        match find_stop(self.alloc, &parsed, self.settings, line_in(verdict))? {
+    }
+
+    /// How many events are left where the run of a text stops.
+    fn left_in(&self, lines: &Lines) -> Result<usize, AllocError> {
+        match run_all(self.alloc, lines, self.settings)? {
+            Verdict::Pass(_) => Ok(0),
+            verdict => self.left_from(&parse(self.alloc, lines)?, line_in(verdict)),
+        }
+    }
+
+    /// How many events are left where the run of a script stops at a line.
+    fn left_from(&self, parsed: &Parsed, line: usize) -> Result<usize, AllocError>
+        requires { length parsed.now.events ≤ 4096 }
+    {
+        match find_stop(self.alloc, parsed, self.settings, line)? {
             Some(stop) => Ok(parsed.events.len().saturating_sub(stop.passed)),
             None => Ok(usize::MAX),
         }
