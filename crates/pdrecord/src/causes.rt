@@ -2,7 +2,7 @@
 use pd_explain::{Cause, Failed, cause_at, event_place, explain};
 use pd_host::Halt;
 use pd_record::{RecordingStop, find_recording_stop};
-use pd_reparse::read;
+use pd_reparse::{Decided, Reading, read};
 use pd_run::{Bar, Stopped, Verdict, Why, run_all};
 use pd_script::parse;
 use pd_settings::Settings;
@@ -55,21 +55,53 @@ fn cause_of_stop(
     why: Why,
 ) -> Result<Option<Cause>, AllocError> {
     let RecordingStop { passed, run, base } = stop;
-    let reading = read(alloc, lines)?;
-    let Some(decided) = reading.events().get(passed) else {
-        return Ok(None);
-    };
     let stopped = Stopped {
         passed,
         before: run,
         why,
     };
-    let place = event_place(&reading, passed);
-    let mut cause = cause_at(alloc, lines, place, decided, &stopped)?;
-    if let Cause::Failed(failure) = &mut cause {
-        if let Failed::Backwards(setback) = &mut failure.failed {
-            setback.base = base;
-        }
+    cause_in_text(alloc, lines, &stopped, base)
+}
+
+/// The same where an event of a text stopped the run so.
+fn cause_in_text(
+    alloc: Global,
+    lines: &Lines,
+    stopped: &Stopped,
+    base: u64,
+) -> Result<Option<Cause>, AllocError> {
+    let reading = read(alloc, lines)?;
+    match reading.events().get(stopped.passed) {
+        Some(decided) => cause_of_event(alloc, lines, &reading, decided, stopped, base),
+        None => Ok(None),
     }
-    Ok(Some(cause))
+}
+
+/// The same where this event of what the text was read as stopped it.
+fn cause_of_event(
+    alloc: Global,
+    lines: &Lines,
+    reading: &Reading,
+    decided: &Decided,
+    stopped: &Stopped,
+    base: u64,
+) -> Result<Option<Cause>, AllocError> {
+    let place = event_place(reading, stopped.passed);
+    let cause = cause_at(alloc, lines, place, decided, stopped)?;
+    Ok(Some(counted_from(cause, base)))
+}
+
+/// A cause whose times count from this moment, in microseconds since the start of the run.
+fn counted_from(cause: Cause, base: u64) -> Cause {
+    let mut cause = cause;
+    if let Cause::Failed(failure) = &mut cause {
+        set_base(&mut failure.failed, base);
+    }
+    cause
+}
+
+fn set_base(failed: &mut Failed, base: u64) {
+    if let Failed::Backwards(setback) = failed {
+        setback.base = base;
+    }
 }
