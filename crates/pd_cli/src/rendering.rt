@@ -7,6 +7,12 @@ use pd_run::Verdict;
 use pd_words::{put_number, put_verdict};
 use std::alloc::{AllocError, Global};
 
+/// For how many octets of a row's line room is made.
+const LINE_ROOM: usize = 24;
+
+/// For how many of the totals.
+const TOTALS_ROOM: usize = 96;
+
 /// The octets of a report: a line for each script in order of adding, then a line of totals.
 ///
 /// # Errors
@@ -14,7 +20,12 @@ use std::alloc::{AllocError, Global};
 pub fn render(alloc: Global, report: &Report) -> Result<Vec<u8>, AllocError>
     ensures { IfOk result (λ octets. octets.items ≡ rendered report.now) }
 {
-    let mut out = Vec::new(alloc);
+    let room = report
+        .rows()
+        .len()
+        .saturating_mul(LINE_ROOM)
+        .saturating_add(TOTALS_ROOM);
+    let mut out = Vec::with_capacity(alloc, room)?;
     for row in report.rows() {
         put_row(&mut out, row)?;
     }
