@@ -39,7 +39,7 @@ pub fn mend_missing(site: &Site<'_>, drop: bool) -> Result<Option<Mend>, AllocEr
     }
 }
 
-/// The mend of a packet that isn't sent, unless it is this one, which is sent next, and late.
+/// The awaited packet isn't sent, unless it is this one, which is sent next: then it may be late.
 fn mend_unless_late(
     site: &Site<'_>,
     gone: Mend,
@@ -73,14 +73,14 @@ fn likelier(
 
 /// The packet that is sent next, however late, in the run that took it: what a run meets that awaits another one.
 fn next_packet(site: &Site<'_>) -> Result<Option<(Sent, RunState)>, AllocError> {
-    match text_that_never_meets(site)? {
+    match text_awaiting_never(site)? {
         Some(lines) => differing_packet(site, &parse(site.alloc, &lines)?),
         None => Ok(None),
     }
 }
 
 /// The text with a packet that never is sent in the place of the awaited one.
-fn text_that_never_meets(site: &Site<'_>) -> Result<Option<Lines>, AllocError> {
+fn text_awaiting_never(site: &Site<'_>) -> Result<Option<Lines>, AllocError> {
     let span = site.span();
     let before = Span {
         from: 0,

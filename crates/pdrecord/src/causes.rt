@@ -91,7 +91,7 @@ fn cause_of_event(
     Ok(Some(counted_from(cause, base)))
 }
 
-/// A cause whose times count from this moment, in microseconds since the start of the run.
+/// A cause; a time told to lie too early counts from this moment, in microseconds since the start of the run.
 fn counted_from(cause: Cause, base: u64) -> Cause {
     let mut cause = cause;
     if let Cause::Failed(failure) = &mut cause {
@@ -100,6 +100,7 @@ fn counted_from(cause: Cause, base: u64) -> Cause {
     cause
 }
 
+/// Puts this moment in the place of that from which a time that lies too early counts.
 fn set_base(failed: &mut Failed, base: u64) {
     if let Failed::Backwards(setback) = failed {
         setback.base = base;
