@@ -1,5 +1,5 @@
 //! Reading a text, whole or from the first event that an edit can have changed.
-ghost use Rattle.std.specs.Prelude.{◌≡◌, ◌-◌, ◌<◌, length, IfOk};
+ghost use Rattle.std.specs.Prelude.{◌≡◌, ◌+◌, ◌-◌, ◌<◌, length, IfOk};
 ghost use Rattle.pd_lex.specs.Lexing.{items};
 ghost use Rattle.pd_reparse.specs.Reading.{IsReadingOfFirst, reading_of, kept_of};
 ghost use Rattle.pd_reparse.specs.Steps.{IsReadOn, IsStep};
@@ -71,6 +71,7 @@ fn read_on(
     ensures { IfOk result (λ reading. IsReadOn reading header front (4096 - length front) (items lines.now place)) }
 {
     let mut events = front;
+    events.reserve(lines_from(lines, place))?;
     let mut reader = EventReader::at(lines, place);
     'events: for i in events.len()..MAX_EVENTS {
         match next_step(alloc, &mut reader, MAX_EVENTS - i - 1)? {
@@ -80,6 +81,13 @@ fn read_on(
     }
     // The end of the text follows the last event that a script may have.
     Ok(Reading::new(header, events, None)?)
+}
+
+/// How many lines there are from a place on.
+fn lines_from(lines: &Lines, place: Place) -> usize
+    ensures { result ≡ length lines.now + 1 - place.line }
+{
+    (lines.len() + 1).saturating_sub(place.line)
 }
 
 /// Reads the next event, where so many more may follow it.

@@ -18,7 +18,7 @@ use std::mem;
 /// How many items are in a block at most.
 const BLOCK: usize = 64;
 
-/// For how many items the first makes room.
+/// For how many items the first makes room where none was made.
 const ROOM: usize = 16;
 
 /// Items in order: in blocks that other lists may keep too, and after them fewer than a block, which no other keeps.
@@ -113,6 +113,17 @@ impl<T: Copied + Drop> SharedList<T> {
         Ok(())
     }
 
+    /// Makes room at once for so many items more, as far as they come before the next block.
+    ///
+    /// # Errors
+    /// `AllocError` where a growth is refused.
+    pub fn reserve(&mut self, more: usize) -> Result<(), AllocError>
+        ensures { self.new ≡ self.old }
+    {
+        let room = more.min(BLOCK.saturating_sub(self.rest.len()));
+        self.rest.reserve_exact(room)
+    }
+
     /// Puts all items into blocks, so that lists of the first of them share them. The items that follow the blocks
     /// become one block with as many of the last ones as have no more items than follow them, and room: so a list
     /// that grows little by little has few blocks, and few of its items are copied.
@@ -186,7 +197,7 @@ fn place<T: Drop>(blocks: &[Block<T>], index: usize) -> (usize, usize)
     (blocks.len(), left)
 }
 
-/// The first blocks, shared.
+/// The first blocks, shared, with room for two more: one that is shared in part, and one of what is put after it.
 fn shared<T: Drop>(
     alloc: Global,
     blocks: &[Block<T>],
@@ -195,7 +206,7 @@ fn shared<T: Drop>(
     requires { count ≤ length blocks.now }
     ensures { IfOk result (λ shared. shared.items ≡ take count blocks.now) }
 {
-    let mut shared = Vec::with_capacity(alloc, count + 1)?;
+    let mut shared = Vec::with_capacity(alloc, count + 2)?;
     for i in 0..count {
         let block = &blocks[i];
         shared.push(block.first(block.len())?)?;
@@ -256,12 +267,12 @@ fn copies<T: Copied + Drop>(alloc: Global, items: &[T], count: usize) -> Result<
     Ok(copies)
 }
 
-/// Puts an item after these, the first with room for some more.
+/// Puts an item after these, the first with room for some more where none was made.
 fn append<T: Drop>(items: &mut Vec<T>, item: T) -> Result<(), AllocError>
     ensures ok { OnOk result (items.new.items ≡ items.old.items ++ item ∷ []) }
     ensures err { OnErr result (items.new.items ≡ items.old.items) }
 {
-    items.reserve(if items.is_empty() { ROOM } else { 1 })?;
+    items.reserve(if items.capacity() == 0 { ROOM } else { 1 })?;
     items.push_reserved(item);
     Ok(())
 }

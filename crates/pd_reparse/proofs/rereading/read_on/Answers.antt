@@ -17,5 +17,6 @@ pub returns : goal.returns
 returns c =
     let none : Option ℕ = None in
     let front = c.args.front in
-    let found = at_limit front (4096 - length front) (items c.args.lines.now c.args.place) c.events.events c.events.i c.events.reader c.events.invariant.1 (omega arith) in
+    let count = ap length c.reserve.ensures in
+    let found = at_limit front (4096 - length front) (items c.args.lines.now c.args.place) c.events.events c.events.i c.events.reader c.events.invariant.1 (omega (arith, count)) in
     c.in_ok-new.ensures ∙ ap (λ (h : Heading). record { header = h; events = c.events.events; fault = none }) c.events.invariant.0 ∙ ap (λ (f : DecidedEvents). record { header = c.args.header; events = f.events; fault = f.fault }) found
