@@ -1,9 +1,11 @@
 -- One more event of a run that keeps each fourth state.
-use Rattle.std.proofs.Common.{◌≡◌, ℕ, ◌+◌, ◌-◌, ◌%◌, ◌==◌, List, [], ◌∷◌, ◌++◌, cond, Result, Ok, sym, ap, subst, ◌∙◌, arith, append_assoc}
+use Rattle.std.proofs.Common.{◌≡◌, ℕ, ◌+◌, ◌-◌, ◌%◌, ◌==◌, List, [], ◌∷◌, ◌++◌, cond, Result, Ok, Err, IfOk, refl, sym, ap, subst, ◌∙◌, arith, append_assoc}
+use Rattle.std.proofs.lemmas.List.{append-nil}
 use Rattle.pd_script.specs.declared.script_events.Event.{Event}
 use Rattle.pd_run.specs.Run.{verdict_from, stepped_from, states_from}
 use Rattle.pd_run.specs.Step.{RunStateView, on_step, step}
 use Rattle.pd_run.specs.declared.verdicts.Verdict.{Verdict}
+use Rattle.pd_run.specs.declared.verdicts.Verdict.TheVariants.{Pass}
 use Rattle.pd_run.proofs.Steps.{verdict_after, stepped_after}
 use Rattle.pd_track.specs.Reuse.{fourths}
 use Rattle.pd_track.proofs.Fourths.{fourths_next}
@@ -31,6 +33,26 @@ advances n passed es rest old new e one_more split told =
           ap (fourths (3 - n % 4)) (states_after es rest old new e split told)
           ∙ fourths_next n (3 - n % 4) (3 - (n + 1) % 4) new (states_from rest new) (omega arith) (omega arith);
     })
+
+-- a run whose last event passes after n others
+pub record Ends (n : ℕ) (es : List Event) (old new : RunStateView) : Type 0 where
+  pub verdict : verdict_from n es old ≡ Pass (n + 1)
+  pub steps : stepped_from es old ≡ 1
+  pub states : fourths (3 - n % 4) (states_from es old) ≡ cond ((n + 1) % 4 == 0) (new ∷ []) []
+
+pub ends : (n : ℕ) (es : List Event) (old new : RunStateView) (e : Event) → es ≡ e ∷ [] → step old e ≡ Ok new → Ends n es old new
+ends n es old new e split told =
+    let last = advances n (n + 1) es [] old new e refl split told in
+    record {
+      verdict = last.verdict;
+      steps = last.steps;
+      states = last.states ∙ append-nil (cond ((n + 1) % 4 == 0) (new ∷ []) []);
+    }
+
+-- what is so of each result of a call
+pub of_each : {A E : Type 0} (r : Result A E) (P Q : A → Type 0) → ((x : A) → P x → Q x) → IfOk r P → IfOk r Q
+of_each (Ok x) P Q f p = f x p
+of_each (Err e) P Q f p = tt
 
 -- the states kept so far, and those left
 pub kept_more : (before more after left whole : List RunStateView) → after ≡ before ++ more → before ++ (more ++ left) ≡ whole → after ++ left ≡ whole

@@ -38,6 +38,13 @@ impl Checkpoint {
         }
     }
 
+    /// A state that nothing else holds.
+    pub(crate) fn of(state: RunState) -> Checkpoint
+        ensures { result ≡ state }
+    {
+        Checkpoint { state }
+    }
+
     /// A copy of a state. It is apart, since a list copies several.
     #[inline(never)]
     pub(crate) fn new(state: &RunState) -> Result<Checkpoint, AllocError>

@@ -66,9 +66,11 @@ impl Progress {
         ensures few { OnOk result (S.counted stepper.new ≤ S.counted stepper.old + length events.now) }
     {
         runs_are_bounded();
+        self.checkpoints.reserve((events.len() - self.passed) / 4)?;
         for i in self.passed..events.len() {
             match stepper.step(&mut self.state, &events.at(i).event, settings)? {
-                StepEnd::Go => self.pass()?,
+                StepEnd::Go if i + 1 < events.len() => self.pass()?,
+                StepEnd::Go => return self.pass_last(),
                 StepEnd::Stop(verdict) => return Ok(self.end(verdict)),
             }
         }
@@ -85,6 +87,26 @@ impl Progress {
             verdict,
             checkpoints: self.checkpoints,
         }
+    }
+
+    /// The last event has passed, and the run has ended: its state is kept if it is a fourth one.
+    fn pass_last(self) -> Result<Ended, AllocError>
+        requires { self.passed < 4096 }
+        ensures verdict { IfOk result (λ ended. ended.verdict ≡ Verdict.Pass (self.passed + 1)) }
+        ensures checkpoints { IfOk result (λ ended. ended.checkpoints ≡ self.checkpoints ++ (if (self.passed + 1) % 4 == 0 then self.state ∷ [] else [])) }
+    {
+        let Progress {
+            state,
+            passed,
+            mut checkpoints,
+        } = self;
+        if (passed + 1) % 4 == 0 {
+            checkpoints.push(Checkpoint::of(state))?;
+        }
+        Ok(Ended {
+            verdict: Verdict::Pass(passed + 1),
+            checkpoints,
+        })
     }
 
     /// One more event has passed: each fourth state is kept.
