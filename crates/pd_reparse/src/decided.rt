@@ -60,8 +60,11 @@ pub fn count_within(events: &SharedList<Decided>, same: usize) -> usize
 fn count_in(events: &[Decided], same: usize) -> usize
     ensures { result ≡ count_by (λ (d : Decided). is_within same d.reach) events.now }
 {
-    events
-        .iter()
-        .filter(|decided| decided.is_within(same))
-        .count()
+    let mut count = 0;
+    for decided in events {
+        if decided.is_within(same) {
+            count += 1;
+        }
+    }
+    count
 }
