@@ -33,7 +33,7 @@ front_ended (suc i) (x ∷ xs) [] h = by_rest (drop i xs)
     by_rest (z ∷ zs) = refl
 front_ended (suc i) (x ∷ xs) (y ∷ ys) h = front_ended i xs ys (omega (arith, h))
 
-front_same : (n : ℕ) (xs ys : List (List ℕ)) → take n xs ≡ take n ys → n ≤ length xs → n ≤ length ys → n + front (drop n xs) (drop n ys) ≡ front xs ys
+pub front_same : (n : ℕ) (xs ys : List (List ℕ)) → take n xs ≡ take n ys → n ≤ length xs → n ≤ length ys → n + front (drop n xs) (drop n ys) ≡ front xs ys
 front_same zero xs ys h a b = omega arith
 front_same (suc n) [] ys h a b = absurd (omega (arith, a))
 front_same (suc n) (x ∷ xs) [] h a b = absurd (omega (arith, b))

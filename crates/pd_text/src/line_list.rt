@@ -131,12 +131,27 @@ impl LineList {
         ensures { result ≡ front self.now other.now }
     {
         let most = self.len().min(other.len());
-        'lines: for i in self.same_by_halves(other, most)..most {
+        'lines: for i in self.same_at_once(other, most)..most {
             if self.at(i) != other.at(i) {
                 return i;
             }
         }
         most
+    }
+
+    /// So many of at most `most` first lines that are equal: all but the last of them, where these are the same octets at the
+    /// same places, as after a change at the end of a text; else as many as halving finds.
+    fn same_at_once(&self, other: &LineList, most: usize) -> usize
+        requires within { most ≤ length self.now }
+        requires beside { most ≤ length other.now }
+        ensures few { result ≤ most }
+        ensures same { result + front (drop result self.now) (drop result other.now) ≡ front self.now other.now }
+    {
+        let before_last = most.saturating_sub(1);
+        if self.packed().stands_as(&other.packed(), 0, before_last) {
+            return before_last;
+        }
+        self.same_by_halves(other, most)
     }
 
     /// So many of at most `most` first lines that are equal: many lines at once, then half as many, down to one, as long as they
