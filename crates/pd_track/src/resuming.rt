@@ -100,13 +100,18 @@ fn begin_after(
     text.facts();
     runs_only_use();
     let checkpoints = first_of(track, count)?;
-    let mut state = state_at(track, count).copy()?;
-    state.rebind(settings);
-    Ok(Progress {
-        state,
-        passed: 4 * count,
-        checkpoints,
-    })
+    // A question mark would move the state once more.
+    match state_at(track, count).copy() {
+        Ok(mut state) => {
+            state.rebind(settings);
+            Ok(Progress {
+                state,
+                passed: 4 * count,
+                checkpoints,
+            })
+        }
+        Err(error) => Err(error),
+    }
 }
 
 /// How many of the track's states serve a run under these settings of which so many events are kept.

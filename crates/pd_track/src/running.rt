@@ -84,10 +84,11 @@ fn run<S: Stepper>(alloc: Global, job: &Job, stepper: &mut S) -> Result<Outcome,
         });
     }
     match RunState::new(alloc, reading.header(), &job.settings()) {
-        Ok(fresh) => {
-            let progress = begin(alloc, job, kept, fresh)?;
-            go_on(alloc, job, reading, progress, stepper)
-        }
+        // A question mark would move the state once more.
+        Ok(fresh) => match begin(alloc, job, kept, fresh) {
+            Ok(progress) => go_on(alloc, job, reading, progress, stepper),
+            Err(error) => Err(error),
+        },
         Err(verdict) => Ok(Outcome {
             verdict,
             reading,
