@@ -51,30 +51,30 @@ const MAX_SHIFT: u8 = 14;
 /// A connection that a SYN has begun.
 #[derive(Drop)]
 pub struct Connection {
+    /// SMSS, the numbers that are sent by, and the SACKed octets (RFC 9293, section 3.3.1; RFC 6675, section 3).
+    board: Board,
+    /// When octets were last sent, our SYN and FIN too, in microseconds since the start of the run (RFC 5681, section 4.1).
+    last_sent: u64,
+    /// The retransmission timer (RFC 6298).
+    timer: Rto,
+    /// The segment whose round trip is measured, if one is (RFC 6298, section 3).
+    timed: Option<Timing>,
+    /// What the connection has from the end of its handshake on.
+    established: Option<Established>,
+    /// RCV.WND: how many octets the peer may send (RFC 9293, section 3.3.1).
+    rcv_wnd: u32,
+    /// Max(SND.WND): the largest of the peer's windows seen so far, the SYN's too, in octets (RFC 9293, section 3.8.6.2.1).
+    widest: u32,
     /// The MSS that our SYN/ACK names, in octets (RFC 9293, section 3.7.1).
     announced: u16,
     /// Whether SACK was agreed (RFC 2018, section 2).
     sack: bool,
     /// By how much windows are shifted, if that was agreed (RFC 7323, section 2).
     scaling: Option<Scaling>,
-    /// RCV.WND: how many octets the peer may send (RFC 9293, section 3.3.1).
-    rcv_wnd: u32,
-    /// SMSS, the numbers that are sent by, and the SACKed octets (RFC 9293, section 3.3.1; RFC 6675, section 3).
-    board: Board,
     /// Whether the last octet queued is our FIN (RFC 9293, section 3.4).
     fin: bool,
-    /// The retransmission timer (RFC 6298).
-    timer: Rto,
-    /// The segment whose round trip is measured, if one is (RFC 6298, section 3).
-    timed: Option<Timing>,
-    /// When octets were last sent, our SYN and FIN too, in microseconds since the start of the run (RFC 5681, section 4.1).
-    last_sent: u64,
-    /// Max(SND.WND): the largest of the peer's windows seen so far, the SYN's too, in octets (RFC 9293, section 3.8.6.2.1).
-    widest: u32,
     /// Whether the SYN/ACK was sent again (RFC 5681, section 3.1; RFC 6298, section 5.7).
     resent: bool,
-    /// What the connection has from the end of its handshake on.
-    established: Option<Established>,
     /// Whether an RST has ended it (RFC 9293, section 3.10.7.4, second check).
     reset: bool,
 }
@@ -172,6 +172,18 @@ impl Connection {
         ensures { result ≡ self.now }
     {
         Connection { board, ..*self }
+    }
+
+    /// Puts the same connection in a place, on an equal scoreboard.
+    #[inline(always)]
+    pub fn put_copy(&self, scoreboard: Board, place: &mut Option<Connection>)
+        requires { scoreboard ≡ self.now.board }
+        ensures { place.new ≡ Some self.now }
+    {
+        *place = Some(Connection {
+            board: scoreboard,
+            ..*self
+        });
     }
 
     /// The handshake is finished by this segment at a moment.

@@ -52,25 +52,6 @@ impl Endpoint {
             outbox: self.outbox.copy()?,
         })
     }
-
-    /// The same endpoint once more, with copies of what takes memory.
-    #[inline(always)]
-    pub fn with_copies(&self, copies: Copies) -> Endpoint
-        requires board { copies.board ≡ option_map (λ c. c.board) self.now.connection }
-        requires outbox { copies.outbox ≡ self.now.outbox }
-        ensures { result ≡ self.now }
-    {
-        let Copies { board, outbox } = copies;
-        let connection = match (&self.connection, board) {
-            (Some(connection), Some(board)) => Some(connection.with_board(board)),
-            _ => None,
-        };
-        Endpoint {
-            listener: self.listener,
-            connection,
-            outbox,
-        }
-    }
 }
 
 /// Copies of what of an endpoint takes memory.

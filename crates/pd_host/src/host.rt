@@ -308,9 +308,18 @@ impl Host {
         requires outbox { copies.outbox ≡ self.now.state.endpoint.outbox }
         ensures { result ≡ self.now }
     {
+        let Copies { board, outbox } = copies;
+        let mut connection = None;
+        if let (Some(begun), Some(board)) = (&self.state.endpoint.connection, board) {
+            begun.put_copy(board, &mut connection);
+        }
         Host {
             state: State {
-                endpoint: self.state.endpoint.with_copies(copies),
+                endpoint: Endpoint {
+                    listener: self.state.endpoint.listener,
+                    connection,
+                    outbox,
+                },
                 ..self.state
             },
             ended: self.ended,
