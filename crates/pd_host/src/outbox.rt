@@ -1,5 +1,5 @@
 //! The packets that were put out and not yet taken.
-ghost use Rattle.std.specs.Prelude.{◌≡◌, ◌==◌, [], not, length, option_copied, slice_get, drop, IfOk};
+ghost use Rattle.std.specs.Prelude.{◌≡◌, ◌==◌, [], not, length, option_copied, slice_get, drop, IfOk, OnOk};
 ghost use Rattle.pd_host.specs.Outcome.{Gives};
 ghost use Rattle.pd_host.specs.Places.{has_place};
 ghost use Rattle.pd_host.specs.Host.{with_packet};
@@ -30,6 +30,21 @@ impl Model for Outbox {
     ghost view = { λ o. o.packets.items };
 
     ghost invariant = { λ o. length o.packets.items ≤ most_packets };
+}
+
+/// Puts down copies of these packets.
+///
+/// # Errors
+/// `AllocError` where a growth is refused.
+fn put_copies(packets: &VecDeque<Sent>, copies: &mut VecDeque<Sent>) -> Result<(), AllocError>
+    requires { copies.old.items ≡ [] }
+    ensures { OnOk result (copies.new.items ≡ packets.now.items) }
+{
+    for sent in packets.iter() {
+        copies.reserve(1)?;
+        copies.push_back_reserved(sent.copy()?);
+    }
+    Ok(())
 }
 
 impl Outbox {
@@ -73,10 +88,9 @@ impl Outbox {
         if self.is_full() {
             return Err(Ending::Halted(Halt::Limit));
         }
-        match self.packets.push_back(Sent { segment, at: now }) {
-            Ok(()) => Ok(()),
-            Err(_) => Err(Ending::OutOfMemory),
-        }
+        self.packets.reserve(1)?;
+        self.packets.push_back_reserved(Sent { segment, at: now });
+        Ok(())
     }
 
     /// The packet at a place, the oldest at 0.
@@ -102,10 +116,8 @@ impl Outbox {
     pub fn copy(&self) -> Result<Outbox, AllocError>
         ensures { IfOk result (λ copy. copy ≡ self.now) }
     {
-        let mut packets = VecDeque::new(self.allocator());
-        for sent in self.packets.iter() {
-            packets.push_back(sent.copy()?)?;
-        }
+        let mut packets = VecDeque::with_capacity(self.allocator(), self.packets.len())?;
+        put_copies(&self.packets, &mut packets)?;
         Ok(Outbox { packets })
     }
 
