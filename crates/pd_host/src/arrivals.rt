@@ -1,8 +1,10 @@
 //! A segment that arrives.
-ghost use Rattle.std.specs.Prelude.{◌≡◌, ◌<◌, ◌^◌, None};
-ghost use Rattle.pd_host.specs.Arrivals.{finished_by, arrived};
+ghost use Rattle.std.specs.Prelude.{◌≡◌, ◌≤◌, ◌<◌, ◌^◌, None};
+ghost use Rattle.pd_host.specs.Arrivals.{finished_by, passed_on, arrived};
 ghost use Rattle.pd_host.specs.Handshake.{is_syn_alone, is_opening, opened_by};
+ghost use Rattle.pd_host.specs.Host.{with_packet};
 ghost use Rattle.pd_host.specs.Outcome.{Gives};
+ghost use Rattle.pd_host.specs.Packets.{ack_of, refusal_of};
 ghost use Rattle.pd_host.specs.Steps.{GivesOn};
 
 use crate::acknowledgments::respond;
@@ -38,28 +40,20 @@ impl State {
             Some(Ruling::NotRun) => Err(NOT_RUN),
             Some(Ruling::StrayRst | Ruling::WithoutAck) => Ok(()),
             Some(Ruling::OutsideWindow | Ruling::ChallengedRst | Ruling::EarlyAck) => {
-                let ack = connection.acknowledgment(outbox.allocator());
-                outbox.put_out(ack, now)
+                acknowledge(connection, outbox, now)
             }
             Some(Ruling::ExactRst) => {
                 connection.reset();
                 Ok(())
             }
-            Some(Ruling::RefusedAck) => {
-                let rst = refusal(segment.ack, outbox.allocator());
-                outbox.put_out(rst, now)
-            }
+            Some(Ruling::RefusedAck) => refuse(outbox, segment.ack, now),
             Some(Ruling::OldAck) => finish(connection, outbox, segment, now),
             Some(Ruling::FirstAck) => {
                 connection.establish(&self.settings, segment, now);
                 self.uses = with_establishment(self.uses);
                 finish(connection, outbox, segment, now)
             }
-            None => {
-                let then = connection.take(segment, now)?;
-                respond(connection, outbox, then, now)?;
-                finish(connection, outbox, segment, now)
-            }
+            None => take(connection, outbox, segment, now),
         }
     }
 
@@ -80,6 +74,24 @@ impl State {
     }
 }
 
+/// A segment that passed all checks is taken at a moment, and then its FIN.
+#[inline(always)]
+fn take(
+    connection: &mut Connection,
+    outbox: &mut Outbox,
+    segment: &Segment,
+    now: u64,
+) -> Result<(), Ending>
+    requires early { now < 2 ^ 62 }
+    requires known { connection.old.board.una ≤ segment.now.ack }
+    requires sent { segment.now.ack ≤ connection.old.board.top }
+    ensures { GivesOn (λ s. passed_on now segment.now connection.old s None) connection.old outbox.old result connection.new outbox.new }
+{
+    let then = connection.take(segment, now)?;
+    respond(connection, outbox, then, now)?;
+    finish(connection, outbox, segment, now)
+}
+
 /// The peer's FIN, where the segment has one, is taken and answered by an ACK.
 #[inline(always)]
 fn finish(
@@ -94,8 +106,23 @@ fn finish(
         return Ok(());
     }
     connection.take_fin();
+    acknowledge(connection, outbox, now)
+}
+
+/// An ACK of what was received is put out at a moment.
+fn acknowledge(connection: &Connection, outbox: &mut Outbox, now: u64) -> Result<(), Ending>
+    ensures { Gives (with_packet now (ack_of connection.now) outbox.old) result outbox.new }
+{
     let ack = connection.acknowledgment(outbox.allocator());
     outbox.put_out(ack, now)
+}
+
+/// The RST that refuses an ACK is put out at a moment.
+fn refuse(outbox: &mut Outbox, ack: u32, now: u64) -> Result<(), Ending>
+    ensures { Gives (with_packet now (refusal_of ack) outbox.old) result outbox.new }
+{
+    let rst = refusal(ack, outbox.allocator());
+    outbox.put_out(rst, now)
 }
 
 fn is_syn_alone(flags: Flags) -> bool

@@ -1,5 +1,5 @@
 //! The segments that the handshake and its checks put out.
-ghost use Rattle.std.specs.Prelude.{◌≡◌, ◌≤◌, IfOk};
+ghost use Rattle.std.specs.Prelude.{◌≡◌, ◌≤◌, [], IfOk, OnOk};
 ghost use Rattle.pd_host.specs.Inner.{IsScalable};
 ghost use Rattle.pd_host.specs.Packets.{own_count, shifted_window, ack_of, syn_ack_of, refusal_of};
 
@@ -58,16 +58,7 @@ impl Connection {
         ensures { IfOk result (λ segment. segment ≡ syn_ack_of self.now) }
     {
         let mut options = SegOptions::new(alloc);
-        options.push(SegOption::Mss(self.announced))?;
-        if self.sack {
-            options.push(SegOption::Nop)?;
-            options.push(SegOption::Nop)?;
-            options.push(SegOption::SackOk)?;
-        }
-        if let Some(scaling) = self.scaling {
-            options.push(SegOption::Nop)?;
-            options.push(SegOption::Wscale(scaling.own))?;
-        }
+        self.put_options(&mut options)?;
         Ok(Segment {
             flags: Flags {
                 syn: true,
@@ -80,6 +71,24 @@ impl Connection {
             win: self.rcv_wnd.min(MAX_WINDOW_FIELD) as u16,
             options,
         })
+    }
+
+    /// Puts down the options of the SYN/ACK.
+    fn put_options(&self, options: &mut SegOptions) -> Result<(), AllocError>
+        requires { options.old ≡ [] }
+        ensures { OnOk result (options.new ≡ (syn_ack_of self.now).options) }
+    {
+        options.push(SegOption::Mss(self.announced))?;
+        if self.sack {
+            options.push(SegOption::Nop)?;
+            options.push(SegOption::Nop)?;
+            options.push(SegOption::SackOk)?;
+        }
+        if let Some(scaling) = self.scaling {
+            options.push(SegOption::Nop)?;
+            options.push(SegOption::Wscale(scaling.own))?;
+        }
+        Ok(())
     }
 
     /// The window field of a segment that is no SYN.

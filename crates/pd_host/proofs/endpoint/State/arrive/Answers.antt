@@ -8,6 +8,3 @@ returns-in-Some-OldAck c = let told = c.finish.ensures c.args.self.now in search
 pub returns-in-Some-FirstAck : goal.returns-in-Some-FirstAck
 returns-in-Some-FirstAck c =
     let told = c.finish-in-Some-FirstAck.ensures (record c.args.self.now { uses = c.with_establishment-self.result }) in search rules
-
-pub returns-in_err-respond-in-None : goal.returns-in_err-respond-in-None
-returns-in_err-respond-in-None c = let sent = c.in_err-respond-in-None.ensures c.args.self.now in search rules
