@@ -5,7 +5,7 @@ ghost use Rattle.pd_words.specs.ProgramWords.{pdregress, settings_rule, cache_ru
 
 use clap::error::ErrorKind;
 use clap::{Arg, ArgAction, Command, Error, value_parser};
-use std::alloc::Global;
+use std::alloc::{AllocError, Global};
 
 /// What `--help` says first.
 const ABOUT: &str =
@@ -39,15 +39,21 @@ pub(crate) fn free_command<'a>(alloc: Global) -> Result<Command<'a>, Error>
     ensures memory { IfErr result (λ error. kind_of error ≡ ErrorKind.OutOfMemory) }
 {
     let command = base_command(alloc)?;
-    Ok(
-        command
-            .arg(workers_option(alloc))?
-            .arg(steps_option(alloc))?
-            .arg(explain_option(alloc))?
-            .arg(only_option(alloc))?
-            .arg(json_option(alloc))?
-            .arg(ends_option(alloc))?,
-    )
+    Ok(with_options(alloc, command)?)
+}
+
+/// A command that takes settings and a cache, with each other option.
+fn with_options<'a>(alloc: Global, command: Command<'a>) -> Result<Command<'a>, AllocError>
+    requires { app_of command ≡ with_rule (with_rule (new_app (codes "pdregress")) settings_rule) cache_rule }
+    ensures { IfOk result (λ whole. app_of whole ≡ pdregress) }
+{
+    command
+        .arg(workers_option(alloc))?
+        .arg(steps_option(alloc))?
+        .arg(explain_option(alloc))?
+        .arg(only_option(alloc))?
+        .arg(json_option(alloc))?
+        .arg(ends_option(alloc))
 }
 
 /// What each word may be beside the others. Where `--workers` may be beside all of them, `clap` asks for `--explain` beside
@@ -56,20 +62,35 @@ pub(crate) fn ruled_command<'a>(
     alloc: Global,
     are_workers_apart: bool,
 ) -> Result<Command<'a>, Error> {
-    let mut workers = workers_option(alloc);
-    if are_workers_apart {
-        workers = workers.conflicts_with("steps")?.conflicts_with("explain")?;
-    }
     let command = base_command(alloc)?;
-    Ok(
-        command
-            .arg(workers)?
-            .arg(steps_option(alloc))?
-            .arg(explain_option(alloc))?
-            .arg(only_option(alloc).requires_arg("explain")?)?
-            .arg(json_option(alloc).requires_arg("explain")?)?
-            .arg(ends_option(alloc).requires_arg("explain")?)?,
-    )
+    let mut options = Vec::new(alloc);
+    put_ruled(alloc, &mut options, are_workers_apart)?;
+    Ok(command.args(options)?)
+}
+
+/// Adds each other option, with what it may be beside.
+fn put_ruled<'a>(
+    alloc: Global,
+    options: &mut Vec<Arg<'a>>,
+    are_workers_apart: bool,
+) -> Result<(), AllocError> {
+    options.push(ruled_workers(alloc, are_workers_apart)?)?;
+    options.push(steps_option(alloc))?;
+    options.push(explain_option(alloc))?;
+    options.push(only_option(alloc).requires_arg("explain")?)?;
+    options.push(json_option(alloc).requires_arg("explain")?)?;
+    options.push(ends_option(alloc).requires_arg("explain")?)?;
+    Ok(())
+}
+
+/// What `--workers N` may be, with what it may be beside.
+fn ruled_workers<'a>(alloc: Global, are_workers_apart: bool) -> Result<Arg<'a>, AllocError> {
+    let workers = workers_option(alloc);
+    if are_workers_apart {
+        workers.conflicts_with("steps")?.conflicts_with("explain")
+    } else {
+        Ok(workers)
+    }
 }
 
 /// A command that takes settings and a cache.

@@ -8,7 +8,7 @@ use crate::chosen::{Explaining, Options};
 use crate::numbers::number;
 use crate::program_words::{free_command, ruled_command};
 use clap::error::ErrorKind;
-use clap::{ArgMatches, Error};
+use clap::{ArgMatches, Command, Error};
 use std::alloc::{AllocError, Global};
 use std::convert::AsStr;
 
@@ -43,12 +43,29 @@ fn refuse_together<'a, S: AsStr>(
 ) -> Result<Options<'a>, Error>
     ensures { IsErr result }
 {
-    let mut command = ruled_command(alloc, are_workers_apart)?;
-    command.try_get_matches_from_mut(words)?;
-    Err(command.error(
+    match ruled_command(alloc, are_workers_apart) {
+        Ok(mut command) => Err(refusal_by(&mut command, words)),
+        Err(error) => Err(error),
+    }
+}
+
+/// What a command says of words that it refuses, or that are refused all the same.
+fn refusal_by<'a, S: AsStr>(command: &mut Command<'a>, words: &'a [S]) -> Error {
+    match command.try_get_matches_from_mut(words) {
+        Ok(_) => conflict_in(command),
+        Err(error) => error,
+    }
+}
+
+/// That options can't be used together.
+fn conflict_in(command: &mut Command<'_>) -> Error {
+    match command.error(
         ErrorKind::ArgumentConflict,
         "these options can't be used together",
-    )?)
+    ) {
+        Ok(error) => error,
+        Err(error) => Error::from(error),
+    }
 }
 
 /// Whether words are refused together of which each may be written.
