@@ -3,14 +3,15 @@ ghost use Rattle.std.specs.Prelude.{◌≡◌, ◌+◌, ◌≤◌, [], reverse, 
 ghost use Rattle.pd_text.specs.Edit.{edited};
 ghost use Rattle.pd_text.specs.Text.{AreLines};
 ghost use Rattle.pd_settings.specs.Keys.{key_named};
-ghost use Rattle.pd_book.specs.Acts.{texts, present, text_of, stands, jobs, job};
+ghost use Rattle.pd_settings.specs.Settings.{replaced};
+ghost use Rattle.pd_book.specs.Acts.{texts, present, text_of, stands, jobs, job, now};
 ghost use Rattle.pd_book.specs.Legal.{Legal};
 ghost use Rattle.pd_book.specs.Report.{shown, owed};
 ghost use Rattle.pd_book.specs.Headline.{CurrentWhenAnswered, RowsAreScripts, VerdictsAreRuns, VerdictsAreGrammars, ScratchWhenAllAnswered, WholeWhenAllAnswered, RowsAreOfScratch, RowsAreOfWhole};
 ghost use Rattle.pd_book.specs.Story.{told};
 ghost use Rattle.pd_book.specs.Given.{GivesAdd, GivesEdit, GivesRemove, GivesSet};
 ghost use Rattle.pd_book.specs.Tracks.{without_track};
-ghost use Rattle.pd_book.specs.Refusals.{full, add_refusal, text_refusal, edit_refusal, remove_refusal, set_refusal, fault_of};
+ghost use Rattle.pd_book.specs.Refusals.{full, add_refusal, text_refusal, edit_refusal, remove_refusal, value_refusal, set_refusal, fault_of};
 
 mod jobs;
 
@@ -207,15 +208,36 @@ impl Book {
         ensures same { OnErr result (self.new ≡ self.old) }
         ensures tracks { self.new.tracks ≡ self.old.tracks }
     {
+        let (key, settings) = self.replaced(key, value)?;
+        match self.full(1) {
+            Some(fault) => Err(fault),
+            None => Ok(self.keep_setting(key, value, settings)?),
+        }
+    }
+
+    /// The key of this name, and the settings in which its setting has this value.
+    fn replaced(&self, key: &[u8], value: Value) -> Result<(Key, Settings), BookFault>
+        ensures key { IfOk result (λ new. key_named key.now ≡ Some new.0) }
+        ensures settings { IfOk result (λ new. replaced (now self.now.story.opening self.now.story.past) new.0 value ≡ Some new.1) }
+        ensures err { IfErr result (λ e. value_refusal (now self.now.story.opening self.now.story.past) (key_named key.now) value ≡ Some e) }
+    {
         let Some(key) = Key::named(key) else {
             return Err(BookFault::UnknownKey);
         };
-        let Some(settings) = self.settings.replace(key, value) else {
-            return Err(BookFault::BadValue);
-        };
-        if let Some(fault) = self.full(1) {
-            return Err(fault);
+        match self.settings.replace(key, value) {
+            Some(settings) => Ok((key, settings)),
+            None => Err(BookFault::BadValue),
         }
+    }
+
+    /// Keeps a setting for which there is room.
+    fn keep_setting(&mut self, key: Key, value: Value, settings: Settings) -> Result<(), AllocError>
+        requires settings { replaced (now self.old.story.opening self.old.story.past) key value ≡ Some settings }
+        requires room { full 1 self.old.story ≡ None }
+        ensures ok { OnOk result (self.new.story ≡ told self.old.story (Act.Set key value)) }
+        ensures same { OnErr result (self.new ≡ self.old) }
+        ensures tracks { self.new.tracks ≡ self.old.tracks }
+    {
         self.records.acts.reserve(self.records.tasks.len() + 1)?;
         self.settings = settings;
         self.records.scripts.clear();

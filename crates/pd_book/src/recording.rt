@@ -1,5 +1,5 @@
 //! What a book keeps, and what a call leaves in it, for which there is room.
-ghost use Rattle.std.specs.Prelude.{◌≡◌, ◌≤◌, ◌<◌, ◌==◌, ◌++◌, ◌∷◌, [], reverse, find, filter, not, Some, option_copied, vec_len, vec_capacity};
+ghost use Rattle.std.specs.Prelude.{◌≡◌, ◌+◌, ◌^◌, ◌≤◌, ◌<◌, ◌==◌, ◌++◌, ◌∷◌, [], reverse, find, filter, not, Some, OnOk, option_copied, vec_len, vec_capacity};
 ghost use Rattle.std.specs.Str.{bytes_eq};
 ghost use Rattle.pd_book.specs.Acts.{without};
 ghost use Rattle.pd_book.specs.Kept.{with_state};
@@ -9,7 +9,7 @@ use crate::act::{Act, Ruling};
 use crate::script::State;
 use crate::scripts::Scripts;
 use pd_track::{Done, Job, Task};
-use std::alloc::Global;
+use std::alloc::{AllocError, Global};
 
 /// A job to hand out, its task to keep and its act to record.
 #[derive(Drop)]
@@ -45,6 +45,23 @@ impl Records {
             tasks: Vec::new(alloc),
             scripts: Scripts::new(alloc),
         }
+    }
+
+    /// Makes room for a start: for its act and its task, and for the end of the job.
+    ///
+    /// # Errors
+    /// `AllocError` where a growth is refused.
+    pub fn make_room(&mut self) -> Result<(), AllocError>
+        requires { vec_len self.old.tasks < 2 ^ 63 }
+        ensures acts { self.new.acts.items ≡ self.old.acts.items }
+        ensures tasks { self.new.tasks.items ≡ self.old.tasks.items }
+        ensures scripts { self.new.scripts ≡ self.old.scripts }
+        ensures capacity { vec_capacity self.old.acts ≤ vec_capacity self.new.acts }
+        ensures act_room { OnOk result (vec_len self.new.acts + vec_len self.new.tasks + 2 ≤ vec_capacity self.new.acts) }
+        ensures job_room { OnOk result (vec_len self.new.tasks < vec_capacity self.new.tasks) }
+    {
+        self.acts.reserve(self.tasks.len() + 2)?;
+        self.tasks.reserve(1)
     }
 
     /// Keeps what a start leaves, and hands out its job.

@@ -1,12 +1,12 @@
 //! Jobs that a book hands out, and results that come back.
 ghost use Rattle.std.specs.Prelude.{◌≡◌, ◌≢◌, ◌+◌, ◌≤◌, is_some, length, IsSome, OnOk, OnErr, IfOk, IfErr, IfSome, None, Some, option_map, option_copied};
 ghost use Rattle.std.specs.Map.Iter.{deref_pair};
-ghost use Rattle.pd_book.specs.Acts.{present, stands, next, started, jobs, job, is_unchanged, ruling};
+ghost use Rattle.pd_book.specs.Acts.{present, stands, next, now, started, jobs, job, is_unchanged, ruling};
 ghost use Rattle.pd_book.specs.Report.{shown};
 ghost use Rattle.pd_book.specs.Story.{told, told_start, handed_task};
 ghost use Rattle.pd_book.specs.Given.{GivesStart, GivesFinish, GivesAbandon};
 ghost use Rattle.pd_book.specs.Replay.{IsReady};
-ghost use Rattle.pd_book.specs.Tracks.{track_of, is_kept, HandsOut, Shelves};
+ghost use Rattle.pd_book.specs.Tracks.{track_of, used, is_kept, HandsOut, Shelves};
 ghost use Rattle.pd_book.specs.Refusals.{full, start_refusal, next_job, fault_of, finish_fault};
 
 use super::Book;
@@ -15,6 +15,7 @@ use crate::faults::{BookFault, FinishFault};
 use crate::recording::{Prepared, task_of};
 use pd_text::{Name, Text};
 use pd_track::{Done, Job, Task};
+use std::alloc::AllocError;
 
 impl Book {
     /// The first script that waits.
@@ -56,22 +57,50 @@ impl Book {
         let Some((name, text)) = self.waiting() else {
             return Ok(None);
         };
-        if let Some(fault) = self.full(2) {
-            return Err(fault);
+        match self.full(2) {
+            Some(fault) => Err(fault),
+            None => Ok(Some(self.prepare_for(name, text)?)),
         }
-        let task = Task {
+    }
+
+    /// The same for the script that waits.
+    fn prepare_for(&self, name: &Name, text: &Text) -> Result<Prepared, AllocError>
+        requires { next self.now.story.past ≡ Some (name.now, text.now) }
+        ensures ready { IfOk result (λ p. IsReady self.now.story.opening self.now.story.past p.job.task p.task p.act) }
+        ensures track { IfOk result (λ p. p.job.track ≡ track_of p.job.task.name self.now.tracks) }
+    {
+        let task = self.next_task(name, text)?;
+        let job = self.job_of(&task)?;
+        let act = Act::Start(task.number, name.share()?);
+        Ok(Prepared { job, task, act })
+    }
+
+    /// What the next job runs where it runs this script.
+    fn next_task(&self, name: &Name, text: &Text) -> Result<Task, AllocError>
+        ensures number { IfOk result (λ task. task.number ≡ started self.now.story.past + 1) }
+        ensures name { IfOk result (λ task. task.name ≡ name.now) }
+        ensures text { IfOk result (λ task. task.text ≡ text.now) }
+        ensures settings { IfOk result (λ task. task.settings ≡ now self.now.story.opening self.now.story.past) }
+    {
+        let name = name.share()?;
+        Ok(Task {
             number: self.next_number(),
-            name: name.share()?,
+            name,
             text: text.share()?,
             settings: self.settings,
-        };
-        let act = Act::Start(task.number, name.share()?);
-        let track = match self.tracks.track(name) {
+        })
+    }
+
+    /// The job that runs this, with the track that is kept under its name.
+    fn job_of(&self, task: &Task) -> Result<Job, AllocError>
+        ensures task { IfOk result (λ job. job.task ≡ task.now) }
+        ensures track { IfOk result (λ job. job.track ≡ track_of task.now.name self.now.tracks) }
+    {
+        let track = match self.tracks.track(&task.name) {
             Some(track) => Some(track.share()?),
             None => None,
         };
-        let job = Job::of(task.share()?, track);
-        Ok(Some(Prepared { job, task, act }))
+        Ok(Job::of(task.share()?, track))
     }
 
     /// Hands out a job for the first script, in order of adding, that isn't answered and has no job started
@@ -90,14 +119,25 @@ impl Book {
         ensures same { OnErr result (self.new ≡ self.old) }
         ensures tracks { IfOk result (λ job. HandsOut job self.old.tracks self.new.tracks) }
     {
-        let Some(prepared) = self.prepare()? else {
-            return Ok(None);
-        };
-        self.records.acts.reserve(self.records.tasks.len() + 2)?;
-        self.records.tasks.reserve(1)?;
+        match self.prepare()? {
+            Some(prepared) => Ok(Some(self.hand_out(prepared)?)),
+            None => Ok(None),
+        }
+    }
+
+    /// Hands out a job that is prepared.
+    fn hand_out(&mut self, prepared: Prepared) -> Result<Job, AllocError>
+        requires ready { IsReady self.old.story.opening self.old.story.past prepared.job.task prepared.task prepared.act }
+        requires room { full 2 self.old.story ≡ None }
+        ensures job { IfOk result (λ job. job ≡ prepared.job) }
+        ensures ok { OnOk result (self.new.story ≡ told self.old.story prepared.act) }
+        ensures same { OnErr result (self.new ≡ self.old) }
+        ensures tracks { OnOk result (self.new.tracks ≡ used prepared.job.task.name self.old.tracks) }
+    {
+        self.records.make_room()?;
         self.numbers = prepared.job.number();
         self.tracks.touch(prepared.job.name());
-        Ok(Some(self.records.start(prepared)))
+        Ok(self.records.start(prepared))
     }
 
     /// The outstanding job of this number.

@@ -1,21 +1,23 @@
 -- The book after a start is the replay of its acts.
 use Rattle.std.proofs.Common.{◌∙◌, ◌∷◌, ◌+◌, ◌≤◌, List, reverse, ap, sym, arith, length}
 use Rattle.std.proofs.lemmas.List.{length-reverse}
+use Rattle.std.specs.Str.{bytes_eq}
 use Rattle.pd_book.specs.declared.act.Act.{Act}
+use Rattle.pd_book.specs.declared.script.State.TheVariants.{Running}
 use Rattle.pd_book.specs.Acts.{next, now, started}
+use Rattle.pd_book.specs.Kept.{Entry, with_state}
 use Rattle.pd_book.specs.Story.{BookView}
 use Rattle.pd_book.specs.Refusals.{taken_room}
 use Rattle.pd_book.proofs.Calls.{start_kept, has_room}
-use Rattle.pd_book.proofs.book_core.Book.start.Goals as goal
+use Rattle.pd_book.proofs.book_core.Book.hand_out.Goals as goal
 
 pub invariant_of-self-2 : goal.invariant_of-self-2
 invariant_of-self-2 c =
-    let s = rw c.in-Some.is at c.in_ok-prepared.ensures.some in
-    let t = rw c.in-Some.is at c.in_ok-prepared.ensures.room in
+    let s = c.requires.ready in
     let acts = c.self.inside.records.acts.items in
-    let room = has_room 2 c.args.self.now.story t in
+    let room = has_room 2 c.args.self.now.story c.requires.room in
     let few : length (reverse acts) + length c.self.inside.records.tasks.items + 2 ≤ 65536 = omega (arith, ap length c.self.invariant.tasks, ap (λ (x : BookView). taken_room x.story) c.self.view_is, room) in
-    let p = c.in-Some.prepared in
+    let p = c.args.prepared in
     let k = c.start.ensures in
     start_kept c.self.inside.opening (reverse acts) _ c.self.inside.settings c.self.inside.records.scripts _ c.self.inside.records.tasks.items _ c.self.inside.numbers _ _ _ p.job.task p.act
     c.self.invariant
@@ -23,9 +25,9 @@ invariant_of-self-2 c =
     (s.number ∙ ap (λ (x : BookView). started x.story.past + 1) (sym c.self.view_is))
     (s.settings ∙ ap (λ (x : BookView). now x.story.opening x.story.past) (sym c.self.view_is))
     s.start
-    (k.past ∙ ap (λ (x : List Act). p.act ∷ reverse x) c.in_ok-reserve.ensures.items)
-    k.scripts
-    (k.tasks ∙ cc (c.in_ok-reserve-2.ensures.items, s.same))
+    (k.past ∙ ap (λ (x : List Act). p.act ∷ reverse x) c.in_ok-make_room.ensures.acts)
+    (k.scripts ∙ ap (λ (es : List Entry). with_state (bytes_eq p.job.task.name) (Running p.job.task.number) es) c.in_ok-make_room.ensures.scripts)
+    (k.tasks ∙ cc (c.in_ok-make_room.ensures.tasks, s.same))
     c.number-self-inside.ensures
-    (omega (arith, c.in_ok-reserve.ensures.ok, k.capacity, length-reverse acts, c.in_ok-reserve.ensures.len, c.len.ensures))
+    (omega (arith, c.in_ok-make_room.ensures.act_room, k.capacity, length-reverse acts, ap length c.in_ok-make_room.ensures.acts, ap length c.in_ok-make_room.ensures.tasks))
     few
