@@ -73,12 +73,29 @@ fn refuse_together<'a, S: AsStr>(
 ) -> Result<RecordOptions<'a>, Error>
     ensures { IsErr result }
 {
-    let mut command = ruled_command(alloc, is_trace_apart)?;
-    command.try_get_matches_from_mut(words)?;
-    Err(command.error(
+    match ruled_command(alloc, is_trace_apart) {
+        Ok(mut command) => Err(refusal_by(&mut command, words)),
+        Err(error) => Err(Error::from(error)),
+    }
+}
+
+/// What a command says of words that it refuses, or that are refused all the same.
+fn refusal_by<'a, S: AsStr>(command: &mut Command<'a>, words: &'a [S]) -> Error {
+    match command.try_get_matches_from_mut(words) {
+        Ok(_) => conflict_in(command),
+        Err(error) => error,
+    }
+}
+
+/// That options can't be used together.
+fn conflict_in(command: &mut Command<'_>) -> Error {
+    match command.error(
         ErrorKind::ArgumentConflict,
         "these options can't be used together",
-    )?)
+    ) {
+        Ok(error) => error,
+        Err(error) => Error::from(error),
+    }
 }
 
 /// Whether words are refused together of which each may be written.
@@ -152,6 +169,13 @@ fn free_command<'a>(alloc: Global) -> Result<Command<'a>, Error>
     ensures words { IfOk result (λ command. app_of command ≡ pdrecord) }
     ensures memory { IfErr result (λ error. kind_of error ≡ ErrorKind.OutOfMemory) }
 {
+    Ok(command_with_options(alloc)?)
+}
+
+/// A command that takes each option.
+fn command_with_options<'a>(alloc: Global) -> Result<Command<'a>, AllocError>
+    ensures { IfOk result (λ command. app_of command ≡ pdrecord) }
+{
     Ok(
         Command::new(alloc, "pdrecord")
             .bin_name("pdrecord")?
@@ -167,22 +191,37 @@ fn free_command<'a>(alloc: Global) -> Result<Command<'a>, Error>
 
 /// What each word may be beside the others. Where `--trace` may never be beside `--least`, `clap` doesn't ask for `--least` beside
 /// `--drop` and `--trace`.
-fn ruled_command<'a>(alloc: Global, is_trace_apart: bool) -> Result<Command<'a>, Error> {
-    let mut trace = trace_option(alloc);
+fn ruled_command<'a>(alloc: Global, is_trace_apart: bool) -> Result<Command<'a>, AllocError> {
+    let mut options = Vec::new(alloc);
+    put_ruled(alloc, &mut options, is_trace_apart)?;
+    let command = Command::new(alloc, "pdrecord")
+        .about(ABOUT)
+        .after_help(AFTER);
+    command.args(options)?.bin_name("pdrecord")
+}
+
+/// Adds each option, with what it may be beside.
+fn put_ruled<'a>(
+    alloc: Global,
+    options: &mut Vec<Arg<'a>>,
+    is_trace_apart: bool,
+) -> Result<(), AllocError> {
+    options.push(settings_option(alloc))?;
+    options.push(ruled_trace(alloc, is_trace_apart)?)?;
+    options.push(least_option(alloc))?;
+    options.push(drop_option(alloc).requires_arg("least")?)?;
+    options.push(file_option(alloc))?;
+    Ok(())
+}
+
+/// What `--trace` may be, with what it may be beside.
+fn ruled_trace<'a>(alloc: Global, is_trace_apart: bool) -> Result<Arg<'a>, AllocError> {
+    let trace = trace_option(alloc);
     if is_trace_apart {
-        trace = trace.conflicts_with("least")?;
+        trace.conflicts_with("least")
+    } else {
+        Ok(trace)
     }
-    Ok(
-        Command::new(alloc, "pdrecord")
-            .bin_name("pdrecord")?
-            .arg(settings_option(alloc))?
-            .arg(trace)?
-            .arg(least_option(alloc))?
-            .arg(drop_option(alloc).requires_arg("least")?)?
-            .arg(file_option(alloc))?
-            .about(ABOUT)
-            .after_help(AFTER),
-    )
 }
 
 fn trace_option<'a>(alloc: Global) -> Arg<'a>

@@ -3,10 +3,10 @@ use Rattle.clap.specs.Words.{app_of, new_app, with_rule}
 use Rattle.clap.specs.Simple.{app_of_fields}
 use Rattle.pd_words.specs.ProgramWords.{settings_rule}
 use Rattle.pdrecord.specs.RecordWords.{trace_rule, least_rule, drop_rule, file_rule}
-use Rattle.pdrecord.proofs.record_words.free_command.Goals as goal
+use Rattle.pdrecord.proofs.record_words.command_with_options.Goals as goal
 
-pub returns-clause-words : goal.returns-clause-words
-returns-clause-words c =
+pub returns : goal.returns
+returns c =
     let empty = new_app (codes "pdrecord") in
     let named : app_of c.in_ok-bin_name.field-0 ≡ empty = ap app_of_fields c.in_ok-bin_name.ensures.0 ∙ c.new.ensures.app in
     let first : app_of c.in_ok-arg.field-0 ≡ with_rule empty settings_rule = c.in_ok-arg.ensures.shape c.settings_option.ensures.local ∙ ap₂ with_rule named c.settings_option.ensures.rule in
