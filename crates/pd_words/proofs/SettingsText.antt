@@ -1,5 +1,5 @@
 -- The texts of the options among the program's words.
-use Rattle.std.proofs.Common.{◌≡◌, ◌≢◌, ◌⊎◌, inl, inr, ℕ, List, [], ◌∷◌, Result, Ok, Err, IfErr, IsErrAnd, sym, subst, Option, Some, None, option_map, unwrap_or, true, Bor, refl, ap, ◌∙◌}
+use Rattle.std.proofs.Common.{◌≡◌, ◌≢◌, ◌⊎◌, inl, inr, ℕ, List, [], ◌∷◌, Result, Ok, Err, IfErr, IfOk, IsErrAnd, sym, subst, Option, Some, None, option_map, unwrap_or, true, Bor, refl, ap, ◌∙◌}
 use Rattle.clap.specs.Words.{all_of, matched_of, raw_values, App, HasKind, IsAmong, Kinds, is_simple_and_free, kind_of, Text, first_of, first_value, found_of, is_simple, matches_of, HasMatchesOf}
 use Rattle.clap.specs.declared.parser.matches.ArgMatches.{ArgMatches}
 use Rattle.clap.specs.declared.error.Error.{Error}
@@ -39,6 +39,11 @@ among (x ∷ xs) k h e = absurd cc
 pub has_kind : (kinds : Kinds) (error : Error) → HasKind kinds error → (kind_of error ≡ OutOfMemory) ⊎ (kinds ≢ [])
 has_kind kinds error (inl e) = inl e
 has_kind kinds error (inr h) = inr (among kinds (kind_of error) h)
+
+-- what a call that failed would have given
+pub none_of : {T : Type 0} (P : T → Type 0) (r : Result T Error) (Q : Error → Type 0) → IsErrAnd r Q → IfOk r P
+none_of P (Ok x) Q i = absurd i
+none_of P (Err x) Q i = tt
 
 -- a fact of an error that was passed on
 pub passed_on : {T : Type 0} (P : Error → Type 0) (r : Result T Error) (error : Error) → IsErrAnd r (λ x. x ≡ error) → P error → IfErr r P

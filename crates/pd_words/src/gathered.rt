@@ -52,9 +52,13 @@ impl Gathered {
         ensures { IfOk result (λ gathered. gathered ≡ Some []) }
     {
         let most = lines.min(MAX_LINES);
-        let mut gathered = Gathered::new(alloc);
-        gathered.lines.reserve(most, most * LINE_ROOM)?;
-        Ok(gathered)
+        let mut room = LineList::new(alloc);
+        room.reserve(most, most * LINE_ROOM)?;
+        Ok(Gathered {
+            lines: room,
+            octets: 0,
+            large: false,
+        })
     }
 
     /// Adds a line.
