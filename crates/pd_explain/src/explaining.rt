@@ -1,12 +1,12 @@
 //! Explains a verdict: looks into the run where it stopped.
-ghost use Rattle.std.specs.Prelude.{◌≡◌, true, Some, option_map, IfOk, IfSome};
+ghost use Rattle.std.specs.Prelude.{◌≡◌, true, None, Some, option_map, IfOk, IfSome};
 ghost use Rattle.pd_reparse.specs.Reading.{reading_of, script_part};
 ghost use Rattle.pd_run.specs.Run.{verdict_of};
-ghost use Rattle.pd_run.specs.Stops.{line_of};
+ghost use Rattle.pd_run.specs.Stops.{line_of, stop_in};
 ghost use Rattle.pd_script.specs.Script.{script_of};
 ghost use Rattle.pd_explain.specs.Causes.{IsCauseOf};
 ghost use Rattle.pd_explain.specs.Dropped.{dropped_till};
-ghost use Rattle.pd_explain.specs.Explained.{row_line, not_run, HasHistory, IsCauseIn, IsCause};
+ghost use Rattle.pd_explain.specs.Explained.{row_line, not_run, HasHistory, IsCauseIn, IsCause, IsHeaderCause};
 ghost use Rattle.pd_explain.specs.Inner.{IsTakenUp, IsTraced, is_whole};
 
 use crate::causes::{Cause, cause_at, with_history};
@@ -157,20 +157,78 @@ fn cause_of_stop(
     requires early { IfSome early (λ t. IsTakenUp settings.now (script_of lines.now) t.passed t.run) }
     ensures { IfOk result (IsCauseIn lines.now line settings.now (script_of lines.now) verdict) }
 {
-    // The laws do no work: that a stop is found rests on them.
+    // The laws do no work here and below: that a stop is found rests on them.
+    readings();
+    match item_not_run(reading.header()) {
+        Some(item) => cause_of_header(alloc, lines, &item),
+        None => cause_of_run(alloc, lines, settings, verdict, line, reading, taken, early),
+    }
+}
+
+/// Why a script isn't run: for an item of its header.
+fn cause_of_header(alloc: Global, lines: &Lines, item: &HeaderItem) -> Result<Cause, AllocError>
+    ensures { IfOk result (IsHeaderCause lines.now item.now.kind) }
+{
+    Ok(Cause::Rule(header_ruling(alloc, lines, item)?))
+}
+
+/// The same of a script whose header is run.
+fn cause_of_run(
+    alloc: Global,
+    lines: &Lines,
+    settings: &Settings,
+    verdict: Verdict,
+    line: usize,
+    reading: &Reading,
+    taken: Option<TakenUp>,
+    early: Option<TakenUp>,
+) -> Result<Cause, AllocError>
+    requires verdict { verdict ≡ verdict_of lines.now settings.now }
+    requires line { line_of verdict ≡ Some line }
+    requires reading { reading.now ≡ reading_of lines.now }
+    requires header { not_run (script_part reading.now).header.items ≡ None }
+    requires taken { IfSome taken (λ t. IsTakenUp settings.now (script_of lines.now) t.passed t.run) }
+    requires early { IfSome early (λ t. IsTakenUp settings.now (script_of lines.now) t.passed t.run) }
+    ensures { IfOk result (IsCauseIn lines.now line settings.now (script_of lines.now) verdict) }
+{
     verdicts_have_reasons();
     readings();
-    if let Some(item) = item_not_run(reading.header()) {
-        return Ok(Cause::Rule(header_ruling(alloc, lines, &item)?));
+    match trace_stop(alloc, reading, settings, taken, line)? {
+        Some(traced) => cause_of_found(
+            alloc, lines, settings, verdict, line, reading, &traced, early,
+        ),
+        None => unreachable!(),
     }
-    let Some(traced) = trace_stop(alloc, reading, settings, taken, line)? else {
-        unreachable!()
-    };
+}
+
+/// The same where the run was traced to its stop.
+fn cause_of_found(
+    alloc: Global,
+    lines: &Lines,
+    settings: &Settings,
+    _verdict: Verdict,
+    _line: usize,
+    reading: &Reading,
+    traced: &Traced,
+    early: Option<TakenUp>,
+) -> Result<Cause, AllocError>
+    requires verdict { _verdict ≡ verdict_of lines.now settings.now }
+    requires line { line_of _verdict ≡ Some _line }
+    requires reading { reading.now ≡ reading_of lines.now }
+    requires header { not_run (script_part reading.now).header.items ≡ None }
+    requires early { IfSome early (λ t. IsTakenUp settings.now (script_of lines.now) t.passed t.run) }
+    requires stop { stop_in _line settings.now (script_part reading.now) ≡ Some traced.now.stop }
+    requires traced { IsTraced settings.now (script_part reading.now) traced.now.stop traced.now.senders.items }
+    requires whole { is_whole traced.now.stop traced.now.senders.items ≡ true }
+    ensures { IfOk result (IsCauseIn lines.now _line settings.now (script_of lines.now) _verdict) }
+{
+    verdicts_have_reasons();
+    readings();
     let place = event_place(reading, traced.stop.passed);
     let decided = reading.events().at(traced.stop.passed);
     let dropped = dropped_till(alloc, reading, settings, early, &traced.stop)?;
     cause_of_traced(
-        alloc, lines, settings, reading, place, decided, &traced, dropped,
+        alloc, lines, settings, reading, place, decided, traced, dropped,
     )
 }
 

@@ -37,37 +37,41 @@ pub fn block_json(
 /// # Errors
 /// `AllocError` where a growth is refused.
 pub fn ending_json(alloc: Global, name: &Name, ending: &Ending) -> Result<Vec<u8>, AllocError> {
-    let words = ending_words(alloc, ending)?;
     let mut object = Map::new(alloc);
+    put_ending(alloc, &mut object, name, ending)?;
+    line_of(alloc, object)
+}
+
+/// Adds what a script that passes leaves.
+fn put_ending(
+    alloc: Global,
+    object: &mut Members,
+    name: &Name,
+    ending: &Ending,
+) -> Result<(), AllocError> {
     put_facts(
         alloc,
-        &mut object,
+        object,
         &[
             named("", "name", Told::Octets(name.as_slice())),
             named("", "line", Told::Number(ending.line as u64)),
             named("", "verdict", Told::Words("pass")),
         ],
     )?;
-    put(
-        &mut object,
-        alloc,
-        "what",
-        letters(alloc, words.as_slice())?,
-    )?;
-    put(
-        &mut object,
-        alloc,
-        "awaits_packet",
-        Value::Bool(ending.awaits),
-    )?;
+    put_what(alloc, object, &ending_words(alloc, ending)?)?;
+    put(object, alloc, "awaits_packet", Value::Bool(ending.awaits))?;
     put_left(
         alloc,
-        &mut object,
+        object,
         &ending.untaken,
         &ending.origins,
         &ending.standing,
-    )?;
-    line_of(alloc, object)
+    )
+}
+
+/// Adds what is said first.
+fn put_what(alloc: Global, object: &mut Members, words: &[u8]) -> Result<(), AllocError> {
+    put(object, alloc, "what", letters(alloc, words)?)
 }
 
 /// The line of an object.
@@ -94,8 +98,7 @@ fn put_heading(
             named("", "verdict", Told::Words(verdict_name(verdict))),
         ],
     )?;
-    let words = first_words(alloc, explanation)?;
-    put(object, alloc, "what", letters(alloc, words.as_slice())?)?;
+    put_what(alloc, object, &first_words(alloc, explanation)?)?;
     match verdict {
         Verdict::Fail(_, kind) => put_facts(
             alloc,

@@ -87,17 +87,22 @@ fn heading(alloc: Global, name: &Name, explanation: &Explanation) -> Result<Vec<
 {
     shown_is_printable();
     let mut line = Vec::from_slice(alloc, name.as_slice())?;
-    put_words(&mut line, ":")?;
-    put_number(alloc, &mut line, explanation.line as u64)?;
-    put_words(&mut line, ": ")?;
-    put_words(&mut line, verdict_name(explanation.verdict))?;
-    if let Verdict::Fail(_, kind) = explanation.verdict {
-        put_words(&mut line, " ")?;
-        put_words(&mut line, kind.word())?;
-    }
-    put_words(&mut line, ": ")?;
+    put_verdict(alloc, &mut line, explanation)?;
     line.extend_from_slice(&first_words(alloc, explanation)?)?;
     as_shown(alloc, &line)
+}
+
+/// Adds a line's number and a verdict, each after a colon, and the colon before its words.
+fn put_verdict(alloc: Global, out: &mut Vec<u8>, told: &Explanation) -> Result<(), AllocError> {
+    put_words(out, ":")?;
+    put_number(alloc, out, told.line as u64)?;
+    put_words(out, ": ")?;
+    put_words(out, verdict_name(told.verdict))?;
+    if let Verdict::Fail(_, kind) = told.verdict {
+        put_words(out, " ")?;
+        put_words(out, kind.word())?;
+    }
+    put_words(out, ": ")
 }
 
 /// The first line of a block on a script that passes.

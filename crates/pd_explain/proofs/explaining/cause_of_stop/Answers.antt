@@ -1,85 +1,25 @@
--- The event that stopped the run is one of those that were read.
-use Rattle.std.proofs.Common.{◌≡◌, ◌<◌, List, length, slice_get, option_map, None, Some, IfOk, refl, sym, ap, subst, ◌∙◌, arith}
-use Rattle.std.proofs.Math.ListN.{get_or}
-use Rattle.std.proofs.lemmas.List.{length-map}
-use Rattle.std.proofs.lemmas.Option.{slice_get_read, slice_get-map}
-use Rattle.pd_lex.specs.declared.token.Place.{Place}
+-- The item of the header is the first that isn't run.
+use Rattle.std.proofs.Common.{◌≡◌, ℕ, List, Some, Result, Ok, Err, IfOk, sym, ap, ◌∙◌}
+use Rattle.std.specs.declared.alloc.AllocError.{AllocError}
 use Rattle.pd_settings.specs.declared.fields.Settings.{Settings}
 use Rattle.pd_script.specs.Header.{Heading}
 use Rattle.pd_script.specs.Script.{script_of}
 use Rattle.pd_script.specs.declared.parsing.Parsed.{Parsed}
-use Rattle.pd_reparse.specs.Reading.{DecidedScript, script_part, reading_of}
-use Rattle.pd_reparse.specs.declared.decided.Decided.{Decided}
-use Rattle.pd_run.specs.Run.{verdict_in}
-use Rattle.pd_run.specs.Stops.{line_of, stop_in}
-use Rattle.pd_run.specs.Why.{verdict_at}
-use Rattle.pd_run.specs.declared.stops.Stopped.{Stopped}
-use Rattle.pd_explain.specs.Causes.{IsCauseOf}
-use Rattle.pd_explain.specs.Explained.{not_run, HasHistory, IsCauseIn}
-use Rattle.pd_explain.specs.Parts.{event_place}
-use Rattle.pd_explain.specs.declared.taking_up.Traced.{Traced}
-use Rattle.pd_explain.proofs.StopIsThere.{StopsWithin, stops_within, causes_in}
-use Rattle.pd_explain.proofs.DroppedLemmas.{staged_stop}
+use Rattle.pd_script.specs.declared.script_header.HeaderItem.{HeaderItem}
+use Rattle.pd_reparse.specs.Reading.{script_part}
+use Rattle.pd_run.specs.declared.verdicts.Verdict.{Verdict}
+use Rattle.pd_explain.specs.declared.causes.Cause.{Cause}
+use Rattle.pd_explain.specs.Explained.{not_run, IsCauseIn, IsHeaderCause}
 use Rattle.pd_explain.proofs.explaining.cause_of_stop.Goals as goal
 
-pub at-decided-requires : goal.at-decided-requires
-at-decided-requires c =
-    let reading : DecidedScript = c.args.reading.now in
-    let parsed : Parsed = script_part reading in
-    let settings : Settings = c.args.settings.now in
-    let stop : Stopped = c.in-Some-2.traced.stop in
-    let script : parsed ≡ script_of c.args.lines.now = ap script_part c.requires.reading ∙ c.readings.ensures c.args.lines.now in
-    let lined : line_of (verdict_in settings parsed) ≡ Some c.args.line =
-    subst (λ (p : Parsed). line_of (verdict_in settings p) ≡ Some c.args.line) (sym script) (ap line_of (sym c.requires.verdict) ∙ c.requires.line) in
-    let run : not_run parsed.header.items ≡ None =
-    ap (λ (h : Heading). not_run h.items) (sym c.header.ensures) ∙ (sym c.item_not_run.ensures ∙ c.in_default.is) in
-    let found : stop_in c.args.line settings parsed ≡ Some stop = sym c.in_ok-traced.ensures.stop ∙ ap (option_map (λ (t : Traced). t.stop)) c.in-Some-2.is in
-    let there : StopsWithin c.args.line settings parsed stop =
-    stops_within c.verdicts_have_reasons.ensures.verdicts settings parsed c.args.line stop lined run found in
-    let count : length parsed.events ≡ length reading.events = length-map reading.events (λ (d : Decided). d.event) in
-    let read : length c.events.result.now ≡ length reading.events = ap (λ (ds : List Decided). length ds) c.events.ensures.value in
-    omega (arith, there.0, count, read)
+by_header : (text : List (List ℕ)) (settings : Settings) (parsed : Parsed) (line : ℕ) (v : Verdict) (item : HeaderItem) (told : Result Cause AllocError)
+    → not_run parsed.header.items ≡ Some item → IfOk told (IsHeaderCause text item.kind) → IfOk told (IsCauseIn text line settings parsed v)
+by_header text settings parsed line v item (Ok cause) first is = rw first is
+by_header text settings parsed line v item (Err x) first is = tt
 
-pub returns : goal.returns
-returns c =
-    let reading : DecidedScript = c.args.reading.now in
-    let parsed : Parsed = script_part reading in
-    let settings : Settings = c.args.settings.now in
-    let stop : Stopped = c.in-Some-2.traced.stop in
-    let script : parsed ≡ script_of c.args.lines.now = ap script_part c.requires.reading ∙ c.readings.ensures c.args.lines.now in
-    let lined : line_of (verdict_in settings parsed) ≡ Some c.args.line =
-    subst (λ (p : Parsed). line_of (verdict_in settings p) ≡ Some c.args.line) (sym script) (ap line_of (sym c.requires.verdict) ∙ c.requires.line) in
-    let run : not_run parsed.header.items ≡ None =
-    ap (λ (h : Heading). not_run h.items) (sym c.header.ensures) ∙ (sym c.item_not_run.ensures ∙ c.in_default.is) in
-    let found : stop_in c.args.line settings parsed ≡ Some stop = sym c.in_ok-traced.ensures.stop ∙ ap (option_map (λ (t : Traced). t.stop)) c.in-Some-2.is in
-    let there : StopsWithin c.args.line settings parsed stop =
-    stops_within c.verdicts_have_reasons.ensures.verdicts settings parsed c.args.line stop lined run found in
-    let gives : verdict_at c.args.line stop.why ≡ c.args.verdict = there.1 ∙ (ap (verdict_in settings) script ∙ sym c.requires.verdict) in
-    let count : length parsed.events ≡ length reading.events = length-map reading.events (λ (d : Decided). d.event) in
-    let within : stop.passed < length reading.events = omega (arith, there.0, count) in
-    let item : slice_get reading.events stop.passed ≡ Some c.at-decided.result.now =
-    slice_get_read reading.events (length reading.events) stop.passed c.at-decided.result.now refl within
-    (subst (λ (ds : List Decided). c.at-decided.result.now ≡ get_or ds stop.passed c.at-decided.result.now) c.events.ensures.value c.at-decided.ensures) in
-    let event : slice_get parsed.events stop.passed ≡ Some c.at-decided.result.now.event =
-    slice_get-map (λ (d : Decided). d.event) reading.events stop.passed ∙ ap (λ o. option_map (λ (d : Decided). d.event) o) item in
-    let place : c.event_place-place.result ≡ event_place (reading_of c.args.lines.now) stop.passed =
-    c.event_place-place.ensures ∙ ap (λ (r : DecidedScript). event_place r stop.passed) c.requires.reading in
-    subst (λ (p : Parsed). IfOk c.cause_of_traced.result (IsCauseIn c.args.lines.now c.args.line settings p c.args.verdict)) script
-    (causes_in c.args.lines.now settings parsed c.args.line c.args.verdict stop c.at-decided.result.now.event c.cause_of_traced.result run
-    (record { found = found; event = event; gives = gives })
-    (subst (λ (p : Place). IfOk c.cause_of_traced.result (λ cause. IsCauseOf c.args.lines.now p c.at-decided.result.now.event stop cause × HasHistory settings parsed stop cause)) place c.cause_of_traced.ensures))
-
-pub dropped_till-requires-clause-reached : goal.dropped_till-requires-clause-reached
-dropped_till-requires-clause-reached c =
-    let parsed : Parsed = script_part c.args.reading.now in
-    let settings : Settings = c.args.settings.now in
-    let stop : Stopped = c.in-Some-2.traced.stop in
-    let script : parsed ≡ script_of c.args.lines.now = ap script_part c.requires.reading ∙ c.readings.ensures c.args.lines.now in
-    let lined : line_of (verdict_in settings parsed) ≡ Some c.args.line =
-    subst (λ (p : Parsed). line_of (verdict_in settings p) ≡ Some c.args.line) (sym script) (ap line_of (sym c.requires.verdict) ∙ c.requires.line) in
-    let run : not_run parsed.header.items ≡ None =
-    ap (λ (h : Heading). not_run h.items) (sym c.header.ensures) ∙ (sym c.item_not_run.ensures ∙ c.in_default.is) in
-    let found : stop_in c.args.line settings parsed ≡ Some stop = sym c.in_ok-traced.ensures.stop ∙ ap (option_map (λ (t : Traced). t.stop)) c.in-Some-2.is in
-    let there : StopsWithin c.args.line settings parsed stop =
-    stops_within c.verdicts_have_reasons.ensures.verdicts settings parsed c.args.line stop lined run found in
-    staged_stop settings parsed c.args.line stop found there.0
+pub returns-in-Some : goal.returns-in-Some
+returns-in-Some c =
+    let script : script_part c.args.reading.now ≡ script_of c.args.lines.now = ap script_part c.requires.reading ∙ c.readings.ensures c.args.lines.now in
+    let first : not_run (script_of c.args.lines.now).header.items ≡ Some c.in-Some.item =
+    ap (λ (p : Parsed). not_run p.header.items) (sym script) ∙ (ap (λ (h : Heading). not_run h.items) (sym c.header.ensures) ∙ (sym c.item_not_run.ensures ∙ c.in-Some.is)) in
+    by_header c.args.lines.now c.args.settings.now (script_of c.args.lines.now) c.args.line c.args.verdict c.in-Some.item c.cause_of_header.result first c.cause_of_header.ensures
