@@ -11,6 +11,7 @@ use Rattle.pd_settings.specs.declared.initial_window.InitialWindow.{InitialWindo
 use Rattle.pd_settings.specs.declared.initial_window.InitialWindow.TheVariants.{Rfc5681, Rfc6928}
 use Rattle.pd_settings.specs.declared.recovery_rate.RecoveryRate.{RecoveryRate}
 use Rattle.pd_settings.specs.declared.recovery_rate.RecoveryRate.TheVariants.{Pipe, Prr, PrrCrb}
+use Rattle.pd_settings.specs.declared.keys.Key.{Key}
 use Rattle.pd_settings.specs.declared.use_set.UseSet.{UseSet}
 use Rattle.pd_settings.specs.declared.values.Value.{Value}
 use Rattle.pd_settings.specs.declared.values.Value.TheVariants.{Number, Truth, Word, Rate, Other}
@@ -113,3 +114,17 @@ is_same_is a b = (equal, same)
 
     same : a ≡ b → is_same a b ≡ true
     same e = subst (λ x. is_same a x ≡ true) e (passed_by_all (is_same_at a a) all_keys (λ key. value_same (value_at a key)))
+
+-- settings that are the same agree in any set
+or_second : (x y : Bool) → y ≡ true → (x || y) ≡ true
+or_second true y h = refl
+or_second false y h = h
+
+pub same_agrees : (uses : UseSet) (a b : Settings) → is_same a b ≡ true → agrees uses a b ≡ true
+same_agrees uses a b h = over all_keys h
+  where
+    over : (keys : List Key) → list_all (is_same_at a b) keys ≡ true → list_all (agrees_at uses a b) keys ≡ true
+    over [] h = refl
+    over (key ∷ keys) h =
+        let parts = and_parts (is_same_at a b key) (list_all (is_same_at a b) keys) h in
+        and_from (agrees_at uses a b key) (list_all (agrees_at uses a b) keys) (or_second (not (has uses key)) (is_same_at a b key) parts.0) (over keys parts.1)

@@ -1,5 +1,5 @@
 -- What a domain's test makes of a value inside and outside.
-use Rattle.std.proofs.Common.{◌≡◌, ◌↔◌, ℕ, Option, Some, None, refl, sym}
+use Rattle.std.proofs.Common.{◌≡◌, ◌↔◌, Option, Some, None, refl, sym}
 use Rattle.std.specs.Prelude.{IsSome, IfSome}
 use Rattle.std.specs.Coded.{×_prop, le_prop}
 use mathlib.Core.HLevel.{⊥_prop, Unit-prop}

@@ -16,10 +16,28 @@ impl Settings {
         self.is_same_everywhere(other)
     }
 
+    /// The same, setting by setting: all are compared, since most often all are equal.
     fn is_same_everywhere(&self, other: &Settings) -> bool
         ensures { result ≡ is_same self.now other.now }
     {
-        Key::ALL.iter().all(|key| self.is_same_at(other, *key))
+        let mut same = true;
+        same = (self.tolerance_us == other.tolerance_us) & same;
+        same = (self.recovery_rate == other.recovery_rate) & same;
+        same = (self.restart_after_idle == other.restart_after_idle) & same;
+        same = (self.byte_counting == other.byte_counting) & same;
+        same = (self.limited_transmit == other.limited_transmit) & same;
+        same = (self.nagle == other.nagle) & same;
+        same = (self.granularity_us == other.granularity_us) & same;
+        same = (self.max_rto_us == other.max_rto_us) & same;
+        same = (self.min_rto_us == other.min_rto_us) & same;
+        same = (self.initial_window == other.initial_window) & same;
+        same = (self.initial_ssthresh == other.initial_ssthresh) & same;
+        same = (self.rcv_wnd == other.rcv_wnd) & same;
+        same = (self.sndbuf == other.sndbuf) & same;
+        same = (self.wscale == other.wscale) & same;
+        same = (self.sack == other.sack) & same;
+        same = (self.mss == other.mss) & same;
+        same
     }
 
     fn is_same_at(&self, other: &Settings, key: Key) -> bool
@@ -42,6 +60,9 @@ impl Settings {
     fn agrees_everywhere(&self, other: &Settings, uses: &UseSet) -> bool
         ensures { result ≡ agrees uses.now self.now other.now }
     {
+        if self.is_same_everywhere(other) {
+            return true;
+        }
         Key::ALL.iter().all(|key| self.agrees_at(other, uses, *key))
     }
 
