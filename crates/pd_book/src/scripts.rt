@@ -158,7 +158,7 @@ impl Scripts {
     pub fn rows(&self, alloc: Global) -> Result<Vec<Row>, AllocError>
         ensures { IfOk result (λ rows. rows.items ≡ map kept_row self.now) }
     {
-        let mut rows = Vec::new(alloc);
+        let mut rows = Vec::with_capacity(alloc, self.by_name.len())?;
         for (name, script) in self.by_name.iter() {
             rows.push(row_of(name, script)?)?;
         }
