@@ -13,6 +13,7 @@ ghost use Rattle.pd_lex.specs.Places.{line_at};
 use crate::classes::{Class, class_of};
 use crate::numbers::number_of;
 use crate::plain::{Plain, name, number_at, point, symbol_at};
+use crate::scan::digit;
 use crate::standing::{after_blanks, octets_of_line};
 use crate::step::{LexStep, step_at};
 use crate::token::{Ahead, Lexed, Place, Token};
@@ -118,9 +119,11 @@ fn read_longer<'a>(lines: &'a Lines, from: Place, rest: &'a [u8], ahead: &mut Ah
     requires known { ahead.old.line.now ≡ line_at lines.now from.line }
     ensures { IsReadAt lines.now from ahead.new.next ahead.new.line.now }
 {
+    if digit(rest[0]) {
+        return read_number(lines, from, rest, ahead);
+    }
     match class_of(rest[0]) {
         Class::Letter => put(lines, from, rest, name(rest), ahead),
-        Class::Digit => read_number(lines, from, rest, ahead),
         _ => read_point(lines, from, rest, ahead),
     }
 }

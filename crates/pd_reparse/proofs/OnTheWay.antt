@@ -139,7 +139,7 @@ pub stops_at_limit : (ts : List Item) (n : ℕ) (e : Event) (after : Place) (rea
 stops_at_limit ts n e after (Some line) h z some = ap (λ (m : ℕ). decided_in (suc m) ts) z ∙ one_too_many ts e after line h
 stops_at_limit ts n e after None h z some = absurd cc
 
-pub goes_further_on : (rest ts : List Item) (n : ℕ) (e : Event) (after : Place) (reach : Option ℕ) → next_in ts ≡ Got e after reach → followed goes_on (event_at ts) ≡ Ok (e, rest) → (n ≡ 0 → is_some reach ≡ false) → IsStep rest ts n (Goes (record { event = e; reach = reach; after = after }))
+pub goes_further_on : (rest ts : List Item) (n : ℕ) (e : Event) (after : Place) (reach : Option ℕ) → next_in ts ≡ Got e after reach → followed goes_on (event_at ts) ≡ Ok (e, rest) → (n ≡ 0 → is_some reach ≡ false) → IsStep rest ts n (record { event = e; reach = reach; after = after }) Goes
 goes_further_on rest ts n e after reach h there few = got_kept n ts e after reach rest h there (λ z. none_is reach (few z))
   where
     none_is : (r : Option ℕ) → is_some r ≡ false → r ≡ None
@@ -157,7 +157,7 @@ pub record OnTheWay (front : List Decided) (limit : ℕ) (start : List Item) (ev
 pub on_the_way : (front : List Decided) (start : List Item) → length front < 4096 → OnTheWay front (4096 - length front) start front (length front) start
 on_the_way front start few = record { whole = refl; count = refl; last = λ e. absurd (omega (arith, e, few)) }
 
-pub one_more : (front : List Decided) (limit : ℕ) (start : List Item) (events : List Decided) (i : ℕ) (rest now : List Item) (d : Decided) → OnTheWay front limit start events i now → i < 4096 → IsStep rest now (4096 - i - 1) (Goes d) → OnTheWay front limit start (events ++ d ∷ []) (i + 1) rest
+pub one_more : (front : List Decided) (limit : ℕ) (start : List Item) (events : List Decided) (i : ℕ) (rest now : List Item) (d : Decided) → OnTheWay front limit start events i now → i < 4096 → IsStep rest now (4096 - i - 1) d Goes → OnTheWay front limit start (events ++ d ∷ []) (i + 1) rest
 one_more front limit start events i rest now d W lt S =
     let n = 4096 - (i + 1) in
     let is : 4096 - i ≡ suc (4096 - i - 1) = omega (arith, lt) in

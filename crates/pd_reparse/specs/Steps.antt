@@ -22,6 +22,6 @@ abbrev pub IsReadOn : DecidedScript → Heading → List Decided → ℕ → Lis
 IsReadOn r header front more ts = r ≡ record { header = header; events = front ++ (decided_in more ts).events; fault = (decided_in more ts).fault }
 
 -- the first event of the items, where so many more may follow it, and the others in what is left; or none
-abbrev pub IsStep : List Item → List Item → ℕ → ReadStep → Type 0
-IsStep rest ts more (Goes d) = (decided_in (suc more) ts ≡ in_front (d ∷ []) (decided_in more rest)) × (more ≡ 0 → next_is is_end rest ≡ true)
-IsStep rest ts more (Stops fault) = decided_in (suc more) ts ≡ record { events = []; fault = fault }
+abbrev pub IsStep : List Item → List Item → ℕ → Decided → ReadStep → Type 0
+IsStep rest ts more d Goes = (decided_in (suc more) ts ≡ in_front (d ∷ []) (decided_in more rest)) × (more ≡ 0 → next_is is_end rest ≡ true)
+IsStep rest ts more d (Stops fault) = decided_in (suc more) ts ≡ record { events = []; fault = fault }

@@ -22,6 +22,15 @@ pub struct Decided {
 }
 
 impl Decided {
+    /// An event in whose place others are read.
+    pub fn blank() -> Decided {
+        Decided {
+            event: Event::blank(),
+            reach: None,
+            after: Place { line: 0, at: 0 },
+        }
+    }
+
     /// Whether one of the first `same` lines decided it.
     pub fn is_within(&self, same: usize) -> bool
         ensures { result ≡ is_within same self.now.reach }

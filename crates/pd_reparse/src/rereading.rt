@@ -10,7 +10,7 @@ use crate::reading::Reading;
 use crate::shared_list::SharedList;
 use crate::steps::ReadStep;
 use pd_lex::{Place, first_lines};
-use pd_script::{EventReader, Header, MAX_EVENTS, NextEvent, items_stand_there, read_header};
+use pd_script::{EventReader, Header, MAX_EVENTS, NextPlace, items_stand_there, read_header};
 use pd_text::Lines;
 use std::alloc::{AllocError, Global};
 
@@ -74,8 +74,9 @@ fn read_on(
     events.reserve(lines_from(lines, place))?;
     let mut reader = EventReader::at(lines, place);
     'events: for i in events.len()..MAX_EVENTS {
-        match next_step(alloc, &mut reader, MAX_EVENTS - i - 1)? {
-            ReadStep::Goes(decided) => events.push(decided)?,
+        let mut decided = Decided::blank();
+        match next_step(alloc, &mut reader, MAX_EVENTS - i - 1, &mut decided)? {
+            ReadStep::Goes => events.push(decided)?,
             ReadStep::Stops(fault) => return Ok(Reading::new(header, events, fault)?),
         }
     }
@@ -90,22 +91,25 @@ fn lines_from(lines: &Lines, place: Place) -> usize
     (lines.len() + 1).saturating_sub(place.line)
 }
 
-/// Reads the next event, where so many more may follow it.
-fn next_step(alloc: Global, reader: &mut EventReader, more: usize) -> Result<ReadStep, AllocError>
-    ensures { IfOk result (IsStep reader.new reader.old more) }
+/// Reads the next event in the place of another, where so many more may follow it.
+fn next_step(
+    alloc: Global,
+    reader: &mut EventReader,
+    more: usize,
+    decided: &mut Decided,
+) -> Result<ReadStep, AllocError>
+    ensures { IfOk result (IsStep reader.new reader.old more decided.new) }
 {
-    match reader.next_event(alloc)? {
-        NextEvent::Got(event, after, reach) => {
+    match reader.read_event(alloc, &mut decided.event)? {
+        NextPlace::After(after, reach) => {
             if more == 0 && reach.is_some() {
                 return Ok(ReadStep::Stops(reach));
             }
-            Ok(ReadStep::Goes(Decided {
-                event,
-                reach,
-                after,
-            }))
+            decided.reach = reach;
+            decided.after = after;
+            Ok(ReadStep::Goes)
         }
-        NextEvent::End => Ok(ReadStep::Stops(None)),
-        NextEvent::Fault(line) => Ok(ReadStep::Stops(Some(line))),
+        NextPlace::End => Ok(ReadStep::Stops(None)),
+        NextPlace::Fault(line) => Ok(ReadStep::Stops(Some(line))),
     }
 }

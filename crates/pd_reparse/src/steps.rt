@@ -1,11 +1,10 @@
 //! What reading finds next.
-use crate::decided::Decided;
 
 /// What comes next among the events of a text.
-#[derive(Drop)]
+#[derive(Clone, Copy)]
 pub enum ReadStep {
-    /// An event that is kept.
-    Goes(Decided),
+    /// An event that is kept, in a place of its own.
+    Goes,
     /// The end of the text, or the line of the fault.
     Stops(Option<usize>),
 }

@@ -7,6 +7,7 @@ use Rattle.pd_script.specs.Items.{is_symbol, next_is}
 use Rattle.pd_script.specs.Reader.{Read, Reader, stuck, ends, goes, onto, moved, machine_at}
 use Rattle.pd_script.specs.declared.drafts.Inside.{Inside}
 use Rattle.pd_script.specs.declared.drafts.Draft.{Draft}
+use Rattle.pd_script.specs.declared.drafts.Draft.TheVariants as drafts
 use Rattle.pd_script.specs.declared.brackets.Bracket.{Bracket}
 use Rattle.pd_script.specs.declared.calls.Argument.{Argument}
 use Rattle.pd_script.specs.Brackets.{pairs_after}
@@ -85,6 +86,10 @@ stuck_by d t false false h g e s = absurd cc
 
 move_outside : (i : Inside) (t : Item) → i.pairs ≡ [] → argument_move i t ≡ move_within [] i.draft t
 move_outside i t h = ap (λ (pairs : List Bracket). move_within pairs i.draft t) h
+
+-- with an empty draft an argument begins there
+pub emptied : (i : Inside) (xs : List Item) → is_between i xs ≡ true → record { pairs = i.pairs; draft = drafts.Empty } ≡ at_start
+emptied i xs h = rw (between i xs h).outside refl
 
 pub empty_stuck : (i : Inside) (xs : List Item) → is_between i xs ≡ true → is_empty i.draft ≡ true → within i xs ≡ Err xs
 unfolding machine_at

@@ -6,6 +6,8 @@ use Rattle.pd_lex.specs.Tokens.{Item, lexeme, ending, bad, line_of}
 use Rattle.pd_lex.specs.Lexing.{items}
 use Rattle.pd_script.specs.declared.deciding.NextEvent.{NextEvent}
 use Rattle.pd_script.specs.declared.deciding.NextEvent.TheVariants.{Got, End, Fault}
+use Rattle.pd_script.specs.declared.deciding.NextPlace.{NextPlace}
+use Rattle.pd_script.specs.declared.deciding.NextPlace.TheVariants as places
 use Rattle.pd_script.specs.declared.script_events.Event.{Event}
 use Rattle.pd_script.specs.Items.{is_end, starts_event, goes_on, next_is}
 use Rattle.pd_script.specs.Grammar.{IsEvent}
@@ -32,6 +34,12 @@ reach_of ts = if next_is is_end ts then None else Some (next_line ts)
 abbrev pub got : Read Event → NextEvent
 got (Ok x) = Got x.0 (next_place x.1) (reach_of x.1)
 got (Err rest) = Fault (next_line rest)
+
+-- what comes next, where its event is in a place of its own
+abbrev pub with_event : Event → NextPlace → NextEvent
+with_event event (places.After after reach) = Got event after reach
+with_event event places.End = End
+with_event event (places.Fault line) = Fault line
 
 -- the next event of the items, if an event or the end follows it
 unfoldable pub next_in : List Item → NextEvent

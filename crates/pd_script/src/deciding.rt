@@ -1,7 +1,7 @@
 //! The next event of a text, decided by what follows it.
 ghost use Rattle.std.specs.Prelude.{◌≡◌, IfOk};
 ghost use Rattle.pd_lex.specs.Lexing.{items};
-ghost use Rattle.pd_script.specs.Next.{next_in, reach_of, IsNextEvent, GoesOn, LeavesNext};
+ghost use Rattle.pd_script.specs.Next.{next_in, reach_of, with_event, IsNextEvent, GoesOn, LeavesNext};
 
 use crate::cursor::Cursor;
 use crate::script_events::Event;
@@ -22,6 +22,17 @@ pub enum NextEvent {
     End,
     /// The line of the first token at which no event goes on, or which follows an event and begins
     /// none.
+    Fault(usize),
+}
+
+/// The same, where the event is in a place of its own.
+#[derive(Clone, Copy)]
+pub enum NextPlace {
+    /// The place and the reach of an event that another one or the end follows, as of `NextEvent`.
+    After(Place, Option<usize>),
+    /// The end of the text.
+    End,
+    /// The line of the fault, as of `NextEvent`.
     Fault(usize),
 }
 
@@ -51,11 +62,22 @@ impl<'a> EventReader<'a> {
         }
     }
 
-    /// Reads the next event.
+    /// Reads the next event in the place of another; what is there is no event of the text where none is answered.
     ///
     /// # Errors
     /// `AllocError` where a growth is refused.
     #[inline(always)]
+    pub fn read_event(&mut self, alloc: Global, event: &mut Event) -> Result<NextPlace, AllocError>
+        ensures next { IfOk result (λ next. with_event event.new next ≡ next_in self.old) }
+        ensures left { IfOk result (λ next. LeavesNext (with_event event.new next) self.new self.old) }
+    {
+        self.cursor.read_event(alloc, event)
+    }
+
+    /// Reads the next event.
+    ///
+    /// # Errors
+    /// `AllocError` where a growth is refused.
     pub fn next_event(&mut self, alloc: Global) -> Result<NextEvent, AllocError>
         ensures next { IfOk result (λ next. next ≡ next_in self.old) }
         ensures left { IfOk result (λ next. LeavesNext next self.new self.old) }
@@ -76,32 +98,48 @@ impl<'a> Cursor<'a> {
         }
     }
 
-    /// Takes the next event.
+    /// Takes the next event in the place of another.
     ///
     /// # Errors
     /// `AllocError` where a growth is refused.
     #[inline(always)]
     #[tactic(auto, unfolding(crate::specs::Next::next_in))]
+    pub fn read_event(&mut self, alloc: Global, event: &mut Event) -> Result<NextPlace, AllocError>
+        ensures next { IfOk result (λ next. with_event event.new next ≡ next_in self.old) }
+        ensures left { IfOk result (λ next. LeavesNext (with_event event.new next) self.new self.old) }
+    {
+        if self.is_end() {
+            return Ok(NextPlace::End);
+        }
+        if !self.starts_event() {
+            return Ok(NextPlace::Fault(self.line()));
+        }
+        match self.event(alloc, event) {
+            Ok(()) => {}
+            Err(Stop::Syntax) => return Ok(NextPlace::Fault(self.line())),
+            Err(Stop::OutOfMemory) => return Err(AllocError),
+        }
+        let reach = self.reach();
+        if reach.is_some() && !self.starts_event() {
+            return Ok(NextPlace::Fault(self.line()));
+        }
+        Ok(NextPlace::After(self.next_place(), reach))
+    }
+
+    /// Takes the next event.
+    ///
+    /// # Errors
+    /// As for `read_event`.
     pub fn next_event(&mut self, alloc: Global) -> Result<NextEvent, AllocError>
         ensures next { IfOk result (λ next. next ≡ next_in self.old) }
         ensures left { IfOk result (λ next. LeavesNext next self.new self.old) }
     {
-        if self.is_end() {
-            return Ok(NextEvent::End);
-        }
-        if !self.starts_event() {
-            return Ok(NextEvent::Fault(self.line()));
-        }
-        let event = match self.event(alloc) {
-            Ok(event) => event,
-            Err(Stop::Syntax) => return Ok(NextEvent::Fault(self.line())),
-            Err(Stop::OutOfMemory) => return Err(AllocError),
-        };
-        let reach = self.reach();
-        if reach.is_some() && !self.starts_event() {
-            return Ok(NextEvent::Fault(self.line()));
-        }
-        Ok(NextEvent::Got(event, self.next_place(), reach))
+        let mut event = Event::blank();
+        Ok(match self.read_event(alloc, &mut event)? {
+            NextPlace::After(place, reach) => NextEvent::Got(event, place, reach),
+            NextPlace::End => NextEvent::End,
+            NextPlace::Fault(line) => NextEvent::Fault(line),
+        })
     }
 }
 

@@ -25,7 +25,7 @@ mod timing;
 mod tokens;
 
 pub use calls::{Argument, Arguments, Call, Constant, ErrorName, Function, Outcome};
-pub use deciding::{EventReader, NextEvent, next_event};
+pub use deciding::{EventReader, NextEvent, NextPlace, next_event};
 pub use heading::read_header;
 pub use packets::{Block, Blocks, Flags, OptionList, Options, Packet, PacketOption};
 pub use parsing::Parsed;

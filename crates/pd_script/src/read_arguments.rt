@@ -8,7 +8,7 @@ ghost use Rattle.pd_script.specs.Cursor.{Leaves, SkipsNote};
 use crate::brackets::OpenPairs;
 use crate::calls::Arguments;
 use crate::cursor::Cursor;
-use crate::drafts::Inside;
+use crate::drafts::{Draft, Inside};
 use crate::stops::Stop;
 use std::alloc::Global;
 
@@ -49,7 +49,8 @@ impl<'a> Cursor<'a> {
                 return Ok(arguments);
             }
             self.take();
-            inside = Inside::at_start();
+            // Between two arguments no pair is open.
+            inside.draft = Draft::Empty;
         }
     }
 

@@ -1,7 +1,7 @@
 //! Reading the parts of an event.
 ghost use Rattle.std.specs.Prelude.{◌≡◌};
-ghost use Rattle.pd_script.specs.EventReading.{time_at, absolute_at, relative_at, maybe_until_at, note_at, outcome_at, call_at, action_at, event_at};
-ghost use Rattle.pd_script.specs.Cursor.{Leaves};
+ghost use Rattle.pd_script.specs.EventReading.{time_at, absolute_at, relative_at, maybe_until_at, note_at, outcome_at, call_at, call_action_at, inbound_at, outbound_at, action_at, event_at};
+ghost use Rattle.pd_script.specs.Cursor.{Leaves, Moves};
 
 use crate::calls::{Call, Outcome};
 use crate::cursor::Cursor;
@@ -135,10 +135,40 @@ impl<'a> Cursor<'a> {
         })
     }
 
+    /// Takes a call in the place of an action.
+    #[inline(always)]
+    fn call_action(&mut self, alloc: Global, action: &mut Action) -> Result<(), Stop>
+        ensures { Moves result action.new self.new (call_action_at self.old) }
+    {
+        *action = Action::Call(self.call(alloc)?);
+        Ok(())
+    }
+
+    /// Takes a packet that arrives in the place of an action.
+    #[inline(never)]
+    fn inbound(&mut self, alloc: Global, action: &mut Action) -> Result<(), Stop>
+        ensures { Moves result action.new self.new (inbound_at self.old) }
+    {
+        self.symbol(b'<')?;
+        *action = Action::Inbound(self.packet(alloc, true)?);
+        Ok(())
+    }
+
+    /// Takes a packet that leaves in the place of an action.
+    #[inline(never)]
+    fn outbound(&mut self, alloc: Global, action: &mut Action) -> Result<(), Stop>
+        ensures { Moves result action.new self.new (outbound_at self.old) }
+    {
+        self.symbol(b'>')?;
+        *action = Action::Outbound(self.packet(alloc, false)?);
+        Ok(())
+    }
+
+    /// Takes an action in the place of another.
     #[tactic(auto, using(crate::proofs::Symbols::one_octet), unfolding(crate::specs::EventReading::action_at, pd_lex::specs::Lexing::lexeme_of))]
     #[inline(always)]
-    fn action(&mut self, alloc: Global) -> Result<Action, Stop>
-        ensures { Leaves result self.new (action_at self.old) }
+    fn action(&mut self, alloc: Global, action: &mut Action) -> Result<(), Stop>
+        ensures { Moves result action.new self.new (action_at self.old) }
     {
         match self.peek() {
             Lexed::Token(
@@ -146,54 +176,44 @@ impl<'a> Cursor<'a> {
                     kind: TokenKind::Cmd,
                     ..
                 },
-            ) => self.command(),
+            ) => self.command(action),
             Lexed::Token(
                 Token {
                     kind: TokenKind::Code,
                     ..
                 },
-            ) => self.code(),
+            ) => self.code(action),
             Lexed::Token(
                 Token {
                     kind: TokenKind::Symbol,
                     symbol: b'<',
                     ..
                 },
-            ) => {
-                self.symbol(b'<')?;
-                Ok(Action::Inbound(self.packet(alloc, true)?))
-            }
+            ) => self.inbound(alloc, action),
             Lexed::Token(
                 Token {
                     kind: TokenKind::Symbol,
                     symbol: b'>',
                     ..
                 },
-            ) => {
-                self.symbol(b'>')?;
-                Ok(Action::Outbound(self.packet(alloc, false)?))
-            }
-            _ => Ok(Action::Call(self.call(alloc)?)),
+            ) => self.outbound(alloc, action),
+            _ => self.call_action(alloc, action),
         }
     }
 
-    /// Takes an event.
+    /// Takes an event in the place of another.
     ///
     /// # Errors
     /// `Syntax` where no event goes on, and the cursor is there; `OutOfMemory` where a growth is refused.
     #[tactic(auto, unfolding(crate::specs::EventReading::event_at))]
     #[inline(always)]
-    pub fn event(&mut self, alloc: Global) -> Result<Event, Stop>
-        ensures { Leaves result self.new (event_at self.old) }
+    pub fn event(&mut self, alloc: Global, event: &mut Event) -> Result<(), Stop>
+        ensures { Moves result event.new self.new (event_at self.old) }
     {
         let (line, time) = self.time()?;
-        let until = self.until()?;
-        let action = self.action(alloc)?;
-        Ok(Event {
-            line,
-            time,
-            until,
-            action,
-        })
+        event.line = line;
+        event.time = time;
+        event.until = self.until()?;
+        self.action(alloc, &mut event.action)
     }
 }

@@ -43,6 +43,16 @@ pub struct Events {
 }
 
 impl Event {
+    /// An event in whose place others are read.
+    pub fn blank() -> Event {
+        Event {
+            line: 0,
+            time: Time::Any,
+            until: None,
+            action: Action::Command,
+        }
+    }
+
     /// The same event once more.
     ///
     /// # Errors

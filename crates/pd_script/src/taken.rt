@@ -5,7 +5,7 @@ ghost use Rattle.pd_script.specs.Items.{is_small};
 ghost use Rattle.pd_script.specs.TokenReading.{symbol_at, int_at, dots_at};
 ghost use Rattle.pd_script.specs.PacketReading.{int_from_at, int_of_at, named_at, letters_at, option_name_at};
 ghost use Rattle.pd_script.specs.EventReading.{hex_at, num_at, num_from_at, command_at, code_at, function_at, error_at};
-ghost use Rattle.pd_script.specs.Cursor.{Leaves};
+ghost use Rattle.pd_script.specs.Cursor.{Leaves, Moves};
 
 use crate::calls::{ErrorName, Function};
 use crate::cursor::Cursor;
@@ -237,29 +237,31 @@ impl<'a> Cursor<'a> {
         Ok(())
     }
 
-    /// Takes a shell command.
+    /// Takes a shell command in the place of an action.
     ///
     /// # Errors
     /// `Syntax` where the next token is no shell command. It isn't taken then.
     #[tactic(auto, unfolding(pd_lex::specs::Lexing::lexeme_of))]
-    pub fn command(&mut self) -> Result<Action, Stop>
-        ensures { Leaves result self.new (command_at self.old) }
+    pub fn command(&mut self, action: &mut Action) -> Result<(), Stop>
+        ensures { Moves result action.new self.new (command_at self.old) }
     {
         next_token!(self, TokenKind::Cmd);
         self.take();
-        Ok(Action::Command)
+        *action = Action::Command;
+        Ok(())
     }
 
-    /// Takes code.
+    /// Takes code in the place of an action.
     ///
     /// # Errors
     /// `Syntax` where the next token isn't code. It isn't taken then.
     #[tactic(auto, unfolding(pd_lex::specs::Lexing::lexeme_of))]
-    pub fn code(&mut self) -> Result<Action, Stop>
-        ensures { Leaves result self.new (code_at self.old) }
+    pub fn code(&mut self, action: &mut Action) -> Result<(), Stop>
+        ensures { Moves result action.new self.new (code_at self.old) }
     {
         next_token!(self, TokenKind::Code);
         self.take();
-        Ok(Action::Code)
+        *action = Action::Code;
+        Ok(())
     }
 }

@@ -5,7 +5,7 @@ use Rattle.pd_script.specs.Reader.{Read, onto, machine_at}
 use Rattle.pd_script.specs.Drafts.{argument_move, at_start, drafted, part_at, is_between, is_empty}
 use Rattle.pd_script.specs.EventReading.{arguments_at}
 use Rattle.pd_script.specs.declared.calls.Argument.{Argument}
-use Rattle.pd_script.proofs.ArgumentSteps.{onto-nil, onto-append, part_goes, part_stuck, empty_stuck, last_ends, comma_parts, no_arguments, some_arguments}
+use Rattle.pd_script.proofs.ArgumentSteps.{onto-nil, onto-append, part_goes, part_stuck, empty_stuck, last_ends, comma_parts, no_arguments, some_arguments, emptied}
 use Rattle.pd_script.proofs.Taking.{err_moves}
 use Rattle.pd_script.proofs.cursor.Cursor.arguments.Goals as goal
 
@@ -47,4 +47,4 @@ tokens-preserved c =
     let some : is_empty c.tokens.inside.draft ≡ false = cc (c.is_empty.ensures, c.if-is_empty.false) in
     let comma : next_is (is_symbol 41) c.tokens.self ≡ false = cc (c.is_symbol-in-tokens.ensures, c.if-is_symbol-2.false) in
     let P = comma_parts c.tokens.inside c.tokens.self stop some comma in
-    rw (c.in_ok-push.ensures, c.argument.ensures, c.take-in-tokens.ensures, c.at_start-inside-in-tokens.ensures) (onto-append c.tokens.arguments (drafted c.tokens.inside.draft ∷ []) _ ∙ ap (λ (r : Read (List Argument)). onto c.tokens.arguments r) (sym P.0) ∙ c.tokens.invariant)
+    rw (c.in_ok-push.ensures, c.argument.ensures, c.take-in-tokens.ensures, emptied c.tokens.inside c.tokens.self stop) (onto-append c.tokens.arguments (drafted c.tokens.inside.draft ∷ []) _ ∙ ap (λ (r : Read (List Argument)). onto c.tokens.arguments r) (sym P.0) ∙ c.tokens.invariant)
