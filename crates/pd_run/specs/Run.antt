@@ -1,5 +1,5 @@
 -- A run of a script, its verdict, and the states on its way.
-use Rattle.std.specs.Prelude.{ℕ, ◌+◌, false, Option, Some, None, is_none, List, [], ◌∷◌, find, Result, Ok, Err}
+use Rattle.std.specs.Prelude.{◌≡◌, ℕ, ◌+◌, false, Option, Some, None, is_none, List, [], ◌∷◌, find, Result, Ok, Err}
 use Rattle.std.specs.List.{filter_map, last_or}
 use Rattle.pd_settings.specs.declared.fields.Settings.{Settings}
 use Rattle.pd_script.specs.Script.{script_of}
@@ -36,6 +36,15 @@ start_of header settings = started (find (λ item. is_none (tolerance_in item)) 
       written = last_or None (filter_map tolerance_in header);
       compared = false;
     })
+
+-- a fresh host at the beginning of a run whose header sets this tolerance
+abbrev pub begun : Option ℕ → Settings → RunStateView
+begun written settings = record { host = fresh_host settings; clock = 0; base = 0; written = written; compared = false }
+
+-- what a header is to its run under any settings: the tolerance that it sets, or the verdict of the item that isn't run
+abbrev pub LetsBegin : List HeaderItem → Result (Option ℕ) Verdict → Type 0
+LetsBegin header (Ok written) = (settings : Settings) → start_of header settings ≡ Ok (begun written settings)
+LetsBegin header (Err verdict) = (settings : Settings) → start_of header settings ≡ Err verdict
 
 -- the states after one, two, .. events, up to the stop
 abbrev pub states_from : List Event → RunStateView → List RunStateView

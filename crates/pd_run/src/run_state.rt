@@ -5,7 +5,7 @@ ghost use Rattle.pd_host.specs.ConnStates.{conn_state};
 ghost use Rattle.pd_host.specs.declared.halts.Ending.TheVariants.{OutOfMemory};
 ghost use Rattle.pd_run.specs.Limits.{is_long, written_times};
 ghost use Rattle.pd_run.specs.Times.{moment_of};
-ghost use Rattle.pd_run.specs.Run.{start_of};
+ghost use Rattle.pd_run.specs.Run.{start_of, begun, LetsBegin};
 ghost use Rattle.pd_run.specs.Consulted.{uses_of, rebound_run};
 ghost use Rattle.pd_run.specs.Step.{tolerance_of, noted, acts_at};
 
@@ -56,6 +56,19 @@ impl RunState {
     pub fn new(alloc: Global, header: &Header, settings: &Settings) -> Result<RunState, Verdict>
         ensures { result ≡ start_of header.now.items settings.now }
     {
+        match RunState::tolerance_set(header) {
+            Ok(written) => Ok(RunState::begun(alloc, written, settings)),
+            Err(verdict) => Err(verdict),
+        }
+    }
+
+    /// The tolerance that a header sets for its run, in microseconds, if it sets one.
+    ///
+    /// # Errors
+    /// As for `new`.
+    pub fn tolerance_set(header: &Header) -> Result<Option<u64>, Verdict>
+        ensures { LetsBegin header.now.items result }
+    {
         let mut written = None;
         for item in header.as_slice() {
             match item.kind {
@@ -63,13 +76,20 @@ impl RunState {
                 _ => return Err(Verdict::Unsupported(item.line)),
             }
         }
-        Ok(RunState {
+        Ok(written)
+    }
+
+    /// The state before the first event of a run whose header sets this tolerance, in microseconds, if it sets one.
+    pub fn begun(alloc: Global, written: Option<u64>, settings: &Settings) -> RunState
+        ensures { result ≡ begun written settings.now }
+    {
+        RunState {
             host: Host::new(alloc, settings),
             clock: 0,
             base: 0,
             written,
             compared: false,
-        })
+        }
     }
 
     /// The same run once more.

@@ -3,7 +3,7 @@ ghost use Rattle.std.specs.Prelude.{◌≡◌, ◌+◌, ◌*◌, ◌-◌, ◌≤
 ghost use Rattle.pd_text.specs.Text.{front};
 ghost use Rattle.pd_reparse.specs.Reading.{reading_of, kept_of};
 ghost use Rattle.pd_run.specs.Consulted.{rebound_run};
-ghost use Rattle.pd_run.specs.Run.{states_of};
+ghost use Rattle.pd_run.specs.Run.{begun, states_of};
 ghost use Rattle.pd_settings.specs.Uses.{agrees};
 ghost use Rattle.pd_track.specs.Reuse.{AreHeld, from, from_track, serves, uses, greatest, fourths, kept};
 ghost use Rattle.pd_track.specs.Resuming.{kept_before, BeginsIn, Resumes};
@@ -45,19 +45,24 @@ fn read_after(alloc: Global, track: &Track, text: &Text, same: usize) -> Result<
     reread(alloc, track.reading(), text.lines(), same)
 }
 
-/// Begins a job's run, which before its first event is in this state, where the track allows.
+/// Begins a job's run, whose header sets this tolerance, if it sets one, where the track allows.
 ///
 /// # Errors
 /// `AllocError` where memory for the states that are taken up is refused; never where none of them serves.
-pub fn begin(alloc: Global, job: &Job, kept: usize, fresh: RunState) -> Result<Progress, AllocError>
+pub fn begin(
+    alloc: Global,
+    job: &Job,
+    kept: usize,
+    written: Option<u64>,
+) -> Result<Progress, AllocError>
     requires kept { kept ≡ kept_before job.now }
-    requires fresh { BeginsIn job.now.task.text job.now.task.settings fresh }
+    requires fresh { BeginsIn job.now.task.text job.now.task.settings (begun written job.now.task.settings) }
     ensures passed { IfOk result (λ p. p.passed ≡ from job.now) }
     ensures resumes { IfOk result (λ p. Resumes job.now.task.text job.now.task.settings p.passed p.state p.checkpoints) }
 {
     match job.track() {
-        Some(track) => begin_after(alloc, track, kept, job.text(), &job.settings(), fresh),
-        None => begin_fresh(alloc, job.text(), &job.settings(), fresh),
+        Some(track) => begin_after(alloc, track, kept, job.text(), &job.settings(), written),
+        None => begin_fresh(alloc, job.text(), &job.settings(), written),
     }
 }
 
@@ -65,15 +70,15 @@ pub fn begin(alloc: Global, job: &Job, kept: usize, fresh: RunState) -> Result<P
 fn begin_fresh(
     alloc: Global,
     _text: &Text,
-    _settings: &Settings,
-    fresh: RunState,
+    settings: &Settings,
+    written: Option<u64>,
 ) -> Result<Progress, AllocError>
-    requires fresh { BeginsIn _text.now _settings.now fresh }
+    requires fresh { BeginsIn _text.now settings.now (begun written settings.now) }
     ensures passed { IfOk result (λ p. p.passed ≡ 0) }
-    ensures resumes { IfOk result (λ p. Resumes _text.now _settings.now p.passed p.state p.checkpoints) }
+    ensures resumes { IfOk result (λ p. Resumes _text.now settings.now p.passed p.state p.checkpoints) }
 {
     runs_are_bounded();
-    Ok(Progress::new(alloc, fresh))
+    Ok(Progress::new(alloc, RunState::begun(alloc, written, settings)))
 }
 
 /// Begins in the last state of the track that serves.
@@ -83,16 +88,16 @@ fn begin_after(
     events: usize,
     text: &Text,
     settings: &Settings,
-    fresh: RunState,
+    written: Option<u64>,
 ) -> Result<Progress, AllocError>
     requires events { events ≡ kept track.now.text text.now }
-    requires fresh { BeginsIn text.now settings.now fresh }
+    requires fresh { BeginsIn text.now settings.now (begun written settings.now) }
     ensures passed { IfOk result (λ p. p.passed ≡ from_track track.now text.now settings.now) }
     ensures resumes { IfOk result (λ p. Resumes text.now settings.now p.passed p.state p.checkpoints) }
 {
     let count = serving(track, events, settings);
     if count == 0 {
-        return begin_fresh(alloc, text, settings, fresh);
+        return begin_fresh(alloc, text, settings, written);
     }
     first_events();
     runs_are_bounded();

@@ -83,9 +83,9 @@ fn run<S: Stepper>(alloc: Global, job: &Job, stepper: &mut S) -> Result<Outcome,
             checkpoints: SharedList::new(alloc),
         });
     }
-    match RunState::new(alloc, reading.header(), &job.settings()) {
+    match RunState::tolerance_set(reading.header()) {
         // A question mark would move the state once more.
-        Ok(fresh) => match begin(alloc, job, kept, fresh) {
+        Ok(written) => match begin(alloc, job, kept, written) {
             Ok(progress) => go_on(alloc, job, reading, progress, stepper),
             Err(error) => Err(error),
         },

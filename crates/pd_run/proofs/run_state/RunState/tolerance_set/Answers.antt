@@ -1,6 +1,6 @@
 -- One more item of the header.
 use Rattle.pd_run.proofs.HeaderItems.{one_more_item}
-use Rattle.pd_run.proofs.run_state.RunState.new.Goals as goal
+use Rattle.pd_run.proofs.run_state.RunState.tolerance_set.Goals as goal
 
 pub loop-item-preserved : goal.loop-item-preserved
 loop-item-preserved c =

@@ -2,7 +2,7 @@
 use Rattle.std.proofs.Common.{◌≡◌, None, is_none, find, drop}
 use Rattle.std.specs.List.{filter_map, last_or}
 use Rattle.pd_run.specs.Run.{tolerance_in}
-use Rattle.pd_run.proofs.run_state.RunState.new.Given as goal
+use Rattle.pd_run.proofs.run_state.RunState.tolerance_set.Given as goal
 
 abbrev pub invariant-loop-item : goal.invariant-loop-item
 invariant-loop-item l = record {
