@@ -6,7 +6,6 @@ use Rattle.pd_lex.specs.declared.token.TokenKind.TheVariants as kinds
 use Rattle.pd_lex.specs.declared.token.Place.{Place}
 use Rattle.pd_lex.specs.Places.{first_place, place_after}
 use Rattle.pd_lex.specs.Tokens.{Item, lexeme, ending, bad, line_of}
-use Rattle.pd_lex.specs.Lexing.{items}
 use Rattle.pd_script.specs.Items.{is_digits}
 use Rattle.pd_script.specs.Values.{number}
 use Rattle.pd_script.specs.declared.script_header.HeaderItem.{HeaderItem}

@@ -1,6 +1,6 @@
 -- What the octets of a token stand for.
 use Prim.Native.String.{String}
-use Rattle.std.specs.Prelude.{codes, get_or, ℕ, ◌+◌, ◌-◌, ◌^◌, ◌==◌, ◌||◌, Bool, true, false, not, Option, List, [], ◌∷◌, ◌++◌, take, drop, replicate, min, find, unwrap_or}
+use Rattle.std.specs.Prelude.{codes, get_or, ℕ, ◌+◌, ◌==◌, ◌||◌, Bool, true, false, not, Option, List, [], ◌∷◌, ◌++◌, take, drop, replicate, find, unwrap_or}
 use Rattle.std.specs.List.{prefix_len, list_any}
 use Rattle.std.specs.Str.{bytes_eq}
 use Rattle.std.specs.Str.Parse.{digits_value}
