@@ -103,14 +103,14 @@ again same line last k xs ys up agree le m up_after =
 
 -- ---- texts
 
-tally_is : (same : ℕ) (ds : List Decided) → tally same ds ≡ count_by (λ (d : Decided). is_within same d.reach) ds
+pub tally_is : (same : ℕ) (ds : List Decided) → tally same ds ≡ count_by (λ (d : Decided). is_within same d.reach) ds
 tally_is same ds = is_count_by (tally same) (λ (d : Decided). is_within same d.reach) refl (λ d ds. refl) ds
 
 pub kept_is : (same : ℕ) (r : DecidedScript) → kept_of same r ≡ tally same r.events
 unfolding kept_of
 kept_is same r = sym (tally_is same r.events)
 
-in_order_after : (line last : ℕ) (ts : List Item) → IsInOrder line last ts → (m : ℕ) × IsInOrder m last (after_header ts)
+pub in_order_after : (line last : ℕ) (ts : List Item) → IsInOrder line last ts → (m : ℕ) × IsInOrder m last (after_header ts)
 in_order_after line last ts up =
     let H = header_parts ts in
     let B = after_tokens line last H.front (after_header ts) H.tokens (subst (λ (l : List Item). IsInOrder line last l) H.parts up) in

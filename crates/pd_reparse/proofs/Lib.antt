@@ -6,6 +6,6 @@ pub mod First
 pub mod OnTheWay
 pub mod Taken
 pub mod ReadOn
-pub mod Counted
+pub mod Rising
 pub mod Chained
 pub mod Blocks

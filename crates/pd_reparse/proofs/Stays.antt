@@ -86,7 +86,7 @@ after line last (lexeme a ∷ front) back all up =
 after line last (ending n ∷ front) back all up = absurd cc
 after line last (bad n ∷ front) back all up = absurd cc
 
-after_event : (line last : ℕ) (xs : List Item) (e : Event) (rest : List Item) → event_at xs ≡ ok e rest → IsInOrder line last xs → After line last rest
+pub after_event : (line last : ℕ) (xs : List Item) (e : Event) (rest : List Item) → event_at xs ≡ ok e rest → IsInOrder line last xs → After line last rest
 after_event line last xs e rest h up =
     let T = Reads-event.takes xs e rest (Reads-event.sound xs e rest h) in
     after line last T.0 rest T.2 (subst (λ (l : List Item). IsInOrder line last l) T.1 up)
@@ -104,7 +104,7 @@ not_one true n h e = absurd cc
 not_one false n h e = e
 
 -- events after the first lines aren't decided by them
-none_within : (n same line last : ℕ) (xs : List Item) → same < line → IsInOrder line last xs → tally same (decided_in n xs).events ≡ 0
+pub none_within : (n same line last : ℕ) (xs : List Item) → same < line → IsInOrder line last xs → tally same (decided_in n xs).events ≡ 0
 unfolding decided_in
 none_within zero same line last xs lt up = refl
 none_within (suc n) same line last xs lt up = by_test (next_is starts_event xs) (λ from ys g u. none_within n same from last ys g u)
@@ -150,7 +150,7 @@ nothing_bad : (n line : ℕ) → may_follow n (bad line) ≡ true → ⊥
 nothing_bad zero line h = cc
 nothing_bad (suc n) line h = cc
 
-no_start : (n same : ℕ) (ts : List Item) → next_is starts_event ts ≡ false → tally same (decided_in n ts).events ≡ 0
+pub no_start : (n same : ℕ) (ts : List Item) → next_is starts_event ts ≡ false → tally same (decided_in n ts).events ≡ 0
 unfolding decided_in
 no_start zero same ts h = refl
 no_start (suc n) same ts h = rw h refl
@@ -162,7 +162,7 @@ must_be false k n h g = absurd (omega (arith, h, g refl))
 is_at_most : (n same : ℕ) → nat_le n same ≡ true → n ≤ same
 is_at_most n same h = grind (arith, nat_tests)
 
-is_more : (n same : ℕ) → nat_le n same ≡ false → same < n
+pub is_more : (n same : ℕ) → nat_le n same ≡ false → same < n
 is_more n same h = grind (arith, nat_tests)
 
 module _ (same n k line last : ℕ) (xs : List Item) (up : IsInOrder line last xs) (start : next_is starts_event xs ≡ true) where

@@ -72,6 +72,11 @@ abbrev pub is_within : ℕ → Option ℕ → Bool
 is_within same None = false
 is_within same (Some line) = nat_le line same
 
+-- where an event isn't decided by some first lines, none after it is
+abbrev pub ReachesRise : List Decided → Type 0
+ReachesRise [] = Unit {0}
+ReachesRise (d ∷ ds) = ((same : ℕ) → is_within same d.reach ≡ false → count_by (λ (e : Decided). is_within same e.reach) ds ≡ 0) × ReachesRise ds
+
 -- how many events the first lines of a text decide
 unfoldable pub kept_of : ℕ → DecidedScript → ℕ
 kept_of same r = count_by (λ (d : Decided). is_within same d.reach) r.events

@@ -1,6 +1,6 @@
 //! Events, each with what decided it.
-ghost use Rattle.std.specs.Prelude.{◌≡◌, ◌≤◌, length, count_by, IfOk};
-ghost use Rattle.pd_reparse.specs.Reading.{is_within};
+ghost use Rattle.std.specs.Prelude.{◌≡◌, count_by, IfOk};
+ghost use Rattle.pd_reparse.specs.Reading.{is_within, ReachesRise};
 ghost use Rattle.pd_reparse.specs.declared.decided.Decided.{Decided};
 
 use crate::shared_list::{Copied, SharedList};
@@ -52,28 +52,18 @@ impl Copied for Decided {
     }
 }
 
-/// How many of the events, at most 4,096, one of the first `same` lines decided.
+/// How many of the events one of the first `same` lines decided. It begins at the last, since those that it passes over
+/// are read again.
 pub fn count_within(events: &SharedList<Decided>, same: usize) -> usize
-    requires { length events.now ≤ 4096 }
+    requires { ReachesRise events.now }
     ensures { result ≡ count_by (λ (d : Decided). is_within same d.reach) events.now }
 {
-    let (blocks, rest) = events.parts();
-    let mut count = 0;
-    for block in blocks {
-        count += count_in(block.as_slice(), same);
-    }
-    count + count_in(rest, same)
-}
-
-/// The same of events that are together.
-fn count_in(events: &[Decided], same: usize) -> usize
-    ensures { result ≡ count_by (λ (d : Decided). is_within same d.reach) events.now }
-{
-    let mut count = 0;
-    for decided in events {
-        if decided.is_within(same) {
-            count += 1;
+    let mut count = events.len();
+    'later: while count > 0 {
+        if events.at(count - 1).is_within(same) {
+            return count;
         }
+        count -= 1;
     }
-    count
+    0
 }

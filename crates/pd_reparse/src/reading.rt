@@ -1,9 +1,9 @@
 //! What a text was read as, with what decided each event.
 ghost use Rattle.std.specs.Prelude.{◌≡◌, ◌≤◌, ◌<◌, length, take, IfOk};
 ghost use Rattle.pd_lex.specs.declared.token.Place.{Place};
-ghost use Rattle.pd_reparse.specs.Reading.{kept_of, last_place};
+ghost use Rattle.pd_reparse.specs.Reading.{last_place};
 
-use crate::decided::{Decided, count_within};
+use crate::decided::Decided;
 use crate::shared_list::SharedList;
 use pd_lex::Place;
 use pd_script::Header;
@@ -80,14 +80,6 @@ impl Reading {
 
 /// What is kept where the first lines stay.
 impl Reading {
-    /// How many events were decided within the first `same` lines.
-    #[tactic(auto, unfolding(crate::specs::Reading::kept_of))]
-    pub fn count_within(&self, same: usize) -> usize
-        ensures { result ≡ kept_of same self.now }
-    {
-        count_within(&self.events, same)
-    }
-
     /// The first events.
     ///
     /// # Errors

@@ -1,10 +1,10 @@
 //! Reading a text, whole or from the first event that an edit can have changed.
 ghost use Rattle.std.specs.Prelude.{◌≡◌, ◌+◌, ◌-◌, ◌<◌, length, IfOk};
 ghost use Rattle.pd_lex.specs.Lexing.{items};
-ghost use Rattle.pd_reparse.specs.Reading.{IsReadingOfFirst, reading_of, kept_of};
+ghost use Rattle.pd_reparse.specs.Reading.{IsReadingOfFirst, ReachesRise, reading_of, kept_of};
 ghost use Rattle.pd_reparse.specs.Steps.{IsReadOn, IsStep};
 
-use crate::decided::Decided;
+use crate::decided::{Decided, count_within};
 use crate::kept::Reread;
 use crate::reading::Reading;
 use crate::shared_list::SharedList;
@@ -46,7 +46,7 @@ pub fn reread(
     // The laws of tokens do no work: what is kept rests on them.
     first_lines();
     items_stand_there();
-    let kept = old.count_within(same);
+    let kept = count_kept(old, same);
     if kept == 0 {
         let reading = read(alloc, lines)?;
         return Ok(Reread { reading, kept });
@@ -57,6 +57,15 @@ pub fn reread(
     let place = old.place_after(kept);
     let reading = read_on(alloc, lines, header, events, place)?;
     Ok(Reread { reading, kept })
+}
+
+/// How many events of a text's reading its first `same` lines decide.
+#[tactic(auto, unfolding(crate::specs::Reading::kept_of))]
+fn count_kept(old: &Reading, same: usize) -> usize
+    requires { ReachesRise old.now.events }
+    ensures { result ≡ kept_of same old.now }
+{
+    count_within(old.events(), same)
 }
 
 /// Reads the events from a place on, after a header and events that are known.

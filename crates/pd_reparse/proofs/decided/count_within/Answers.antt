@@ -1,14 +1,14 @@
--- They are no more than the events.
-use Rattle.std.proofs.Common.{Bool, length, count_by, ap, arith}
+-- The last that is one of them has none but such before it.
+use Rattle.std.proofs.Common.{◌∙◌, sym, ap, arith}
 use Rattle.pd_reparse.specs.Reading.{is_within}
 use Rattle.pd_reparse.specs.declared.decided.Decided.{Decided}
-use Rattle.pd_reparse.proofs.Counted.{counted_few}
+use Rattle.pd_reparse.proofs.Rising.{all_so_far, none_so_far}
 use Rattle.pd_reparse.proofs.decided.count_within.Goals as goal
 
-pub overflow_add-count : goal.overflow_add-count
-overflow_add-count c =
-    let p : Decided → Bool = λ d. is_within c.args.same d.reach in
-    let few = counted_few p c.loop-block.block-index c.parts.result.0.now c.block-item.result c.parts.result.1.now c.loop-block-test.true c.block-item.is in
-    let here = ap (count_by p) c.as_slice.ensures in
-    let all = ap length c.parts.ensures in
-    omega (arith, few, here, all, c.loop-block.invariant, c.count_in-count.ensures, c.requires)
+pub returns-then-is_within : goal.returns-then-is_within
+returns-then-is_within c =
+    let within = ap (λ (d : Decided). is_within c.args.same d.reach) (sym c.at.ensures) ∙ sym c.is_within.ensures ∙ c.if-is_within.true in
+    all_so_far c.args.same c.later.count c.args.events.now c.at.result.now c.requires c.later.invariant.0 (omega (arith, c.later-test.true)) within c.later.invariant.1
+
+pub returns : goal.returns
+returns c = none_so_far c.args.same c.later.count c.args.events.now (omega (arith, c.later-test.false)) c.later.invariant.1

@@ -1,9 +1,10 @@
--- Those in the blocks so far.
-use Rattle.std.proofs.Common.{◌≡◌, take, count_by}
-use Rattle.pd_reparse.specs.Blocks.{items_in}
-use Rattle.pd_reparse.specs.Reading.{is_within}
-use Rattle.pd_reparse.specs.declared.decided.Decided.{Decided}
+-- None of those that were passed over is one of them.
+use Rattle.std.proofs.Common.{◌≡◌, ◌≤◌, length, drop}
+use Rattle.pd_reparse.proofs.Stays.{tally}
 use Rattle.pd_reparse.proofs.decided.count_within.Given as goal
 
-abbrev pub invariant-loop-block : goal.invariant-loop-block
-invariant-loop-block l = l.count ≡ count_by (λ (d : Decided). is_within l.fn.same d.reach) (items_in (take l.block-index l.blocks))
+abbrev pub invariant-later : goal.invariant-later
+invariant-later l = (l.count ≤ length l.events) × (tally l.same (drop l.count l.events) ≡ 0)
+
+abbrev pub decreases-later : goal.decreases-later
+decreases-later l = l.count
