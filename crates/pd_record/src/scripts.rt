@@ -4,7 +4,7 @@ ghost use Rattle.pd_script.specs.Script.{found_in, script_of};
 ghost use Rattle.pd_record.specs.Scripts.{IsFound, IsRead};
 
 use pd_lex::Place;
-use pd_script::{Event, EventReader, Header, MAX_EVENTS, NextEvent, read_header};
+use pd_script::{Event, EventReader, Header, MAX_EVENTS, NextPlace, read_header};
 use pd_text::Lines;
 use std::alloc::{AllocError, Global};
 
@@ -52,16 +52,17 @@ fn read_events(
 {
     let mut events = Vec::new(alloc);
     'events: for i in 0..MAX_EVENTS {
-        match reader.next_event(alloc)? {
-            NextEvent::Got(event, after, reach) => {
+        let mut event = Event::blank();
+        match reader.read_event(alloc, &mut event)? {
+            NextPlace::After(after, reach) => {
                 if i + 1 == MAX_EVENTS && reach.is_some() {
                     return Ok(None);
                 }
                 keep(&mut events, event)?;
                 places.push(after)?;
             }
-            NextEvent::End => return Ok(Some(events)),
-            NextEvent::Fault(_) => return Ok(None),
+            NextPlace::End => return Ok(Some(events)),
+            NextPlace::Fault(_) => return Ok(None),
         }
     }
     // The end of the text follows the last event that a script may have.
