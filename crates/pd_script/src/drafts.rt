@@ -28,6 +28,7 @@ impl Draft {
     ghost use Rattle.pd_script.specs.Cursor.{shown};
     ghost use Rattle.pd_script.specs.Drafts.{single_draft, longer_draft, drafted, is_empty};
 
+    #[inline(always)]
     fn single(token: &Token) -> Draft
         ensures { result ≡ single_draft (shown token.now) }
     {

@@ -8,10 +8,10 @@ ghost use Rattle.pd_script.specs.Range.{HasLines};
 ghost use Rattle.pd_script.specs.Script.{found_in, script_of};
 
 use crate::cursor::Cursor;
-use crate::deciding::NextEvent;
+use crate::deciding::NextPlace;
 use crate::heading::read_header;
 use crate::parsing::{Found, Parsed};
-use crate::script_events::Events;
+use crate::script_events::{Event, Events};
 use pd_lex::{first_lines, longest_pieces};
 use pd_text::Lines;
 use std::alloc::{AllocError, Global};
@@ -27,8 +27,9 @@ impl<'a> Cursor<'a> {
     {
         let mut events = Events::new(alloc);
         'events: for i in 0..MAX_EVENTS {
-            match self.next_event(alloc)? {
-                NextEvent::Got(event, _, reach) => {
+            let mut event = Event::blank();
+            match self.read_event(alloc, &mut event)? {
+                NextPlace::After(_, reach) => {
                     if i + 1 == MAX_EVENTS && reach.is_some() {
                         return Ok(Found {
                             events,
@@ -37,11 +38,11 @@ impl<'a> Cursor<'a> {
                     }
                     events.push(event)?;
                 }
-                NextEvent::End => return Ok(Found {
+                NextPlace::End => return Ok(Found {
                     events,
                     fault: None,
                 }),
-                NextEvent::Fault(line) => {
+                NextPlace::Fault(line) => {
                     let fault = Some(line);
                     return Ok(Found { events, fault });
                 }

@@ -118,6 +118,7 @@ impl<'a> Cursor<'a> {
     /// # Errors
     /// `Syntax` where the next token is no number, or one of 4,294,967,296 seconds or more. It isn't taken then.
     #[tactic(auto, unfolding(pd_lex::specs::Lexing::lexeme_of))]
+    #[inline(always)]
     pub fn num(&mut self) -> Result<(usize, u64), Stop>
         ensures { Leaves result self.new (num_at self.old) }
     {
