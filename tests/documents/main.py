@@ -1,11 +1,10 @@
 """Tests the documents: their links and words, the parts that tools make, and the commands that pages show.
 
-Each link of a page leads to a file of the tree, and to a heading that is there. No page has more words than the
-table at the head of words.py says, none names a commit, and no sentence of README.md and the tutorial is long. What
-a tool makes of a page is what the tool makes. The functions and edits that PROMISES.md names are there, and each file
+Each link of a page leads to a file of the tree, and to a heading that is there, and no page names a commit. What a
+tool makes of a page is what the tool makes. The functions and edits that PROMISES.md names are there, and each file
 of src/ and specs/ begins with what it is for. The commands in blocks `console` of README.md and the tutorial are run
 in a copy of the tree with the built programs, and print what is shown after them; blocks `console slow` are left to
-tools/walk_tutorial.py. Prints a line for each test, and `N passed, M failed` last.
+tools/walk_tutorial.py. Prints how long the pages are, a line for each test, and `N passed, M failed` last.
 """
 
 import argparse
@@ -23,10 +22,12 @@ from documents.promises import unknown_functions, wrong_edits
 from documents.shown import KINDS, UNPROVED, shown_in
 from documents.sources import without_head
 from documents.walking import walk
-from documents.words import SHORT, log_words, too_long, too_many
+from documents.words import lengths, log_words
 
 TOP = Path(__file__).resolve().parents[2]
 SECONDS = 60.0
+# The pages whose commands are run.
+WALKED = ("README.md", "docs/TUTORIAL.md")
 Test = tuple[str, str | None]
 
 
@@ -41,10 +42,8 @@ def test_pages(files: list[Path], pages: dict[str, Page]) -> Iterator[Test]:
         yield f"links of {name}", joined(broken_links(pages, page))
         yield f"no log in {name}", joined(log_words(page))
     yield "pages that other files name", joined(broken_names(TOP, pages, files))
-    yield from too_many(pages)
-    for name in SHORT:
+    for name in WALKED:
         if name in pages:
-            yield f"sentences of {name}", joined(too_long(pages[name]))
             yield from test_unproved_lines(pages[name])
     yield from unlike(TOP, pages)
     if promises := pages.get("docs/PROMISES.md"):
@@ -122,7 +121,9 @@ def main(words: list[str]) -> int:
     if chosen.write:
         write(TOP, pages)
         return 0
-    shown = [] if chosen.pages else [test_commands(files, pages[name]) for name in SHORT if name in pages]
+    shown = [] if chosen.pages else [test_commands(files, pages[name]) for name in WALKED if name in pages]
+    for line in lengths(pages):
+        print(line)
     passed = failed = 0
     for name, why in chain(test_pages(files, pages), *shown):
         print(f"ok document {name}" if why is None else f"FAILED document {name}:\n{why}", flush=True)

@@ -1,4 +1,4 @@
-"""The sentences of a page that have too many words; each cell of a table and each point of a list is by itself."""
+"""The sentences of a page; each cell of a table and each point of a list is by itself."""
 
 import re
 from collections.abc import Iterator
@@ -31,10 +31,6 @@ def sentences(block: str) -> Iterator[str]:
     return (sentence for sentence in END.split(CODE.sub("`code`", block)) if sentence)
 
 
-def long_sentences(text: str, most: int) -> Iterator[tuple[int, int, str]]:
-    """The sentences with more words than that: the line where the block begins, the number of words, the sentence."""
-    for line, block in blocks(text):
-        for sentence in sentences(block):
-            words = len(sentence.split())
-            if words > most:
-                yield line, words, sentence
+def sentences_of(text: str) -> Iterator[tuple[int, str]]:
+    """The sentences of a document, each with the line where its block begins."""
+    return ((line, sentence) for line, block in blocks(text) for sentence in sentences(block))
