@@ -1,5 +1,9 @@
 #!/usr/bin/env python3
-"""Prints what to read to believe public functions, as pd_cli::run, or clauses of them, as Book::show.current,scripts.
+"""Prints what to read to believe a promise: the files with their lines, from the highest crate down, the nearest first.
+
+    tools/reading_list.py headline       the rows that a report shows, and the calls that they are said of
+    tools/reading_list.py octets         what the program writes
+    tools/reading_list.py FUNCTION..     public functions, as pd_cli::run, or clauses of them, as Book::show.whole,parts
 
 Words are followed by imports, not into the kit's libraries. A type with private fields is the value that contracts see.
 """
@@ -17,6 +21,22 @@ OWNER = re.compile(r"^impl\b.*?(\w+)(?:<[^<>]*>)? \{$", re.M)
 IMPORT = re.compile(r"(pd\w+)\.specs\.(declared\.)?[a-z_.]*(\w+?)(?:\.TheVariants)?(?: as (\w+)|\.\{(.*?)\});?$", re.M)
 RUST_IMPORT = re.compile(r"^use (pd\w+|crate|super)::(.*?);$", re.M | re.S)
 WORD, TYPE = re.compile(r">>=|\w+(?:\.\w+)*"), re.compile(r"\b[A-Z]\w+")
+LISTS = {
+    "headline": (
+        "Book::show.current,scripts,grammar,whole,parts",
+        "Book::history",
+        "pd_book::headline.taken",
+        "Book::new",
+        *(f"Book::{call}.gives" for call in ("add", "edit", "remove", "set", "start", "finish", "abandon")),
+    ),
+    "octets": ("pd_cli::run",),
+}
+
+
+class Unknown(Exception):
+    """That a word names no public function, or no clause of it."""
+
+
 Name = tuple[str, str]  # a file or a crate, and a word there
 Index = dict[Name, "Place | Name"]  # where that is defined, or the name that it stands for
 
@@ -72,7 +92,7 @@ def contract(index: Index, wanted: str) -> Place:
     head, *parts = re.split(r"\n(?= *ensures)", found[0].text if len(found) == 1 else "")
     kept = [part for part in parts if not clauses or part.split()[1] in clauses.split(",")]
     if len(found) != 1 or len(kept) < len(clauses.split(",")):
-        sys.exit("reading_list: each word has to name one public function, and clauses of it")
+        raise Unknown(f"{wanted}: each word has to name one public function, and clauses of it")
     return Place(found[0].file, found[0].start, "\n".join([head, *kept]))
 
 
@@ -86,7 +106,10 @@ def reached(index: Index, functions: list[str]) -> list[Place]:
     return places
 
 
-def main(functions: list[str]) -> None:
+def main(words: list[str]) -> None:
+    if not words:
+        sys.exit(__doc__)
+    functions = [function for word in words for function in LISTS.get(word, (word,))]
     lines: dict[str, set[int]] = {}
     for place in reached(read_index(), functions):
         lines.setdefault(place.file, set()).update(range(place.start, place.start + place.text.count("\n") + 1))
@@ -97,4 +120,7 @@ def main(functions: list[str]) -> None:
 
 
 if __name__ == "__main__":
-    main(sys.argv[1:])
+    try:
+        main(sys.argv[1:])
+    except Unknown as unknown:
+        sys.exit(f"reading_list: {unknown}")

@@ -18,12 +18,9 @@ class Made:
     command: tuple[str, ...]
 
 
-SHOW = "Book::show.current,scripts,grammar,whole,parts"
-READING = ("tools/reading_list.py", SHOW, "Book::history", "pd_book::headline.taken")
 TABLE = "tools/settings_table.py"
 MADE = (
     Made("docs/COVERAGE.md", None, None, ("tools/coverage.py",)),
-    Made("docs/ARCHITECTURE.md", f"<!-- made by {' '.join(READING)} -->", "<!-- end -->", READING),
     Made("docs/SETTINGS.md", f"<!-- made by {TABLE} page -->", "<!-- end -->", (TABLE, "page")),
     Made("client/pdsuite/scripts/defaults.py", f"# made by {TABLE} client", "# end", (TABLE, "client")),
     Made("packaging/man/pdregress.h2m", f'.\\" made by {TABLE} man', '.\\" end', (TABLE, "man")),

@@ -18,7 +18,7 @@ from pathlib import Path
 
 from documents.made import unlike, write
 from documents.pages import Page, broken_links, broken_names, read_pages, tracked
-from documents.promises import unknown_functions, wrong_edits
+from documents.promises import lists_without_names, unknown_functions, wrong_edits
 from documents.shown import KINDS, UNPROVED, shown_in
 from documents.sources import without_head
 from documents.walking import walk
@@ -49,6 +49,7 @@ def test_pages(files: list[Path], pages: dict[str, Page]) -> Iterator[Test]:
     if promises := pages.get("docs/PROMISES.md"):
         yield "functions of docs/PROMISES.md", joined(unknown_functions(promises))
         yield "edits of docs/PROMISES.md", joined(wrong_edits(promises, files))
+    yield "reading lists", joined(lists_without_names())
     yield "first lines of sources", joined(without_head(TOP, files))
 
 

@@ -10,7 +10,7 @@ from documents.pages import Page
 sys.path.insert(0, str(Path(__file__).resolve().parents[2] / "tools"))
 
 from edit_files import read_crates  # noqa: E402
-from reading_list import read_index  # noqa: E402
+from reading_list import LISTS, Unknown, read_index, reached  # noqa: E402
 
 FUNCTION = re.compile(r"`(\w+::\w+)`")
 EDITS = re.compile(r"\bEdits? (?:in )?(.*)$", re.MULTILINE)
@@ -34,3 +34,13 @@ def wrong_edits(page: Page, files: list[Path]) -> Iterator[str]:
         yield f"{page.name}: {name}: there is no such edit"
     for name in sorted(tried - named):
         yield f"{page.name} doesn't name the edit {name}, which the gate tries"
+
+
+def lists_without_names() -> Iterator[str]:
+    """A line for each reading list whose functions or clauses aren't there."""
+    index = read_index()
+    for name, functions in LISTS.items():
+        try:
+            reached(index, list(functions))
+        except Unknown as unknown:
+            yield f"{name}: {unknown}"
