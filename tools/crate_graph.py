@@ -5,11 +5,11 @@ from __future__ import annotations
 def dependencies(table: str) -> dict[str, list[str]]:
     """What each crate of a crates.txt stands on, crate by crate as its lines come; libraries of the kit are left out.
 
-    >>> dependencies("# NAME: DEP DEP ..\\nlow:\\nhigh may_wait=1: low toml\\n")
-    {'low': [], 'high': ['low']}
+    >>> dependencies("# NAME: DEP DEP ..\\nlow:\\nhigh may_wait=1: low toml\\ntop: low,high # so\\n")
+    {'low': [], 'high': ['low'], 'top': ['low', 'high']}
     """
     lines = (line.partition("#")[0].partition(":") for line in table.splitlines())
-    named = {crate.split()[0]: below.split() for crate, colon, below in lines if colon}
+    named = {crate.split()[0]: below.replace(",", " ").split() for crate, _, below in lines if crate.split()}
     return {crate: [it for it in below if it in named] for crate, below in named.items()}
 
 
@@ -18,8 +18,18 @@ def libraries_below(crate: str, uses: dict[str, list[str]]) -> list[str]:
 
     >>> libraries_below("c", {"a": [], "b": ["a"], "c": ["b"], "d": ["a"]})
     ['a', 'b']
+    >>> libraries_below("d", {"a": [], "b": ["a"], "c": ["b", "a"], "d": ["c", "a", "b"]})
+    ['a', 'b', 'c']
     """
+    seen: set[str] = set()
     found: list[str] = []
-    for low in uses[crate]:
-        found += [it for it in [*libraries_below(low, uses), low] if it not in found]
+
+    def visit(name: str) -> None:
+        for low in uses[name]:
+            if low not in seen:
+                seen.add(low)
+                visit(low)
+                found.append(low)
+
+    visit(crate)
     return found

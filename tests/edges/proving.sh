@@ -171,7 +171,7 @@ test_times() {
 }
 
 test_words() {
-    expect words-of-times-and-errors "status 0" in_folder "$top/tools" python3 -B -m doctest changed_rules.py crate_graph.py owed.py owed_sections.py prove_times.py prove_errors.py refusing.py
+    expect words-of-times-and-errors "status 0" in_folder "$top/tools" python3 -B -m doctest changed_rules.py crate_graph.py owed.py owed_sections.py prove_times.py prove_errors.py refusing.py source_sums.py
 }
 
 test_lanes
