@@ -40,14 +40,22 @@ count_of() { # a word of the last line of pytest
 }
 
 tests() { # [--unproved]
-    (cd "$top/client" && "$python" -I -m pytest -q --tb=short --color=no --durations=3 "$@" tests 2>&1 || true) |
-        tee "$work/tests"
+    {
+        (cd "$top/client" && "$python" -I -m pytest -q --tb=short --color=no --durations=3 "$@" tests 2>&1) &&
+            echo 0 >"$work/status" || echo "$?" >"$work/status"
+    } | tee "$work/tests"
+    read -r status <"$work/status"
     good=$(count_of passed)
     bad=$(count_of failed)
     errors=$(count_of error)
-    [ -n "$good$bad$errors" ] || { echo "the tests came to no end" && bad=1; }
+    bad=$((${bad:-0} + ${errors:-0}))
+    case $status:$good:$bad in
+        *::0) echo 'the tests came to no end' && bad=1 ;;
+        0:*:0 | [1-9]*:*:[1-9]*) ;;
+        *) echo "the tests ended with status $status, whatever they count" && bad=$((bad + 1)) ;;
+    esac
     passed=$((passed + ${good:-0}))
-    failed=$((failed + ${bad:-0} + ${errors:-0}))
+    failed=$((failed + bad))
 }
 
 unproved=

@@ -1,5 +1,5 @@
 #!/bin/sh
-# Tests of the shell programs and of ./prove, and of the built programs where something is refused to them: those of the files
+# Tests of the shell programs, of ./prove and of what counts tests, and of the built programs where something is refused to them: those of the files
 # in edges/, one after another, or of those that are named. Prints a line for each, and `N passed, M failed` last.
 #
 #   tests/edges.sh [NAME..]
@@ -12,9 +12,9 @@ passed=0
 failed=0
 . "$top/tests/edges/common.sh"
 case ${1:-} in
-    '') set -- adding links launching proving rows faults ;;
+    '') set -- adding harness links launching proving rows faults ;;
     --unproved)
-        set -- adding links launching proving rows
+        set -- adding harness links launching proving rows
         echo 'not told, needs a built program: tests/edges/faults.sh'
         ;;
 esac

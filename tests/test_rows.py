@@ -2,9 +2,9 @@
 
 import re
 from collections.abc import Callable, Iterator
-from dataclasses import dataclass, field
+from dataclasses import dataclass, field, replace
 from pathlib import Path
-from typing import Optional
+from typing import Any, Optional
 
 import pytest
 
@@ -81,6 +81,27 @@ def test_scripts_are_told_together_and_where_that_differs_alone(teller: Teller) 
 def test_what_differs_together_alone_is_a_fault_of_the_first(teller: Teller) -> None:
     faults = teller.faults(SCRIPTS, lambda call: judge(call) if len(scripts_of(call)) == 1 else EMPTY)
     assert faults["line-2"].startswith("told with those after it:\n")
+
+
+@pytest.mark.parametrize(
+    "change, shown",
+    [
+        ({"status": 2}, ("\n-= 1\n", "\n+= 2")),
+        ({"errors": b"no memory\n"}, ("\n+! no memory\n",)),
+        ({"status": 0}, ("\n-= 1\n", "\n+= 0")),
+    ],
+)
+def test_the_right_report_with_another_status_or_error_text_is_a_fault(
+    change: dict[str, Any], shown: tuple[str, ...], teller: Teller
+) -> None:
+    """Told together, and where that differs alone too."""
+    faults = teller.faults("[a] scripts\npass 1: 0\nfail 1 result: x\n", lambda it: replace(judge(it), **change))
+    assert all(it in faults["line-3"] for it in shown)
+    together = teller.faults(
+        "[a] scripts\nfail 1 result: x\nfail 1 result: xx\n",
+        lambda it: replace(judge(it), **change) if len(scripts_of(it)) == 2 else judge(it),
+    )
+    assert list(together) == ["line-2"] and all(it in together["line-2"] for it in shown)
 
 
 STORY = """[before] opening

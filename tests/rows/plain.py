@@ -1,5 +1,6 @@
 #!/usr/bin/env -S python3 -B
-"""Tells rows to the programs without pytest: prints what fails, and `N passed, M failed` last. Other tests fail."""
+"""Tells rows to the programs without pytest: prints what fails, and `N passed, M failed` last. Other tests fail, and so does
+want of any row."""
 
 import argparse
 import sys
@@ -70,6 +71,7 @@ def main(words: Sequence[str]) -> int:
                 print(f"not told, needs a built program: {case.row.file}::{group.name}::{case.name}")
     if untold:
         print(f"{untold} rows need a built program")
+    failed = failed or int(not any(group.cases for group, _ in told))
     print(f"{passed} passed, {failed} failed")
     return 1 if failed else 0
 

@@ -1,0 +1,133 @@
+# Tests of what counts tests, by the last lines and the status: ./check on steps that stand in, tests/run on rows of a small tree,
+# with pytest and without it, and tests/client.sh where pytest stands in.
+small=$work/small
+
+make_small_tree() {
+    mkdir -p "$small/tests/edges" "$small/tools" "$small/client" "$small/tests/cases/empty" "$small/one" "$small/all"
+    cp -R "$top/tests/run" "$top/tests/conftest.py" "$top/tests/pytest.ini" "$top/tests/rows" "$top/tests/model" "$top/tests/client.sh" "$small/tests"
+    cp "$top/tools/built.sh" "$top/tools/crates_below.sh" "$small/tools"
+    printf '[a] opening\n< 0\n' >"$small/tests/cases/openings.cases"
+    printf '#!/bin/sh\necho a1 pass 1\necho total 1 pass 1 fail 0 syntax 0 unsupported 0 limit 0 pending 0\n' >"$small/one/pdregress"
+    chmod +x "$small/one/pdregress"
+    for program in pdregress pdrecord test_desk; do cp "$small/one/pdregress" "$small/all/$program"; done
+    rows passes '[a] scripts\npass 1: 0'
+    rows fails '[a] scripts\npass 2: 0\npass 1: 1'
+    rows no_table 'a row'
+    rows no_text '[a] scripts\npass 1: \377'
+    rows untold '[a] bad words\n{}'
+    rows untold_and_marked '[a] bad words\n#? taken\n{}'
+    echo 'import nothing_of_this_name' >"$small/tests/cases/test_no_import.py"
+    printf 'import pytest\n\n\ndef test_passes():\n    pass\n\n\ndef test_exits():\n    pytest.exit("a")\n' >"$small/tests/cases/test_exits.py"
+}
+
+rows() { # NAME TEXT: a file of rows
+    # shellcheck disable=SC2059
+    printf "$2\n" >"$small/tests/cases/$1.cases"
+}
+
+counted() { # COUNT COMMAND..: the last lines that it writes, without times
+    count=$1 code=0
+    shift
+    "$@" >"$work/counted" 2>&1 </dev/null || code=$?
+    tail -n "$count" "$work/counted"
+    return "$code"
+}
+
+run_rows() { # WORD..: what counts rows of the small tree
+    (cd "$small/tests/cases" && counted 1 ../run "$@")
+}
+
+run_plainly() { # WORD..: the same where pytest is missing
+    (cd "$small/tests/cases" && counted 1 ../rows/plain.py "$@")
+}
+
+test_rows() {
+    expect harness-a-row-fails "$(printf '1 passed, 1 failed\nstatus 1')" run_rows fails.cases --programs ../../one
+    expect harness-no-row-is-chosen "$(printf '0 passed, 1 failed\nstatus 5')" run_rows passes.cases --programs ../../one -k none
+    expect harness-no-row-is-chosen-in-processes "$(printf '0 passed, 1 failed\nstatus 5')" run_rows passes.cases --programs ../../all -k none
+    expect harness-no-file-is-there "$(printf '0 passed, 1 failed\nstatus 4')" run_rows none.cases --programs ../../one
+    expect harness-unread "$(printf '1 passed, 2 failed\nstatus 1')" run_rows passes.cases no_table.cases no_text.cases --programs ../../one --continue-on-collection-errors
+    expect harness-an-error-is-counted "$(printf '0 passed, 1 failed\nstatus 2')" run_rows passes.cases test_no_import.py --programs ../../one
+    expect harness-a-run-that-is-left "$(printf '1 passed, 1 failed\nstatus 2')" run_rows test_exits.py
+    expect harness-untold "$(printf '0 passed, 0 failed\nstatus 0')" run_rows untold.cases --unproved
+    expect harness-untold-and-marked "$(printf '0 passed, 1 failed\nstatus 1')" run_rows untold_and_marked.cases --unproved
+    expect harness-nothing-is-proved "$(printf '0 passed, 3 failed\nstatus 1')" run_rows untold.cases --proved
+}
+
+test_rows_plainly() {
+    expect plain-a-row-passes "$(printf '1 passed, 0 failed\nstatus 0')" run_plainly passes.cases --programs ../../one
+    expect plain-a-row-fails "$(printf '1 passed, 1 failed\nstatus 1')" run_plainly fails.cases --programs ../../one
+    expect plain-no-row-is-there "$(printf '0 passed, 1 failed\nstatus 1')" run_plainly empty --programs ../../one
+    expect plain-a-test-of-pytest "$(printf '1 passed, 1 failed\nstatus 1')" run_plainly passes.cases test_exits.py --programs ../../one
+    expect plain-untold-and-marked "$(printf '0 passed, 1 failed\nstatus 1')" run_plainly untold_and_marked.cases --unproved
+    expect plain-nothing-is-proved "$(printf '0 passed, 3 failed\nstatus 1')" run_plainly untold.cases --proved
+}
+
+step() { # PATH TEXT: a step of the small tree, a shell program
+    printf '#!/bin/sh\n%s\n' "$2" >"$small/$1"
+    chmod +x "$small/$1"
+}
+
+check_small() { # TEXT COUNT: the last lines of ./check, of which one step is this
+    mkdir -p "$small/checked/tests"
+    cp "$top/check" "$small/checked"
+    step checked/tests/run "$1"
+    counted "$2" "$small/checked/check" runs
+}
+
+check_words() { # COUNT WORD..: the last lines of ./check, whose steps each pass so many tests
+    printf '%s\n' 1:run 10:edges.sh 100:client.sh 1000:documents.py | while IFS=: read -r number file; do
+        step "checked/tests/$file" "echo $number passed, 0 failed"
+    done
+    step checked/tests/packages.sh 'exit 1'
+    count=$1
+    shift
+    counted "$count" "$small/checked/check" "$@"
+}
+
+stepped() { # WHY PASSED FAILED: the last lines where a step is at fault
+    printf 'check: tests/run runs %s\n%s passed, %s failed\nstatus 1' "$@"
+}
+
+test_check() {
+    expect check-a-step-passes "$(printf '3 passed, 0 failed\nstatus 0')" check_small 'echo 3 passed, 0 failed' 1
+    expect check-a-step-fails "$(printf '3 passed, 2 failed\n3 passed, 2 failed\nstatus 1')" check_small 'echo 3 passed, 2 failed; exit 1' 2
+    expect check-no-count "$(stepped 'came to no end' 0 1)" check_small 'echo 3 passed, 0 failed; echo more' 2
+    expect check-nothing-written "$(stepped 'came to no end' 0 1)" check_small : 2
+    expect check-a-count-of-other-words "$(stepped 'came to no end' 0 1)" check_small 'echo " passed,  failed"' 2
+    expect check-a-count-of-octal-digits "$(stepped 'came to no end' 0 1)" check_small 'echo 010 passed, 0 failed' 2
+    expect check-a-count-with-more "$(stepped 'came to no end' 0 1)" check_small 'echo 3 passed, 0 failed, 1 error' 2
+    expect check-a-step-that-counts-nothing "$(stepped 'tried nothing' 0 1)" check_small 'echo 0 passed, 0 failed' 2
+    expect check-a-signal "$(stepped 'ended with status 141, whatever it counts' 3 1)" check_small 'echo 3 passed, 0 failed; kill -PIPE $$' 2
+    expect check-a-signal-before-a-count "$(stepped 'came to no end' 0 1)" check_small 'echo row; kill -KILL $$' 2
+    expect check-a-status-without-a-failure "$(stepped 'ended with status 1, whatever it counts' 3 1)" check_small 'echo 3 passed, 0 failed; exit 1' 2
+    expect check-failures-without-a-status "$(stepped 'ended with status 0, whatever it counts' 3 3)" check_small 'echo 3 passed, 2 failed' 2
+    expect check-no-step "$(stepped 'came to no end' 0 1)" check_small 'exec /none' 2
+    expect check-steps-are-added "$(printf '1101 passed, 0 failed\nstatus 0')" check_words 1 runs client documents
+    expect check-tests-runs-each-step "$(printf '1112 passed, 0 failed\nstatus 0')" check_words 1 tests
+    expect check-a-step-is-none "$(printf 'status 2')" check_words 0 runs none
+    expect check-no-word "$(printf '0 passed, 1 failed\nstatus 1')" check_words 1 ''
+}
+
+client_small() { # TEXT: the last lines of tests/client.sh, where pytest is this and all other tools pass
+    step tests/packages.sh :
+    step python "case \$* in *pytest*) $1 ;; esac"
+    step ls :
+    sed -i "s,^python=.*,python=$small/python," "$small/tests/client.sh"
+    (PATH="$small:$PATH" counted 1 "$small/tests/client.sh")
+}
+
+test_client() {
+    expect client-tests-pass "$(printf '7 passed, 0 failed\nstatus 0')" client_small 'echo "3 passed, 1 warning in 1s"'
+    expect client-tests-fail "$(printf '7 passed, 2 failed\nstatus 1')" client_small 'echo "1 failed, 3 passed, 1 error in 1s"; exit 1'
+    expect client-tests-are-left "$(printf '7 passed, 1 failed\nstatus 1')" client_small 'echo "3 passed in 1s"; exit 2'
+    expect client-tests-come-to-no-end "$(printf '4 passed, 1 failed\nstatus 1')" client_small 'echo ...'
+    expect client-no-test-is-there "$(printf '4 passed, 1 failed\nstatus 1')" client_small 'echo "no tests ran in 1s"; exit 5'
+    expect client-tests-are-skipped "$(printf '4 passed, 1 failed\nstatus 1')" client_small 'echo "9 skipped in 1s"'
+}
+
+make_small_tree
+test_rows
+test_rows_plainly
+test_check
+test_client
