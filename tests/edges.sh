@@ -1,6 +1,7 @@
 #!/bin/sh
-# Tests of the shell programs, of ./prove and of what counts tests, and of the built programs where something is refused to them: those of the files
-# in edges/, one after another, or of those that are named. Prints a line for each, and `N passed, M failed` last.
+# Tests of the shell programs, of ./prove and of what counts tests, and of the built programs where something is refused to
+# them: those of the files in edges/, one after another, or of those that are named. Prints a line for each, and `N passed, M
+# failed` last.
 #
 #   tests/edges.sh [NAME..]
 #   tests/edges.sh --unproved     those that need no built program; the others are named
