@@ -13,6 +13,7 @@ from pdsuite.commands.list import list_scripts
 from pdsuite.commands.options import MOST_SECONDS, PlaceWord, ReasonWord
 from pdsuite.commands.options import choice_options, free_choice_options, html_option, no_color_option, part_options
 from pdsuite.commands.options import plot_options, search_options, strict_option, workers_option
+from pdsuite.commands.renamed import with_new_name
 from pdsuite.commands.report_files import FileWord, FormOption, ReportCommand
 from pdsuite.commands.run import RunOptions, run
 from pdsuite.commands.version import version
@@ -55,7 +56,7 @@ def pdsuite() -> None:
 @pdsuite.command(name="run", cls=ReportCommand)
 @choice_options
 @part_options
-@click.option("--new", is_flag=True, help="Show only rows that the last run of these paths didn't have.")
+@click.option("--new-only", is_flag=True, help="Show only rows that the last run of these paths didn't have.")
 @strict_option
 @workers_option
 @html_option
@@ -74,7 +75,7 @@ def pdsuite() -> None:
 )
 @click.option("--json", "form", cls=FormOption, flag_value="json", help="Print JSON, or write it into FILE, too.")
 @click.option("--github", "form", flag_value="github", help="Print annotations.")
-@click.option("--all-differences", is_flag=True, help="Show what each line of a script that fails was met by.")
+@click.option("--full-diff", is_flag=True, help="Show what each line of a script that fails was met by.")
 @click.option("-v", "--verbose", is_flag=True, help="A line for each script.")
 def run_command(no_color: bool, **words: Any) -> int:
     """Runs scripts in files and folders, and reports what came of them."""
@@ -83,8 +84,8 @@ def run_command(no_color: bool, **words: Any) -> int:
         raise click.UsageError("--workers is of this machine, and --scheduler runs scripts elsewhere")
     if options.scheduler is not None and options.html is not None:
         raise click.UsageError("--html draws what ran on this machine, and --scheduler runs scripts elsewhere")
-    if options.new and options.form in ("tap", "json"):
-        raise click.UsageError("--new leaves rows out, and --tap and --json have all")
+    if options.new_only and options.form in ("tap", "json"):
+        raise click.UsageError("--new-only leaves rows out, and --tap and --json have all")
     _refuse_plots(options.html, options.plot, options.plots)
     with Screen(wants_color() and not no_color, progress=options.form is None) as screen:
         return run(options, screen)
@@ -153,7 +154,7 @@ def expect_command(no_color: bool, **words: Any) -> int:
 @workers_option
 @click.option("--write", "writes", is_flag=True, help="Write the files, and show no diff.")
 @click.option("--whole", is_flag=True, help="Record scripts whole, and not by the least change.")
-@click.option("--drop", "drops", is_flag=True, help="Leave no comments of packets that aren't sent.")
+@click.option("--drop-missing", "drops_missing", is_flag=True, help="Leave no comments of packets that aren't sent.")
 def record_command(no_color: bool, **words: Any) -> int:
     """Shows what recording scripts anew changes in them, or writes it.
 
@@ -191,7 +192,7 @@ def diff_command(old: Path, new: tuple[Path, ...], no_color: bool) -> int:
 @click.option("--with", "other", metavar="SENDER", help="The sender after, if not the tree as it stands.")
 @html_option
 @click.option("--json", "is_json", is_flag=True, help="Print JSON.")
-@click.option("--owes", is_flag=True, help="Name rows of tests and paragraphs of pages that say otherwise, too.")
+@click.option("--affected", is_flag=True, help="Name rows of tests and paragraphs of pages that say otherwise, too.")
 @click.option(
     "--search",
     metavar="SECONDS",
@@ -202,8 +203,8 @@ def diff_command(old: Path, new: tuple[Path, ...], no_color: bool) -> int:
 def compare_command(no_color: bool, search: int | None, seed: int | None, save: Path | None, **words: Any) -> int:
     """Shows what a change of the sender does to scripts: which turn, and which are played otherwise.
 
-    Without --base the sender before is the one that ./prove has proved last in this tree. With --owes, where the sender
-    after is a tree, it names before the total what the change owes there: rows of tests/cases that say otherwise now,
+    Without --base the sender before is the one that ./prove has proved last in this tree. With --affected, where the sender
+    after is a tree, it names before the total what the change affects there: rows of tests/cases that say otherwise now,
     and paragraphs of docs/SENDER.md and docs/LINUX.md that cite a section of what changed. That takes some seconds, or
     minutes where a sender isn't proved. With --search it makes inputs of its own, in place of scripts, until a
     recording of the sender before fails under the one after.
@@ -236,8 +237,8 @@ def _refuse_search(options: "CompareOptions") -> None:
         raise click.UsageError("Missing argument 'PATHS...', or --search")
     if options.search is not None and (options.paths or options.only or options.settings):
         raise click.UsageError("--search makes scripts, and takes no PATH, --only or --settings")
-    if options.search is not None and (options.html is not None or options.is_json or options.owes):
-        raise click.UsageError("--search shows what it finds as text, without --html, --json and --owes")
+    if options.search is not None and (options.html is not None or options.is_json or options.affected):
+        raise click.UsageError("--search shows what it finds as text, without --html, --json and --affected")
 
 
 @pdsuite.command(name="search")
@@ -280,18 +281,18 @@ def lsp_command(settings: str, stdio: bool) -> int:
 
 
 @pdsuite.command(name="import")
-@click.option("--keep", is_flag=True, help="Change nothing of packets.")
+@click.option("--keep-packets", is_flag=True, help="Change nothing of packets.")
 @click.option("--json", "is_json", is_flag=True, help="Print JSON.")
 @click.option("--no-color", is_flag=True, help="No colours on a terminal.")
 @click.argument("source", metavar="FROM", type=PlaceWord())
 @click.argument("target", metavar="TO", type=PlaceWord())
-def import_command(source: Path, target: Path, keep: bool, is_json: bool, no_color: bool) -> int:
+def import_command(source: Path, target: Path, keep_packets: bool, is_json: bool, no_color: bool) -> int:
     """Brings scripts of the kernel's self-tests over into a new folder, and runs nothing."""
     # Only who imports pays for what reads the kernel's scripts.
     from pdsuite.commands.import_ import import_scripts
 
     with Screen(wants_color() and not no_color, progress=False) as screen:
-        return import_scripts(source, target, keep, is_json, screen)
+        return import_scripts(source, target, keep_packets, is_json, screen)
 
 
 def main() -> int:
@@ -307,6 +308,7 @@ def main() -> int:
         status = pdsuite.main(prog_name="pdsuite", standalone_mode=False)
         return status if isinstance(status, int) else 0
     except click.ClickException as error:
+        error = with_new_name(error)
         error.message = shown_text(error.message)
         error.show()
     except Stopped as stopped:

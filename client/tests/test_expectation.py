@@ -193,7 +193,7 @@ def test_why_a_script_fails_is_asked_where_it_is_shown(stand_in: Path, tmp_path:
     write(tmp_path, a=b"row fail 1 seq\ncrash\n")
     (tmp_path / "pdsuite.toml").write_text('root = true\n["a.pkt"]\nexpect = "fail"\nreason = "x"\n')
     told = "pdsuite: pdregress was ended by SIGSEGV; nothing is told of a.pkt\n"
-    for words in (["-v"], ["--new"]):
+    for words in (["-v"], ["--new-only"]):
         assert told not in call(stand_in, "run", *words, ".").err
     for words in (["--tap"], ["--json"], ["--github"], ["--junit", "out.xml"], ["--html", "page"]):
         assert told in call(stand_in, "run", *words, ".").err

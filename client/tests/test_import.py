@@ -170,9 +170,9 @@ def test_the_object_tells_what_the_text_tells(tmp_path: Path, call: Call) -> Non
     }
 
 
-def test_with_keep_no_packet_is_changed(programs: Path, tmp_path: Path, call: Call) -> None:
+def test_with_keep_packets_no_packet_is_changed(programs: Path, tmp_path: Path, call: Call) -> None:
     kernel(tmp_path / "from")
-    called = call(None, "import", "--keep", "from", "to")
+    called = call(None, "import", "--keep-packets", "from", "to")
     assert called.out.splitlines()[-1].startswith("total 3 imported 2 packets kept 2 changed to this profile 0 ")
     assert "+0 > P. 1:10001(10000) ack 1\n" in (tmp_path / "to/net/slow.pkt").read_text()
     assert call(programs, "run", "to").rows == ["to/net/slow.pkt:17: fail flags"]

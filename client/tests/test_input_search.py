@@ -288,7 +288,7 @@ def test_a_state_is_searched_for_with_one_sender(tree: Tree) -> None:
     [
         (("compare",), "Missing argument 'PATHS...', or --search"),
         (("compare", "--search", "1", "suite"), "--search makes scripts, and takes no PATH"),
-        (("compare", "--search", "1", "--json"), "without --html, --json and --owes"),
+        (("compare", "--search", "1", "--json"), "without --html, --json and --affected"),
         (("compare", "--seed", "1", "suite"), "--seed and --save are of --search"),
         (("search", "--for", "CLOSING"), "--for: CLOSING: no facts as NAME:VALUE"),
         (("search", "--for", "una:1", "--save", "x"), "--save: x: no name of a script"),

@@ -174,7 +174,7 @@ def test_only_rows_that_differ_are_shown(run: Run, tmp_path: Path) -> None:
     run("suite")
     write(suite, again=b"row pass 7\n", more=b"row syntax 1\n", other=OTHERWISE, twice=b"row pass 2\n")
     write(suite, bad=FAILS, good=b"\n", worse=b"crash\n")
-    called = run("--new", "suite")
+    called = run("--new-only", "suite")
     assert called.rows == [
         "suite/again.pkt: pass 7",
         "suite/bad.pkt:1: fail seq",
@@ -184,7 +184,7 @@ def test_only_rows_that_differ_are_shown(run: Run, tmp_path: Path) -> None:
         "suite/worse.pkt: error: pdregress was ended by SIGSEGV",
     ]
     assert called.totals == {"pass": 4, "fail": 3, "syntax": 1, "error": 1}
-    called = run("--new", "suite")
+    called = run("--new-only", "suite")
     assert (called.rows, called.status) == ([], 2)
 
 
@@ -192,14 +192,14 @@ def test_new_scripts_that_pass_are_shown_with_v_alone(run: Run, tmp_path: Path) 
     write(tmp_path / "suite", a=b"\n", b=FAILS)
     run("suite")
     write(tmp_path / "suite", c=b"\n")
-    assert run("--new", "suite").rows == []
+    assert run("--new-only", "suite").rows == []
     (tmp_path / "suite/d.pkt").write_bytes(b"\n")
-    assert run("--new", "-v", "suite").rows == ["suite/d.pkt: pass 1"]
+    assert run("--new-only", "-v", "suite").rows == ["suite/d.pkt: pass 1"]
 
 
 def test_where_nothing_was_left_all_rows_are_new(run: Run, tmp_path: Path) -> None:
     write(tmp_path / "suite", a=b"\n", b=FAILS)
-    called = run("--new", "suite")
+    called = run("--new-only", "suite")
     assert called.rows == ["suite/b.pkt:1: fail seq"]
     assert called.err == "pdsuite: suite: no run has left a report: all rows are new\n"
 
@@ -208,15 +208,15 @@ def test_new_annotations_are_of_rows_that_differ(run: Run, tmp_path: Path) -> No
     write(tmp_path / "suite", a=FAILS, b=FAILS, c=b"\n")
     run("suite")
     write(tmp_path / "suite", b=b"\n", c=FAILS)
-    lines = run("--new", "--github", "suite").out.splitlines()
+    lines = run("--new-only", "--github", "suite").out.splitlines()
     assert [it.split(",")[0] for it in lines[:-1]] == ["::error file=suite/c.pkt"]
 
 
 @pytest.mark.parametrize("form", ["--tap", "--json"])
 def test_a_form_that_has_all_rows_takes_no_new(form: str, run: Run, tmp_path: Path) -> None:
     write(tmp_path / "suite", a=FAILS)
-    called = run("--new", form, "suite")
-    said = "Error: --new leaves rows out, and --tap and --json have all"
+    called = run("--new-only", form, "suite")
+    said = "Error: --new-only leaves rows out, and --tap and --json have all"
     assert (called.status, called.out, called.err.splitlines()[-1]) == (2, "", said)
 
 
@@ -230,7 +230,7 @@ def test_names_of_any_octets_are_known_again(run: Run, tmp_path: Path) -> None:
     ]
     assert run("suite").rows == expected
     assert run("--last-failed", "suite").rows == expected
-    assert run("--new", "suite").rows == []
+    assert run("--new-only", "suite").rows == []
 
 
 def test_a_folder_of_any_octets_is_known_again(run: Run, kept: Path, tmp_path: Path) -> None:

@@ -108,7 +108,7 @@ def test_by_the_programs_a_script_is_shown_to_its_end(recording_programs: Path, 
         tmp_path,
         a=f"{OPENED.decode()}{WRITE}\n+0 > P. 1:501(500) ack 1\n{WRITE}\n+0 > P. 501:1501(1000) ack 1\n".encode(),
     )
-    called = call(recording_programs, "run", "--all-differences", ".")
+    called = call(recording_programs, "run", "--full-diff", ".")
     lines = called.out.splitlines()
     begin = lines.index("  line by line, to the end (- as the script has it, + as it came):")
     assert lines[begin + 8 : begin + 16] == [

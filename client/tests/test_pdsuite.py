@@ -221,6 +221,29 @@ def test_an_empty_no_color_forbids_no_colours(stand_in: Path, tmp_path: Path) ->
     assert b"\x1b[1;31mfail seq\x1b[0m\r\n" in shown
 
 
+RENAMED = [
+    ("run", "--new", "--new-only"),
+    ("run", "--all-differences", "--full-diff"),
+    ("record", "--drop", "--drop-missing"),
+    ("compare", "--owes", "--affected"),
+    ("import", "--keep", "--keep-packets"),
+]
+
+
+@pytest.mark.parametrize(("command", "old", "new"), RENAMED, ids=[it[1] for it in RENAMED])
+def test_an_option_by_its_old_name_is_refused_with_the_new_one(command: str, old: str, new: str, call: Call) -> None:
+    for word in (old, f"{old}=1"):
+        called = call(None, command, word, "a", "b")
+        assert (called.status, called.out) == (2, "")
+        assert called.err.startswith(f"Usage: pdsuite {command} [OPTIONS] ")
+        assert called.err.splitlines()[-1] == f"Error: No such option: {old}; its name is {new}."
+
+
+def test_of_another_command_an_old_name_is_any_word(call: Call) -> None:
+    called = call(None, "list", "--all-differences", ".")
+    assert called.status == 2 and "No such option: --all-differences" in called.err and "full-diff" not in called.err
+
+
 def test_words_that_are_not_taken_are_shown_escaped(call: Call) -> None:
     called = call(None, "run", b"--x\x07\xff\\y", ".")
     assert (called.status, called.err.splitlines()[-1]) == (2, r"Error: No such option: --x\x07\xff\\y")

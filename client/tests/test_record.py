@@ -83,7 +83,7 @@ def test_each_script_has_its_settings(recorders: Path, tmp_path: Path, call: Cal
 
 @pytest.mark.parametrize(
     ("words", "way"),
-    [((), "--least"), (("--drop",), "--least --drop"), (("--whole",), "")],
+    [((), "--least"), (("--drop-missing",), "--least --drop"), (("--whole",), "")],
     ids=["least", "drop", "whole"],
 )
 def test_the_least_change_is_asked_for(
@@ -98,8 +98,8 @@ def test_no_comments_are_dropped_of_a_script_that_is_recorded_whole(
     recorders: Path, tmp_path: Path, call: Call
 ) -> None:
     write(tmp_path, a=FAILS + b"b\n")
-    called = call(recorders, "record", "--whole", "--drop", "a.pkt")
-    assert (called.status, called.err) == (2, "pdsuite: --drop: not together with --whole\n")
+    called = call(recorders, "record", "--whole", "--drop-missing", "a.pkt")
+    assert (called.status, called.err) == (2, "pdsuite: --drop-missing: not together with --whole\n")
 
 
 def test_what_is_not_recorded_is_named_and_the_others_are_done(recorders: Path, tmp_path: Path, call: Call) -> None:

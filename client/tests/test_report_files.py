@@ -80,7 +80,7 @@ def test_one_form_is_printed_and_another_one_written(stand_in: Path, suite: Path
 def test_a_file_has_the_rows_that_new_leaves_out(stand_in: Path, suite: Path, tmp_path: Path, call: Call) -> None:
     more = {"XDG_CACHE_HOME": str(tmp_path / "cache")}
     call(stand_in, "run", "suite", **more)
-    called = call(stand_in, "run", "--new", "--json", "out.json", "suite", **more)
+    called = call(stand_in, "run", "--new-only", "--json", "out.json", "suite", **more)
     assert called.rows == []
     assert len(held("run", (tmp_path / "out.json").read_text())["scripts"]) == 3
 

@@ -9,7 +9,7 @@ from typing import TYPE_CHECKING
 
 from pdsuite.commands.options import threads_of
 from pdsuite.compare.comparison import ComparedScript, Results, compare
-from pdsuite.compare.owed import Owed, Telling, owed_of, telling_of
+from pdsuite.compare.affected import Affected, Telling, affected_by, telling_of
 from pdsuite.compare.senders import Sender, last_proved, sender_of, standing
 from pdsuite.compare.two_senders import SettingsRefused, Task, run_both
 from pdsuite.programs.rows import Verdict
@@ -38,7 +38,7 @@ class CompareOptions:
     base: str | None
     other: str | None
     is_json: bool
-    owes: bool
+    affected: bool
     html: Path | None
     search: "SearchOptions | None" = None
 
@@ -58,11 +58,11 @@ def compare_senders(options: CompareOptions, screen: Screen) -> int:
             senders = _senders(options, Path(room))
             _say_senders(senders, screen)
             records = all(it.records for it in senders)
-            telling = telling_of(senders[1], Path(room)) if options.owes else None
+            telling = telling_of(senders[1], Path(room)) if options.affected else None
             task = Task(runs_of(scripts), list(suite.claims()), records, page is not None, telling)
             results = run_both(senders, task, threads_of(None), stop, screen.note)
-            owed = None if telling is None else _owed(telling, senders[0], results, Path(room))
-            return _tell(senders, results, (page, owed), options, screen, begin)
+            affected = None if telling is None else _affected(telling, senders[0], results, Path(room))
+            return _tell(senders, results, (page, affected), options, screen, begin)
     except SettingsRefused as refused:
         return _refuse(refused.lines)
     except Stopped as stopped:
@@ -108,22 +108,22 @@ def _page(folder: Path) -> "Page":
     return Page(folder)
 
 
-def _owed(telling: Telling, before: Sender, results: Sequence[Results], room: Path) -> Owed:
-    """What the change owes in the tree of the sender after it."""
+def _affected(telling: Telling, before: Sender, results: Sequence[Results], room: Path) -> Affected:
+    """What the change affects in the tree of the sender after it."""
     sources = before.sources(room / "sources")
-    return owed_of(telling, [it.said for it in results], sources, room)
+    return affected_by(telling, [it.said for it in results], sources, room)
 
 
 def _tell(
     senders: tuple[Sender, Sender],
     results: Sequence[Results],
-    more: "tuple[Page | None, Owed | None]",
+    more: "tuple[Page | None, Affected | None]",
     options: CompareOptions,
     screen: Screen,
     begin: float,
 ) -> int:
-    """Reports what differs and what is owed, and answers the exit status."""
-    page, owed = more
+    """Reports what differs and what is affected, and answers the exit status."""
+    page, affected = more
     before, after = results
     compared = compare(before, after)
     is_unproved = not all(it.is_proved for it in senders)
@@ -131,12 +131,12 @@ def _tell(
     if page is not None:
         page.write(compared, (before, after), names, is_unproved)
     seconds = time.monotonic() - begin
-    told = Told(compared, owed, seconds, is_unproved)
+    told = Told(compared, affected, seconds, is_unproved)
     screen.show(as_json(told, names) if options.is_json else plain(told))
-    return _status(compared, owed)
+    return _status(compared, affected)
 
 
-def _status(compared: Sequence[ComparedScript], owed: Owed | None) -> int:
+def _status(compared: Sequence[ComparedScript], affected: Affected | None) -> int:
     if any(Verdict.ERROR in (it.before.row.verdict, it.after.row.verdict) for it in compared):
         return _FAULT
-    return 1 if any(it.differs for it in compared) or owed is not None and owed.is_any else 0
+    return 1 if any(it.differs for it in compared) or affected is not None and affected.is_any else 0

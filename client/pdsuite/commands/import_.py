@@ -25,7 +25,7 @@ from pdsuite.signals import Stop
 _NO_WORD = "?"
 
 
-def import_scripts(source: Path, target: Path, keep: bool, is_json: bool, screen: Screen) -> int:
+def import_scripts(source: Path, target: Path, keep_packets: bool, is_json: bool, screen: Screen) -> int:
     """Imports the scripts of a folder into another one, and answers the exit status."""
     with Stop() as stop:
         if not source.is_dir():
@@ -37,7 +37,7 @@ def import_scripts(source: Path, target: Path, keep: bool, is_json: bool, screen
         found = find([source], (), stop)
         if not found:
             raise Fault("no script found")
-        scripts = list(_imported(found, suite, keep, stop))
+        scripts = list(_imported(found, suite, keep_packets, stop))
         _refuse(suite)
         if any(isinstance(it.came, Imported) for it in scripts):
             write_folder(place, _files(source, scripts, stop))
@@ -51,13 +51,13 @@ def _text_of(scripts: Sequence[Listed]) -> str:
     return "".join(f"{line}\n" for line in [*lines, *summary(scripts)])
 
 
-def _imported(found: Sequence[ScriptFile], suite: Suite, keep: bool, stop: Stop) -> Iterator[Listed]:
+def _imported(found: Sequence[ScriptFile], suite: Suite, keep_packets: bool, stop: Stop) -> Iterator[Listed]:
     for it in found:
         stop.check()
-        yield Listed(it.path, it.fault or _import(it, suite, keep))
+        yield Listed(it.path, it.fault or _import(it, suite, keep_packets))
 
 
-def _import(found: ScriptFile, suite: Suite, keep: bool) -> Imported | Left | str:
+def _import(found: ScriptFile, suite: Suite, keep_packets: bool) -> Imported | Left | str:
     """What comes of a script; or why it can't be read."""
     try:
         octets = read_file(found.path, LONGEST_FILE + 1)
@@ -69,7 +69,7 @@ def _import(found: ScriptFile, suite: Suite, keep: bool) -> Imported | Left | st
     except Unfit as unfit:
         return Left((Reason(1, str(unfit)),))
     source = Source(_text(octets), own, lambda path: _load(found.path, path))
-    came = convert(source, keep)
+    came = convert(source, keep_packets)
     if isinstance(came, Imported) and came.settings and not is_key(os.path.basename(found.path)):
         return Left((Reason(1, "a name that isn't UTF-8, which no pdsuite.toml can have"),))
     return came

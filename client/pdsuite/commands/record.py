@@ -43,18 +43,18 @@ class RecordOptions:
     workers: int | None
     writes: bool
     whole: bool
-    drops: bool
+    drops_missing: bool
 
     def __post_init__(self) -> None:
-        if self.whole and self.drops:
-            raise Fault("--drop: not together with --whole")
+        if self.whole and self.drops_missing:
+            raise Fault("--drop-missing: not together with --whole")
 
     @property
     def words(self) -> Sequence[str]:
         """What the program is told of how to record."""
         if self.whole:
             return ()
-        return (LEAST, DROP) if self.drops else (LEAST,)
+        return (LEAST, DROP) if self.drops_missing else (LEAST,)
 
 
 @dataclass(frozen=True, slots=True)

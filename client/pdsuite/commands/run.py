@@ -52,7 +52,7 @@ class RunOptions:
     only: Sequence[str]
     shard: Shard | None
     last_failed: bool
-    new: bool
+    new_only: bool
     settings: str
     strict: bool
     workers: int | None
@@ -63,7 +63,7 @@ class RunOptions:
     json: Path | None
     tap: Path | None
     form: str | None
-    all_differences: bool
+    full_diff: bool
     verbose: bool
     html: Path | None
     plot: str | None
@@ -105,7 +105,7 @@ def run(options: RunOptions, screen: Screen) -> int:
             options.files.check(it.path for it in scripts)
             # For people a known row is one line, and so nothing is asked about it.
             of_known = not isinstance(form, Plain) or bool(options.files.named) or options.html is not None
-            if options.new:
+            if options.new_only:
                 form = only_new(form, Plain(True) if isinstance(form, Plain) else form, options.paths, screen.note)
             program = _proved(options)
             if program is None:
@@ -157,7 +157,7 @@ def _run_unproved(
         return _refuse(lines)
     screen.note(f"pdsuite: {first_line()}")
     by_keys = options.html is not None or options.by_keys
-    plan = plan_of(runs_of(scripts), suite.claims(), by_keys, options.all_differences, of_ends=True)
+    plan = plan_of(runs_of(scripts), suite.claims(), by_keys, options.full_diff, of_ends=True)
     tried = run_unproved(plan, TOP, stop, screen.note)
     if tried.refused:
         return _refuse(tried.refused)
@@ -217,7 +217,7 @@ def _run(
         with closing(mapper(runs_of(scripts))) as steps:
             heard = steps if drawing is None else _kept(steps, texts)
             told = _whole(heard) if options.by_keys else heard
-            if options.all_differences:
+            if options.full_diff:
                 told = _differing(told, tried, stop, screen.note)
             ended = _take(told, report, checking, screen, options.fail_fast)
         totals = report.close(time.monotonic() - begin)
@@ -254,7 +254,7 @@ def _differing(
     """The steps with what each line of a script that fails was met by."""
     # Only who asks for it pays for what records scripts and reads them.
     from pdsuite.programs.recorder import Recorder
-    from pdsuite.run.all_differences import differing_steps
+    from pdsuite.run.full_diff import differing_steps
 
     if tried is not None:
         recordings = tried.recordings

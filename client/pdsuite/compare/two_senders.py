@@ -8,7 +8,7 @@ from dataclasses import dataclass
 from pathlib import Path
 
 from pdsuite.compare.comparison import Results
-from pdsuite.compare.owed import Telling, heard_of_builds, heard_of_programs
+from pdsuite.compare.affected import Telling, heard_of_builds, heard_of_programs
 from pdsuite.compare.senders import Sender
 from pdsuite.programs.places import RECORD, REGRESS
 from pdsuite.programs.program import Program

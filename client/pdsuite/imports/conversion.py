@@ -49,8 +49,8 @@ class Left:
     reasons: tuple[Reason, ...]
 
 
-def convert(source: Source, keep: bool) -> Imported | Left:
-    """Imports a script. With `keep`, and where a pdsuite.toml has settings for it, packets stay as they are."""
+def convert(source: Source, keep_packets: bool) -> Imported | Left:
+    """Imports a script. With `keep_packets`, and where a pdsuite.toml has settings for it, packets stay as they are."""
     reading = read(source.text)
     spellings = _spellings(reading.items)
     items = [replace(it, what=spellings[n].call) if n in spellings else it for n, it in enumerate(reading.items)]
@@ -66,7 +66,7 @@ def convert(source: Source, keep: bool) -> Imported | Left:
     if reading.fault is not None:
         line = line_of(source.text, reading.fault.place)
         reasons.append(Reason(line, reading.fault.words, reading.fault.what))
-    keeps = keep or source.own is not None
+    keeps = keep_packets or source.own is not None
     if not keeps:
         reasons.extend(_long(items, smss))
     if reasons:

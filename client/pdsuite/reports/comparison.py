@@ -5,10 +5,10 @@ from collections.abc import Iterator, Sequence
 from dataclasses import asdict, dataclass
 
 from pdsuite.compare.comparison import ComparedScript, Count, Kind, counts_of
-from pdsuite.compare.owed import Owed
+from pdsuite.compare.affected import Affected
 from pdsuite.compare.parting import Parting, PlayedEvent
 from pdsuite.reports.outcome_text import block, meaning
-from pdsuite.reports.owed import owed_lines
+from pdsuite.reports.affected import affected_lines
 from pdsuite.run.outcomes import UNPROVED, Outcome
 from pdsuite.show.octets import shown_path, shown_text
 from pdsuite.show.styled_text import StyledText, unstyled
@@ -16,6 +16,8 @@ from pdsuite.show.styled_text import StyledText, unstyled
 _STYLES = {Kind.TURNED: "bold red", Kind.OTHERWISE: "yellow"}
 _SIDES = ("before", "after")
 _ENDS = "nothing more"
+# Of the JSON, as docs/compare.schema.json has it.
+VERSION = 2
 
 
 def lines_of(it: ComparedScript) -> list[str]:
@@ -55,16 +57,16 @@ def _unrecorded(why: str) -> str:
 
 @dataclass(frozen=True)
 class Told:
-    """What is told of a comparison: scripts, what is owed in a tree, the seconds, and whether a sender is unproved."""
+    """What is told of a comparison: scripts, what is affected in a tree, the seconds, and whether it is unproved."""
 
     compared: Sequence[ComparedScript]
-    owed: Owed | None
+    affected: Affected | None
     seconds: float
     is_unproved: bool
 
 
 def plain(told: Told) -> StyledText:
-    """The scripts that turned, those that are played otherwise, the totals by folder, and what is owed in the tree."""
+    """Scripts that turned, those that are played otherwise, totals by folder, and what is affected in the tree."""
     text = StyledText()
     for kind in _STYLES:
         for it in told.compared:
@@ -74,24 +76,25 @@ def plain(told: Told) -> StyledText:
     *folders, total = counts_of(told.compared)
     for count in folders:
         text.append(f"{shown_path(count.name)}: {count}\n")
-    if told.owed is not None:
-        text.append("".join(f"{line}\n" for line in owed_lines(told.owed)))
+    if told.affected is not None:
+        text.append("".join(f"{line}\n" for line in affected_lines(told.affected)))
     mark = f" {UNPROVED}" if told.is_unproved else ""
     return text.append(f"total {total} in {told.seconds:.2f} s{mark}\n")
 
 
 def as_json(told: Told, names: tuple[str, str]) -> StyledText:
-    """One object: the two senders, the scripts that differ, the totals by folder, and what is owed in the tree."""
+    """One object: the two senders, scripts that differ, totals by folder, and what is affected in the tree."""
     *folders, total = counts_of(told.compared)
     whole: dict[str, object] = {
+        "version": VERSION,
         **dict(zip(_SIDES, names)),
         "scripts": [_script(it) for it in told.compared if it.differs],
         "folders": {shown_path(it.name): _counts(it) for it in folders},
         "total": _counts(total),
         "seconds": round(told.seconds, 2),
     }
-    if told.owed is not None:
-        whole["owed"] = asdict(told.owed)
+    if told.affected is not None:
+        whole["affected"] = asdict(told.affected)
     if told.is_unproved:
         whole[UNPROVED] = True
     return unstyled(json.dumps(whole, ensure_ascii=False, indent=1) + "\n")

@@ -1,4 +1,4 @@
-"""What `pdsuite compare` says that a changed sender owes in its tree, by stand-ins."""
+"""What `pdsuite compare` says that a changed sender affects in its tree, by stand-ins."""
 
 import json
 import shutil
@@ -44,15 +44,15 @@ def tree(tmp_path: Path) -> Tree:
     return tree
 
 
-def owed(called: Called) -> list[str]:
+def affected(called: Called) -> list[str]:
     """The lines of the list, which stands before the total."""
     lines = called.out.splitlines()
-    heads = [at for at, line in enumerate(lines) if line.startswith("owed ")]
+    heads = [at for at, line in enumerate(lines) if line.startswith("affected ")]
     return lines[heads[0] : -1] if heads else []
 
 
 def compare(tree: Tree, *words: str | Path) -> Called:
-    return tree.call("compare", "--owes", *words, "suite")
+    return tree.call("compare", "--affected", *words, "suite")
 
 
 def test_rows_runs_and_paragraphs_that_say_otherwise_are_named(tree: Tree) -> None:
@@ -65,8 +65,8 @@ def test_rows_runs_and_paragraphs_that_say_otherwise_are_named(tree: Tree) -> No
     tree.change(CHANGE)
     tree.put_code("2")
     called = compare(tree, "--base", "HEAD")
-    assert called.status == 1 and owed(called) == [
-        "owed in the tree: rows 3 runs 1 paragraphs 1",
+    assert called.status == 1 and affected(called) == [
+        "affected in the tree: rows 3 runs 1 paragraphs 1",
         "  tests/cases/a.cases: 3 rows, lines 2-3, 5",
         "  tests/cases/a.cases:9: a title",
         "  docs/SENDER.md:4: Loss, 'An octet is lost when three': RFC 6675, section 4",
@@ -80,39 +80,41 @@ def test_of_a_folder_of_programs_no_sources_are_known(tree: Tree) -> None:
     called = compare(tree, "--base", tree.bin)
     assert (called.status, tree.builds()) == (1, 1)
     unknown = "  paragraphs of pages: unknown, since the sources of the sender before are"
-    assert (owed(called)[0], owed(called)[-1]) == ("owed in the tree: rows 3 runs 1 paragraphs 0", unknown)
-    told = json.loads(compare(tree, "--base", tree.bin, "--json").out)["owed"]
+    assert (affected(called)[0], affected(called)[-1]) == ("affected in the tree: rows 3 runs 1 paragraphs 0", unknown)
+    whole = json.loads(compare(tree, "--base", tree.bin, "--json").out)
+    told = whole["affected"]
+    assert whole["version"] == 2
     assert [(it["line"], it["title"]) for it in told["rows"]] == [(2, ""), (3, ""), (5, ""), (9, "a title")]
     assert (told["unheard"], told["paragraphs"]) == (0, None)
 
 
-def test_where_no_row_turns_nothing_is_owed(tree: Tree) -> None:
+def test_where_no_row_turns_nothing_is_affected(tree: Tree) -> None:
     called = compare(tree, "--base", tree.bin)
-    assert called.status == 0 and owed(called)[0] == "owed in the tree: rows 0 runs 0 paragraphs 0"
+    assert called.status == 0 and affected(called)[0] == "affected in the tree: rows 0 runs 0 paragraphs 0"
 
 
-def test_a_sender_without_a_tree_owes_nothing(tree: Tree) -> None:
+def test_a_sender_without_a_tree_has_nothing_affected(tree: Tree) -> None:
     other = tree.suite.parent / "other"
     shutil.copytree(tree.bin, other)
     called = compare(tree, "--base", tree.bin, "--with", other)
-    said = f"pdsuite: --owes: {other} is no tree with tests/cases and tools/owed.py\n"
+    said = f"pdsuite: --affected: {other} is no tree with tests/cases and tools/owed.py\n"
     assert (called.status, called.out, called.err.endswith(said)) == (2, "", True)
-    called = tree.call("compare", "--base", tree.bin, "--search", "1", "--owes")
-    assert called.status == 2 and "without --html, --json and --owes" in called.err
+    called = tree.call("compare", "--base", tree.bin, "--search", "1", "--affected")
+    assert called.status == 2 and "without --html, --json and --affected" in called.err
 
 
-def test_where_nobody_asks_nothing_is_said_of_what_is_owed(tree: Tree) -> None:
+def test_where_nobody_asks_nothing_is_said_of_what_is_affected(tree: Tree) -> None:
     tree.change(CHANGE)
     called = tree.call("compare", "--base", tree.bin, "suite")
-    assert called.status == 0 and "owed" not in called.out
+    assert called.status == 0 and "affected" not in called.out
 
 
 def test_a_row_that_ends_the_program_is_named_and_the_others_are_told_again(tree: Tree) -> None:
     tree.change("s/^row pass 8/crash/\n")
     called = compare(tree, "--base", tree.bin)
     assert called.status == 1 and "pdsuite: 3 starts on rows are tried again, each by itself\n" in called.err
-    assert owed(called)[0] == "owed in the tree: rows 0 runs 0 paragraphs 0"
-    assert owed(called)[-1] == "  4 rows: nothing was heard of them, since the program ended"
+    assert affected(called)[0] == "affected in the tree: rows 0 runs 0 paragraphs 0"
+    assert affected(called)[-1] == "  4 rows: nothing was heard of them, since the program ended"
 
 
 def test_a_tool_that_fails_is_told_with_its_last_line(tree: Tree) -> None:

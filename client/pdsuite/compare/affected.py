@@ -1,4 +1,4 @@
-"""What a changed sender owes in its tree: rows of tests/cases that say otherwise now, and paragraphs of pages."""
+"""What a changed sender affects in its tree: rows of tests/cases that say otherwise now, and paragraphs of pages."""
 
 import json
 import os
@@ -50,8 +50,8 @@ class Paragraph:
 
 
 @dataclass(frozen=True)
-class Owed:
-    """What is owed, and how many rows nothing was heard of. Paragraphs are unknown where the sources before are."""
+class Affected:
+    """What is affected, and how many rows nothing was heard of. Paragraphs are unknown where the sources before are."""
 
     rows: tuple[Row, ...]
     unheard: int
@@ -82,7 +82,7 @@ def telling_of(sender: Sender, room: Path) -> Telling:
     """What the rows of a sender's tree tell."""
     tree = sender.sources(room)
     if tree is None or not (tree / _TOOL).is_file() or not (tree / _ROWS).is_dir():
-        raise Fault(f"--owes: {sender} is no tree with {_ROWS} and {_TOOL}")
+        raise Fault(f"--affected: {sender} is no tree with {_ROWS} and {_TOOL}")
     return Telling(tree, list(_starts(_said(tree, "starts"))))
 
 
@@ -145,8 +145,8 @@ def heard_of_builds(
     return [next(by_name[name]).said for name, _ in telling.starts]
 
 
-def owed_of(telling: Telling, heard: Sequence[Sequence[Said]], before: Path | None, room: Path) -> Owed:
-    """What is owed, by what both senders said, and by the sources of the one before, if these are known."""
+def affected_by(telling: Telling, heard: Sequence[Sequence[Said]], before: Path | None, room: Path) -> Affected:
+    """What is affected, by what both senders said, and by the sources of the one before, if these are known."""
     file = room / "answers"
     with file.open("wb") as answers:
         for each in zip(*heard):
@@ -155,7 +155,7 @@ def owed_of(telling: Telling, heard: Sequence[Sequence[Said]], before: Path | No
     words: list[str | Path] = [] if before is None else ["--before", before]
     told = json.loads(_said(telling.tree, "list", *words, file))
     paragraphs = told["sections"]
-    return Owed(
+    return Affected(
         tuple(Row(**it) for it in told["rows"]),
         told["unheard"],
         None if paragraphs is None else tuple(map(_paragraph, paragraphs)),

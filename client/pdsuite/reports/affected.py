@@ -1,25 +1,25 @@
-"""What a changed sender owes in its tree, as lines."""
+"""What a changed sender affects in its tree, as lines."""
 
 from collections.abc import Iterator, Sequence
 from itertools import groupby
 
-from pdsuite.compare.owed import Owed, Paragraph, Row
+from pdsuite.compare.affected import Affected, Paragraph, Row
 from pdsuite.show.octets import shown_text
 
 
-def owed_lines(owed: Owed) -> list[str]:
-    """A line for each file of rows, run and paragraph that is owed, after one that counts them."""
-    runs = [it for it in owed.rows if it.title]
-    rows = [it for it in owed.rows if not it.title]
-    found = [it for it in owed.paragraphs or () if it.page]
+def affected_lines(affected: Affected) -> list[str]:
+    """A line for each file of rows, run and paragraph that is affected, after one that counts them."""
+    runs = [it for it in affected.rows if it.title]
+    rows = [it for it in affected.rows if not it.title]
+    found = [it for it in affected.paragraphs or () if it.page]
     lines = [*_row_lines(rows), *(f"{_place(it.file, it.line)}: {shown_text(it.title)}" for it in runs)]
-    lines += [line for it in owed.paragraphs or () for line in _paragraph_lines(it)]
-    if owed.paragraphs is None:
+    lines += [line for it in affected.paragraphs or () for line in _paragraph_lines(it)]
+    if affected.paragraphs is None:
         lines.append("paragraphs of pages: unknown, since the sources of the sender before are")
-    if owed.unheard:
-        lines.append(f"{owed.unheard} rows: nothing was heard of them, since the program ended")
+    if affected.unheard:
+        lines.append(f"{affected.unheard} rows: nothing was heard of them, since the program ended")
     counts = f"rows {len(rows)} runs {len(runs)} paragraphs {len(found)}"
-    return [f"owed in the tree: {counts}", *(f"  {it}" for it in lines)]
+    return [f"affected in the tree: {counts}", *(f"  {it}" for it in lines)]
 
 
 def _place(file: str, line: int) -> str:
