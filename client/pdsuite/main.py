@@ -190,6 +190,8 @@ def diff_command(old: Path, new: tuple[Path, ...], no_color: bool) -> int:
 @free_choice_options
 @click.option("--base", metavar="SENDER", help="The sender before: a folder of programs, a tree or a commit.")
 @click.option("--with", "other", metavar="SENDER", help="The sender after, if not the tree as it stands.")
+@click.option("--base-settings", default="", metavar="TEXT", help="Settings of the sender before, before all others.")
+@click.option("--with-settings", default="", metavar="TEXT", help="Settings of the sender after, before all others.")
 @html_option
 @click.option("--json", "is_json", is_flag=True, help="Print JSON.")
 @click.option("--affected", is_flag=True, help="Name rows of tests and paragraphs of pages that say otherwise, too.")
@@ -203,11 +205,11 @@ def diff_command(old: Path, new: tuple[Path, ...], no_color: bool) -> int:
 def compare_command(no_color: bool, search: int | None, seed: int | None, save: Path | None, **words: Any) -> int:
     """Shows what a change of the sender does to scripts: which turn, and which are played otherwise.
 
-    Without --base the sender before is the one that ./prove has proved last in this tree. With --affected, where the sender
-    after is a tree, it names before the total what the change affects there: rows of tests/cases that say otherwise now,
-    and paragraphs of docs/SENDER.md and docs/LINUX.md that cite a section of what changed. That takes some seconds, or
-    minutes where a sender isn't proved. With --search it makes inputs of its own, in place of scripts, until a
-    recording of the sender before fails under the one after.
+    Without --base the sender before is the one that ./prove has proved last in this tree. With --affected, where the
+    sender after is a tree, it names before the total what the change affects there: rows of tests/cases that say
+    otherwise now, and paragraphs of docs/SENDER.md and docs/LINUX.md that cite a section of what changed. That takes
+    some seconds, or minutes where a sender isn't proved. With --search it makes inputs of its own, in place of scripts,
+    until a recording of the sender before fails under the one after.
     """
     # Only who compares senders pays for what runs two.
     from pdsuite.commands.compare import CompareOptions, compare_senders
@@ -235,8 +237,8 @@ def _refuse_search(options: "CompareOptions") -> None:
     """Refuses words that go with scripts where none are meant, and the other way round."""
     if options.search is None and not options.paths:
         raise click.UsageError("Missing argument 'PATHS...', or --search")
-    if options.search is not None and (options.paths or options.only or options.settings):
-        raise click.UsageError("--search makes scripts, and takes no PATH, --only or --settings")
+    if options.search is not None and (options.paths or options.only):
+        raise click.UsageError("--search makes scripts, and takes no PATH or --only")
     if options.search is not None and (options.html is not None or options.is_json or options.affected):
         raise click.UsageError("--search shows what it finds as text, without --html, --json and --affected")
 

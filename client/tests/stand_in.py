@@ -1,6 +1,8 @@
 #!/usr/bin/python3 -IS
 """Stands in for pdregress: it passes each script, unless the script's first line says what it is to do in its place.
 
+It has each setting but those whose names begin with `no_`.
+
 With --explain it takes a script's first line for its row, and what stands below that for its block. With --ends a line
 `ends WORDS` below the row of a script that passes is what is said of its end.
 
@@ -136,6 +138,8 @@ def take(words: list[str]) -> None:
             texts[name][begin : begin + int(removed)] = lines(count)
         case ["remove", name]:
             del texts[name]
+        case ["set", key, _] if key.startswith("no_"):
+            say("refused 3 UnknownKey")
         case ["set", key, word]:
             settings[key] = word
         case ["settle"]:

@@ -131,6 +131,16 @@ def lines_of(text: bytes, change: str, is_set: bool) -> tuple[list[str], str]:
     return header + lines, ""
 
 
+def record_files(files: list[str], change: str, words: list[str]) -> int:
+    """Writes what comes of each file, below its title."""
+    for name in files:
+        with open(name, "rb") as file:
+            lines, fault = lines_of(file.read(), change, "mss" in "".join(words))
+        lines = [f"pdrecord: {fault}"] if fault else lines
+        print("\n".join([f"{'refused' if fault else 'recorded'} {len(lines)} {name}", *lines]))
+    return 0
+
+
 def record(text: bytes, change: str, words: list[str]) -> int:
     """Writes a recording, or refuses."""
     lines, fault = lines_of(text, change, "mss" in "".join(words))
@@ -199,6 +209,8 @@ def main() -> int:
         with open(CHANGE_FILE) as file:
             change = file.read().strip()
     if os.path.basename(sys.argv[0]).startswith("pdrecord"):
+        if files := [it for it in sys.argv[1:] if it.startswith("/")]:
+            return record_files(files, change, sys.argv[1:])
         return record(sys.stdin.buffer.read(), change, sys.argv[1:])
     return settle(change, sys.argv[1:])
 

@@ -127,6 +127,92 @@ def test_two_folders_of_programs_are_compared_without_a_build(tree: Tree) -> Non
     assert called.err == f"pdsuite: before: {tree.bin}; after: {other}\n"
 
 
+ON = b"told early\n+0 > . 1:1001(1000) ack 1 SETTINGS\n//= at 0.100000 ESTABLISHED cwnd:4000 DupAcks:2\n"
+LACKS = "s/^set early /set no_early /"
+
+
+def lacking(tree: Tree) -> Path:
+    """A folder of programs that have no setting `early`."""
+    other = tree.suite.parent / "other"
+    shutil.copytree(tree.bin, other)
+    for name in ("pdregress", "pdrecord"):
+        (other / name).write_text(f'#!/bin/sh\nexec sed -u "{LACKS}" | "{tree.bin}/{name}" "$@"\n')
+    return other
+
+
+def test_one_sender_is_compared_with_itself_under_two_settings(tree: Tree) -> None:
+    write(tree.suite, on=ON)
+    (tree.suite / "pdsuite.toml").write_text("early = 7\n")
+    words = ("--with", tree.bin, "--base-settings", "early = 3", "--with-settings", "early = 4\nlate = 5")
+    called = compare(tree, *words, "--only", "on.pkt")
+    assert (called.status, tree.builds()) == (1, 0)
+    assert called.err == f"pdsuite: before: {tree.bin} with early = 3; after: {tree.bin} with early = 4, late = 5\n"
+    assert called.out.splitlines()[:7] == [
+        "suite/on.pkt: turned",
+        "  before: pass 3",
+        "  after: pass 4",
+        "  the first event that differs:",
+        "    before: +0 > . 1:1001(1000) ack 1 early = 3 // 0.100000",
+        "    after:  +0 > . 1:1001(1000) ack 1 early = 4 late = 5 // 0.100000",
+        "    state:  none",
+    ]
+    called = compare(tree, *words, "--only", "on.pkt", "--settings", "early = 9")
+    assert "  before: pass 3" in called.out.splitlines()
+
+
+def test_a_tree_is_built_once_for_both_sides(tree: Tree) -> None:
+    write(tree.suite, on=ON)
+    for name in ("pdregress", "pdrecord"):
+        shutil.copy(TOP / name, tree.top)
+    called = tree.call("compare", "--base", tree.top, "--with-settings", "early = 4", "--only", "on.pkt", "suite")
+    assert (called.status, tree.builds()) == (1, 1)
+    assert called.out.splitlines()[1:3] == ["  before: pass 1", "  after: pass 4"]
+
+
+@pytest.mark.parametrize("place", ["pdsuite.toml", "--settings"])
+@pytest.mark.parametrize("is_built", [False, True])
+def test_a_key_that_a_sender_lacks_counts_as_its_default_there_and_is_told_once(
+    tree: Tree, place: str, is_built: bool
+) -> None:
+    write(tree.suite, on=ON, two=ON)
+    words = ["--settings", "early = 2"]
+    if place == "pdsuite.toml":
+        (tree.suite / place).write_text('["on.pkt"]\nearly = 2\n')
+        words = []
+    if is_built:
+        tree.change(LACKS + "\n")
+        called = tree.call("compare", "--base", tree.bin, *words, "--only", "on.pkt", "suite")
+    else:
+        called = tree.call("compare", "--base", lacking(tree), "--with", tree.bin, *words, "--only", "on.pkt", "suite")
+    said = f"{'the tree as it stands, unknown, unproved' if is_built else tree.suite.parent / 'other'}"
+    assert called.status == 1 and called.err.splitlines()[1:] == [
+        f"pdsuite: {said}: there is no setting early, which counts as its default"
+    ]
+    rows = [("before", "2"), ("after", "1")] if is_built else [("before", "1"), ("after", "2")]
+    assert called.out.splitlines()[1:3] == [f"  {side}: pass {number}" for side, number in rows]
+    assert tree.builds() == (2 if is_built else 0)
+
+
+@pytest.mark.parametrize(
+    ("words", "said"),
+    [
+        (("--settings", "no_early = 2"), "--settings: no_early: UnknownKey (by {before})"),
+        (("--base-settings", "no_early = 2"), "--base-settings: no_early: UnknownKey (by {before} with no_early = 2)"),
+        (("--with-settings", "no_early = 2"), "--with-settings: no_early: UnknownKey (by {after} with no_early = 2)"),
+    ],
+)
+@pytest.mark.parametrize("is_search", [False, True])
+def test_a_key_that_both_senders_lack_is_refused_and_one_that_a_side_alone_is_given(
+    tree: Tree, words: tuple[str, ...], said: str, is_search: bool
+) -> None:
+    other = tree.suite.parent / "other"
+    shutil.copytree(tree.bin, other)
+    more = ("--search", "1") if is_search else ("suite",)
+    called = tree.call("compare", "--base", tree.bin, "--with", other, *words, *more)
+    assert (called.status, called.out) == (2, "")
+    assert called.err.splitlines()[-1] == said.format(before=tree.bin, after=other)
+
+
 def test_scripts_beside_one_that_the_changed_sender_ends_on_are_started_again_one_by_one(tree: Tree) -> None:
     tree.change("s/^row pass 9/crash/\n")
     called = compare(tree, "--json")

@@ -10,7 +10,7 @@ import pytest
 
 from pdsuite.programs.program import Ended
 from pdsuite.programs.protocol import Unexpected
-from pdsuite.programs.refusals import questions, refusals_at_once
+from pdsuite.programs.refusals import questions, refused_at_once
 from pdsuite.programs.rows import Row, Verdict
 from pdsuite.programs.starts import Answer, Case, answer_of, answers_in, input_of, parted, parts_in
 from pdsuite.run.runs import Script
@@ -95,10 +95,10 @@ def test_each_setting_is_asked_once_and_each_claim_of_a_refused_one_is_told() ->
     claims = [Claim(place, "", key, value) for place, key, value in (("a", "mss", 0), ("b", "mss", 0), ("b", "x", 1))]
     assert questions(claims) == [("mss", "0"), ("x", "1")]
     answer = b"refused 4 BadValue\n" + TOTAL % 0 + TOTAL % 0 + TOTAL % 0
-    lines = refusals_at_once(claims, answer)
+    lines = [it.line for it in refused_at_once(claims, answer)]
     assert [line.split(": ")[:3] for line in lines] == [["a", "mss", "BadValue"], ["b", "mss", "BadValue"]]
     with pytest.raises(Ended):
-        refusals_at_once(claims, answer + TOTAL % 0)
+        refused_at_once(claims, answer + TOTAL % 0)
 
 
 def test_a_start_that_ends_by_a_fault_has_no_answer() -> None:

@@ -11,12 +11,12 @@ from pdsuite.commands.options import threads_of
 from pdsuite.compare.comparison import ComparedScript, Results, compare
 from pdsuite.compare.affected import Affected, Telling, affected_by, telling_of
 from pdsuite.compare.senders import Sender, last_proved, sender_of, standing
-from pdsuite.compare.two_senders import SettingsRefused, Task, run_both
+from pdsuite.compare.sides import Side, SettingsRefused, side_of
+from pdsuite.compare.two_senders import Task, run_both
 from pdsuite.programs.rows import Verdict
 from pdsuite.reports.comparison import Told, as_json, plain
 from pdsuite.run.choice import found_of, scripts_of
-from pdsuite.run.runs import runs_of
-from pdsuite.scripts.suite import Suite, option_of
+from pdsuite.scripts.suite import BASE_OPTION, WITH_OPTION, Suite, option_of
 from pdsuite.scripts.unused_tables import unused_in
 from pdsuite.show.screen import Screen, say
 from pdsuite.signals import Stop, Stopped
@@ -35,6 +35,8 @@ class CompareOptions:
     paths: Sequence[Path]
     only: Sequence[str]
     settings: str
+    base_settings: str
+    with_settings: str
     base: str | None
     other: str | None
     is_json: bool
@@ -55,12 +57,13 @@ def compare_senders(options: CompareOptions, screen: Screen) -> int:
             if lines := unused_in(suite):
                 return _refuse(lines)
             page = None if options.html is None else _page(options.html)
-            senders = _senders(options, Path(room))
+            sides = _sides(options, Path(room))
+            senders = (sides[0].sender, sides[1].sender)
             _say_senders(senders, screen)
             records = all(it.records for it in senders)
             telling = telling_of(senders[1], Path(room)) if options.affected else None
-            task = Task(runs_of(scripts), list(suite.claims()), records, page is not None, telling)
-            results = run_both(senders, task, threads_of(None), stop, screen.note)
+            task = Task(scripts, list(suite.claims()), records, page is not None, telling)
+            results = run_both(sides, task, threads_of(None), stop, screen.note)
             affected = None if telling is None else _affected(telling, senders[0], results, Path(room))
             return _tell(senders, results, (page, affected), options, screen, begin)
     except SettingsRefused as refused:
@@ -74,9 +77,9 @@ def _search(options: CompareOptions, search: "SearchOptions", room: Path, stop: 
     # Only who searches pays for what makes inputs.
     from pdsuite.commands.search import search_difference
 
-    senders = _senders(options, room)
-    _say_senders(senders, screen)
-    return search_difference(senders, search, stop, screen)
+    sides = _sides(options, room)
+    _say_senders((sides[0].sender, sides[1].sender), screen)
+    return search_difference(sides, option_of(options.settings), search, stop, screen)
 
 
 def _refuse(lines: Sequence[str]) -> int:
@@ -85,11 +88,11 @@ def _refuse(lines: Sequence[str]) -> int:
     return _FAULT
 
 
-def _senders(options: CompareOptions, room: Path) -> tuple[Sender, Sender]:
+def _sides(options: CompareOptions, room: Path) -> tuple[Side, Side]:
     """The sender before the change, and the one after it; what is checked out goes into a folder."""
     before = last_proved() if options.base is None else sender_of(options.base, "--base", room / "before")
     after = standing() if options.other is None else sender_of(options.other, "--with", room / "after")
-    return before, after
+    return side_of(before, options.base_settings, BASE_OPTION), side_of(after, options.with_settings, WITH_OPTION)
 
 
 def _say_senders(senders: tuple[Sender, Sender], screen: Screen) -> None:

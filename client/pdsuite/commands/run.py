@@ -160,7 +160,7 @@ def _run_unproved(
     plan = plan_of(runs_of(scripts), suite.claims(), by_keys, options.full_diff, of_ends=True)
     tried = run_unproved(plan, TOP, stop, screen.note)
     if tried.refused:
-        return _refuse(tried.refused)
+        return _refuse([it.line for it in tried.refused])
     return _run(tried.steps, scripts, options, form, screen, begin, stop, tried)
 
 

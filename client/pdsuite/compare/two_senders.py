@@ -7,22 +7,22 @@ from concurrent.futures import ThreadPoolExecutor
 from dataclasses import dataclass
 from pathlib import Path
 
-from pdsuite.compare.comparison import Results
 from pdsuite.compare.affected import Telling, heard_of_builds, heard_of_programs
-from pdsuite.compare.senders import Sender
+from pdsuite.compare.comparison import Results
+from pdsuite.compare.sides import Side, refuse_common, tell_lacks
 from pdsuite.programs.places import RECORD, REGRESS
 from pdsuite.programs.program import Program
 from pdsuite.programs.protocol import Cause
 from pdsuite.programs.recorder import Recorder, Recording
-from pdsuite.programs.refusals import refusals
+from pdsuite.programs.refusals import refused_of
 from pdsuite.programs.starts import Answer, Said
 from pdsuite.programs.tree import Build, try_all
 from pdsuite.run.explainer import CAUSES, Asker, Explainer
 from pdsuite.run.local_mapper import local_mapper
 from pdsuite.run.outcomes import Outcome
-from pdsuite.run.runs import Run, Script
+from pdsuite.run.runs import Script, runs_of
 from pdsuite.run.settling import SettledPiece, start_with
-from pdsuite.run.unproved_run import Plan, plan_of, results_of
+from pdsuite.run.unproved_run import Plan, UnprovedResults, plan_of, results_of
 from pdsuite.scripts.suite import Claim
 from pdsuite.scripts.text import Text
 from pdsuite.signals import Stop
@@ -33,57 +33,79 @@ _OF_SCRIPTS = 2
 
 @dataclass(frozen=True)
 class Task:
-    """What both senders are to do, whether they record, and tell by keys, and which rows they are told."""
+    """What both senders are to do, whether they record, and tell by keys, and which rows they are told.
 
-    runs: Sequence[Run]
+    The claims are those of both sides.
+    """
+
+    scripts: Sequence[Script]
     claims: Sequence[Claim]
     records: bool
     wants_causes: bool
     telling: Telling | None = None
 
-
-class SettingsRefused(Exception):
-    """That a sender refuses settings; the lines say which."""
-
-    def __init__(self, sender: Sender, lines: Sequence[str]) -> None:
-        super().__init__()
-        self.lines = [f"{line} (by {sender})" for line in lines]
+    def plan(self, side: Side) -> Plan:
+        """What a sender is started on that has to be built."""
+        runs = runs_of(side.scripts(self.scripts))
+        return plan_of(runs, side.claims(self.claims), self.wants_causes, self.records)
 
 
-def run_both(
-    senders: Sequence[Sender], task: Task, workers: int, stop: Stop, note: Callable[[str], None]
-) -> list[Results]:
-    """The results of each sender, those that are proved first."""
-    proved = [_run_proved(it, task, workers, stop, note) if it.is_proved else None for it in senders]
-    plan = plan_of(task.runs, task.claims, task.wants_causes, task.records)
-    builds = [[] if it.is_proved else _builds(plan, task.telling, it.top) for it in senders]
-    answers = iter(try_all([it for each in builds for it in each], stop))
-    heard = [[next(answers) for _ in each] for each in builds]
-    return [
-        _read(sender, (plan, task.telling), each, stop, note) if there is None else there
-        for sender, there, each in zip(senders, proved, heard)
-    ]
+def run_both(sides: Sequence[Side], task: Task, workers: int, stop: Stop, note: Callable[[str], None]) -> list[Results]:
+    """The results of each sender, those that are proved first. Of each key that one of them lacks it is said once."""
+    found = [_asked(it, task, stop) if it.sender.is_proved else it for it in sides]
+    if all(it.sender.is_proved for it in sides):
+        refuse_common(found, task.claims)
+    proved = [_run_proved(it, task, workers, stop, note) if it.sender.is_proved else None for it in found]
+    tried = _Tried([it for it in found if not it.sender.is_proved], task, stop, note)
+    unproved = iter(tried.sides)
+    found = [it if it.sender.is_proved else next(unproved) for it in found]
+    refuse_common(found, task.claims)
+    tell_lacks(found, note)
+    results = iter(tried.results())
+    return [next(results) if it is None else it for it in proved]
 
 
-def _builds(plan: Plan, telling: Telling | None, tree: Path) -> list[Build]:
-    """What a tree's programs are started on: the scripts, and then the rows."""
-    return [*plan.builds(tree), *(telling.builds(tree) if telling else [])]
+class _Tried:
+    """What comes of senders that are built side by side, each with the keys that it lacks."""
+
+    def __init__(self, sides: Sequence[Side], task: Task, stop: Stop, note: Callable[[str], None]) -> None:
+        self._task, self._stop, self._note = task, stop, note
+        self._plans = [task.plan(it) for it in sides]
+        builds = [self._builds(side, plan) for side, plan in zip(sides, self._plans)]
+        answers = iter(try_all([it for each in builds for it in each], stop))
+        self._heard = [[next(answers) for _ in each] for each in builds]
+        self._tried = [self._read(*it) for it in zip(sides, self._plans, self._heard)]
+        self.sides = [side.without(it.refused) for side, it in zip(sides, self._tried)]
+
+    def results(self) -> list[Results]:
+        """The results of each. One that refused a key is built again, to run without it."""
+        return [self._result(*it) for it in zip(self.sides, self._tried, self._heard)]
+
+    def _result(self, side: Side, tried: UnprovedResults, heard: Sequence[Sequence[Answer]]) -> Results:
+        telling, tree = self._task.telling, side.sender.top
+        if tried.refused:
+            plan = self._task.plan(side)
+            tried = self._read(side, plan, try_all(plan.builds(tree), self._stop))
+        said = heard_of_builds(telling, heard[_OF_SCRIPTS:], tree, self._stop, self._note) if telling else []
+        return _results(tried.settled, tried.recordings, tried.causes, said)
+
+    def _builds(self, side: Side, plan: Plan) -> list[Build]:
+        """What a tree's programs are started on: the scripts, and then the rows."""
+        telling, tree = self._task.telling, side.sender.top
+        return [*plan.builds(tree), *(telling.builds(tree) if telling else [])]
+
+    def _read(self, side: Side, plan: Plan, heard: Sequence[Sequence[Answer]]) -> UnprovedResults:
+        return results_of(plan, heard[:_OF_SCRIPTS], side.sender.top, self._stop, self._note)
 
 
-def _read(
-    sender: Sender,
-    asked: tuple[Plan, Telling | None],
-    heard: Sequence[Sequence[Answer]],
-    stop: Stop,
-    note: Callable[[str], None],
-) -> Results:
-    """The results of a sender that was built."""
-    plan, telling = asked
-    tried = results_of(plan, heard[:_OF_SCRIPTS], sender.top, stop, note)
-    if tried.refused:
-        raise SettingsRefused(sender, tried.refused)
-    said = heard_of_builds(telling, heard[_OF_SCRIPTS:], sender.top, stop, note) if telling else []
-    return _results(tried.settled, tried.recordings, tried.causes, said)
+def _asked(side: Side, task: Task, stop: Stop) -> Side:
+    """A side of proved programs, without the keys that they lack."""
+    program = _programs(side)[REGRESS]
+    return side.without(refused_of(side.claims(task.claims), lambda: Program([program], stop)))
+
+
+def _programs(side: Side) -> dict[str, Path]:
+    return side.sender.programs or {}
 
 
 def _results(
@@ -100,15 +122,13 @@ def _results(
     return Results(outcomes, texts, recordings, causes, said)
 
 
-def _run_proved(sender: Sender, task: Task, workers: int, stop: Stop, note: Callable[[str], None]) -> Results:
+def _run_proved(side: Side, task: Task, workers: int, stop: Stop, note: Callable[[str], None]) -> Results:
     """The results of proved programs."""
-    programs = sender.programs or {}
+    programs = _programs(side)
     program = programs[REGRESS]
-    if lines := refusals(task.claims, lambda: Program([program], stop)):
-        raise SettingsRefused(sender, lines)
     mapper = local_mapper(start_with(program, workers, 1, stop), Explainer(program, stop, note))
     settled: list[SettledPiece] = []
-    for step in mapper(task.runs):
+    for step in mapper(runs_of(side.scripts(task.scripts))):
         if isinstance(step, SettledPiece):
             settled.append(step)
         else:

@@ -16,7 +16,7 @@ from pdsuite.signals import Stop
 
 # A recording has at most 4,096 events, each with a line of its state.
 _LONGEST = 8 << 20
-_TRACE = "--trace"
+TRACE = "--trace"
 # Has it change as little of a script as makes it pass, and leave no comment of packets that aren't sent.
 LEAST = "--least"
 DROP = "--drop"
@@ -45,7 +45,7 @@ class Recorder:
         self._program = program
         self._fault = ""
 
-    def record(self, path: str, text: bytes, settings: Settings, word: str = _TRACE) -> Recording:
+    def record(self, path: str, text: bytes, settings: Settings, word: str = TRACE) -> Recording:
         """The recording of a script, or why there is none: the program refuses it, ends on it, or isn't there.
 
         It has a trace, or is what another word asks for.
@@ -106,7 +106,7 @@ def _told(word: bytes, octets: bytes) -> Recording:
 def recording(tree: Path, scripts: Iterable[tuple[Settings, bytes]], is_alone: bool = False) -> Build:
     """What has a tree's program, as it stands, record scripts, which are texts under settings."""
     cases = [Case(_settings_words(it), text, _ROOM + _WRITTEN * len(text), is_alone) for it, text in scripts]
-    return Build(tree, RECORD, (_TRACE,), tuple(cases))
+    return Build(tree, RECORD, (TRACE,), tuple(cases))
 
 
 def recording_of(answer: Answer) -> Recording:

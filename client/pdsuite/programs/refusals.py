@@ -3,6 +3,7 @@
 import re
 from collections.abc import Callable, Iterable
 from contextlib import suppress
+from dataclasses import dataclass
 
 from pdsuite.faults import Fault
 from pdsuite.programs.program import Ended, Program
@@ -12,7 +13,8 @@ from pdsuite.scripts.settings import set_words
 from pdsuite.scripts.suite import Claim
 
 # Why the program refuses a key or its value; any other refusal ends the run.
-_REFUSALS = ("UnknownKey", "BadValue")
+UNKNOWN_KEY = "UnknownKey"
+_REFUSALS = (UNKNOWN_KEY, "BadValue")
 # Where the answer to a question ends.
 _AFTER_TOTAL = re.compile(rb"(?<=pending 0\n)")
 
@@ -20,8 +22,26 @@ _AFTER_TOTAL = re.compile(rb"(?<=pending 0\n)")
 _Known = dict[tuple[str, str], str | None]
 
 
+@dataclass(frozen=True, slots=True)
+class Refusal:
+    """A claim that the program refuses, and why."""
+
+    claim: Claim
+    reason: str
+
+    @property
+    def line(self) -> str:
+        """The line that says so."""
+        return self.claim.refused(self.reason)
+
+
 def refusals(claims: Iterable[Claim], start: Callable[[], Program]) -> list[str]:
     """The lines of the claims that the program refuses. Without claims it is still asked whether it answers."""
+    return [it.line for it in refused_of(claims, start)]
+
+
+def refused_of(claims: Iterable[Claim], start: Callable[[], Program]) -> list[Refusal]:
+    """The claims that the program refuses. Without claims it is still asked whether it answers."""
     each = list(claims)
     known: _Known = {}
     with suppress(Ended):  # a new run begins with what is left
@@ -32,7 +52,7 @@ def refusals(claims: Iterable[Claim], start: Callable[[], Program]) -> list[str]
         raise Fault(str(end)) from end
 
 
-def _refused(claims: list[Claim], known: _Known, start: Callable[[], Program]) -> list[str]:
+def _refused(claims: list[Claim], known: _Known, start: Callable[[], Program]) -> list[Refusal]:
     with start() as program:
         _check(program.ask(SHOW, 2 * LONGEST_LINE), b"")
         for claim in claims:
@@ -47,8 +67,8 @@ def questions(claims: Iterable[Claim]) -> list[tuple[str, str]]:
     return list(dict.fromkeys(set_words(it.key, it.value) for it in claims))
 
 
-def refusals_at_once(claims: Iterable[Claim], answer: bytes) -> list[str]:
-    """The lines of the claims that the program refuses, by its answer to `set_and_show` of all questions."""
+def refused_at_once(claims: Iterable[Claim], answer: bytes) -> list[Refusal]:
+    """The claims that the program refuses, by its answer to `set_and_show` of all questions."""
     each = list(claims)
     asked = questions(each)
     *parts, rest = _AFTER_TOTAL.split(answer)
@@ -58,9 +78,9 @@ def refusals_at_once(claims: Iterable[Claim], answer: bytes) -> list[str]:
     return _told(each, {words: _reason(part) for words, part in zip(asked, parts)})
 
 
-def _told(claims: Iterable[Claim], known: _Known) -> list[str]:
+def _told(claims: Iterable[Claim], known: _Known) -> list[Refusal]:
     reasons = ((claim, known[set_words(claim.key, claim.value)]) for claim in claims)
-    return [claim.refused(reason) for claim, reason in reasons if reason is not None]
+    return [Refusal(claim, reason) for claim, reason in reasons if reason is not None]
 
 
 def _answer(words: tuple[str, str], program: Program) -> str | None:

@@ -43,8 +43,8 @@ def _parting(it: Parting) -> Iterator[str]:
     if it.state_before == it.state_after:
         yield f"  state:  {it.state_before or 'none'}"
     else:
-        yield f"  state before: {it.state_before}"
-        yield f"  state after:  {it.state_after}"
+        yield f"  state of the sender before: {it.state_before}"
+        yield f"  state of the sender after:  {it.state_after}"
 
 
 def _played(it: PlayedEvent | None) -> str:

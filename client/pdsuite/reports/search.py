@@ -5,7 +5,7 @@ from itertools import zip_longest
 
 from pdsuite.compare.parting import PlayedEvent, played_events
 from pdsuite.run.outcomes import UNPROVED
-from pdsuite.scripts.settings import settings_text
+from pdsuite.scripts.settings import Settings, settings_text
 from pdsuite.search.finds import Find
 from pdsuite.search.hunt import Hunted
 from pdsuite.search.reached import Reached
@@ -15,10 +15,10 @@ from pdsuite.show.styled_text import StyledText
 _ENDS = "nothing more"
 
 
-def found(find: Find, what: str, other: str | None, told: Sequence[str]) -> StyledText:
-    """A find: its settings, its recording beside the other sender's, if there is one, and why its script fails."""
+def found(find: Find, what: str, settings: Sequence[Settings], other: str | None, told: Sequence[str]) -> StyledText:
+    """A find: its recording beside the other sender's, if there is one, each with its settings, and why it fails."""
     text = StyledText().append(f"{what}\n", "bold red")
-    text.append("".join(f"  {line}\n" for line in _settings(find)))
+    text.append("".join(f"  {line}\n" for line in _settings_lines(settings)))
     pairs = _alone(find.recording) if other is None else _beside(find.recording, other)
     text.append("".join(f"  {shown_text(line)}\n" for line in pairs))
     if find.row is not None:
@@ -29,8 +29,14 @@ def found(find: Find, what: str, other: str | None, told: Sequence[str]) -> Styl
     return text
 
 
-def _settings(find: Find) -> list[str]:
-    return settings_text(find.inputs.settings).splitlines() or ["no settings"]
+def _settings_lines(settings: Sequence[Settings]) -> Iterator[str]:
+    """The settings, or where they aren't the same on both sides those of each."""
+    texts = [settings_text(it).splitlines() or ["no settings"] for it in settings]
+    if all(it == texts[0] for it in texts):
+        yield from texts[0]
+    else:
+        for side, lines in zip(("before: ", "after:  "), texts):
+            yield f"{side}{', '.join(lines)}"
 
 
 def _alone(recording: str) -> Iterator[str]:

@@ -12,7 +12,7 @@ from pdsuite.programs.program import Ended
 from pdsuite.programs.protocol import Cause, Unexpected
 from pdsuite.programs.protocol import add, blocks_in, causes_in, name_of, rows_in, set_and_show, set_key
 from pdsuite.programs.recorder import Recording, recording, recording_of
-from pdsuite.programs.refusals import questions, refusals_at_once
+from pdsuite.programs.refusals import Refusal, questions, refused_at_once
 from pdsuite.programs.rows import Row, Verdict
 from pdsuite.programs.starts import ROOM, Answer, Case
 from pdsuite.programs.tree import Build, try_all
@@ -54,9 +54,9 @@ class Batch:
 
 @dataclass(frozen=True)
 class UnprovedResults:
-    """What came of a suite: the lines of refused settings, or else scripts, what is told by keys, and recordings."""
+    """What came of a suite: refused settings, or else scripts, what is told by keys, and recordings."""
 
-    refused: list[str] = field(default_factory=list)
+    refused: list[Refusal] = field(default_factory=list)
     settled: list[SettledPiece] = field(default_factory=list)
     causes: Mapping[int, Cause] = field(default_factory=dict)
     recordings: Mapping[int, Recording] = field(default_factory=dict)
@@ -122,8 +122,8 @@ def results_of(
 ) -> UnprovedResults:
     """What the answers say. Where a start ends early, a second build starts its scripts one by one."""
     (asked, *told), recorded = answers
-    if lines := _refused(plan.claims, asked):
-        return UnprovedResults(lines)
+    if refused := _refused(plan.claims, asked):
+        return UnprovedResults(refused)
     heard = _Heard(plan, told, recorded)
     heard.hear_again(tree, stop, note)
     outcomes = {index: with_cause(it, heard.causes.get(index)) for index, it in heard.outcomes.items()}
@@ -247,9 +247,9 @@ def _heard(answer: Answer) -> Answer:
     return answer
 
 
-def _refused(claims: Iterable[Claim], answer: Answer) -> list[str]:
+def _refused(claims: Iterable[Claim], answer: Answer) -> list[Refusal]:
     try:
-        return refusals_at_once(claims, _heard(answer).output)
+        return refused_at_once(claims, _heard(answer).output)
     except (Ended, Unexpected) as end:
         raise Fault(str(end)) from end
 

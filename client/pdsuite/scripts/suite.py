@@ -16,6 +16,10 @@ from pdsuite.show.octets import shown_path, shown_text
 
 FILE = "pdsuite.toml"
 OPTION = "--settings"
+# Those of each side, where two senders are compared.
+BASE_OPTION = "--base-settings"
+WITH_OPTION = "--with-settings"
+_OPTIONS = (OPTION, BASE_OPTION, WITH_OPTION)
 _ROOT = "root"
 _STRICT = "strict"
 EXPECT = "expect"
@@ -55,7 +59,7 @@ class Claim:
     def refused(self, reason: str) -> str:
         """The line that says why it is refused."""
         beside = f' (["{_shown(self.table)}"])' if self.table else ""
-        own = () if self.place == OPTION else (_STRICT, EXPECT, REASON) if self.table else (_ROOT, _STRICT)
+        own = () if self.place in _OPTIONS else (_STRICT, EXPECT, REASON) if self.table else (_ROOT, _STRICT)
         helps = help_for(self.key, reason, own)
         return f"{self.place}: {_shown(self.key)}: {reason}{beside}" + (f": {helps}" if helps else "")
 
@@ -213,10 +217,10 @@ def _unquoted(table: Table, before: str = "", deepest: int = _DEEPEST) -> Iterat
                 yield from _unquoted(value, f"{before}{key}.", deepest - 1)
 
 
-def option_of(text: str) -> Layer:
-    """The layer of `--settings`, which has neither tables nor keys of the client's own."""
+def option_of(text: str, option: str = OPTION) -> Layer:
+    """The layer of `--settings`, or of such an option, which has neither tables nor keys of the client's own."""
     octets = text.encode("utf-8", "surrogateescape")
-    return Layer(OPTION, False, _table_of(OPTION, octets), {}, {}, {})
+    return Layer(option, False, _table_of(option, octets), {}, {}, {})
 
 
 def _table_of(place: str, octets: bytes) -> dict[str, Value]:

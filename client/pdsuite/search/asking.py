@@ -4,29 +4,34 @@ import os
 from collections.abc import Callable, Iterable, Iterator, Mapping, Sequence
 from concurrent.futures import ThreadPoolExecutor
 from contextlib import ExitStack, contextmanager
-from dataclasses import dataclass
+from dataclasses import dataclass, replace
 from itertools import repeat
 from pathlib import Path
 from typing import Protocol, TypeVar
 
 from pdsuite.compare.senders import Sender
+from pdsuite.compare.sides import Side
+from pdsuite.faults import Fault
 from pdsuite.programs.conversation import Conversation
 from pdsuite.programs.places import RECORD, REGRESS
 from pdsuite.programs.program import Ended, Program
 from pdsuite.programs.protocol import LONGEST_BLOCK, LONGEST_LINE, SETTLE, Unexpected
-from pdsuite.programs.protocol import add, blocks_in, name_of, rows_in, set_key
-from pdsuite.programs.recorder import Recorder, Recording, recording, recording_of
+from pdsuite.programs.protocol import add, blocks_in, name_of, rows_in, set_and_show, set_key
+from pdsuite.programs.recorder import TRACE, Recording, record_all, recording, recording_of
+from pdsuite.programs.refusals import Refusal, questions, refused_at_once, refused_of
 from pdsuite.programs.rows import Row, Verdict
 from pdsuite.programs.starts import Answer, Case
 from pdsuite.programs.tree import Build
 from pdsuite.run.explainer import EXPLAIN
 from pdsuite.run.runs import cut
-from pdsuite.scripts.settings import Settings, set_words, settings_text
+from pdsuite.scripts.settings import Settings, set_words, settings_of, settings_text
+from pdsuite.scripts.suite import Claim
 from pdsuite.scripts.text import Text, Unfit, text_of
 from pdsuite.search.inputs import Inputs
 from pdsuite.show.octets import shown
 from pdsuite.signals import Stop
 
+A = TypeVar("A", Inputs, "Asked")
 T = TypeVar("T")
 U = TypeVar("U")
 
@@ -34,7 +39,6 @@ U = TypeVar("U")
 _PIECE = 16
 _FIRST = (8, 16, 32)
 _LATER = 64
-_NAME = "the search"
 
 
 @dataclass(frozen=True, slots=True)
@@ -58,8 +62,40 @@ class SenderAsker(Protocol):
         """The row of a script that doesn't pass with what it means, and the lines below it."""
 
 
+class ClaimAsker(SenderAsker, Protocol):
+    """Asks one sender about settings, too."""
+
+    def refused(self, claims: Sequence[Claim]) -> list[Refusal]:
+        """The claims that the sender refuses."""
+
+
+@dataclass(frozen=True)
+class SideAsker:
+    """Asks the sender of a side, under the settings that hold there beside those of inputs and scripts."""
+
+    asker: SenderAsker
+    side: Side
+    common: Settings
+
+    def settings(self, given: Settings) -> Settings:
+        """The settings under which inputs or a script with these are played."""
+        return self.side.settings(settings_of({**dict(given), **dict(self.common)}))
+
+    def recordings(self, inputs: Sequence[Inputs]) -> list[Recording]:
+        return self.asker.recordings([replace(it, settings=self.settings(it.settings)) for it in inputs])
+
+    def rows(self, scripts: Sequence[Asked]) -> list[Row]:
+        return self.asker.rows([self._asked(it) for it in scripts])
+
+    def told(self, script: Asked) -> list[str]:
+        return self.asker.told(self._asked(script))
+
+    def _asked(self, it: Asked) -> Asked:
+        return replace(it, settings=self.settings(it.settings))
+
+
 @contextmanager
-def askers_of(senders: Sequence[Sender], stop: Stop) -> Iterator[list[SenderAsker]]:
+def askers_of(senders: Sequence[Sender], stop: Stop) -> Iterator[list[ClaimAsker]]:
     """What asks senders: proved programs, or those of a tree, which are built once for the block, side by side."""
     with ExitStack() as stack:
         trees = {it.top for it in senders if not it.is_proved}
@@ -69,7 +105,7 @@ def askers_of(senders: Sequence[Sender], stop: Stop) -> Iterator[list[SenderAske
         yield [_asker(it, stop, talks) for it in senders]
 
 
-def _asker(sender: Sender, stop: Stop, talks: Mapping[Path, Conversation]) -> SenderAsker:
+def _asker(sender: Sender, stop: Stop, talks: Mapping[Path, Conversation]) -> ClaimAsker:
     if sender.is_proved:
         return ProvedAsker(sender, stop)
     return UnprovedAsker(sender, talks[sender.top])
@@ -88,18 +124,30 @@ class ProvedAsker:
     def __init__(self, sender: Sender, stop: Stop) -> None:
         programs = sender.programs or {}
         self._program = programs[REGRESS]
-        self._recorder = Recorder(stop, _unheard, programs[RECORD])
+        self._recorder = programs[RECORD]
         self._stop = stop
         self._count = len(os.sched_getaffinity(0))
 
+    def refused(self, claims: Sequence[Claim]) -> list[Refusal]:
+        return refused_of(claims, lambda: Program([self._program], self._stop))
+
     def recordings(self, inputs: Sequence[Inputs]) -> list[Recording]:
-        return self._each(lambda it: self._recorder.record(_NAME, it.script(), it.settings), inputs)
+        return self._by_settings(inputs, self._recordings)
 
     def rows(self, scripts: Sequence[Asked]) -> list[Row]:
-        pieces = list(_pieces(scripts))
-        answers = self._each(lambda it: self._rows([scripts[place] for place in it]), pieces)
-        rows = {place: row for piece, answer in zip(pieces, answers) for place, row in zip(piece, answer)}
-        return [rows[place] for place in range(len(scripts))]
+        return self._by_settings(scripts, self._rows)
+
+    def _recordings(self, inputs: Sequence[Inputs]) -> list[Recording]:
+        """The recordings of inputs with equal settings."""
+        texts = [it.script() for it in inputs]
+        return list(record_all(self._recorder, texts, inputs[0].settings, self._stop, (TRACE,)))
+
+    def _by_settings(self, items: Sequence[A], work: Callable[[Sequence[A]], Sequence[U]]) -> list[U]:
+        """What comes of each item, where those with equal settings are handed on together, so many at most."""
+        pieces = list(_pieces(items))
+        answers = self._each(lambda it: work([items[place] for place in it]), pieces)
+        found = {place: one for piece, answer in zip(pieces, answers) for place, one in zip(piece, answer)}
+        return [found[place] for place in range(len(items))]
 
     def told(self, script: Asked) -> list[str]:
         with self._started(script.settings, EXPLAIN) as program:
@@ -132,6 +180,13 @@ class UnprovedAsker:
         self._tree = sender.top
         self._talk = talk
 
+    def refused(self, claims: Sequence[Claim]) -> list[Refusal]:
+        asking = Case((), b"".join(set_and_show(*it) for it in questions(claims)), is_alone=True)
+        (answer,) = self._talk.answers(Build(self._tree, REGRESS, (), (asking,)))
+        if answer.fault:
+            raise Fault(answer.fault)
+        return refused_at_once(claims, answer.output)
+
     def recordings(self, inputs: Sequence[Inputs]) -> list[Recording]:
         answers = self._talk.answers(recording(self._tree, [(it.settings, it.script()) for it in inputs]))
         return [recording_of(it) for it in answers]
@@ -149,10 +204,6 @@ class UnprovedAsker:
         return self._talk.answers(Build(self._tree, REGRESS, words, cases))
 
 
-def _unheard(line: str) -> None:
-    """An input on which a program ends is a find; its recording says so."""
-
-
 def _row_of(answer: Answer) -> Row:
     """The row of the only script."""
     if answer.fault:
@@ -164,10 +215,10 @@ def _row_of(answer: Answer) -> Row:
         return Row(Verdict.ERROR, 0, str(unexpected))
 
 
-def _pieces(scripts: Sequence[Asked]) -> Iterable[tuple[int, ...]]:
-    """The places of scripts, those with equal settings together."""
+def _pieces(items: Sequence[A]) -> Iterable[tuple[int, ...]]:
+    """The places of inputs or scripts, those with equal settings together."""
     groups: dict[Settings, list[int]] = {}
-    for place, it in enumerate(scripts):
+    for place, it in enumerate(items):
         groups.setdefault(it.settings, []).append(place)
     return [piece for group in groups.values() for piece in cut(group, _PIECE)]
 

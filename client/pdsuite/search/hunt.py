@@ -43,13 +43,14 @@ class Hunt:
     sizes: Iterable[int]
     seed: int
     seconds: float
+    fixed: frozenset[str] = frozenset()  # keys that no input sets
 
     def run(self, advance: Callable[[int], None]) -> Hunted:
         """Searches until something is found, or the time is over."""
         begin = time.monotonic()
         reached = Reached()
         unshown: Find | None = None
-        for made in plans(self.seed, self.sizes):
+        for made in plans(self.seed, self.sizes, self.fixed):
             played = [it for it in play_all(made, self.before) if it.recording.text]
             _note(reached, played)
             found, hidden = self._look(played)

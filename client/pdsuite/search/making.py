@@ -27,7 +27,8 @@ _OUTAGES = (500_000, 2 * SECOND, 10 * SECOND, 70 * SECOND, 200 * SECOND)
 _LONG_HANDSHAKES = (1_200_000, 3_500_000, 8 * SECOND)
 _IDLE = (2 * SECOND, 5 * SECOND, 70 * SECOND)
 _RESTART = "restart_after_idle"
-_KEYS: dict[str, tuple[Value, ...]] = {
+# What inputs set, each one of these values.
+KEYS: dict[str, tuple[Value, ...]] = {
     "byte_counting": (2, 3, 8),
     "granularity_us": (1, 100_000, 1_000_000),
     "initial_ssthresh": (128, 2_000, 3_000, 4_000, 5_000, 8_000),
@@ -50,13 +51,13 @@ _LATER = tuple(it for it in Oddity if it not in (Oddity.FIN, Oddity.RESET))
 _NUMBERS = (0, 1, 2, 3, 100, 1_000, 2_500)
 
 
-def plans(first_seed: int, sizes: Iterable[int]) -> Iterator[list[Plan]]:
-    """Lists of so many plans each, one after the other."""
+def plans(first_seed: int, sizes: Iterable[int], fixed: frozenset[str] = frozenset()) -> Iterator[list[Plan]]:
+    """Lists of so many plans each, one after the other, that set no key which is fixed."""
     for number, size in enumerate(sizes):
-        yield _drawn(first_seed * _APART + number, size)
+        yield _drawn(first_seed * _APART + number, size, fixed)
 
 
-def _drawn(number: int, size: int) -> list[Plan]:
+def _drawn(number: int, size: int, fixed: frozenset[str]) -> list[Plan]:
     """So many plans, by one seed."""
     made: list[Plan] = []
 
@@ -70,13 +71,13 @@ def _drawn(number: int, size: int) -> list[Plan]:
         phases=[Phase.generate],
         suppress_health_check=list(HealthCheck),
     )
-    seed(number)(how(given(_plans())(keep)))()
+    seed(number)(how(given(_plans(fixed))(keep)))()
     return made
 
 
 @st.composite
-def _plans(draw: st.DrawFn) -> Plan:
-    return _Maker(draw).plan()
+def _plans(draw: st.DrawFn, fixed: frozenset[str]) -> Plan:
+    return _Maker(draw, fixed).plan()
 
 
 @cache
@@ -87,8 +88,9 @@ def _below(number: int) -> st.SearchStrategy[int]:
 class _Maker:
     """Makes a plan of what Hypothesis draws."""
 
-    def __init__(self, draw: Callable[[st.SearchStrategy[int]], int]) -> None:
+    def __init__(self, draw: Callable[[st.SearchStrategy[int]], int], fixed: frozenset[str]) -> None:
         self._draw = draw
+        self._keys = tuple(it for it in KEYS if it not in fixed)
 
     def plan(self) -> Plan:
         chosen = self._settings()
@@ -122,10 +124,10 @@ class _Maker:
         return frozenset(self._number(below) for _ in range(self._from(1, most)))
 
     def _settings(self) -> Settings:
-        if self._one_in(2):
+        if self._one_in(2) or not self._keys:
             return ()
-        keys = {self._pick(tuple(_KEYS)) for _ in range(self._pick((1, 1, 2, 3)))}
-        return settings_of({key: self._pick(_KEYS[key]) for key in sorted(keys)})
+        keys = {self._pick(self._keys) for _ in range(self._pick((1, 1, 2, 3)))}
+        return settings_of({key: self._pick(KEYS[key]) for key in sorted(keys)})
 
     def _handshake(self, round_trip: int) -> Handshake:
         takes = self._pick(_LONG_HANDSHAKES) if self._one_in(8) else round_trip
