@@ -144,11 +144,22 @@ def test_blocks_are_compared_by_their_first_lines(teller: Teller) -> None:
 
 
 def test_words_are_refused_before_anything_is_read(teller: Teller) -> None:
-    refused = Said(b"", b"no such word\n", 2, read=0)
-    wrong = {b"-b": Said(b"", b"", 2, 0), b"-c": Said(b"", b"no\n", 2, 8), b"-d": None}
-    assert teller.faults("[a] bad words\n-a\n", lambda _: refused) == {}
-    faults = teller.faults("[a] bad words\n-b\n-c\n-d\n", lambda call: wrong[call.words[0]])
-    assert list(faults) == ["line-2", "line-3", "line-4"] and faults["line-4"] == "untold"
+    refused = Said(b"", b"no such word\n\nmore\n", 2, read=0)
+    wrong = {
+        b"-b": replace(refused, errors=b""),
+        b"-c": replace(refused, read=8),
+        b"-d": None,
+        b"-e": replace(refused, errors=b"another text\n"),
+        b"-f": replace(refused, status=0),
+        b"-g": replace(refused, output=b"total 0\n"),
+        b"-h": replace(refused, read=None),
+    }
+    assert teller.faults("[a] bad words\n-a b | no such word\n", lambda _: refused) == {}
+    assert teller.calls[-1].words == (b"-a", b"b")
+    rows = "".join(f"{word.decode()} | no such word\n" for word in wrong)
+    faults = teller.faults(f"[a] bad words\n{rows}", lambda call: wrong[call.words[0]])
+    assert list(faults) == [f"line-{number}" for number in range(2, 9)]
+    assert [it for it, fault in faults.items() if fault == "untold"] == ["line-4", "line-8"]
 
 
 def test_settings_lines_and_ends(teller: Teller) -> None:
@@ -373,7 +384,7 @@ def test_what_a_row_does_not_write_is_not_taken(answer: Program, why: str, accep
 
 
 def test_a_row_of_another_kind_is_changed_by_hand(accepting: Accepting) -> None:
-    text = "[a] cuts\npass 1 | x\n[b] settings\n4 BadValue: mss 500\n[c] bad words\n-a\n"
+    text = "[a] cuts\npass 1 | x\n[b] settings\n4 BadValue: mss 500\n[c] bad words\n-a | no\n"
     assert accepting.text(text, judge) == text
     by_hand = "not taken: a row of this kind is changed by hand"
     assert (accepting.taken, accepting.refused) == ([], [f"a.cases:2: {by_hand}", f"a.cases:4: {by_hand}"])

@@ -2,6 +2,8 @@
 
 from pathlib import Path
 
+import pytest
+
 from pdsuite.packetdrill.columns import Mark
 from pdsuite.programs.recorder import Recording
 from pdsuite.programs.rows import Row, Verdict
@@ -95,6 +97,17 @@ def test_a_call_with_another_answer_and_a_packet_at_another_time_are_marked() ->
         "      + +0   > P. 1:1001(1000) ack 1 win 65535 // 0.200000",
         "      ? ^^",
     ]
+
+
+@pytest.mark.parametrize(
+    ("moment", "is_in_time"),
+    [("0.695999", False), ("0.696000", True), ("0.697000", True), ("0.704000", True), ("0.704001", False)],
+)
+def test_a_packet_may_come_so_much_before_its_first_moment_and_after_its_last(moment: str, is_in_time: bool) -> None:
+    script = f"--tolerance_usecs=4000\n{WRITE}\n+0.5 > P. 1:1001(1000) ack 1\n"
+    sent = f"{SENT.replace('+0 ', f'+{float(moment) - 0.2:.6f} ')}"
+    found = met(script, Row(Verdict.PASS, 9), (WRITE, "0.200000"), (sent, moment))
+    assert found.lines[-1].differs is not is_in_time
 
 
 def test_what_is_not_recorded_says_why() -> None:

@@ -77,6 +77,14 @@ def test_the_run_goes_with_most_of_its_scripts() -> None:
     assert (second.run, second.acts) == (None, (Add("c", ONE),))
 
 
+@pytest.mark.parametrize(("stays", "goes"), ["ab", "ba"])
+def test_where_equally_many_scripts_want_other_settings_the_run_keeps_its_own(stays: str, goes: str) -> None:
+    changed = {it: WantedScript(SMALL if it == stays else NONE, ONE) for it in "ab"}
+    first, second = run_changes([contents(SMALL, a=ONE, b=ONE)], changed)
+    assert (first.run, first.acts) == (0, (Remove(goes),))
+    assert (second.run, second.acts, second.after.settings) == (None, (Add(goes, ONE),), NONE)
+
+
 def test_a_group_that_joins_another_leaves_no_second_run() -> None:
     runs = [contents(SMALL, a=ONE, b=ONE), contents(NONE, c=ONE)]
     first, second = run_changes(runs, wanted(NONE, a=ONE, b=ONE, c=ONE))

@@ -52,6 +52,13 @@ def test_a_program_that_ends_once_is_begun_again_and_that_is_said(tmp_path: Path
     assert called.err == "pdsuite: pdregress was ended by SIGKILL; a new run begins at a.pkt\n"
 
 
+def test_the_only_script_of_a_program_that_ends_once_is_run_again(tmp_path: Path, stand_in: Path, call: Call) -> None:
+    write(tmp_path, a=b"once mark")
+    called = call(stand_in, "run", ".")
+    assert (called.status, called.totals) == (0, {"pass": 1})
+    assert called.err == "pdsuite: pdregress was ended by SIGKILL; a new run begins at a.pkt\n"
+
+
 def test_one_script_in_a_later_piece_costs_no_other_its_row(tmp_path: Path, stand_in: Path, call: Call) -> None:
     for number in range(150):
         write(tmp_path, **{f"s{number:03}": b"crash\n" if number in (70, 71, 149) else PASSES})

@@ -109,6 +109,16 @@ def test_what_was_written_just_before_it_was_read_is_read_again(tmp_path: Path) 
     assert watched_files([found], before, set())[found.path] is not before[found.path]
 
 
+def test_what_was_changed_just_before_it_was_read_is_read_again_whatever_time_it_was_given(tmp_path: Path) -> None:
+    path = tmp_path / "a.pkt"
+    path.write_bytes(b"one\n")
+    os.utime(path, (0, time.time() - 60))
+    found = ScriptFile(str(path), str(tmp_path), "a.pkt")
+    assert watched_file(found, None, True).file.is_young
+    _grow_old()
+    assert not watched_file(found, None, True).file.is_young
+
+
 @pytest.mark.parametrize("is_known", [True, False])
 def test_what_was_written_a_moment_ago_is_only_taken_once_it_is_closed_or_rests(tmp_path: Path, is_known: bool) -> None:
     path = tmp_path / "a.pkt"

@@ -14,8 +14,8 @@ make_small_tree() {
     rows fails '[a] scripts\npass 2: 0\npass 1: 1'
     rows no_table 'a row'
     rows no_text '[a] scripts\npass 1: \377'
-    rows untold '[a] bad words\n{}'
-    rows untold_and_marked '[a] bad words\n#? taken\n{}'
+    rows untold '[a] bad words\n{} | no'
+    rows untold_and_marked '[a] bad words\n#? taken\n{} | no'
     echo 'import nothing_of_this_name' >"$small/tests/cases/test_no_import.py"
     printf 'import pytest\n\n\ndef test_passes():\n    pass\n\n\ndef test_exits():\n    pytest.exit("a")\n' >"$small/tests/cases/test_exits.py"
 }

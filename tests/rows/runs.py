@@ -33,26 +33,37 @@ class BadWords:
 
     row: Row
     words: tuple[bytes, ...]
+    text: bytes
+
+
+def bad_word_tries(row: Row) -> Iterator[BadWords]:
+    """A row `WORDS | TEXT`: the words of a call, parted by spaces, and the first line of the text that refuses them."""
+    words, text = parted(row.text, " | ", "a row has words, a | and the text that refuses them")
+    yield BadWords(row, tuple(word.encode() for word in words.split(" ")), text.encode())
 
 
 def bad_words(table: Table) -> Iterator[Case[BadWords]]:
-    """The words of a call a row, parted by spaces."""
+    """The words of a call a row."""
     for row in table.rows:
-        words = tuple(word.encode() for word in row.text.split(" "))
-        yield case_of(row, lambda: [BadWords(row, words)])
+        yield case_of(row, lambda: bad_word_tries(row))
+
+
+def bad_words_fault(it: BadWords, said: Said) -> str:
+    """How words are refused otherwise; of the text the first line is compared."""
+    first, newline, _ = said.errors.partition(b"\n")
+    short, wanted = replace(said, errors=first + newline, read=None), Said(b"", it.text + b"\n", 2)
+    if short == wanted and not said.read:
+        return ""
+    return f"{difference(it.row, wanted, short)}\n{said.read or 0} octets read, none at most"
 
 
 def tell_bad_words(tries: Sequence[BadWords]) -> Asking[list[Finding]]:
     """Sees that words are refused. How much is read only a built program shows."""
-    calls = [Call(PROGRAM, it.words, b"add a 0\n", asks_what_was_read=True) for it in tries]
-    found = []
-    for it, said in zip(tries, (yield calls)):
-        fault = ""
-        if said is not None and (replace(said, read=None) != Said(b"", said.errors, 2) or not said.errors or said.read):
-            any_text = Said(b"", b"any text\n", 2)
-            fault = f"{difference(it.row, any_text, said)}\n{said.read or 0} octets read, none at most"
-        found.append(Finding(fault, said is None or said.read is None))
-    return found
+    said = yield [Call(PROGRAM, it.words, b"add a 0\n", asks_what_was_read=True) for it in tries]
+    return [
+        Finding(is_untold=True) if one is None else Finding(bad_words_fault(it, one), one.read is None)
+        for it, one in zip(tries, said)
+    ]
 
 
 def bad_commands(table: Table) -> Iterator[Case[Run]]:

@@ -1,0 +1,109 @@
+"""How inputs of a search go on and are made smaller: plain functions of inputs and their recordings."""
+
+from collections.abc import Callable, Sequence
+from dataclasses import replace
+from typing import Any
+
+import pytest
+
+from pdsuite.packetdrill.items import SECOND, Call, Packet, TcpOption
+from pdsuite.programs.recorder import Recording
+from pdsuite.programs.rows import Row
+from pdsuite.search.asking import Asked
+from pdsuite.search.endings import going_on
+from pdsuite.search.finds import Find
+from pdsuite.search.inputs import Input, Inputs, call, packet
+from pdsuite.search.playing import LONG_GAPS, LONGEST_GAP, TICK
+from pdsuite.search.shrinking import shrunk
+
+WRITE = call("write", 4, "...", 3_000)
+ACK = packet(".", 1, 1, 1_000)
+RECORDED = (
+    "+0 > P. 1:1001(1000) ack 1\n//= at 0.000000 ESTABLISHED una:1 next:1001 top:1001\n"
+    "+1 > P. 1001:3001(2000) ack 1\n//= at 1.000000 ESTABLISHED una:1 next:3001 top:3001\n"
+)
+
+
+def inputs_of(*events: tuple[int, Packet | Call], is_exact: bool = False) -> Inputs:
+    return Inputs((), tuple(Input(at, what) for at, what in events), is_exact)
+
+
+class Sender:
+    """Is recorded the same on all inputs."""
+
+    def recordings(self, inputs: Sequence[Inputs]) -> list[Recording]:
+        return [Recording("a\n")] * len(inputs)
+
+    def rows(self, scripts: Sequence[Asked]) -> list[Row]:
+        raise NotImplementedError
+
+    def told(self, script: Asked) -> list[str]:
+        raise NotImplementedError
+
+
+class Finds:
+    """Finds the inputs that are good."""
+
+    def __init__(self, is_good: Callable[[Inputs], bool]) -> None:
+        self.is_good = is_good
+
+    def finds(self, inputs: Sequence[Inputs], recordings: Sequence[Recording]) -> list[Find | None]:
+        return [Find(it, "") if self.is_good(it) else None for it in inputs]
+
+
+def least(inputs: Inputs, is_good: Callable[[Inputs], bool]) -> Inputs:
+    """The least inputs that are good."""
+    return shrunk(Find(inputs, ""), Finds(is_good), Sender(), 60).inputs
+
+
+def test_what_follows_an_event_that_goes_keeps_its_moment() -> None:
+    events = (0, TICK), (SECOND, ACK), (2 * SECOND + 3, WRITE)
+    found = least(inputs_of(*events), lambda it: it.events[-1:] == (Input(2 * SECOND + 3, WRITE),))
+    assert found == inputs_of((2 * SECOND + 3, WRITE))
+
+
+def test_what_follows_a_shorter_gap_moves_along() -> None:
+    events = (7 * SECOND, TICK), (8 * SECOND, ACK)
+    found = least(inputs_of(*events), lambda it: len(it.events) == 2 and it.events[1].at - it.events[0].at == SECOND)
+    assert [it.at for it in found.events] == [0, SECOND]
+
+
+@pytest.mark.parametrize(
+    ("what", "is_good", "wanted"),
+    [
+        (WRITE, lambda it: True, call("write", 4, "...", 1)),
+        (call("write", 4, "...", 3_456), lambda it: int(it.arguments[-1]) >= 1_500, call("write", 4, "...", 2_000)),
+        (packet("F.", 1, 1, 257), lambda it: True, packet(".", 1, 1, 257)),
+        (
+            packet(".", 1, 1, 257, (TcpOption("sack", (1, 2, 3, 4)),)),
+            lambda it: bool(it.options) and 3 in it.options[0].numbers,
+            packet(".", 1, 1, 257, (TcpOption("sack", (3, 4)),)),
+        ),
+        (packet(".", 1, 1, 5_555), lambda it: it.win > 257, packet(".", 1, 1, 1_000)),
+    ],
+)
+def test_an_event_gets_simpler(what: Packet | Call, is_good: Callable[[Any], bool], wanted: Packet | Call) -> None:
+    found = least(inputs_of((0, what)), lambda it: len(it.events) == 1 and is_good(it.events[0].what))
+    assert found == inputs_of((0, wanted))
+
+
+def test_settings_and_exact_times_go_where_nothing_needs_them() -> None:
+    inputs = replace(inputs_of((0, ACK), is_exact=True), settings=(("mss", 100), ("sack", False)))
+    found = least(inputs, lambda it: len(it.events) == 1 and dict(it.settings).get("sack") is False)
+    assert (found.settings, found.is_exact) == ((("sack", False),), False)
+
+
+def test_inputs_go_on_with_acks_of_all_that_was_sent_at_the_last_state() -> None:
+    endings = list(going_on(Find(inputs_of((SECOND, WRITE)), RECORDED)))
+    acks = [it.events[1].what for it in endings if isinstance(it.events[1].what, Packet)]
+    assert [(it.start, it.ack) for it in acks] == [(1, 3_001), (2, 3_001)]
+    assert all(it.events[0] == Input(SECOND, WRITE) and it.events[1].at > SECOND for it in endings)
+    ends = [it.events[-1].at - 2 * SECOND for it in endings]
+    assert ends == [10 * SECOND] * 5 + [LONG_GAPS * LONGEST_GAP] * 2
+
+
+def test_inputs_without_a_state_go_on_with_the_first_number() -> None:
+    acks = [
+        it.what for ending in going_on(Find(inputs_of(), "")) for it in ending.events if isinstance(it.what, Packet)
+    ]
+    assert [it.ack for it in acks] == [1, 1]
