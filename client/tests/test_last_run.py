@@ -16,7 +16,7 @@ from pdsuite.reports import report_cache
 from pdsuite.reports.report_cache import LastReport, cache_folder
 from pdsuite.run.outcomes import Outcome
 from pdsuite.show.octets import absolute_paths
-from tests.helpers import TOP, Call, Called, wait_for, write
+from tests.helpers import TOP, Call, Called, open_to_others, wait_for, write
 
 FAILS = b"row fail 1 seq\n"
 OTHERWISE = b"row fail 2 ack\n\n"
@@ -302,13 +302,10 @@ def test_a_home_that_cannot_be_written_is_told(stand_in: Path, tmp_path: Path) -
         pytest.skip("needs root, to be another user for a moment")
     write(tmp_path / "suite", a=b"\n")
     (tmp_path / "home").mkdir(mode=0o555)
-    for folder in (tmp_path, *tmp_path.parents[:2]):
-        folder.chmod(0o755)
+    open_to_others(tmp_path, stand_in)
     as_another = ["setpriv", "--reuid=65534", "--clear-groups"]
     if subprocess.run([*as_another, "test", "-r", str(TOP / "pdsuite")]).returncode:
         pytest.skip("needs a repository that other users can read")
-    stand_in.chmod(0o755)
-    stand_in.parent.chmod(0o755)
     environment = {**os.environ, "PDSUITE_PROGRAMS": str(stand_in), "HOME": str(tmp_path / "home")}
     del environment["XDG_CACHE_HOME"]
     command = [*as_another, str(TOP / "pdsuite"), "run", "suite"]

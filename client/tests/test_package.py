@@ -88,7 +88,11 @@ def test_a_page_has_the_words_of_help(words: tuple[str, ...], programs: Path) ->
     text = re.sub(r"\\f[A-Z]|\\f\([A-Z]{2}|\\[,/&]|^\.\S+ ?", "", page, flags=re.MULTILINE)
     text = text.replace(r"\-", "-").replace(r"\e", "\\").replace(r"\'", "'").replace('"', "")
     shown = _SPACE.sub("", text).casefold()
-    for line in output(command, *words[1:], "--help").replace('"', "").splitlines():
+    help = output(command, *words[1:], "--help").replace('"', "")
+    usage = " ".join(["Usage:", *words])
+    assert any(line.startswith(f"{usage} ") for line in help.splitlines()) and "--help" in help
+    assert len(help.splitlines()) > 5
+    for line in help.splitlines():
         for part in re.split(r"\s{2,}", line.removeprefix("Usage: ").strip()):
             assert _SPACE.sub("", part).rstrip(":").casefold() in shown, part
 

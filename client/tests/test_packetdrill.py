@@ -1,7 +1,6 @@
 """Foreign scripts as items: what is read of each construct, and where reading ends."""
 
 import random
-from pathlib import Path
 
 import pytest
 
@@ -119,10 +118,41 @@ def test_reading_ends_where_no_script_goes_on(text: str, line: int, words: str) 
     assert (text.count("\n", 0, fault.place) + 1, fault.words) == (line, words)
 
 
-def test_reading_ends_by_itself_on_random_octets_and_on_each_prefix(tmp_path: Path) -> None:
+def test_reading_ends_by_itself_on_random_octets() -> None:
+    """Where it ends a fault is, which no item goes beyond; an item begins where the one before it has ended."""
     dice = random.Random(43)
+    faults = 0
     for size in range(300):
-        read(dice.randbytes(size).decode("utf-8", "surrogateescape"))
-    whole = 'a--b=c\n`d`0...+1 f(1, [2]) = -3 E (f)\n+1~2 > P. 1:2(1) ack 3 win 4 <sack 1:2>%{ "a" }%'
-    for size in range(len(whole) + 1):
-        read(whole[:size])
+        text = dice.randbytes(size).decode("utf-8", "surrogateescape")
+        reading = read(text)
+        ends = [0, *(it.end for it in reading.items)]
+        assert all(end <= it.start < it.end for end, it in zip(ends, reading.items))
+        assert reading.fault is not None or not text.strip(), text
+        assert reading.fault is None or ends[-1] <= reading.fault.place <= len(text)
+        faults += reading.fault is not None
+    assert faults > 290
+
+
+# Items that take nothing of what comes after them, each with what it is.
+PIECES = (
+    ("--b=c ", HeaderOption("b", "c")),
+    ("`d` ", Command("d")),
+    ("0...+1 f(1, [2]) = -3 E (g) ", Call("f", ("1", "[2]"), -3, "E")),
+    (
+        "+1~+2 > P. 1:2(1) ack 3 win 4 <sack 1:2> ",
+        Packet(False, "P.", 1, 2, 3, 4, (TcpOption("sack", (1, 2)),), "<sack 1:2>"),
+    ),
+    ('%{ "a" }% ', Code(' "a" ')),
+)
+
+
+def test_each_prefix_has_the_items_that_end_in_it() -> None:
+    whole, wanted = "".join(text for text, _ in PIECES), [what for _, what in PIECES]
+    ends = [it.end for it in read(whole).items]
+    for number, end in enumerate(ends, 1):
+        reading = read(whole[:end])
+        assert ([it.what for it in reading.items], reading.fault) == (wanted[:number], None)
+    for size in range(1, len(whole)):
+        items = read(whole[:size]).items
+        assert [it.what for it in items[:-1]] == wanted[: len(items[:-1])]
+        assert len(items) >= sum(end <= size for end in ends)

@@ -12,7 +12,7 @@ from pdsuite.scripts.defaults import KEYS, Number
 from pdsuite.scripts.settings import Value
 from pdsuite.scripts.suite import Claim
 from pdsuite.signals import Stop
-from tests.helpers import FAILS, PASSES, TOP, Call, write
+from tests.helpers import FAILS, PASSES, TOP, Call, open_to_others, write
 
 EXAMPLES = TOP / "examples/scripts"
 HARD = [b"a b", b"a\nb", b"\xff\xfe", b"x" * 200, b"$\\frac{$", b"a\x1b[2J", b"# SKIP", b"-v"]
@@ -197,9 +197,7 @@ def test_what_may_not_be_read_is_a_row(tmp_path: Path, programs: Path) -> None:
     if subprocess.run([*as_another, "test", "-r", str(TOP / "pdsuite")]).returncode:
         pytest.skip("needs a repository that other users can read")
     command = [*as_another, str(TOP / "pdsuite"), "run", "suite"]
-    tmp_path.chmod(0o755)
-    for folder in tmp_path.parents[:2]:
-        folder.chmod(0o755)
+    open_to_others(tmp_path, programs)
     (tmp_path / "kept").mkdir()
     (tmp_path / "kept").chmod(0o777)
     environment = {**os.environ, "PDSUITE_PROGRAMS": str(programs), "XDG_CACHE_HOME": str(tmp_path / "kept")}

@@ -14,14 +14,16 @@ from rows.asking import NO_STATUS, Call, Said, Sayings
 from rows.starting import is_startable, sayings_in, starts_of
 from rows.tables import TOP
 
-# What a call may take, in seconds; without proofs it is some ten times as slow.
-SECONDS = 60
-UNPROVED_SECONDS = 240
-# What all calls may take that one process answers, in seconds.
-STARTS_SECONDS = 3_600
+# What a call may take, in seconds by the clock: long, so that a busy machine fails none.
+SECONDS = 300
+# Without proofs a call is some ten times as slow. What goes round for ever is ended by the seconds of its processor,
+# which are as many on a busy machine; what sleeps, or all calls that one process answers, by those of the clock.
+UNPROVED_PROCESSOR_SECONDS = 900
+UNPROVED_SECONDS = 3_600
 # A build takes as many processors.
 JOBS = 2
 TOOLS = TOP / "tools"
+PYTHON = (sys.executable, "-B")
 
 
 Commands = Mapping[str, Sequence[str | Path]]
@@ -78,21 +80,23 @@ class Batch:
     begun: float = 0.0
 
     def put_calls(self) -> list[str | Path]:
-        """Puts the calls into the folder, and gives the tool that has them answered, with its words."""
+        """Puts the calls into the folder, and gives the command that has them answered."""
         cases, answers = self.folder / "cases", self.folder / "answers"
         cases.mkdir(parents=True)
         answers.mkdir()
         for place, call in self.calls.items():
             (cases / f"{place}").write_bytes(call.given)
             (cases / f"{place}.args").write_bytes(b"".join(word + b"\n" for word in call.words))
-        return [TOOLS / "try_cases.py", "--seconds", str(UNPROVED_SECONDS), self.program, cases, answers]
+        limit = ["prlimit", f"--cpu={UNPROVED_PROCESSOR_SECONDS}"]
+        seconds = ["--seconds", str(UNPROVED_SECONDS)]
+        return [*limit, *PYTHON, TOOLS / "try_cases.py", *seconds, self.program, cases, answers]
 
     def answers(self) -> dict[int, Said]:
         """What was said of the calls."""
         return {place: self.answer(place) for place in self.calls}
 
     def start(self) -> None:
-        words: list[str | Path] = [sys.executable, "-B", *self.put_calls()]
+        words = self.put_calls()
         with (self.folder / "said").open("wb") as said:
             self.process = subprocess.Popen(words, stdin=subprocess.DEVNULL, stderr=said)
         self.begun = time.monotonic()
@@ -136,7 +140,7 @@ class Starts(Batch):
         answers.mkdir()
         (self.folder / "asks").write_bytes(starts_of(list(self.calls.values())))
         (starts / "all").write_text(f"{self.folder / 'asks'}\n{self.folder / 'answered'}\n")
-        return [TOOLS / "try_both.py", "--seconds", str(STARTS_SECONDS), starts, answers]
+        return [*PYTHON, TOOLS / "try_both.py", "--seconds", str(UNPROVED_SECONDS), starts, answers]
 
     def answers(self) -> dict[int, Said]:
         with contextlib.suppress(FileNotFoundError):

@@ -1,6 +1,8 @@
 #!/usr/bin/env -S python3 -B
-"""Tells rows to the programs without pytest: prints what fails, and `N passed, M failed` last. Other tests fail, and so does
-want of any row."""
+"""Tells rows to the programs without pytest: prints what fails, and `N passed, M failed` last.
+
+Other tests fail, and so does want of any row.
+"""
 
 import argparse
 import sys
