@@ -197,6 +197,19 @@ def told_by_keys(name: str, verdict: str, line: int, kind: list[str], text: list
     return json.dumps(told).encode() + b"\n"
 
 
+def ending(name: str, words: bytes) -> bytes:
+    """What is said of the end of a script that passes: as many packets stand untaken as the first number in the words."""
+    if "--json" not in sys.argv:
+        return f"{name}:1: pass: ".encode() + words
+    import json
+
+    said = words.decode().rstrip("\n")
+    count = next((int(it) for it in said.split() if it.isdecimal()), 0)
+    told: dict[str, object] = {"name": name, "line": 1, "verdict": "pass", "what": said}
+    told |= {"awaits_packet": "awaits no packet" not in said, "untaken_packets": ["* > . 1:2(1)"] * count}
+    return json.dumps({**told, "more_untaken_packets": 0, "untaken_sent_by": []}).encode() + b"\n"
+
+
 def explain() -> int:
     """Takes commands that add scripts, and tells of all of them."""
     said = b""
@@ -208,7 +221,7 @@ def explain() -> int:
                 said += block(words[1], [verdict, *row], text)
             case ["row", "pass", _] if "--ends" in sys.argv:
                 ends = [it.removeprefix(b"ends ") for it in text[:1] if it.startswith(b"ends ")]
-                said += b"".join(f"{words[1]}:1: pass: ".encode() + it for it in ends)
+                said += b"".join(ending(words[1], it) for it in ends)
         count += 1
     sys.stderr.buffer.write(said)
     print(f"total {count} pass 0 fail {count} syntax 0 unsupported 0 limit 0 pending 0")

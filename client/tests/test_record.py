@@ -66,6 +66,30 @@ def test_scripts_that_pass_change_nothing(recorders: Path, tmp_path: Path, call:
     assert (called.status, called.out) == (0, "total 1 changed 0 lines +0 -0 not recorded 0\n")
 
 
+LEAVES = b"row pass 1\nends 3 packets stand untaken at its end\n"
+OF_INPUTS = b"row pass 1\nends it awaits no packet, and 2 packets stand untaken at its end\n"
+
+
+def test_a_script_of_inputs_alone_is_recorded_whole(recorders: Path, tmp_path: Path, call: Call) -> None:
+    write(tmp_path, a=OF_INPUTS + b"WAY.\n", b=b"row pass 1\nends it awaits no packet\nc\n", c=FAILS + b"WAY.\n")
+    called = call(recorders, "record", "--write", ".")
+    assert (called.status, called.out) == (0, "total 3 changed 2 lines +2 -4 not recorded 0\n")
+    assert (tmp_path / "a.pkt").read_bytes() == OF_INPUTS.partition(b"\n")[2] + b".\n"
+    assert (tmp_path / "c.pkt").read_bytes() == b"--least.\n"
+    (tmp_path / "a.pkt").write_bytes(OF_INPUTS + b"d\n")
+    assert call(recorders, "record", "--whole", "a.pkt").out.endswith("total 1 changed 1 lines +0 -1 not recorded 0\n")
+
+
+@pytest.mark.parametrize(("strict", "changed"), [("true", 1), ("false", 0)])
+def test_a_strict_script_that_leaves_packets_is_recorded(
+    recorders: Path, tmp_path: Path, call: Call, strict: str, changed: int
+) -> None:
+    write(tmp_path, a=LEAVES + b"b\n")
+    (tmp_path / "pdsuite.toml").write_text(f"root = true\nstrict = {strict}\n")
+    called = call(recorders, "record", "--write", ".")
+    assert (called.status, called.out) == (0, f"total 1 changed {changed} lines +0 -{changed} not recorded 0\n")
+
+
 def test_what_is_known_not_to_pass_stays(recorders: Path, tmp_path: Path, call: Call) -> None:
     write(tmp_path, a=FAILS + b"c\n")
     (tmp_path / "pdsuite.toml").write_text('["a.pkt"]\nexpect = "fail 1 seq"\nreason = "so"\n')

@@ -11,10 +11,13 @@ from pdsuite.faults import Fault, why
 from pdsuite.files import write
 from pdsuite.programs.places import RECORD, REGRESS, locate
 from pdsuite.programs.program import Program
+from pdsuite.programs.protocol import Cause
 from pdsuite.programs.recorder import DROP, LEAST, Recording, record_all
 from pdsuite.programs.refusals import refusals
 from pdsuite.programs.rows import Verdict
 from pdsuite.run.choice import found_of, scripts_of
+from pdsuite.run.explainer import LEAVINGS, Asker, awaits_none, leaves_packets
+from pdsuite.run.outcomes import Outcome
 from pdsuite.run.runs import Script, runs_of
 from pdsuite.run.settling import Restart, settle, start_with
 from pdsuite.scripts.rewriting import Rewriting, as_written, hunks_of
@@ -31,6 +34,8 @@ from pdsuite.signals import Stop, Stopped
 _FAULT = 2
 INPUT = Path("-")
 _STYLES = {"+": "green", "-": "red", "@": "cyan"}
+# The words by which a script is recorded; None where it stays as it is.
+Way = Sequence[str] | None
 
 
 @dataclass(frozen=True)
@@ -71,14 +76,6 @@ class Recorded:
         return not self.fault and self.rewriting.old != self.rewriting.new
 
 
-@dataclass(frozen=True)
-class _Recorder:
-    """The program that records, and what it is told of how to."""
-
-    program: Path
-    words: Sequence[str]
-
-
 def record(options: RecordOptions, screen: Screen) -> int:
     """Records scripts, shows or writes what changes, and answers the exit status."""
     with Stop() as stop:
@@ -94,9 +91,8 @@ def record(options: RecordOptions, screen: Screen) -> int:
                 return _FAULT
             recorder = locate(RECORD)
             texts = {it.index: _text(it, octets) for it in scripts}
-            kept = _passing(scripts, texts, program, options.workers, screen, stop)
-            asked_for = _Recorder(recorder, options.words)
-            each = _recorded(scripts, texts, kept, asked_for, screen, stop)
+            ways = _ways(scripts, texts, program, options, screen, stop)
+            each = _recorded(scripts, texts, ways, recorder, screen, stop)
         except Stopped as stopped:
             return stopped.status
         finally:
@@ -134,18 +130,18 @@ def _text(script: Script, octets: bytes | None) -> bytes | str:
     return held
 
 
-def _passing(
+def _ways(
     scripts: Sequence[Script],
     texts: dict[int, bytes | str],
     program: Path,
-    workers: int | None,
+    options: RecordOptions,
     screen: Screen,
     stop: Stop,
-) -> set[int]:
-    """The places of the scripts that stay as they are: they pass, or are known not to."""
-    kept: set[int] = set()
-    done = 0
-    start = start_with(program, threads_of(workers), 1, stop)
+) -> dict[int, Way]:
+    """How each script is recorded, by its place."""
+    ways: dict[int, Way] = {}
+    start = start_with(program, threads_of(options.workers), 1, stop)
+    asker = Asker(program, LEAVINGS, stop, screen.note)
 
     def load(script: Script) -> Text | str:
         held = texts[script.index]
@@ -156,34 +152,50 @@ def _passing(
             if isinstance(step, Restart):
                 screen.note(str(step))
                 continue
-            kept.update(it.index for it, outcome in step.outcomes if outcome.row.verdict is Verdict.PASS)
-            kept.update(it.index for it, outcome in step.outcomes if outcome.is_known)
-            done += len(step.outcomes)
-            screen.advance(done, len(scripts), "scripts run")
-    return kept
+            leavings = asker.told(step)
+            ways |= {it.index: way_of(it, told, leavings.get(it.index), options.words) for it, told in step.outcomes}
+            screen.advance(len(ways), len(scripts), "scripts run")
+    return ways
+
+
+def way_of(script: Script, outcome: Outcome, leaving: Cause | None, asked: Sequence[str]) -> Way:
+    """How a script is recorded that came to this, and leaves this where it passes.
+
+    One of inputs alone is recorded whole. One that passes stays as it is, unless it is strict and leaves packets, and so
+    does one that is known not to pass.
+    """
+    if outcome.is_known:
+        return None
+    if outcome.row.verdict is not Verdict.PASS:
+        return asked
+    if not leaves_packets(leaving):
+        return None
+    if awaits_none(leaving):
+        return ()
+    return asked if script.is_strict else None
 
 
 def _recorded(
     scripts: Sequence[Script],
     texts: dict[int, bytes | str],
-    kept: set[int],
-    recorder: _Recorder,
+    ways: dict[int, Way],
+    recorder: Path,
     screen: Screen,
     stop: Stop,
 ) -> list[Recorded]:
     """What comes of each script, in their order; those that stay aren't recorded."""
-    groups: dict[Settings, list[tuple[Script, bytes]]] = {}
+    groups: dict[tuple[Settings, Sequence[str]], list[tuple[Script, bytes]]] = {}
     each: dict[int, Recorded] = {}
     for script in scripts:
-        held = texts[script.index]
+        held, way = texts[script.index], ways[script.index]
         if isinstance(held, str):
             each[script.index] = Recorded(script, Rewriting(script.path, b"", b""), held)
-        elif script.index in kept:
+        elif way is None:
             each[script.index] = Recorded(script, Rewriting(script.path, held, held))
         else:
-            groups.setdefault(script.settings, []).append((script, held))
-    for settings, group in groups.items():
-        made = record_all(recorder.program, [text for _, text in group], settings, stop, recorder.words)
+            groups.setdefault((script.settings, way), []).append((script, held))
+    for (settings, way), group in groups.items():
+        made = record_all(recorder, [text for _, text in group], settings, stop, way)
         for (script, text), it in zip(group, made):
             each[script.index] = _rewritten(script, text, it)
             screen.advance(len(each), len(scripts), "scripts recorded")

@@ -55,6 +55,8 @@ def _has_end(row: Row) -> bool:
 BLOCKS: Speech[list[bytes]] = Speech((EXPLAIN,), LONGEST_BLOCK, blocks_in, _has_cause)
 CAUSES: Speech[Cause] = Speech((EXPLAIN, JSON), LONGEST_CAUSE, causes_in, _has_cause)
 ENDINGS: Speech[list[bytes]] = Speech((EXPLAIN, ENDS), LONGEST_BLOCK, blocks_in, _has_end)
+# The same by keys.
+LEAVINGS: Speech[Cause] = Speech((EXPLAIN, ENDS, JSON), LONGEST_CAUSE, causes_in, _has_end)
 
 
 class Asker(Generic[T]):
@@ -146,6 +148,16 @@ def with_block(outcome: Outcome, block: Sequence[bytes] | None) -> Outcome:
 def with_cause(outcome: Outcome, cause: Cause | None) -> Outcome:
     """The outcome with what is told of it by keys."""
     return outcome if cause is None else replace(outcome, explanation=cause)
+
+
+def leaves_packets(leaving: Cause | None) -> bool:
+    """Whether packets stand untaken at the end of a script that passes, as its keys tell."""
+    return leaving is not None and bool(leaving.get("untaken_packets"))
+
+
+def awaits_none(leaving: Cause | None) -> bool:
+    """Whether a script that passes awaits no packet, as its keys tell."""
+    return leaving is not None and leaving.get("awaits_packet") is False
 
 
 def with_end(outcome: Outcome, block: Sequence[bytes] | None) -> Outcome:
