@@ -57,6 +57,7 @@ class LspClient:
         self.shown: list[str] = []
         self.logged: list[str] = []
         self.asked: list[Json] = []
+        self.refused: list[int] = []
         self.times: dict[str, float] = {}
         self._answers: dict[int, Json] = {}
         self._numbers = itertools.count(1)
@@ -186,7 +187,9 @@ class LspClient:
     def _hear(self, message: Json) -> None:
         with self._news:
             method = message.get("method")
-            if method is None:
+            if method is None and message["id"] is None:
+                self.refused.append(message["error"]["code"])
+            elif method is None:
                 self._answers[message["id"]] = message
             elif "id" in message:
                 self.asked.append(message)

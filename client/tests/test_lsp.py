@@ -121,6 +121,42 @@ def test_settings_count_while_they_are_edited(client: LspClient, workspace: Path
     client.told(uri, lambda it: bool(it) and it[0]["severity"] == 1, "that no failure is known any more")
 
 
+def test_what_a_run_warns_of_is_a_diagnostic(client: LspClient, workspace: Path) -> None:
+    blind = WRITES + "+0 > P. 1:1001(1000) ack 1\n+0 write(4, ..., 1000) = 1000\n"
+    uri = client.open(workspace / "a.pkt", blind)
+    left = "1 packet stands untaken at its end"
+    assert [(it["severity"], it["message"]) for it in client.settled(uri)] == [(2, f"passes, but {left}")]
+    settings = client.open(workspace / "pdsuite.toml")
+    client.put(settings, "root = true\nstrict = true\n")
+    (found,) = client.told(uri, lambda it: bool(it) and it[0]["severity"] == 1, "that the warning is strict")
+    assert (found["code"], found["message"]) == ("warning", f"passes, but {left} (strict)")
+    lens = client.request("textDocument/codeLens", {"textDocument": {"uri": uri}})[0]["command"]["title"]
+    assert lens.startswith(f"pass: 10 events, but {left}")
+    client.put(uri, "// One\n0 socket(..., SOCK_STREAM, IPPROTO_TCP) = 3\n")
+    assert [it["message"] for it in client.settled(uri)] == ["passes, but awaits no packet (strict)"]
+    (workspace / "b.pkt").write_text(blind)
+    other = uri_of(str(workspace / "b.pkt"))
+    assert client.told(other, bool, "the warning of a file")[0]["message"] == f"passes, but {left} (strict)"
+    client.put(uri, PASSES)
+    assert client.settled(uri) == []
+
+
+def test_what_lies_in_a_folder_that_is_removed_is_told_of_no_more(client: LspClient, workspace: Path) -> None:
+    second = workspace.parent / "second"
+    second.mkdir()
+    (second / "b.pkt").write_text("bad\n")
+    (second / "pdsuite.toml").write_text("mss = 10\n")
+    opened = client.open(second / "open.pkt", "bad\n")
+    place = {"uri": uri_of(str(second)), "name": "second"}
+    script, settings = (uri_of(str(second / it)) for it in ("b.pkt", "pdsuite.toml"))
+    client.notify("workspace/didChangeWorkspaceFolders", {"event": {"added": [place], "removed": []}})
+    client.told(script, bool, "what is wrong in the new folder")
+    client.told(settings, bool, "the fault of its settings")
+    client.notify("workspace/didChangeWorkspaceFolders", {"event": {"added": [], "removed": [place]}})
+    client.told(script, lambda it: not it, "that the folder isn't followed")
+    assert len(client.settled(opened)) == 1
+
+
 def test_a_burst_is_joined(client: LspClient, workspace: Path) -> None:
     uri = client.open(workspace / "a.pkt", PASSES)
     client.settled(uri)
@@ -194,26 +230,34 @@ def test_it_ends_as_the_protocol_says(client: LspClient, workspace: Path) -> Non
     assert client.process.stderr is not None and client.process.stderr.read() == b""
 
 
-NONSENSE = [
-    b"hello\r\n\r\n",
-    b"Content-Length: x\r\n\r\n",
-    b"Content-Length: -5\r\n\r\n",
-    b"Content-Length: 5\r\n\r\n{{{{{",
-    b"Content-Length: 4\r\n\r\nnull",
-    b"Content-Length: 2\r\n\r\n[]",
-    b'Content-Length: 17\r\n\r\n{"jsonrpc":"2.0"}',
-    b'Content-Length: 28\r\n\r\n{"jsonrpc":"2.0","method":7}',
-    b'Content-Length: 31\r\n\r\n{"jsonrpc":"2.0","method":"fly"}'[:-1],
-    b'X: y\r\nContent-Length: 35\r\n\r\n{"jsonrpc":"2.0","method":"$/unknown"}'[:-2],
-    b"\xff\xfe\r\n\r\n\r\n",
+# Each with the code of the error that answers it, if one does: no JSON, or no message.
+NONSENSE: list[tuple[bytes, list[int]]] = [
+    (b"hello\r\n\r\n", []),
+    (b"Content-Length: x\r\n\r\n", []),
+    (b"Content-Length: -5\r\n\r\n", []),
+    (b"Content-Length: 5\r\n\r\n{{{{{", [-32700]),
+    (b'Content-Length: 3\r\n\r\n"\xff"', [-32700]),
+    (b"Content-Length: 100000\r\n\r\n" + b"[" * 100_000, [-32700]),
+    (b"Content-Length: 4\r\n\r\nnull", [-32600]),
+    (b"Content-Length: 2\r\n\r\n[]", [-32600]),
+    (b'Content-Length: 17\r\n\r\n{"jsonrpc":"2.0"}', [-32600]),
+    (b'Content-Length: 28\r\n\r\n{"jsonrpc":"2.0","method":7}', [-32600]),
+    (b'Content-Length: 16\r\n\r\n{"method":"exit"}'[:-1], [-32700]),
+    (b'Content-Length: 17\r\n\r\n{"method":"exit"}', [-32600]),
+    (b'Content-Length: 42\r\n\r\n{"jsonrpc":"2.0","id":{},"method":"hover"} ', [-32600]),
+    (b'X: y\r\nContent-Length: 38\r\n\r\n{"jsonrpc":"2.0","method":"$/unknown"}', []),
+    (b"\xff\xfe\r\n\r\n\r\n", []),
 ]
 
 
-def test_nonsense_is_left_out(client: LspClient, workspace: Path) -> None:
+def test_nonsense_is_left_out_or_answered(client: LspClient, workspace: Path) -> None:
     assert client.process.stdin is not None
-    for octets in NONSENSE:
+    for octets, _ in NONSENSE:
         client.process.stdin.write(octets)
         client.process.stdin.flush()
+    wanted = [code for _, codes in NONSENSE for code in codes]
+    client.wait(lambda: len(client.refused) >= len(wanted), "the errors")
+    assert client.refused == wanted
     told: list[tuple[str, object]] = [
         ("textDocument/didOpen", {}),
         ("textDocument/didOpen", None),

@@ -31,7 +31,10 @@ def changed(text: str, *changes: dict[str, object]) -> str:
         (f"// {CRAB}x\n", 5, (0, 6)),
         (f"// \u00e4{CRAB}\n{CRAB}y", 7, (1, 2)),
         ("a\r\nb", 3, (1, 0)),
-        ("a\rb", 2, (0, 2)),
+        ("a\rb", 1, (0, 1)),
+        ("a\rb", 2, (1, 0)),
+        ("a\r\r\nb\nc", 4, (2, 0)),
+        (f"{CRAB}\r{CRAB}x", 3, (1, 2)),
     ],
 )
 def test_a_place_and_its_position(text: str, offset: int, position: tuple[int, int]) -> None:
@@ -43,7 +46,7 @@ def test_a_place_and_its_position(text: str, offset: int, position: tuple[int, i
 def test_a_position_that_is_nowhere_is_the_nearest_one_before() -> None:
     lines = Lines(f"a{CRAB}b\r\ncd\n")
     assert lines.offset(Position(0, 2)) == 1  # inside the crab
-    assert lines.offset(Position(0, 99)) == 4
+    assert lines.offset(Position(0, 99)) == 3  # before the carriage return
     assert lines.offset(Position(1, 99)) == 7
     assert lines.offset(Position(9, 0)) == len(lines.text)
 
@@ -51,7 +54,8 @@ def test_a_position_that_is_nowhere_is_the_nearest_one_before() -> None:
 def test_every_place_is_found_again() -> None:
     lines = Lines(f"0 a() = 1 // {CRAB}\u00fc\u2028\n\n{CRAB}{CRAB}\r\n+0 b() = 2")
     for offset in range(len(lines.text) + 1):
-        assert lines.offset(lines.position(offset)) == offset
+        is_inside = lines.text[offset - 1 : offset + 1] == "\r\n"  # which is no position
+        assert lines.offset(lines.position(offset)) == offset - is_inside
 
 
 def test_changes_apply_one_after_another() -> None:

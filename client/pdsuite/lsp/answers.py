@@ -86,7 +86,7 @@ class Answers:
         if settings_path(document.uri):
             key = key_at(document.lines, document.lines.line_of(offset))
             words = pages.of_key(key) if key else ""
-            return (words, document.lines.whole_line(position.line)) if words else None
+            return (words, document.lines.whole_line(document.lines.line_of(offset))) if words else None
         event = self.layout(document).at(offset)
         if event is None:
             return None
@@ -170,7 +170,9 @@ def lenses(uri: str, result: Result | None) -> list[Json]:
 
 def _verdict(result: Result) -> str:
     row = result.outcome.row
-    words = f"pass: {_counted(row.number, 'event')}" if row.verdict is Verdict.PASS else row.whole
+    words = row.whole
+    if row.verdict is Verdict.PASS:
+        words = ", but ".join([f"pass: {_counted(row.number, 'event')}", *result.outcome.warnings])
     if result.steps is None:
         return words
     return f"{words}; the last change ran {_counted(result.steps, 'step')}"

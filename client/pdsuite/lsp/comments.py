@@ -85,5 +85,12 @@ def _name(lines: Lines, block: Block) -> str:
 def foldings_of(lines: Lines) -> list[Json]:
     """The blocks of comments that have more than one line."""
     return [
-        {"startLine": it.first, "endLine": it.last, "kind": "comment"} for it in blocks_of(lines) if it.first < it.last
+        {"startLine": _shown_line(lines, it.first), "endLine": _shown_line(lines, it.last), "kind": "comment"}
+        for it in blocks_of(lines)
+        if it.first < it.last
     ]
+
+
+def _shown_line(lines: Lines, line: int) -> int:
+    """The line of the protocol in which a line of a script begins."""
+    return lines.position(lines.start(line)).line

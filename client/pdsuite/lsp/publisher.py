@@ -31,10 +31,11 @@ class Publisher:
         self._published: dict[str, list[Json]] = {}
         self._uris: dict[str, str] = {}
         self._faulty: set[str] = set()  # the settings files that have faults
+        self._running: Running | None = None
 
     def publish(self, running: Running, changed: Iterable[str]) -> None:
         """Tells what came of scripts that changed, and the faults of settings files."""
-        for path in changed:
+        for path in dict.fromkeys([*changed, *self._left_by(running)]):
             result = running.workspace.results.get(path)
             uri = running.workspace.uri(path) or _uri(path)
             before = self._uris.pop(path, uri)
@@ -49,6 +50,13 @@ class Publisher:
             else:
                 self._publish_file(uri, result)
         self._publish_settings(running.workspace.faults(), running.workspace.settings_uris)
+
+    def _left_by(self, running: Running) -> list[str]:
+        """The scripts of what ran before, where that is something else, which this doesn't follow."""
+        if running is self._running:
+            return []
+        self._running = running
+        return [path for path in self._uris if path not in running.workspace.results]
 
     def publish_unproved(self, reason: str) -> None:
         """Tells of open texts that are no scripts, as far as the client's own reader knows."""

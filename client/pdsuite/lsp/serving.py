@@ -16,7 +16,7 @@ from pdsuite.lsp.server import FAILED, Server, home_of
 from pdsuite.lsp.settings_open import OpenSettings
 from pdsuite.lsp.streams import Streams
 from pdsuite.lsp.tools import Tools
-from pdsuite.lsp.workspace import Workspace
+from pdsuite.lsp.workspace import Askers, Workspace
 from pdsuite.scripts.suite import claims_of, option_of
 from pdsuite.signals import Stop, Stopped
 from pdsuite.watch.fleet import Fleet
@@ -115,7 +115,8 @@ class Serving:
         settings = OpenSettings(option, lambda claims: tools.refused(list(claims)))
         fleet = self._held.enter_context(Fleet(tools.start, server.log, lambda doing: None))
         folders = Folders(Choice(server.client.roots, ()), settings, self._watcher, self._stop, server.log)
-        return Running(Workspace(folders, settings, fleet, tools.asker, home_of(server.client)), Answers(tools))
+        askers = Askers(tools.causes, tools.endings)
+        return Running(Workspace(folders, settings, fleet, askers, home_of(server.client)), Answers(tools))
 
 
 class _Unwatched(Watcher):

@@ -1,11 +1,12 @@
 """The two streams of the protocol, by Debian's python3-pylsp-jsonrpc, and the requests of a client."""
 
+import json
 import logging
 import os
 import queue
 import threading
 import time
-from collections.abc import Callable, Mapping
+from collections.abc import Callable, Iterator, Mapping
 from concurrent.futures import Future
 from contextlib import suppress
 from math import inf
@@ -13,13 +14,15 @@ from typing import Any, BinaryIO
 
 from pylsp_jsonrpc.endpoint import Endpoint
 from pylsp_jsonrpc.exceptions import JsonRpcException, JsonRpcRequestCancelled
-from pylsp_jsonrpc.streams import JsonRpcStreamReader, JsonRpcStreamWriter
+from pylsp_jsonrpc.streams import JsonRpcStreamWriter
 
 INVALID_PARAMS = -32602
 INTERNAL = -32603
 NOT_INITIALIZED = -32002
 INVALID_REQUEST = -32600
+UNREAD = -32700
 CONTENT_MODIFIED = -32801
+VERSION = "2.0"
 _LENGTH = b"content-length:"
 _LONGEST_HEAD = 4_096
 _LONGEST_BODY = 64 << 20
@@ -50,42 +53,28 @@ class Promise(Future[Any]):
             self.set_exception(Refused(message, code))
 
 
-class _Head:
-    """An input in which each message begins with its length.
+def _bodies(file: BinaryIO) -> Iterator[bytes]:
+    """The octets of each message, which a line with their number precedes; lines that say none are left out."""
+    length: int | None = None
+    while line := file.readline(_LONGEST_HEAD):
+        if line.lower().startswith(_LENGTH):
+            with suppress(ValueError):
+                length = int(line[len(_LENGTH) :])
+        elif not line.strip():
+            if length is not None and 0 <= length <= _LONGEST_BODY:
+                body = file.read(length)
+                if len(body) < length:
+                    return  # the client went away
+                yield body
+            length = None
 
-    The reader of messages takes the first line for the length and reads to the end of the input where it isn't one, so
-    lines are left out here until one says a length.
-    """
 
-    def __init__(self, file: BinaryIO) -> None:
-        self._file = file
-        self._is_in_message = False
-        self.closed = False
-
-    def readline(self) -> bytes:
-        """The line that says the next message's length, then an empty one; nothing at the end."""
-        if self._is_in_message:
-            self._is_in_message = False
-            return b"\r\n"
-        length: int | None = None
-        while line := self._file.readline(_LONGEST_HEAD):
-            if line.lower().startswith(_LENGTH):
-                with suppress(ValueError):
-                    length = int(line[len(_LENGTH) :])
-            elif not line.strip() and length is not None and 0 <= length <= _LONGEST_BODY:
-                self._is_in_message = True
-                return b"Content-Length: %d\r\n" % length
-            elif not line.strip():
-                length = None
-        return b""
-
-    def read(self, size: int) -> bytes:
-        """The octets of a message."""
-        return self._file.read(size)
-
-    def close(self) -> None:
-        """Ends the reading."""
-        self.closed = True
+def _message(body: bytes) -> object:
+    """The message that octets hold, or the answer to some that hold no JSON."""
+    try:
+        return json.loads(body)
+    except (ValueError, RecursionError) as error:
+        return Refused(f"no JSON: {error}", UNREAD)
 
 
 class Streams:
@@ -95,8 +84,9 @@ class Streams:
         quiet = logging.getLogger("pylsp_jsonrpc")
         quiet.addHandler(logging.NullHandler())
         quiet.propagate = False
-        self._reader = JsonRpcStreamReader(_Head(source))
-        self._endpoint = Endpoint(handlers, JsonRpcStreamWriter(target).write)
+        self._source = source
+        self._writer = JsonRpcStreamWriter(target)
+        self._endpoint = Endpoint(handlers, self._writer.write)
         self._messages: "queue.SimpleQueue[object]" = queue.SimpleQueue()
         self._wake_reader, self._wake_writer = os.pipe2(os.O_NONBLOCK | os.O_CLOEXEC)
         # When the last message was taken.
@@ -122,9 +112,13 @@ class Streams:
             message = self._messages.get()
             if message is _END:
                 self.is_at_end = True
+            elif isinstance(message, Refused):
+                self._refuse(message)
             elif _is_message(message):
                 self.heard_at = time.monotonic()
                 self._endpoint.consume(message)
+            else:
+                self._refuse(Refused("neither a request, nor a notification, nor an answer", INVALID_REQUEST))
 
     def notify(self, method: str, params: object) -> None:
         """Tells the client something."""
@@ -134,9 +128,14 @@ class Streams:
         """Asks the client for something, whatever it answers."""
         self._endpoint.request(method, params)
 
+    def _refuse(self, why: Refused) -> None:
+        """Answers what can't be read as a message, and so has no number."""
+        self._writer.write({"jsonrpc": VERSION, "id": None, "error": why.to_dict()})
+
     def _listen(self) -> None:
         try:
-            self._reader.listen(self._hear)
+            for body in _bodies(self._source):
+                self._hear(_message(body))
         finally:
             self._hear(_END)
 
@@ -148,7 +147,9 @@ class Streams:
 
 def _is_message(message: object) -> bool:
     """Whether this is something that can be heard: a request or notification by its name, or an answer to a request."""
-    if not isinstance(message, dict) or not isinstance(message.get("id", ""), str | int | float):
+    if not isinstance(message, dict) or message.get("jsonrpc") != VERSION:
+        return False
+    if not isinstance(message.get("id", ""), str | int | float):
         return False
     method = message.get("method")
     return isinstance(method, str) if "method" in message else "id" in message

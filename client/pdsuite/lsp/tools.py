@@ -3,7 +3,7 @@
 from collections.abc import Callable, Sequence
 
 from pdsuite.lsp.completion import PROBE
-from pdsuite.run.explainer import CAUSES, EXPLAIN, JSON, Asker
+from pdsuite.run.explainer import CAUSES, ENDINGS, EXPLAIN, JSON, Asker
 from pdsuite.programs.places import RECORD, REGRESS, locate
 from pdsuite.programs.program import Ended, Program
 from pdsuite.programs.protocol import LONGEST_CAUSE, LONGEST_LINE, SETTLE, Cause, Unexpected
@@ -32,7 +32,8 @@ class Tools:
         self._stop = stop
         self._recorder = Recorder(stop, note)
         self._recordings: dict[tuple[bytes, Settings], Recording] = {}
-        self.asker: Asker[Cause] = Asker(self._regress, CAUSES, stop, note)
+        self.causes: Asker[Cause] = Asker(self._regress, CAUSES, stop, note)
+        self.endings: Asker[list[bytes]] = Asker(self._regress, ENDINGS, stop, note)
 
     def start(self, settings: Settings) -> Program:
         """Starts a run that stays up."""

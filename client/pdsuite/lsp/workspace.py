@@ -4,10 +4,11 @@ import os
 from collections.abc import Iterator, Mapping, Sequence
 from dataclasses import dataclass, replace
 from pathlib import Path
+from typing import TypeVar
 
 from pdsuite.lsp.documents import Document, path_of
 from pdsuite.lsp.settings_open import OpenSettings
-from pdsuite.run.explainer import Asker
+from pdsuite.run.explainer import Asker, with_end
 from pdsuite.programs.protocol import Cause
 from pdsuite.programs.rows import Row, Verdict
 from pdsuite.run.outcomes import Outcome
@@ -26,10 +27,15 @@ from pdsuite.watch.watcher import Event, Kind
 WORN = 40_000
 SPENT = 60_000
 
+T = TypeVar("T")
+
 
 @dataclass(frozen=True)
 class Result:
-    """What came of a script, what is told of it, and of which text that is; `version` is that of an open text."""
+    """What came of a script, what is told of it, and of which text that is; `version` is that of an open text.
+
+    `is_asked` says whether the program was asked what it tells of it.
+    """
 
     file: ScriptFile
     outcome: Outcome
@@ -37,6 +43,7 @@ class Result:
     cause: Cause | None = None
     version: int | None = None
     steps: int | None = None
+    is_asked: bool = False
 
     @property
     def is_told(self) -> bool:
@@ -53,15 +60,23 @@ class OpenScript:
     text: Text | str
 
 
+@dataclass(frozen=True)
+class Askers:
+    """Who says why scripts don't pass, and what those that pass leave at their ends."""
+
+    causes: Asker[Cause]
+    endings: Asker[list[bytes]]
+
+
 class Workspace:
     """What is seen in folders and what is open, and the results. Results are by paths, as `pdsuite run` has these."""
 
-    def __init__(self, folders: Folders, settings: OpenSettings, fleet: Fleet, asker: Asker[Cause], home: Path) -> None:
+    def __init__(self, folders: Folders, settings: OpenSettings, fleet: Fleet, askers: Askers, home: Path) -> None:
         self.results: Mapping[str, Result] = {}
         self._folders = folders
         self._settings = settings
         self._fleet = fleet
-        self._asker = asker
+        self._askers = askers
         self._home = home
         self._documents: dict[str, Document] = {}
         self._open: dict[str, OpenScript] = {}
@@ -213,9 +228,7 @@ class Workspace:
             results[path] = kept = _merged(old, result)
             if kept is not old:
                 changed.append(path)
-        asked = [path for path in changed if results[path].cause is None and results[path].outcome.row.line is not None]
-        for path, cause in self._causes([results[path] for path in asked]):
-            results[path] = replace(results[path], cause=cause)
+        self._ask(results, [path for path in changed if not results[path].is_asked])
         self.results = results
         return [*changed, *(path for path in before if path not in results)]
 
@@ -229,15 +242,25 @@ class Workspace:
         outcome = Outcome(file.path, settings, row, line, is_strict=rules.is_strict, expected=rules.expected)
         return Result(file, outcome, text, None, version, steps)
 
-    def _causes(self, results: Sequence[Result]) -> Iterator[tuple[str, Cause]]:
-        """What the program tells of scripts that don't pass, piece by piece."""
-        scripts = [Script(index, it.file.path, it.outcome.settings) for index, it in enumerate(results)]
-        for run in runs_of(scripts):
-            for piece in run.pieces:
-                texts = {it.index: text for it in piece if (text := results[it.index].text) is not None}
-                settled = SettledPiece([(it, results[it.index].outcome) for it in piece], texts)
-                told = self._asker.told(settled)
-                yield from ((results[index].file.path, cause) for index, cause in told.items())
+    def _ask(self, results: dict[str, Result], paths: Sequence[str]) -> None:
+        """Puts into the results of scripts what the program tells of them: why they don't pass, or what they leave."""
+        for path in paths:
+            results[path] = replace(results[path], is_asked=True)
+        each = [results[path] for path in paths]
+        for path, cause in _told(self._askers.causes, each):
+            results[path] = replace(results[path], cause=cause)
+        for path, block in _told(self._askers.endings, each):
+            results[path] = replace(results[path], outcome=with_end(results[path].outcome, block))
+
+
+def _told(asker: Asker[T], results: Sequence[Result]) -> Iterator[tuple[str, T]]:
+    """What the program tells of scripts, piece by piece."""
+    scripts = [Script(index, it.file.path, it.outcome.settings) for index, it in enumerate(results)]
+    for run in runs_of(scripts):
+        for piece in run.pieces:
+            texts = {it.index: text for it in piece if (text := results[it.index].text) is not None}
+            told = asker.told(SettledPiece([(it, results[it.index].outcome) for it in piece], texts))
+            yield from ((results[index].file.path, it) for index, it in told.items())
 
 
 def settings_path(uri: str) -> Path | None:
@@ -252,9 +275,9 @@ def _merged(old: Result | None, new: Result) -> Result:
     """The old result where the new one says the same; what was told of it stays where its text and row do."""
     if old is None or old.text is not new.text and old.text != new.text:
         return new
-    if old.outcome != new.outcome:
+    if old.outcome != replace(new.outcome, at_end=old.outcome.at_end):
         return new
     steps = old.steps if new.steps is None else new.steps
     if (old.version, old.steps) == (new.version, steps):
         return old
-    return replace(new, cause=old.cause, steps=steps)
+    return replace(old, file=new.file, text=new.text, version=new.version, steps=steps)
