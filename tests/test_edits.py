@@ -1,4 +1,4 @@
-"""Tests of tools/edit_files.py: what is read as edits, what is refused, and that all of the tree can be planted."""
+"""Tests of what plants edits: what is read as edits, what is refused, and that all of the tree can be planted."""
 
 import os
 import subprocess
@@ -10,7 +10,8 @@ import pytest
 TOP = Path(__file__).resolve().parents[1]
 sys.path.insert(0, str(TOP / "tools"))
 
-from edit_files import Change, Edit, Unread, plant, planted, read_crates, read_file, read_text  # noqa: E402
+from edit_files import Change, Edit, Unread, plant, planted, read_crates, read_file, read_plain, read_text  # noqa: E402
+from plain_planting import Bug, Sight, command, named_test, with_bug  # noqa: E402
 
 SECOND = "file: src/a.rt\nold:   two  blanks\nnew: \nfile: src/b.rt\nold: b: c\nnew: d\n"
 TWO = f"# first\nfile: src/a.rt\nold: x\nnew: y\n\n# second\n{SECOND}"
@@ -151,6 +152,82 @@ def test_edits_of_the_tree(crate: str, edit: Edit) -> None:
     assert list(planted(edit, TOP / "crates" / crate))
 
 
+PLAIN = [(file, edit) for file, edits in read_plain(TOP).items() for edit in edits]
+
+
+@pytest.mark.parametrize("file, edit", PLAIN, ids=[f"{file}-{edit.name}" for file, edit in PLAIN])
+def test_plain_edits_of_the_tree(file: str, edit: Edit) -> None:
+    """Each finds what it takes away, once, and names a test that is there."""
+    assert list(planted(edit, TOP))
+    test = named_test(Bug(file, edit))
+    if test.kind == "edges":
+        text = "".join(it.read_text() for it in (TOP / "tests" / "edges").glob(f"{test.place}.sh"))
+        assert f"expect {test.row} " in text
+    else:
+        path, _, name = test.place.partition("::")
+        folder = TOP / ("client/tests" if test.kind == "client" else "tests")
+        assert f"def {name.partition('[')[0]}(" in (folder / path).read_text()
+
+
+def test_a_plain_edit_is_of_any_file_of_the_tree() -> None:
+    (edit,) = read_text("# a\nfails: edges b c\nfile: check\nold: x\nnew: y\n", True, ())
+    assert (edit.test, edit.changes) == ("edges b c", [Change("check", "x", "y")])
+    for path in ("/check", "../check", "a/../../check"):
+        with pytest.raises(Unread) as said:
+            read_text(f"# a\nfails: edges b c\nfile: {path}\nold: x\nnew: y\n", True, ())
+        assert str(said.value) == f"3: 'file: {path}' has to name a file of the tree, before 'old:'"
+
+
+@pytest.mark.parametrize(
+    "test, wanted",
+    [
+        ("client test_a.py::test_b", Sight("client", "test_a.py::test_b")),
+        ("tests test_a.py", Sight("tests", "test_a.py")),
+        ("edges links own-link", Sight("edges", "links", "own-link")),
+    ],
+)
+def test_a_plain_edit_names_its_test(test: str, wanted: Sight) -> None:
+    assert named_test(Bug("a", edit_of(test=test))) == wanted
+
+
+@pytest.mark.parametrize("test", ["client", "edges links", "run a title", "client a b"])
+def test_what_names_no_test(test: str) -> None:
+    with pytest.raises(Unread):
+        named_test(Bug("a", edit_of(test=test)))
+
+
+@pytest.mark.parametrize(
+    "test, status, said, passes, fails",
+    [
+        (Sight("client", "a"), 0, "1 passed", True, False),
+        (Sight("client", "a"), 1, "1 failed", False, True),
+        (Sight("client", "a"), 4, "no such test", False, False),
+        (Sight("tests", "a"), 2, "an import that fails", False, False),
+        (Sight("tests", "a"), 124, "", False, True),
+        (Sight("edges", "a", "b"), 1, "ok edge b\nFAILED edge c:\n", True, False),
+        (Sight("edges", "a", "b"), 1, "ok edge bb\nFAILED edge b:\n", False, True),
+        (Sight("edges", "a", "b"), 2, "a: not found\n", False, False),
+    ],
+)
+def test_what_a_test_says_of_a_bug(test: Sight, status: int, said: str, passes: bool, fails: bool) -> None:
+    assert (test.passes(status, said), test.fails(status, said)) == (passes, fails)
+
+
+def test_tests_are_made_in_a_copy(tmp_path: Path) -> None:
+    folder, words = command("client", ["test_a.py", "test_b.py::c"], tmp_path)
+    assert (folder, words[-2:]) == (tmp_path / "client", ["tests/test_a.py", "tests/test_b.py::c"])
+    folder, words = command("tests", ["test_a.py"], tmp_path)
+    assert (folder, words[-3:]) == (tmp_path, ["-c", "tests/pytest.ini", "tests/test_a.py"])
+    assert command("edges", ["links"], tmp_path) == (tmp_path, [tmp_path / "tests" / "edges.sh", "links"])
+
+
+def test_a_bug_is_taken_away_again(tmp_path: Path) -> None:
+    path = crate_of(tmp_path, "a b\n") / "src" / "a.rt"
+    with with_bug(Bug("x", edit_of(Change("src/a.rt", "b", "c"), test="tests a")), tmp_path):
+        assert path.read_text() == "a c\n"
+    assert path.read_text() == "a b\n"
+
+
 # Proves any library, and says of each edit of a crate that it is refused, but for two.
 KIT = """#!/bin/sh
 [ "$1" = must-fail ] || exit 0
@@ -193,6 +270,7 @@ def test_edits_are_chosen_by_name(tmp_path: Path) -> None:
     "words, why",
     [
         (("more", "pd_nothing"), "edits: there is no crates/pd_nothing/more.edits\n"),
+        (("plain", "client/nothing.edits"), "edits: there is no client/nothing.edits\n"),
         (("bugs", "pd_board"), "edits: there is no crates/pd_board/bugs.edits\n"),
         (("more", "--name", "nothing"), "edits: no edit there has the name nothing\n"),
     ],

@@ -1,7 +1,10 @@
-"""The edits of a crate that stand in one file, `more.edits` or `bugs.edits`, and how one is planted.
+"""The edits that stand in one file, of a crate or of Python and shell, and how one is planted.
 
-An edit is a title line, `# NAME`, and the lines below it: `file: src/..`, and after that pairs of `old: TEXT` and
-`new: TEXT`, each of one line. A bug of threads has a line `fails: TEST` before these. Empty lines part edits.
+An edit is a title line, `# NAME`, and the lines below it: `file: PATH`, and after that pairs of `old: TEXT` and
+`new: TEXT`, each of one line. What no proof refuses has a line `fails: TEST` before these. Empty lines part edits.
+
+Edits of a crate are its files `more.edits` and `bugs.edits`, and name a file below src/, specs/ or proofs/. Those of
+Python and shell are files `client/*.edits`, `tools/*.edits` and `tests/*.edits`, and name a file of the tree.
 """
 from __future__ import annotations
 
@@ -12,6 +15,8 @@ from pathlib import Path
 
 NAME = re.compile(r"[A-Za-z0-9_-][A-Za-z0-9_.-]*")
 FOLDERS = ("src/", "specs/", "proofs/")
+# Where edits of Python and shell stand.
+PLAIN = ("client", "tools", "tests")
 
 
 class Unread(Exception):
@@ -51,6 +56,7 @@ class Reader:
     """What was read so far: the edits, the file that the next change is of, and its old text."""
 
     are_bugs: bool
+    folders: tuple[str, ...] = FOLDERS
     edits: list[Edit] = field(default_factory=list)
     file: str = ""
     old: str = ""
@@ -92,9 +98,11 @@ class Reader:
             raise Unread(f"a line '{key}:' can't stand there")
 
     def file_of(self, path: str) -> str:
-        """The path of a file, if it is one of the crate's sources, and no pair is left open."""
-        if self.old or not path.startswith(FOLDERS) or ".." in path:
-            raise Unread(f"'file: {path}' has to name a file below src/, specs/ or proofs/, before 'old:'")
+        """The path of a file, if it is one that edits are of here, and no pair is left open."""
+        is_there = path.startswith(self.folders) if self.folders else not path.startswith("/")
+        if self.old or not is_there or ".." in path:
+            where = "a file below src/, specs/ or proofs/" if self.folders else "a file of the tree"
+            raise Unread(f"'file: {path}' has to name {where}, before 'old:'")
         return path
 
     def end(self) -> None:
@@ -109,9 +117,9 @@ class Reader:
         self.has_ended = True
 
 
-def read_text(text: str, are_bugs: bool = False) -> list[Edit]:
+def read_text(text: str, are_bugs: bool = False, folders: tuple[str, ...] = FOLDERS) -> list[Edit]:
     """The edits that a text says; a fault has the number of its line."""
-    reader = Reader(are_bugs)
+    reader = Reader(are_bugs, folders)
     lines = text.removesuffix("\n").split("\n")
     for number, line in enumerate([*lines, ""], 1):
         try:
@@ -121,9 +129,11 @@ def read_text(text: str, are_bugs: bool = False) -> list[Edit]:
     return reader.edits
 
 
-def read_file(path: Path) -> list[Edit]:
-    """The edits of a file."""
+def read_file(path: Path, is_plain: bool = False) -> list[Edit]:
+    """The edits of a file of a crate, or of Python and shell."""
     try:
+        if is_plain:
+            return read_text(path.read_bytes().decode(), True, ())
         return read_text(path.read_bytes().decode(), path.name == "bugs.edits")
     except Unread as why:
         raise Unread(f"{path}:{why}") from None
@@ -132,6 +142,12 @@ def read_file(path: Path) -> list[Edit]:
 def read_crates(top: Path, kind: str) -> dict[str, list[Edit]]:
     """The edits of each crate that has a file `more.edits` or `bugs.edits`; the kind is `more` or `bugs`."""
     return {file.parent.name: read_file(file) for file in sorted(top.glob(f"crates/*/{kind}.edits"))}
+
+
+def read_plain(top: Path) -> dict[str, list[Edit]]:
+    """The edits of Python and shell, by the paths of their files."""
+    files = [file for folder in PLAIN for file in sorted((top / folder).glob("*.edits"))]
+    return {str(file.relative_to(top)): read_file(file, is_plain=True) for file in files}
 
 
 def place_of(change: Change, text: str, is_bug: bool) -> tuple[int, int]:
@@ -143,10 +159,13 @@ def place_of(change: Change, text: str, is_bug: bool) -> tuple[int, int]:
     return found[0].span()
 
 
-def planted(edit: Edit, crate: Path) -> Iterator[tuple[Path, str]]:
-    """Each file that an edit changes, and its text then; all old texts are looked for in the files as they are."""
+def planted(edit: Edit, folder: Path) -> Iterator[tuple[Path, str]]:
+    """Each file below a folder, a crate or a tree, that an edit changes, and its text then.
+
+    All old texts are looked for in the files as they are.
+    """
     for name in dict.fromkeys(it.file for it in edit.changes):
-        path = crate / name
+        path = folder / name
         if not path.is_file():
             raise Unread(f"there is no file {name}")
         text = before = path.read_text()
@@ -159,7 +178,7 @@ def planted(edit: Edit, crate: Path) -> Iterator[tuple[Path, str]]:
         yield path, text
 
 
-def plant(edit: Edit, crate: Path) -> None:
-    """Makes the changes of an edit in a copy of its crate."""
-    for path, text in list(planted(edit, crate)):
+def plant(edit: Edit, folder: Path) -> None:
+    """Makes the changes of an edit in a copy of its crate or tree."""
+    for path, text in list(planted(edit, folder)):
         path.write_text(text)

@@ -126,8 +126,29 @@ test_client() {
     expect client-tests-are-skipped "$(printf '4 passed, 1 failed\nstatus 1')" client_small 'echo "9 skipped in 1s"'
 }
 
+edges_small() { # TEXT: the last lines of tests/edges.sh, of which one file is this
+    cp "$top/tests/edges.sh" "$small/tests"
+    cp "$top/tests/edges/common.sh" "$small/tests/edges"
+    echo "$1" >"$small/tests/edges/own.sh"
+    counted 2 "$small/tests/edges.sh" own
+}
+
+test_edges() {
+    expect edges-pass "$(printf 'ok edge b\n2 passed, 0 failed\nstatus 0')" edges_small "expect a 'status 0' true; expect b 'status 3' sh -c 'exit 3'"
+    expect edges-another-status "$(printf '> status 1\n0 passed, 1 failed\nstatus 1')" edges_small "expect a 'status 0' false"
+    expect edges-another-line "$(printf 'ok edge b\n1 passed, 1 failed\nstatus 1')" edges_small "expect a 'status 0' echo c; expect b 'status 0' true"
+    expect edges-a-line-of-errors "$(printf 'ok edge b\n1 passed, 1 failed\nstatus 1')" edges_small "expect a 'status 0' sh -c 'echo c >&2'; expect b 'status 0' true"
+    expect edges-no-such-file "$(printf 'status 2')" no_such_edges
+}
+
+no_such_edges() {
+    rm -f "$small/tests/edges/none.sh"
+    "$small/tests/edges.sh" none 2>/dev/null
+}
+
 make_small_tree
 test_rows
 test_rows_plainly
 test_check
 test_client
+test_edges
