@@ -107,6 +107,30 @@ def test_what_is_offered(client: LspClient, workspace: Path) -> None:
     ]
 
 
+@pytest.mark.parametrize(
+    "text", [WRITES, HEAD.replace("+0 > S.", "// +0 > S."), PASSES + "+0 write(4, ..., 10) = 10\n+1 close(4) = 0\n"]
+)
+def test_what_leaves_is_recorded_where_a_script_passes(client: LspClient, workspace: Path, text: str) -> None:
+    uri = client.open(workspace / "a.pkt", text)
+    (warning,) = client.settled(uri)
+    assert warning["code"] == "warning" and "untaken" in warning["message"]
+    actions = client.actions(uri, 0)
+    assert [it["title"] for it in actions] == ["Record what leaves", "Record the whole script"]
+    assert client.actions(uri, 5) == []
+    for after in [client.acted(uri, it) for it in actions]:
+        client.put(uri, after)
+        assert client.settled(uri) == []
+        assert client.actions(uri, 0) == []
+        client.put(uri, text)
+        client.settled(uri)
+
+
+def test_a_script_that_awaits_nothing_and_sends_nothing_has_no_action(client: LspClient, workspace: Path) -> None:
+    uri = client.open(workspace / "a.pkt", "0 socket(..., SOCK_STREAM, 0) = 3\n")
+    assert [it["code"] for it in client.settled(uri)] == ["warning"]
+    assert client.actions(uri, 0) == []
+
+
 def test_only_fields_that_are_written_are_taken(client: LspClient, workspace: Path) -> None:
     uri = client.open(workspace / "a.pkt", WRITES + "+0    >  P.   1:501(500)   ack 1 // why\n")
     client.settled(uri)

@@ -170,6 +170,18 @@ def recording_all(failing: Failing, recording: str) -> Iterator[Action]:
         yield Action("Record the whole script", REWRITE, _ended(failing, without_trace(recording)))
 
 
+def recording_what_leaves(failing: Failing, mended: str, recording: str) -> Iterator[Action]:
+    """A script that passes with a line for each packet that it leaves: as it stands but for these, or as it is recorded."""
+    outputs = sum(not it.is_input for it in recorded_in(recording))
+    if outputs <= sum(it.is_expected for it in failing.layout.events):
+        return
+    added = _ended(failing, mended)
+    if added in ("", failing.lines.text):
+        added = _ended(failing, without_trace(recording))
+    yield Action("Record what leaves", QUICK, added)
+    yield from recording_all(failing, recording)
+
+
 def recording_from_here(failing: Failing, recording: str) -> Iterator[Action]:
     """What stands before the event, and from it on the recording: by its times, or by moments where those don't fit."""
     event, events = failing.event, failing.layout.events

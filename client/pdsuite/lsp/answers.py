@@ -5,7 +5,8 @@ from dataclasses import dataclass
 
 from pdsuite.lsp import pages
 from pdsuite.lsp.actions import Action, Failing, edits_to, leads_past
-from pdsuite.lsp.actions import mending_all, recording_all, recording_from_here, switching_off, taking
+from pdsuite.lsp.actions import mending_all, recording_all, recording_from_here, recording_what_leaves
+from pdsuite.lsp.actions import switching_off, taking
 from pdsuite.lsp.completion import items_of, keys_proposed, proposals, typed_before
 from pdsuite.lsp.diagnostics import Diagnostic, diagnostics_of, untaken, with_related
 from pdsuite.lsp.documents import Document
@@ -112,9 +113,9 @@ class Answers:
         return _Played("", (), ())
 
     def actions(self, document: Document, result: Result, places: Extent) -> list[Offer]:
-        """What can be done about a script whose failing line lies there; each leads past that line, as a run tells."""
+        """What can be done about a script whose failing line, or warning, lies there; each leads past it, as a run tells."""
         row = result.outcome.row
-        if row.line is None or result.text is None:
+        if result.text is None or row.line is None and not result.outcome.warnings:
             return []
         failing = Failing(document.lines, self.layout(document), row, result.cause or _NO_CAUSE)
         if not _touches(failing, places):
@@ -127,6 +128,10 @@ class Answers:
 
     def _thinkable(self, failing: Failing, result: Result) -> Iterator[Action]:
         settings = result.outcome.settings
+        if failing.row.verdict is Verdict.PASS:
+            recording = self._tools.recording(failing.lines.text, settings).text
+            yield from recording_what_leaves(failing, self._tools.mended(failing.lines.text, settings), recording)
+            return
         yield from taking(failing)
         if failing.row.verdict is Verdict.FAIL:
             recording = self._tools.recording(failing.lines.text, settings).text
