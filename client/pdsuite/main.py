@@ -136,11 +136,12 @@ def list_command(
 @choice_options
 @workers_option
 @click.option("--reason", metavar="TEXT", type=ReasonWord(), help="Why those that don't pass are known.")
+@click.option("--prune", is_flag=True, help="Take away all tables of scripts that aren't there.")
 def expect_command(no_color: bool, **words: Any) -> int:
     """Writes into pdsuite.toml which scripts are known not to pass.
 
     The rows that they have now are expected from then on, with --reason. What is expected of scripts that pass is taken
-    away. All else in the files stays.
+    away, and so is the table of a script that isn't there where it says nothing else. All else in the files stays.
     """
     need("tomlkit")
     from pdsuite.commands.expect import ExpectOptions, expect

@@ -73,6 +73,65 @@ def test_where_nothing_changes_no_file_is_written(stand_in: Path, tmp_path: Path
     assert os.listdir(tmp_path) == ["a.pkt"]
 
 
+GONE = """# ours
+["a.pkt"]
+expect = "fail"
+reason = "new"
+
+# about b
+["b.pkt"]
+# why
+expect = "fail 12 seq"
+reason = "so"
+
+["c.pkt"]
+mss = 1000
+expect = "fail"
+reason = "so"
+
+["d.pkt"]
+strict = true
+
+["e.pkt"]
+"""
+
+
+def test_tables_that_it_wrote_of_scripts_that_are_gone_are_taken_away(
+    stand_in: Path, tmp_path: Path, call: Call
+) -> None:
+    write(tmp_path / "t", a=FAILS)
+    toml = tmp_path / "t/pdsuite.toml"
+    toml.write_text(GONE.partition('\n["c.pkt"]')[0])
+    called = call(stand_in, "expect", "t")
+    said = 't/pdsuite.toml:7: ["b.pkt"]: no script has this name, so its table goes\n'
+    assert (called.status, called.out) == (0, f"{said}total 1 written 0 taken away 1\n")
+    assert toml.read_text() == '# ours\n["a.pkt"]\nexpect = "fail"\nreason = "new"\n\n# about b\n# why\n'
+    assert call(stand_in, "run", "t").totals == {"known": 1}
+
+
+def test_of_tables_that_say_more_all_are_taken_away_where_that_is_asked_for(
+    stand_in: Path, tmp_path: Path, call: Call
+) -> None:
+    write(tmp_path / "t", a=FAILS)
+    toml = tmp_path / "t/pdsuite.toml"
+    toml.write_text(GONE)
+    called = call(stand_in, "expect", "t")
+    assert (called.status, called.out, toml.read_text()) == (2, "", GONE)
+    assert [it.split(": no script")[0] for it in called.err.splitlines()] == [
+        't/pdsuite.toml:12: ["c.pkt"]',
+        't/pdsuite.toml:17: ["d.pkt"]',
+        't/pdsuite.toml:20: ["e.pkt"]',
+    ]
+    assert call(stand_in, "expect", "--prune", "t/a.pkt").out == "total 1 written 0 taken away 0\n"
+    called = call(stand_in, "expect", "--prune", "t")
+    assert (called.status, called.err) == (0, "")
+    assert called.out.splitlines()[-1] == "total 1 written 0 taken away 4"
+    assert toml.read_text() == '# ours\n["a.pkt"]\nexpect = "fail"\nreason = "new"\n\n# about b\n# why\n'
+    toml.write_text('"b.pkt" = {mss = 9}\n')
+    assert call(stand_in, "expect", "--reason", "so", "--prune", "t").status == 0
+    assert toml.read_text() == '["a.pkt"]\nexpect = "fail 1 seq"\nreason = "so"\n'
+
+
 def test_names_of_any_characters_are_written(stand_in: Path, tmp_path: Path, call: Call) -> None:
     for name in NAMES:
         (tmp_path / os.fsdecode(name + b".pkt")).write_bytes(FAILS)
@@ -168,7 +227,7 @@ def test_settings_that_are_refused_end_it(stand_in: Path, tmp_path: Path, call: 
     write(tmp_path, a=FAILS)
     (tmp_path / "pdsuite.toml").write_text('["a.pkt"]\nexpect = "fail"\n')
     called = call(stand_in, "expect", "--reason", "so", ".")
-    said = 'pdsuite: pdsuite.toml: expect: needs a reason beside it (["a.pkt"])\n'
+    said = 'pdsuite: pdsuite.toml:2: expect: needs a reason beside it (["a.pkt"])\n'
     assert (called.status, called.out, called.err) == (2, "", said)
 
 

@@ -58,25 +58,26 @@ def test_all_else_is_no_row_that_can_be_expected(words: str) -> None:
 
 
 TAKES = 'it takes a row that doesn\'t pass, as "fail 12 seq", or its first words'
+SAYS = "it takes a text that isn't empty"
 WRONG = [
-    ('["a.pkt"]\nexpect = "fail"', 'expect: needs a reason beside it (["a.pkt"])'),
-    ('["a.pkt"]\nreason = "x"', 'reason: needs expect beside it (["a.pkt"])'),
-    ('["a.pkt"]\nexpect = "pass 9"\nreason = "x"', f'expect: BadValue (["a.pkt"]): {TAKES}'),
-    ('["a.pkt"]\nexpect = 12\nreason = "x"', f'expect: BadValue (["a.pkt"]): {TAKES}'),
-    ('["a\\nb.pkt"]\nexpect = ""\nreason = "x"', f'expect: BadValue (["a\\x0ab.pkt"]): {TAKES}'),
-    ('["a.pkt"]\nexpect = "fail"\nreason = ""', 'reason: BadValue (["a.pkt"]): it takes a text that isn\'t empty'),
-    ('["a.pkt"]\nexpect = "fail"\nreason = " \\n"', 'reason: BadValue (["a.pkt"]): it takes a text that isn\'t empty'),
-    ('["a.pkt"]\nexpect = "fail"\nreason = 75', 'reason: BadValue (["a.pkt"]): it takes a text that isn\'t empty'),
-    ('expect = "fail"\nreason = "x"', 'expect: stands in no script\'s table, as ["NAME.pkt"] is'),
-    ('reason = "x"', 'reason: stands in no script\'s table, as ["NAME.pkt"] is'),
+    ('["a.pkt"]\nexpect = "fail"', ":2", 'expect: needs a reason beside it (["a.pkt"])'),
+    ('["a.pkt"]\nreason = "x"', ":2", 'reason: needs expect beside it (["a.pkt"])'),
+    ('["a.pkt"]\nexpect = "pass 9"\nreason = "x"', ":2", f'expect: BadValue (["a.pkt"]): {TAKES}'),
+    ('\n["a.pkt"]\nreason = "x"\nexpect = 12', ":4", f'expect: BadValue (["a.pkt"]): {TAKES}'),
+    ('["a\\nb.pkt"]\nexpect = ""\nreason = "x"', "", f'expect: BadValue (["a\\x0ab.pkt"]): {TAKES}'),
+    ('["a.pkt"]\nexpect = "fail"\nreason = ""', ":3", f'reason: BadValue (["a.pkt"]): {SAYS}'),
+    ('["a.pkt"]\nexpect = "fail"\nreason = " \\n"', ":3", f'reason: BadValue (["a.pkt"]): {SAYS}'),
+    ('["a.pkt"]\nexpect = "fail"\nreason = 75', ":3", f'reason: BadValue (["a.pkt"]): {SAYS}'),
+    ('expect = "fail"\nreason = "x"', ":1", 'expect: stands in no script\'s table, as ["NAME.pkt"] is'),
+    ('reason = "x"', ":1", 'reason: stands in no script\'s table, as ["NAME.pkt"] is'),
 ]
 
 
-@pytest.mark.parametrize(("text", "why"), WRONG, ids=range(len(WRONG)))
-def test_what_is_no_row_with_a_reason_is_a_fault_of_the_file(text: str, why: str) -> None:
+@pytest.mark.parametrize(("text", "line", "why"), WRONG, ids=range(len(WRONG)))
+def test_what_is_no_row_with_a_reason_is_a_fault_of_the_file(text: str, line: str, why: str) -> None:
     with pytest.raises(Fault) as fault:
         layer_of("in/pdsuite.toml", text.encode())
-    assert str(fault.value) == f"in/pdsuite.toml: {why}"
+    assert str(fault.value) == f"in/pdsuite.toml{line}: {why}"
 
 
 def test_an_expectation_is_no_setting() -> None:
@@ -315,10 +316,11 @@ def test_while_scripts_are_watched_it_is_told_when_one_passes(stand_in: Path, tm
 def test_a_row_that_is_expected_of_no_script_is_a_fault_of_the_file(stand_in: Path, tmp_path: Path, call: Call) -> None:
     write(tmp_path, known=b"row fail 1 seq\n")
     (tmp_path / "pdsuite.toml").write_text('root = true\n["knwon.pkt"]\nexpect = "fail"\nreason = "x"\n')
-    said = 'pdsuite.toml: ["knwon.pkt"]: no script of this name is beside the file; the nearest is known.pkt\n'
-    for command in ("run", "list", "expect"):
+    said = 'pdsuite.toml:2: ["knwon.pkt"]: no script of this name is beside the file; the nearest is known.pkt; '
+    for command in ("run", "list"):
         called = call(stand_in, command, ".")
-        assert (called.status, called.out, called.err) == (2, "", said)
+        assert (called.status, called.out) == (2, "")
+        assert called.err == f"{said}`pdsuite expect --prune` takes the table away\n"
 
 
 def test_names_of_any_octets_can_be_known(stand_in: Path, tmp_path: Path, call: Call) -> None:

@@ -308,5 +308,5 @@ def test_settings_that_no_run_can_be_given_are_refused(tmp_path: Path, call: Cal
     write(tmp_path / "from", a=PASSES)
     (tmp_path / "from/pdsuite.toml").write_text("mss = [1]\n")
     called = call(None, "import", "from", "to")
-    said = "pdsuite: from/pdsuite.toml: mss: BadValue: it takes 64 to 65,495 octets\n"
+    said = "pdsuite: from/pdsuite.toml:1: mss: BadValue: it takes 64 to 65,495 octets\n"
     assert (called.status, called.err) == (2, said)

@@ -137,17 +137,17 @@ def test_refused_settings_are_named_before_any_script_runs(programs: Path, tmp_p
     assert called.err.splitlines() == [
         "--settings: tolerance_us: BadValue: it takes 0 to 1,000,000 microseconds",
         "--settings: root: UnknownKey",
-        "a/pdsuite.toml: mss: BadValue: it takes 64 to 65,495 octets",
-        "a/pdsuite.toml: MSS: UnknownKey: the nearest is mss",
-        "a/pdsuite.toml: a b: UnknownKey",
-        "a/pdsuite.toml: nagle: BadValue: it takes true or false",
-        "a/pdsuite.toml: sack: BadValue: it takes true or false",
-        "a/pdsuite.toml: wscale: BadValue: it takes 0 to 14 bits",
-        "a/pdsuite.toml: sndbuf: BadValue: it takes 1,024 to 1,048,576 octets",
-        "a/pdsuite.toml: rcv_wnd: BadValue: it takes 1 to 1,073,725,440 octets",
-        "a/pdsuite.toml: one: UnknownKey",
-        'a/pdsuite.toml: initial_window: BadValue (["one.pkt"]): it takes "rfc5681" or "rfc6928"',
-        'a/pdsuite.toml: min_rto: UnknownKey (["one.pkt"]): the nearest is min_rto_us',
+        "a/pdsuite.toml:1: mss: BadValue: it takes 64 to 65,495 octets",
+        "a/pdsuite.toml:2: MSS: UnknownKey: the nearest is mss",
+        "a/pdsuite.toml:3: a b: UnknownKey",
+        "a/pdsuite.toml:4: nagle: BadValue: it takes true or false, without quotes",
+        "a/pdsuite.toml:5: sack: BadValue: it takes true or false",
+        "a/pdsuite.toml:6: wscale: BadValue: it takes 0 to 14 bits",
+        "a/pdsuite.toml:7: sndbuf: BadValue: it takes 1,024 to 1,048,576 octets",
+        "a/pdsuite.toml:8: rcv_wnd: BadValue: it takes 1 to 1,073,725,440 octets",
+        'a/pdsuite.toml:12: one: UnknownKey: a table is of a script, by its whole name: ["one.pkt"]',
+        'a/pdsuite.toml:10: initial_window: BadValue (["one.pkt"]): it takes "rfc5681" or "rfc6928"',
+        'a/pdsuite.toml:11: min_rto: UnknownKey (["one.pkt"]): the nearest is min_rto_us',
     ]
 
 

@@ -114,10 +114,10 @@ BROKEN = [
     (b"\xff = 1", "a/pdsuite.toml: no TOML: 'utf-8' codec"),
     (b"a = " + b"[" * 100_000, "a/pdsuite.toml: no TOML: "),
     (b"a = " + b"9" * 5_000, "a/pdsuite.toml: no TOML: "),
-    (b"root = 1", "a/pdsuite.toml: root: BadValue: it takes true or false"),
-    (b'strict = "yes"', "a/pdsuite.toml: strict: BadValue: it takes true or false"),
-    (b'["a.pkt"]\nstrict = 1', 'a/pdsuite.toml: strict: BadValue (["a.pkt"]): it takes true or false'),
-    (b"[03_rto.pkt]", 'a/pdsuite.toml: [03_rto.pkt]: a script\'s name stands in quotes: ["03_rto.pkt"]'),
+    (b"root = 1", "a/pdsuite.toml:1: root: BadValue: it takes true or false"),
+    (b'mss = 1\n\nstrict = "yes"', "a/pdsuite.toml:3: strict: BadValue: it takes true or false"),
+    (b'["a.pkt"]\nstrict = 1', 'a/pdsuite.toml:2: strict: BadValue (["a.pkt"]): it takes true or false'),
+    (b"[03_rto.pkt]", 'a/pdsuite.toml:1: [03_rto.pkt]: a script\'s name stands in quotes: ["03_rto.pkt"]'),
     (b"v1.2-a.pkt.mss = 9", 'a/pdsuite.toml: [v1.2-a.pkt]: a script\'s name stands in quotes: ["v1.2-a.pkt"]'),
     (b"a = {pkt = {}}", 'a/pdsuite.toml: [a.pkt]: a script\'s name stands in quotes: ["a.pkt"]'),
 ]
@@ -156,11 +156,25 @@ HELPS = [
     ("congestion", "UnknownKey", "congestion: UnknownKey"),
     ("later", "BadValue", "later: BadValue"),
 ]
+# A value that is refused, and what helps.
+REFUSED: list[tuple[str, Value, str, str]] = [
+    ("mss", "1000", "BadValue", "it takes 64 to 65,495 octets, without quotes"),
+    ("mss", "some", "BadValue", "it takes 64 to 65,495 octets"),
+    ("nagle", "false", "BadValue", "it takes true or false, without quotes"),
+    ("initial_window", "true", "BadValue", 'it takes "rfc5681" or "rfc6928"'),
+    ("late", {"mss": 9}, "UnknownKey", 'a table is of a script, by its whole name: ["late.pkt"]'),
+]
 
 
 @pytest.mark.parametrize(("key", "reason", "line"), HELPS, ids=[it[0] for it in HELPS])
 def test_a_refused_key_tells_what_it_takes_or_which_key_is_near(key: str, reason: str, line: str) -> None:
     assert Claim("a/pdsuite.toml", "", key, 1).refused(reason) == f"a/pdsuite.toml: {line}"
+
+
+@pytest.mark.parametrize(("key", "value", "reason", "help_"), REFUSED, ids=[f"{it[0]} {it[1]}" for it in REFUSED])
+def test_a_refused_value_tells_what_would_be_taken(key: str, value: Value, reason: str, help_: str) -> None:
+    line = Claim("p", "", key, value).refused(reason)
+    assert line == f"p: {key}: {reason}: {help_}"
 
 
 def test_what_helps_stands_after_the_table_and_is_of_its_place() -> None:

@@ -198,7 +198,7 @@ def test_settings_that_the_program_refuses_are_told_after_one_build(tree: Tree) 
     (tree.suite / "pdsuite.toml").write_text('["b.pkt"]\nmss = 1000\n')
     called = tree.call("run", "suite")
     assert (called.status, called.out) == (2, "")
-    assert called.err.startswith('suite/pdsuite.toml: ["b.pkt"]: no script') and tree.builds() == 0
+    assert called.err.startswith('suite/pdsuite.toml:1: ["b.pkt"]: no script') and tree.builds() == 0
 
 
 def test_a_sender_that_does_not_compile_is_told_with_the_places_of_its_errors(tree: Tree) -> None:

@@ -10,6 +10,7 @@ from tests.site import Site
 from tests.watching import Watching
 
 LOST = "no script of this name is beside the file"
+PRUNE = "; `pdsuite expect --prune` takes the table away"
 
 
 def lines_of(names: list[str]) -> bytes:
@@ -29,11 +30,11 @@ def test_a_table_without_its_script_is_a_fault_with_the_nearest_name(
     called = call(stand_in, command, "t")
     assert (called.status, called.out) == (2, "")
     assert called.err.splitlines() == [
-        f't/pdsuite.toml: ["3_RTO.pkt"]: {LOST}; the nearest is 03_rto.pkt',
-        f't/pdsuite.toml: ["in/x.pkt"]: {LOST}',
-        f't/pdsuite.toml: ["05.pkt"]: {LOST}',
-        't/pdsuite.toml: ["link.pkt"]: this is a link, and settings go by the name of the file that it leads to',
-        f't/pdsuite.toml: ["~~~.pkt"]: {LOST}',
+        f't/pdsuite.toml:3: ["3_RTO.pkt"]: {LOST}; the nearest is 03_rto.pkt{PRUNE}',
+        f't/pdsuite.toml:5: ["in/x.pkt"]: {LOST}{PRUNE}',
+        f't/pdsuite.toml:7: ["05.pkt"]: {LOST}{PRUNE}',
+        't/pdsuite.toml:9: ["link.pkt"]: this is a link, and settings go by the name of the file that it leads to',
+        f't/pdsuite.toml:11: ["~~~.pkt"]: {LOST}{PRUNE}',
     ]
 
 
@@ -45,18 +46,26 @@ def test_a_table_counts_for_a_script_that_is_there_and_not_meant(stand_in: Path,
         assert (called.status, called.err, called.totals) == (0, "", {"pass": 1})
 
 
-def test_files_of_folders_without_scripts_and_of_folders_above_are_looked_at(
-    stand_in: Path, tmp_path: Path, call: Call
+@pytest.mark.parametrize("command", ["run", "list"])
+def test_a_file_is_looked_at_where_its_folder_is_meant(
+    command: str, stand_in: Path, tmp_path: Path, call: Call
 ) -> None:
     write(tmp_path / "t/in", a=PASSES)
+    write(tmp_path / "t", c=PASSES)
     (tmp_path / "t/out").mkdir()
     (tmp_path / "t/out/pdsuite.toml").write_bytes(lines_of(["a.pkt"]))
     (tmp_path / "t/pdsuite.toml").write_bytes(b"root = true\n" + lines_of(["b.pkt"]))
-    called = call(stand_in, "run", "t/in")
-    assert (called.status, called.err) == (2, f't/pdsuite.toml: ["b.pkt"]: {LOST}\n')
-    called = call(stand_in, "run", "t")
-    assert called.err.splitlines()[0] == f't/out/pdsuite.toml: ["a.pkt"]: {LOST}'
-    assert (called.status, len(called.err.splitlines())) == (2, 2)
+    (tmp_path / "link").symlink_to("t")
+    for path in ("t/in", "t/c.pkt", "link/in"):
+        called = call(stand_in, command, path)
+        assert (called.status, called.err) == (0, "")
+    for path in ("t", "link"):
+        called = call(stand_in, command, path)
+        assert called.err.splitlines() == [
+            f't/out/pdsuite.toml:1: ["a.pkt"]: {LOST}{PRUNE}',
+            f't/pdsuite.toml:2: ["b.pkt"]: {LOST}{PRUNE}',
+        ]
+        assert called.status == 2
 
 
 def test_it_is_told_beside_what_the_program_refuses(stand_in: Path, tmp_path: Path, call: Call) -> None:
@@ -70,8 +79,8 @@ def test_it_is_told_beside_what_the_program_refuses(stand_in: Path, tmp_path: Pa
     (tmp_path / "t/pdsuite.toml").write_text('["b.pkt"]\nmss = 1\n')
     called = call(tmp_path, "run", "t")
     assert called.err.splitlines() == [
-        f't/pdsuite.toml: ["b.pkt"]: {LOST}',
-        't/pdsuite.toml: mss: BadValue (["b.pkt"]): it takes 64 to 65,495 octets',
+        f't/pdsuite.toml:1: ["b.pkt"]: {LOST}{PRUNE}',
+        't/pdsuite.toml:2: mss: BadValue (["b.pkt"]): it takes 64 to 65,495 octets',
     ]
 
 
@@ -80,7 +89,7 @@ def test_of_many_tables_ten_are_told(stand_in: Path, tmp_path: Path, call: Call)
     (tmp_path / "t/pdsuite.toml").write_bytes(lines_of([f"s{number:04}x.pkt" for number in range(1_400)]))
     said = call(stand_in, "list", "t").err.splitlines()
     assert len(said) == 11
-    assert said[9] == f't/pdsuite.toml: ["s0009x.pkt"]: {LOST}; the nearest is s0009.pkt'
+    assert said[9] == f't/pdsuite.toml:19: ["s0009x.pkt"]: {LOST}; the nearest is s0009.pkt{PRUNE}'
     assert said[10] == "t/pdsuite.toml: and 1,390 more tables of scripts that aren't there"
 
 
@@ -89,7 +98,7 @@ def test_names_that_no_file_can_have_are_told_too(stand_in: Path, tmp_path: Path
     (tmp_path / "t/pdsuite.toml").write_text('["a\\u0000.pkt"]\n["\\u001b[2J.pkt"]\n')
     called = call(stand_in, "list", "t")
     assert called.status == 2
-    assert called.err.splitlines()[0] == rf't/pdsuite.toml: ["a\x00.pkt"]: {LOST}; the nearest is a.pkt'
+    assert called.err.splitlines()[0] == rf't/pdsuite.toml: ["a\x00.pkt"]: {LOST}; the nearest is a.pkt{PRUNE}'
     assert called.err.splitlines()[1].startswith(r't/pdsuite.toml: ["\x1b[2J.pkt"]: ')
 
 
@@ -98,14 +107,14 @@ def test_an_import_refuses_such_a_table(tmp_path: Path, call: Call) -> None:
     (tmp_path / "from/pdsuite.toml").write_bytes(lines_of(["b.pkt"]))
     called = call(None, "import", "from", "to")
     assert (called.status, called.out) == (2, "")
-    assert called.err == f'pdsuite: from/pdsuite.toml: ["b.pkt"]: {LOST}\n'
+    assert called.err == f'pdsuite: from/pdsuite.toml:1: ["b.pkt"]: {LOST}{PRUNE}\n'
     assert not (tmp_path / "to").exists()
 
 
 def test_while_scripts_are_watched_it_is_told_once_and_all_else_counts(stand_in: Path, tmp_path: Path) -> None:
     write(tmp_path, a=b"told mss\n", b=PASSES)
     (tmp_path / "pdsuite.toml").write_bytes(b"root = true\nmss = 70\n" + lines_of(["c.pkt"]))
-    line = f'pdsuite.toml: ["c.pkt"]: {LOST}; all else in the file counts\n'
+    line = f'pdsuite.toml:3: ["c.pkt"]: {LOST}{PRUNE}; all else in the file counts\n'
     with Watching(tmp_path, stand_in, "-v", ".") as watching:
         watching.await_out("a.pkt: pass 70\n")
         assert watching.err == line
@@ -127,5 +136,5 @@ def test_a_script_that_is_saved_as_editors_do_is_not_missed(site: Site) -> None:
     assert site.paper.notes == []
     os.unlink(path)
     site.rest()
-    line = f'{site.top}/pdsuite.toml: ["a.pkt"]: {LOST}; all else in the file counts'
+    line = f'{site.top}/pdsuite.toml:2: ["a.pkt"]: {LOST}{PRUNE}; all else in the file counts'
     assert site.paper.notes == [line, "pdsuite: no script found"]

@@ -54,7 +54,7 @@ def compare_senders(options: CompareOptions, screen: Screen) -> int:
             if options.search is not None:
                 return _search(options, options.search, Path(room), stop, screen)
             scripts = scripts_of(found_of(options.paths, options.only, suite, stop), suite)
-            if lines := unused_in(suite):
+            if lines := unused_in(suite, options.paths):
                 return _refuse(lines)
             page = None if options.html is None else _page(options.html)
             sides = _sides(options, Path(room))

@@ -1,6 +1,6 @@
 """`pdsuite expect`: writes into pdsuite.toml which scripts are known not to pass, and takes away those that pass."""
 
-from collections.abc import Iterable, Iterator, Mapping, Sequence
+from collections.abc import Iterable, Iterator, Sequence
 from dataclasses import dataclass
 from pathlib import Path
 
@@ -19,9 +19,9 @@ from pdsuite.run.settling import Restart, Start, settle, start_with
 from pdsuite.scripts.expectation import Expectation
 from pdsuite.scripts.search import SUFFIX, ScriptFile
 from pdsuite.scripts.suite import FILE, LONGEST, Suite, option_of, place_of, read_octets
-from pdsuite.scripts.toml_text import edited
-from pdsuite.scripts.unused_tables import unused_in
-from pdsuite.show.octets import shown_path
+from pdsuite.scripts.toml_text import Edit, Edits, Taken, edited
+from pdsuite.scripts.unused_tables import files_in, lost_in, unused_tables
+from pdsuite.show.octets import shown_path, shown_text
 from pdsuite.show.screen import Screen, say
 from pdsuite.show.styled_text import unstyled
 from pdsuite.signals import Stop, Stopped
@@ -38,14 +38,16 @@ class ExpectOptions:
     settings: str
     workers: int | None
     reason: str | None
+    prune: bool
 
 
 @dataclass(frozen=True)
 class Change:
-    """What is expected of a script from now on, and what it is said of it."""
+    """What is expected of a script from now on, by its folder and name, and what is said of it."""
 
-    found: ScriptFile
-    expected: Expectation | None
+    folder: str
+    name: str
+    expected: Edit
     said: str
 
 
@@ -58,7 +60,8 @@ def expect(options: ExpectOptions, screen: Screen) -> int:
             scripts = scripts_of(found, suite)
             program = locate(REGRESS)
             asked = refusals(suite.claims(), lambda: Program([program], stop))
-            if lines := [*unused_in(suite), *asked]:
+            lost = list(lost_tables(suite, options.paths, options.prune))
+            if lines := [*_unused(suite, options.paths, lost), *asked]:
                 for line in lines:
                     say(line)
                 return _FAULT
@@ -67,7 +70,7 @@ def expect(options: ExpectOptions, screen: Screen) -> int:
             return stopped.status
         finally:
             screen.clear()
-    return _change(list(zip(found, outcomes)), options.reason, screen)
+    return _change(list(zip(found, outcomes)), lost, options.reason, screen)
 
 
 def _outcomes(scripts: Sequence[Script], start: Start, screen: Screen) -> list[Outcome]:
@@ -83,23 +86,41 @@ def _outcomes(scripts: Sequence[Script], start: Start, screen: Screen) -> list[O
     return [outcomes[it.index] for it in scripts]
 
 
-def _change(settled: Sequence[tuple[ScriptFile, Outcome]], reason: str | None, screen: Screen) -> int:
+def lost_tables(suite: Suite, paths: Sequence[Path], every: bool) -> Iterator[Change]:
+    """The tables of scripts that aren't there which go: those that say nothing but what is expected, or all."""
+    for folder, layer in files_in(suite, paths):
+        for name in lost_in(layer, folder):
+            if every or (name in layer.expected and not layer.tables[name] and name not in layer.strict):
+                said = f'{layer.places.at(name)}: ["{shown_text(name)}"]: no script has this name, so its table goes'
+                yield Change(folder, name, Taken.TAKEN, said)
+
+
+def _unused(suite: Suite, paths: Sequence[Path], lost: Sequence[Change]) -> list[str]:
+    """The lines of tables whose scripts aren't there and which don't go."""
+    each = files_in(suite, paths)
+    going = {folder: {it.name for it in lost if it.folder == folder} for folder, _ in suite.files()}
+    return [line for folder, layer in each for line in unused_tables(layer, folder, going[folder])]
+
+
+def _change(
+    settled: Sequence[tuple[ScriptFile, Outcome]], lost: Sequence[Change], reason: str | None, screen: Screen
+) -> int:
     """Writes what is expected from now on, and says what changed."""
-    changes = list(changes_of(settled, reason or ""))
-    written = sum(it.expected is not None for it in changes)
+    changes = [*lost, *changes_of(settled, reason or "")]
+    written = sum(isinstance(it.expected, Expectation) for it in changes)
     if written and reason is None:
         raise Fault(f"{_counted(written)}, and no --reason says why: nothing is written")
     for path, octets in list(_files(changes)):
         write(path, octets, keeps_rights=True)
-    lost = [f"{shown_path(outcome.path)}: {why}" for found, outcome in settled if (why := _unwritable(found, outcome))]
-    for line in lost:
+    left = [f"{shown_path(outcome.path)}: {why}" for found, outcome in settled if (why := _unwritable(found, outcome))]
+    for line in left:
         say(line)
     lines = [
         *(it.said for it in changes),
         f"total {len(settled)} written {written} taken away {len(changes) - written}",
     ]
     screen.show(unstyled("".join(f"{line}\n" for line in lines)))
-    return _FAULT if lost else 0
+    return _FAULT if left else 0
 
 
 def changes_of(settled: Iterable[tuple[ScriptFile, Outcome]], reason: str) -> Iterator[Change]:
@@ -108,9 +129,11 @@ def changes_of(settled: Iterable[tuple[ScriptFile, Outcome]], reason: str) -> It
         path, row = shown_path(outcome.path), outcome.row.whole
         if outcome.row.verdict is Verdict.PASS:
             if outcome.expected is not None:
-                yield Change(found, None, f'{path}: passes, so "{outcome.expected.row}" is expected no more')
+                yield Change(
+                    found.folder, found.name, None, f'{path}: passes, so "{outcome.expected.row}" is expected no more'
+                )
         elif not outcome.is_known and not _unwritable(found, outcome):
-            yield Change(found, Expectation(row, reason), f'{path}: "{row}" is expected from now on')
+            yield Change(found.folder, found.name, Expectation(row, reason), f'{path}: "{row}" is expected from now on')
 
 
 def _unwritable(found: ScriptFile, outcome: Outcome) -> str:
@@ -126,14 +149,14 @@ def _unwritable(found: ScriptFile, outcome: Outcome) -> str:
 
 def _files(changes: Iterable[Change]) -> Iterator[tuple[Path, bytes]]:
     """The files that are to be written."""
-    folders: dict[str, dict[str, Expectation | None]] = {}
+    folders: dict[str, dict[str, Edit]] = {}
     for it in changes:
-        folders.setdefault(it.found.folder, {})[it.found.name] = it.expected
+        folders.setdefault(it.folder, {})[it.name] = it.expected
     for folder, edits in folders.items():
         yield _file(Path(folder, FILE), edits)
 
 
-def _file(path: Path, edits: Mapping[str, Expectation | None]) -> tuple[Path, bytes]:
+def _file(path: Path, edits: Edits) -> tuple[Path, bytes]:
     place = place_of(path)
     try:
         octets = edited(place, (read_octets(path) or b"").decode(), edits).encode()

@@ -38,7 +38,7 @@ def import_scripts(source: Path, target: Path, keep_packets: bool, is_json: bool
         if not found:
             raise Fault("no script found")
         scripts = list(_imported(found, suite, keep_packets, stop))
-        _refuse(suite)
+        _refuse(suite, source)
         if any(isinstance(it.came, Imported) for it in scripts):
             write_folder(place, _files(source, scripts, stop))
     screen.show(unstyled(as_json(scripts) if is_json else _text_of(scripts)))
@@ -85,9 +85,9 @@ def _text(octets: bytes) -> str:
     return octets.decode("utf-8", "surrogateescape")
 
 
-def _refuse(suite: Suite) -> None:
+def _refuse(suite: Suite, source: Path) -> None:
     """Refuses settings of a pdsuite.toml that no run could be given, or no script has."""
-    for line in unused_in(suite):
+    for line in unused_in(suite, [source]):
         raise Fault(line)
     for claim in suite.claims():
         if _NO_WORD in set_words(claim.key, claim.value):

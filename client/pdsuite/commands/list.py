@@ -30,7 +30,7 @@ def list_scripts(
         part = Part(shard, failed_last(paths) if last_failed else None)
         suite = Suite(option_of(settings))
         scripts = scripts_of(found_of(paths, only, suite, stop, part), suite)
-        if lines := unused_in(suite):
+        if lines := unused_in(suite, paths):
             for line in lines:
                 say(line)
             return 2

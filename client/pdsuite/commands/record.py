@@ -85,7 +85,7 @@ def record(options: RecordOptions, screen: Screen) -> int:
             scripts = _scripts(options, suite, stop)
             program = locate(REGRESS)
             asked = refusals(suite.claims(), lambda: Program([program], stop))
-            if lines := [*unused_in(suite), *asked]:
+            if lines := [*unused_in(suite, options.paths), *asked]:
                 for line in lines:
                     say(line)
                 return _FAULT

@@ -111,7 +111,7 @@ def run(options: RunOptions, screen: Screen) -> int:
             if program is None:
                 return _run_unproved(suite, scripts, options, form, screen, begin, stop)
             asked = refusals(suite.claims(), partial(Program, [program], stop))
-            if lines := [*unused_in(suite), *asked]:
+            if lines := [*unused_in(suite, options.paths), *asked]:
                 return _refuse(lines)
             with _mapper(options, program, of_known, stop, screen.note) as mapper:
                 return _run(mapper, scripts, options, form, screen, begin, stop)
@@ -153,7 +153,7 @@ def _run_unproved(
     # Only who has no proved program pays for what does without them.
     from pdsuite.run.unproved_run import first_line, plan_of, run_unproved
 
-    if lines := unused_in(suite):
+    if lines := unused_in(suite, options.paths):
         return _refuse(lines)
     screen.note(f"pdsuite: {first_line()}")
     by_keys = options.html is not None or options.by_keys

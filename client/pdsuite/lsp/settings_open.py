@@ -1,5 +1,6 @@
 """The files pdsuite.toml of a workspace: a text that is open counts in place of its file, and faults are kept."""
 
+import re
 from collections.abc import Callable, Iterable, Mapping, Set
 from pathlib import Path
 
@@ -39,8 +40,8 @@ class OpenSettings(SettingsFiles):
         self._unused = {}
         for line in super().unused(held | self.scripts):
             for path in self._good:
-                if line.startswith(f"{place_of(path)}: "):
-                    self._unused.setdefault(path, []).append(line.removeprefix(f"{place_of(path)}: "))
+                if found := _place(path).match(line):
+                    self._unused.setdefault(path, []).append(line[found.end() :])
                     break
         return []
 
@@ -65,5 +66,10 @@ class OpenSettings(SettingsFiles):
         """Nothing: `_refuse` keeps it with its file."""
 
     def _refuse(self, path: Path, fault: str) -> None:
-        place = f"{place_of(path)}: "
-        self._faults[path] = [it.removeprefix(place) for it in fault.split(f"; {place}")]
+        place = _place(path)
+        self._faults[path] = [place.sub("", it, 1) for it in re.split(f"; (?={place.pattern})", fault)]
+
+
+def _place(path: Path) -> "re.Pattern[str]":
+    """What a line begins with that is about a file: its place, with a line of it or without."""
+    return re.compile(rf"{re.escape(place_of(path))}(?::\d+)?: ")

@@ -1,9 +1,11 @@
 """The settings that there are: what each takes, and what holds where none is said."""
 
-from collections.abc import Iterable, Iterator
+from collections.abc import Iterable, Iterator, Mapping
 from dataclasses import dataclass
 
+from pdsuite.scripts.search import SUFFIX
 from pdsuite.scripts.settings import Settings, Value, shown_value
+from pdsuite.show.octets import shown_text
 
 
 @dataclass(frozen=True, slots=True)
@@ -80,10 +82,20 @@ def nearest(word: str, words: Iterable[str]) -> str | None:
     return alike[near[0]] if near else None
 
 
-def help_for(key: str, reason: str, others: Iterable[str] = ()) -> str | None:
+def _is_quoted(key: str, value: Value) -> bool:
+    """Whether a text stands where the same without quotes may be taken."""
+    takes = KEYS[key]
+    if not isinstance(value, str):
+        return False
+    return value.isdecimal() if isinstance(takes, Number) else value in map(shown_value, takes.words)
+
+
+def help_for(key: str, value: Value, reason: str, others: Iterable[str] = ()) -> str | None:
     """What helps against a refusal of a key or its value; `others` are the client's own keys in that place."""
     if reason == "BadValue" and key in KEYS:
-        return f"it takes {KEYS[key].takes}"
+        return f"it takes {KEYS[key].takes}" + (", without quotes" if _is_quoted(key, value) else "")
+    if reason == "UnknownKey" and isinstance(value, Mapping) and not key.endswith(SUFFIX):
+        return f'a table is of a script, by its whole name: ["{shown_text(key)}{SUFFIX}"]'
     if reason == "UnknownKey" and (near := nearest(key, [*KEYS, *others])):
         return f"the nearest is {near}"
     return None

@@ -12,6 +12,7 @@ from pdsuite.scripts.expectation import Expectation, is_row
 from pdsuite.scripts.search import SUFFIX, ScriptFile
 from pdsuite.scripts.settings import Settings, Value, settings_of
 from pdsuite.scripts.text import Unfit, read_file
+from pdsuite.scripts.toml_places import TomlPlaces, places_in
 from pdsuite.show.octets import shown_path, shown_text
 
 FILE = "pdsuite.toml"
@@ -36,15 +37,20 @@ Table = Mapping[str, Value]
 class Layer:
     """One file: settings for all scripts below it, and tables for single ones beside it."""
 
-    place: str  # where it stands, as people see it
+    places: TomlPlaces  # where it and its keys stand, as people see it
     is_root: bool
     keys: Table
     tables: Mapping[str, Table]
     strict: Mapping[str, bool]  # whether warnings make scripts fail, by their names; of all scripts below it by ""
     expected: Mapping[str, Expectation]  # the rows of scripts that are known not to pass, by their names
 
+    @property
+    def place(self) -> str:
+        """Where it stands."""
+        return self.places.file
 
-_EMPTY = Layer("", False, {}, {}, {}, {})
+
+_EMPTY = Layer(TomlPlaces("", {}), False, {}, {}, {}, {})
 
 
 @dataclass(frozen=True)
@@ -60,7 +66,7 @@ class Claim:
         """The line that says why it is refused."""
         beside = f' (["{_shown(self.table)}"])' if self.table else ""
         own = () if self.place in _OPTIONS else (_STRICT, EXPECT, REASON) if self.table else (_ROOT, _STRICT)
-        helps = help_for(self.key, reason, own)
+        helps = help_for(self.key, self.value, reason, own)
         return f"{self.place}: {_shown(self.key)}: {reason}{beside}" + (f": {helps}" if helps else "")
 
 
@@ -156,55 +162,56 @@ class Suite:
 def layer_of(place: str, octets: bytes) -> Layer:
     """The layer that a file holds, or a fault where it isn't TOML, or a key of the client's own has another value."""
     table = _table_of(place, octets)
-    _refuse_unquoted(place, table)
-    root = _truth_of(table, _ROOT, place)
+    places = places_in(place, octets.decode())
+    _refuse_unquoted(places, table)
+    root = _truth_of(table, _ROOT, places)
     tables = {name: dict(it) for name, it in table.items() if name.endswith(SUFFIX) and isinstance(it, Mapping)}
     keys = {name: it for name, it in table.items() if name not in tables}
-    told = {name: _truth_of(it, _STRICT, place, name) for name, it in {"": keys, **tables}.items()}
+    told = {name: _truth_of(it, _STRICT, places, name) for name, it in {"": keys, **tables}.items()}
     strict = {name: it for name, it in told.items() if it is not None}
-    _refuse_expected(place, keys)
-    rows = {name: it for name, table in tables.items() if (it := _expected_of(place, name, table)) is not None}
-    return Layer(place, root or False, keys, tables, strict, rows)
+    _refuse_expected(places, keys)
+    rows = {name: it for name, table in tables.items() if (it := _expected_of(places, name, table)) is not None}
+    return Layer(places, root or False, keys, tables, strict, rows)
 
 
-def _truth_of(table: dict[str, Value], key: str, place: str, name: str = "") -> bool | None:
+def _truth_of(table: dict[str, Value], key: str, places: TomlPlaces, name: str = "") -> bool | None:
     """A truth value that is the client's own, taken out of a table; a fault where it is something else."""
     value = table.pop(key, None)
     if value is None or isinstance(value, bool):
         return value
     beside = f' (["{_shown(name)}"])' if name else ""
-    raise Fault(f"{place}: {key}: BadValue{beside}: it takes true or false")
+    raise Fault(f"{places.at(name, key)}: {key}: BadValue{beside}: it takes true or false")
 
 
-def _expected_of(place: str, name: str, table: dict[str, Value]) -> Expectation | None:
+def _expected_of(places: TomlPlaces, name: str, table: dict[str, Value]) -> Expectation | None:
     """The row that is expected of a script, with its reason, taken out of its table; neither stands alone."""
     row, reason = table.pop(EXPECT, None), table.pop(REASON, None)
     beside = f'(["{_shown(name)}"])'
     if row is None and reason is None:
         return None
     if reason is None:
-        raise Fault(f"{place}: {EXPECT}: needs a {REASON} beside it {beside}")
+        raise Fault(f"{places.at(name, EXPECT)}: {EXPECT}: needs a {REASON} beside it {beside}")
     if row is None:
-        raise Fault(f"{place}: {REASON}: needs {EXPECT} beside it {beside}")
+        raise Fault(f"{places.at(name, REASON)}: {REASON}: needs {EXPECT} beside it {beside}")
     if not isinstance(row, str) or not is_row(row):
         takes = 'it takes a row that doesn\'t pass, as "fail 12 seq", or its first words'
-        raise Fault(f"{place}: {EXPECT}: BadValue {beside}: {takes}")
+        raise Fault(f"{places.at(name, EXPECT)}: {EXPECT}: BadValue {beside}: {takes}")
     if not isinstance(reason, str) or not reason.strip():
-        raise Fault(f"{place}: {REASON}: BadValue {beside}: it takes a text that isn't empty")
+        raise Fault(f"{places.at(name, REASON)}: {REASON}: BadValue {beside}: it takes a text that isn't empty")
     return Expectation(row, _shown(reason))
 
 
-def _refuse_expected(place: str, keys: Table) -> None:
+def _refuse_expected(places: TomlPlaces, keys: Table) -> None:
     """Raises a fault where a row is expected of no script."""
     for key in (EXPECT, REASON):
         if key in keys:
-            raise Fault(f'{place}: {key}: stands in no script\'s table, as ["NAME{SUFFIX}"] is')
+            raise Fault(f'{places.at("", key)}: {key}: stands in no script\'s table, as ["NAME{SUFFIX}"] is')
 
 
-def _refuse_unquoted(place: str, table: Table) -> None:
+def _refuse_unquoted(places: TomlPlaces, table: Table) -> None:
     """Raises a fault where a script's name stands without quotes: its parts are then tables in tables."""
     for name in _unquoted(table):
-        raise Fault(f'{place}: [{_shown(name)}]: a script\'s name stands in quotes: ["{_shown(name)}"]')
+        raise Fault(f'{places.at(name)}: [{_shown(name)}]: a script\'s name stands in quotes: ["{_shown(name)}"]')
 
 
 def _unquoted(table: Table, before: str = "", deepest: int = _DEEPEST) -> Iterator[str]:
@@ -220,7 +227,7 @@ def _unquoted(table: Table, before: str = "", deepest: int = _DEEPEST) -> Iterat
 def option_of(text: str, option: str = OPTION) -> Layer:
     """The layer of `--settings`, or of such an option, which has neither tables nor keys of the client's own."""
     octets = text.encode("utf-8", "surrogateescape")
-    return Layer(option, False, _table_of(option, octets), {}, {}, {})
+    return Layer(TomlPlaces(option, {}), False, _table_of(option, octets), {}, {}, {})
 
 
 def _table_of(place: str, octets: bytes) -> dict[str, Value]:
@@ -234,10 +241,10 @@ def claims_of(layers: Iterable[Layer]) -> Iterator[Claim]:
     """What layers say, one after another."""
     for layer in layers:
         for key, value in layer.keys.items():
-            yield Claim(layer.place, "", key, value)
+            yield Claim(layer.places.at("", key), "", key, value)
         for name, table in layer.tables.items():
             for key, value in table.items():
-                yield Claim(layer.place, name, key, value)
+                yield Claim(layer.places.at(name, key), name, key, value)
 
 
 def read_layer(path: Path) -> Layer | None:

@@ -2,6 +2,7 @@
 
 import tomllib
 from collections.abc import Mapping, Sequence
+from enum import Enum
 
 import tomlkit
 from tomlkit.items import Comment, InlineTable, Item, Key, Table
@@ -11,8 +12,16 @@ from pdsuite.scripts.expectation import Expectation
 from pdsuite.scripts.suite import EXPECT, REASON
 from pdsuite.show.octets import shown_text
 
-# Rows that are expected of scripts from now on, or none any more, by the scripts' names.
-Edits = Mapping[str, Expectation | None]
+
+class Taken(Enum):
+    """That the whole table of a script goes."""
+
+    TAKEN = "taken"
+
+
+# Rows that are expected of scripts from now on, or none any more, or which tables go; by the scripts' names.
+Edit = Expectation | Taken | None
+Edits = Mapping[str, Edit]
 _Body = Sequence[tuple[Key | None, Item]]
 
 
@@ -24,7 +33,7 @@ def edited(place: str, text: str, edits: Edits) -> str:
     if not edits.keys().isdisjoint(tables):
         new = _with_tables(new, edits, end)
     for name, expected in edits.items():
-        if expected is not None and name not in tables:
+        if isinstance(expected, Expectation) and name not in tables:
             new += _table(name, expected, end, is_first=not new)
     _check(place, new, tables, edits)
     return new
@@ -57,8 +66,10 @@ def _with_tables(text: str, edits: Edits, end: str) -> str:
     return "" if new == end else new
 
 
-def _edited(key: Key, item: Item, expected: Expectation | None, end: str) -> _Body:
+def _edited(key: Key, item: Item, expected: Edit, end: str) -> _Body:
     """What stands in the place of a table: the table, or the comments of one that has nothing to say any more."""
+    if expected is Taken.TAKEN:
+        return _comments([it for it in item.value.body if it[0] is None]) if isinstance(item, Table) else []
     if isinstance(item, InlineTable):
         _edit_inline(item, expected)
     elif isinstance(item, Table):
@@ -110,7 +121,9 @@ def _check(place: str, text: str, before: Mapping[str, object], edits: Edits) ->
         others = (
             {key: it for key, it in table.items() if key not in (EXPECT, REASON)} if isinstance(table, dict) else {}
         )
-        meant[name] = others if expected is None else {**others, EXPECT: expected.row, REASON: expected.reason}
+        if isinstance(expected, Expectation):
+            others |= {EXPECT: expected.row, REASON: expected.reason}
+        meant[name] = {} if expected is Taken.TAKEN else others
     said: dict[str, object] = {}
     try:
         said = {**dict.fromkeys(edits, {}), **tomllib.loads(text)}

@@ -3,7 +3,8 @@
 import os
 import stat
 from bisect import bisect
-from collections.abc import Iterator, Set
+from collections.abc import Iterable, Iterator, Set
+from pathlib import Path
 
 from pdsuite.scripts.defaults import nearest
 from pdsuite.scripts.search import SUFFIX
@@ -17,16 +18,32 @@ _NAMES = 1_000
 
 def unused_tables(layer: Layer, folder: str, known: Set[str] = frozenset()) -> Iterator[str]:
     """The lines of a file's tables whose scripts aren't in its folder; those of `known` are taken to be there."""
-    lost = [name for name in layer.tables if name not in known and not _is_beside(name, folder)]
+    lost = [name for name in lost_in(layer, folder) if name not in known]
     for name in lost[:_MOST]:
-        yield f'{layer.place}: ["{shown_text(name)}"]: {_reason(name, folder)}'
+        yield f'{layer.places.at(name)}: ["{shown_text(name)}"]: {_reason(name, folder)}'
     if len(lost) > _MOST:
         yield f"{layer.place}: and {len(lost) - _MOST:,} more tables of scripts that aren't there"
 
 
-def unused_in(suite: Suite) -> list[str]:
-    """The lines of all files that were read."""
-    return [line for folder, layer in suite.files() for line in unused_tables(layer, folder)]
+def lost_in(layer: Layer, folder: str) -> list[str]:
+    """The names in a file's tables that are those of no script in its folder."""
+    return [name for name in layer.tables if not _is_beside(name, folder)]
+
+
+def unused_in(suite: Suite, paths: Iterable[Path]) -> list[str]:
+    """The lines of the files that lie in folders which paths name."""
+    return [line for folder, layer in files_in(suite, paths) for line in unused_tables(layer, folder)]
+
+
+def files_in(suite: Suite, paths: Iterable[Path]) -> Iterator[tuple[str, Layer]]:
+    """The files that were read and lie in folders which paths name, by their folders.
+
+    What stands above these is about scripts that aren't meant.
+    """
+    roots = [os.path.realpath(it) for it in paths if os.path.isdir(it)]
+    for folder, layer in suite.files():
+        if any(os.path.commonpath((root, folder)) == root for root in roots):
+            yield folder, layer
 
 
 def _is_beside(name: str, folder: str) -> bool:
@@ -43,7 +60,7 @@ def _reason(name: str, folder: str) -> str:
         return "this is a link, and settings go by the name of the file that it leads to"
     stem = nearest(name.removesuffix(SUFFIX), _around(name, folder))
     near = f"; the nearest is {shown_path(stem)}{SUFFIX}" if stem else ""
-    return f"no script of this name is beside the file{near}"
+    return f"no script of this name is beside the file{near}; `pdsuite expect --prune` takes the table away"
 
 
 def _around(name: str, folder: str) -> list[str]:

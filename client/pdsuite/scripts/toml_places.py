@@ -1,0 +1,68 @@
+"""Where the tables and keys of a pdsuite.toml stand in its text: the line of each that has one of its own."""
+
+import re
+from collections.abc import Iterator, Mapping
+from dataclasses import dataclass
+
+# What may hold something that looks like a key: comments and strings, those of several lines first.
+_HIDING = re.compile(
+    r'#[^\n]*|"""(?:\\.|[^\\])*?"""|\'\'\'.*?\'\'\'|"(?:\\.|[^"\\\n])*"|\'[^\'\n]*\'',
+    re.DOTALL,
+)
+_NAME = r"""(?:"([^"]*)"|'([^']*)'|([A-Za-z0-9_-]+))"""
+_KEY = re.compile(rf"\s*{_NAME}\s*=")
+_TABLE = re.compile(rf"\s*\[\s*(?:{_NAME}|([^\[\]]*?))\s*\]")
+_LONG = ('"""', "'''")
+
+
+@dataclass(frozen=True)
+class TomlPlaces:
+    """A file as people see its place, and the lines of its keys, each after its table; a table's own has no key."""
+
+    file: str
+    lines: Mapping[tuple[str, str], int]
+
+    def line(self, table: str, key: str) -> int | None:
+        """The line of a key in a table, or else of that table, if one has its own."""
+        spots = ((table, key), (table or key, ""), ("", table))
+        return next((self.lines[it] for it in spots if it in self.lines), None)
+
+    def at(self, table: str = "", key: str = "") -> str:
+        """`FILE:LINE` of a key in a table, or else of that table; the file alone where neither has a line."""
+        line = self.line(table, key)
+        return self.file if line is None else f"{self.file}:{line}"
+
+
+def places_in(file: str, text: str) -> TomlPlaces:
+    """The places of a text that is TOML; of a name that stands twice the first."""
+    lines: dict[tuple[str, str], int] = {}
+    for number, table, key in _named(text):
+        lines.setdefault((table, key), number)
+    return TomlPlaces(file, lines)
+
+
+def key_of(line: str) -> str | None:
+    """The key that a line gives a value."""
+    found = _KEY.match(line)
+    return None if found is None else _name(found)
+
+
+def _named(text: str) -> Iterator[tuple[int, str, str]]:
+    """Each line that begins a table or gives a key its value: its number, the table, and the key if it has one."""
+    table = ""
+    for number, line in enumerate(_HIDING.sub(_bared, text).split("\n"), 1):
+        if found := _TABLE.match(line):
+            table = _name(found)
+            yield number, table, ""
+        elif found := _KEY.match(line):
+            yield number, table, _name(found)
+
+
+def _bared(found: "re.Match[str]") -> str:
+    """What stands in the place of a string or comment: nothing but the newlines of one that has several lines."""
+    whole = found.group()
+    return "\n" * whole.count("\n") if whole.startswith((*_LONG, "#")) else whole
+
+
+def _name(found: "re.Match[str]") -> str:
+    return next(it for it in found.groups() if it is not None)
