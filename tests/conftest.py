@@ -145,6 +145,7 @@ def pytest_cmdline_main(config: pytest.Config) -> int | None:
     return 1
 
 
+@pytest.hookimpl(optionalhook=True)
 def pytest_xdist_auto_num_workers(config: pytest.Config) -> int:
     """With `-n auto`, one for each processor, and none where sources are told, all at once."""
     programs = teller_of(config).programs

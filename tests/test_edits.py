@@ -48,6 +48,7 @@ PAIR = "file: src/a.rt\nold: x\nnew: y\n"
         (f"# a b\n{PAIR}", "1: 'a b' is no name: letters, digits, '_', '-' and '.'"),
         (f"# a/b\n{PAIR}", "1: 'a/b' is no name: letters, digits, '_', '-' and '.'"),
         (f"# a\n{PAIR}\n# a\n{PAIR}", "6: two edits have the name a"),
+        (f"# a\n{PAIR}# b\n{PAIR}# a\n{PAIR}", "9: two edits have the name a"),
         ("# a\n\n# b\n" + PAIR, "2: a ends without a pair of 'old:' and 'new:'"),
         ("# a\nfile: src/a.rt\nold: x\n", "4: a ends without a pair of 'old:' and 'new:'"),
         ("# a\nold: x\nnew: y\n", "2: a line 'old:' can't stand there"),

@@ -187,13 +187,13 @@ def test_octets_and_cuts(teller: Teller) -> None:
 
 
 @pytest.mark.parametrize(
-    "change, fault",
+    "change, fault, other",
     [
-        (lambda text: text + b"c\n", "another recording of the recording"),
-        (lambda text: text.replace(b"/**/", b""), "without {b'/**/': 1}, and with {} besides"),
+        (lambda text: text + b"c\n", "another recording of the recording", "another recording of the recording"),
+        (lambda text: text.replace(b"/**/", b""), "without {b'/**/': 1}, and with {} besides", ""),
     ],
 )
-def test_what_holds_of_each_recording(change: Callable[[bytes], bytes], fault: str) -> None:
+def test_what_holds_of_each_recording(change: Callable[[bytes], bytes], fault: str, other: str) -> None:
     def record(call: Call) -> Said:
         """Writes the events, and their moments where these are asked for."""
         if call.program == "pdregress":
@@ -206,10 +206,10 @@ def test_what_holds_of_each_recording(change: Callable[[bytes], bytes], fault: s
         said = record(call)
         return said if call.program == "pdregress" else Said(change(said.output), b"", 0)
 
-    scripts = [Script("a", "", b"0 b /**/\n")]
-    for program, wanted in ((record, ""), (record_wrongly, f"a: {fault}")):
-        (found,) = run(tell_recordings(scripts), lambda calls: [program(it) for it in calls])
-        assert found.fault.split("\n")[0] == wanted
+    scripts = [Script("a", "", b"0 b /**/\n"), Script("d", "", b"0 e\n")]
+    for program, wanted in ((record, ["", ""]), (record_wrongly, [f"a: {fault}", f"d: {other}" if other else ""])):
+        found = run(tell_recordings(scripts), lambda calls: [program(it) for it in calls])
+        assert [it.fault.split("\n")[0] for it in found] == wanted
 
 
 def trace_of(transfer: Transfer) -> str:

@@ -9,7 +9,7 @@ from pdsuite.packetdrill.reader import read
 from pdsuite.packetdrill.tokens import Kind, Unread, tokens_of
 
 TOKENS = [
-    ("0 12 0x1F 0xg a_1", "number number hexadecimal word word"),
+    ("0 12 0x1F 0xg 0x1g a_1", "number number hexadecimal word word word"),
     (".5 0.25 1.x", "decimal decimal number symbol word"),
     ("... .... 0...1", "dots dots symbol number dots number"),
     ("--a --b=c(d -- --", "option option symbol symbol symbol symbol"),

@@ -37,6 +37,10 @@ run_rows() { # WORD..: what counts rows of the small tree
     (cd "$small/tests/cases" && counted 1 ../run "$@")
 }
 
+run_alone() { # WORD..: the same by pytest without xdist
+    (cd "$small/tests/cases" && counted 1 /usr/bin/python3 -I -B -m pytest -c ../pytest.ini -q -p no:xdist "$@")
+}
+
 run_plainly() { # WORD..: the same where pytest is missing
     (cd "$small/tests/cases" && counted 1 ../rows/plain.py "$@")
 }
@@ -45,6 +49,7 @@ test_rows() {
     expect harness-a-row-fails "$(printf '1 passed, 1 failed\nstatus 1')" run_rows fails.cases --programs ../../one
     expect harness-no-row-is-chosen "$(printf '0 passed, 1 failed\nstatus 5')" run_rows passes.cases --programs ../../one -k none
     expect harness-no-row-is-chosen-in-processes "$(printf '0 passed, 1 failed\nstatus 5')" run_rows passes.cases --programs ../../all -k none
+    expect harness-without-xdist "$(printf '1 passed, 1 failed\nstatus 1')" run_alone fails.cases --programs ../../one
     expect harness-no-file-is-there "$(printf '0 passed, 1 failed\nstatus 4')" run_rows none.cases --programs ../../one
     expect harness-unread "$(printf '1 passed, 2 failed\nstatus 1')" run_rows passes.cases no_table.cases no_text.cases --programs ../../one --continue-on-collection-errors
     expect harness-an-error-is-counted "$(printf '0 passed, 1 failed\nstatus 2')" run_rows passes.cases test_no_import.py --programs ../../one

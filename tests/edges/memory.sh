@@ -1,0 +1,12 @@
+# Tests of tools/fail_alloc.sh, which refuses memory to programs: one that does nothing stands in for each.
+memory() { # COMMAND: what is counted where it stands in, and the status
+    code=0
+    BOOK=$1 DESK=$1 PROGRAM=$1 RECORD=$1 "$top/tools/fail_alloc.sh" --part /dev/null >"$work/counted" 2>&1 || code=$?
+    tail -n 1 "$work/counted"
+    return "$code"
+}
+
+# No table of calls has met a refusal, which is a fault of each. The other rows are well: one of test_book, 18 of pdregress
+# (four inputs, one of them named, and two settings, beside none, one and two workers) and six of pdrecord.
+tables=$(cat "$top/crates/test_book/memory.txt" "$top/crates/test_desk/memory.txt" | grep -c '^== ')
+expect memory-that-no-call-lacks "$(printf '25 passed, %s failed\nstatus 1' "$tables")" memory "$(command -v true)"

@@ -1,0 +1,54 @@
+"""Tests of what tests the documents: commands that print something else, programs that aren't built, the last line."""
+
+from pathlib import Path
+
+import pytest
+
+from documents import main
+from documents.pages import Page
+
+PAGE = "# a\n\n```console\n$ echo a\na\n$ echo b\nc\n```\n\n```console slow\n$ echo d\n```\n"
+
+
+def commands_of(text: str, why: str | None, monkeypatch: pytest.MonkeyPatch) -> list[main.Test]:
+    """What is told of the commands of a page, in an empty tree, where the programs aren't built for this reason."""
+
+    def built_tree(files: list[Path], folder: Path) -> str | None:
+        folder.mkdir()
+        return why
+
+    monkeypatch.setattr(main, "built_tree", built_tree)
+    return list(main.test_commands([], Page(Path("/"), Path("a.md"), text)))
+
+
+def test_a_command_that_prints_something_else_fails(monkeypatch: pytest.MonkeyPatch) -> None:
+    good, bad = commands_of(PAGE, None, monkeypatch)
+    assert good == ("a.md:4: echo a", None)
+    assert bad == ("a.md:6: echo b", "it isn't shown that this is printed:\nb\n")
+
+
+def test_commands_fail_where_a_program_is_not_built(monkeypatch: pytest.MonkeyPatch) -> None:
+    assert commands_of(PAGE, "pdregress isn't built", monkeypatch) == [("commands of a.md", "pdregress isn't built")]
+
+
+def test_a_block_of_an_unknown_kind_fails(monkeypatch: pytest.MonkeyPatch) -> None:
+    ((name, why),) = commands_of(PAGE.replace("slow", "fast"), None, monkeypatch)
+    assert (name, why) == ("blocks of a.md", "a.md:11: a block of an unknown kind fast")
+
+
+@pytest.mark.parametrize(
+    ("tests", "last", "status"),
+    [
+        ([("a", None), ("b", None)], "2 passed, 0 failed", 0),
+        ([("a", None), ("b", "why")], "1 passed, 1 failed", 1),
+        ([("a", "")], "0 passed, 1 failed", 1),
+    ],
+)
+def test_the_last_line_counts(
+    tests: list[main.Test], last: str, status: int, monkeypatch: pytest.MonkeyPatch, capsys: pytest.CaptureFixture[str]
+) -> None:
+    monkeypatch.setattr(main, "tracked", lambda top: [])
+    monkeypatch.setattr(main, "read_pages", lambda top, files: [])
+    monkeypatch.setattr(main, "test_pages", lambda files, pages: iter(tests))
+    assert main.main([]) == status
+    assert capsys.readouterr().out.splitlines()[-1] == last
