@@ -11,7 +11,9 @@ TOP = Path(__file__).resolve().parents[1]
 sys.path.insert(0, str(TOP / "tools"))
 
 from edit_files import Change, Edit, Unread, plant, planted, read_crates, read_file, read_plain, read_text  # noqa: E402
+import edits as edits_tool  # noqa: E402
 from plain_planting import Bug, Sight, command, named_test, with_bug  # noqa: E402
+from planting import Trial  # noqa: E402
 
 SECOND = "file: src/a.rt\nold:   two  blanks\nnew: \nfile: src/b.rt\nold: b: c\nnew: d\n"
 TWO = f"# first\nfile: src/a.rt\nold: x\nnew: y\n\n# second\n{SECOND}"
@@ -279,3 +281,18 @@ def test_edits_are_chosen_by_name(tmp_path: Path) -> None:
 def test_words_that_choose_nothing(tmp_path: Path, words: "tuple[str, ...]", why: str) -> None:
     said = tried(tmp_path, *words)
     assert (said.stdout, said.stderr, said.returncode) == ("", why, 2)
+
+
+def test_bugs_are_tried_as_often_and_as_long_as_is_asked(tmp_path: Path, monkeypatch: pytest.MonkeyPatch) -> None:
+    monkeypatch.setenv("TMPDIR", str(tmp_path))
+    kept: list[tuple[object, ...]] = []
+
+    def try_bugs(edits: object, at_once: int, trial: Trial) -> int:
+        kept.append((at_once, trial.times, trial.seconds))
+        return 0
+
+    monkeypatch.setattr(edits_tool, "find_kit", lambda: None)
+    monkeypatch.setattr(edits_tool, "try_bugs", try_bugs)
+    for words in (["bugs", "-j", "3", "--times", "7", "--seconds", "9"], ["bugs", "-j", "1"]):
+        assert edits_tool.try_all(edits_tool.parser().parse_args(words)) == 0
+    assert kept == [(3, 7, 9), (1, 10, 40)]

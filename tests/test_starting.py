@@ -1,8 +1,12 @@
 """Which calls the sources answer in memory, and how these are asked."""
 
+import subprocess
+import time
+from pathlib import Path
+
 import pytest
 
-from rows.answering import answers
+from rows.answering import Batch, answers
 from rows.asking import Call, Said
 from rows.starting import is_startable, part, sayings_in, starts_of
 
@@ -55,3 +59,16 @@ def test_what_was_said_up_to_the_call_that_ended_the_run() -> None:
 
 def test_what_no_process_can_be_told_is_left() -> None:
     assert answers({}, [Call("pdregress", (b"a\nb",)), Call("pdrecord", (b"\xff",))]) == [None, None]
+
+
+@pytest.mark.parametrize(
+    ("ends", "last"), [("exit 0", "a, without proofs: 0 calls in 0 s"), ("kill -9 $$", "FAILED why")]
+)
+def test_calls_that_come_to_no_end_say_why(
+    ends: str, last: str, tmp_path: Path, capsys: pytest.CaptureFixture[str]
+) -> None:
+    (tmp_path / "said").write_text("why")
+    process = subprocess.Popen(["sh", "-c", ends])
+    process.wait()
+    batch = Batch("a", {}, tmp_path, process, begun=time.monotonic())
+    assert batch.has_ended() and capsys.readouterr().out.splitlines()[-1] == last

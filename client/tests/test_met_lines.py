@@ -110,6 +110,13 @@ def test_a_packet_may_come_so_much_before_its_first_moment_and_after_its_last(mo
     assert found.lines[-1].differs is not is_in_time
 
 
+def test_the_last_tolerance_of_a_header_counts() -> None:
+    script = f"--tolerance_usecs=9000\n--tolerance_usecs=1000\n{WRITE}\n+0.5 > P. 1:1001(1000) ack 1\n"
+    sent = SENT.replace("+0 ", "+0.502 ")
+    found = met(script, Row(Verdict.FAIL, 11, "time"), (WRITE, "0.200000"), (sent, "0.702000"))
+    assert found.lines[-1].differs
+
+
 def test_what_is_not_recorded_says_why() -> None:
     found = differences_of(Row(Verdict.FAIL, 1, "result"), (), OPENED.decode(), Recording("", "a.pkt:9: it ends"), ())
     assert list(met_text(found)) == ["line by line: not known, since it isn't recorded: a.pkt:9: it ends"]

@@ -37,6 +37,8 @@ test_adding() {
     broken=$(printf 'a\nb.pkt')
     printf 'one\n' >"$work/scripts/$broken"
     cp "$work/scripts/good.pkt" "$work/scripts/a_b.pkt"
+    long=$(octets 66 | tr -d '\n').pkt
+    printf 'one\n' >"$work/scripts/$long"
     ln -s nowhere "$work/scripts/dangling.pkt"
     octets 65536 >"$work/scripts/widest.pkt"
     octets 65537 >"$work/scripts/too_wide.pkt"
@@ -46,6 +48,7 @@ test_adding() {
 
     expect adds "$(printf 'add good 2\none\ntwo\nadd empty 0\nadd -a_b_c 1\n\r\nstatus 0')" add good.pkt empty.pkt '-a=b c.pkt'
     expect newline-in-a-name "$(printf 'add a_b 1\none\nstatus 0')" add "$broken"
+    expect a-name-is-cut "$(printf 'add %s 1\none\nstatus 0' "$(octets 65 | tr -d '\n')")" add "$long"
     expect no-file "$(refused 'no file is named: tools/add_scripts.sh FILE..')" add
     expect missing-file "$(refused 'missing.pkt: no file that can be read')" add good.pkt missing.pkt
     expect glob-without-files "$(refused 'none*.pkt: no file that can be read')" add 'none*.pkt'

@@ -5,6 +5,7 @@ import logging
 import platform
 import select
 import socket
+import threading
 import time
 import warnings
 from collections import deque
@@ -71,7 +72,9 @@ def cluster(
 
 def _connected(address: str) -> Client:
     gc.enable()  # the library's objects have cycles
-    logging.disable()  # what counts is said here
+    # What counts is said here: where a thread of the library's ends, its calls fail.
+    logging.disable()
+    threading.excepthook = lambda _: None
     warnings.filterwarnings("ignore", "Large object of size")
     dask.config.set({"distributed.comm.timeouts.connect": _PATIENCE})
     # The code goes along, with every call.
