@@ -1,4 +1,4 @@
-"""Plants changes in the sender and holds what `pdsuite compare` lists against full reports of both senders:
+"""Plants the changes of planted.edits in the sender and holds what `pdsuite compare` lists against reports of both:
 
 bench/planted.py [--base SENDER] SUITE
 
@@ -15,11 +15,15 @@ import sys
 import tempfile
 import time
 from collections.abc import Iterator
-from dataclasses import dataclass
 from pathlib import Path
 from typing import Any
 
 TOP = Path(__file__).resolve().parents[1]
+sys.path.insert(0, str(TOP / "tools"))
+
+from edit_files import Edit, Unread, plant, read_text  # noqa: E402
+
+CHANGES = TOP / "bench" / "planted.edits"
 # What of this tree a copy has.
 FOLDERS = ("client/pdsuite", "crates", "tools")
 FILES = ("client/packages.txt", "crates.txt", "HANDLES", "pdrecord", "pdregress", "pdsuite")
@@ -27,39 +31,16 @@ FILES = ("client/packages.txt", "crates.txt", "HANDLES", "pdrecord", "pdregress"
 Row = tuple[str, "int | None"]
 
 
-@dataclass(frozen=True)
-class Change:
-    """A line of the sender's code, and what stands in its place."""
-
-    name: str
-    file: str
-    old: str
-    new: str
-
-
-CHANGES = (
-    Change("DupThresh is 2", "crates/pd_board/src/counts.rt", "DUP_THRESH: u32 = 3", "DUP_THRESH: u32 = 2"),
-    Change("no limited transmit", "crates/pd_recover/src/cong.rt", "early: settings.limited_transmit", "early: false"),
-    Change(
-        "a quarter of the window is sent at once",
-        "crates/pd_host/src/connection/sending.rt",
-        "(established)) * 2 >=",
-        "(established)) * 4 >=",
-    ),
-)
-
-
-def planted(change: Change, place: Path) -> Path:
+def planted(change: Edit, place: Path) -> Path:
     """A tree like this one, with the change."""
     for folder in FOLDERS:
         shutil.copytree(TOP / folder, place / folder, ignore=shutil.ignore_patterns("out", "__pycache__"))
     for file in FILES:
         shutil.copy(TOP / file, place / file, follow_symlinks=False)
-    changed = place / change.file
-    text = changed.read_text()
-    if text.count(change.old) != 1:
-        raise SystemExit(f"{change.file}: no line to change, or several: {change.old}")
-    changed.write_text(text.replace(change.old, change.new))
+    try:
+        plant(change, place)
+    except Unread as why:
+        raise SystemExit(f"{change.name}: {why}") from None
     return place
 
 
@@ -96,7 +77,7 @@ def main() -> int:
     is_well = True
     with tempfile.TemporaryDirectory(prefix="planted-") as folder:
         before = dict(rows(report_of(asked.base, asked.suite)))
-        for number, change in enumerate(CHANGES):
+        for number, change in enumerate(read_text(CHANGES.read_text(), folders=())):
             tree = planted(change, Path(folder, str(number)))
             begin = time.monotonic()
             compared = said(TOP / "pdsuite", "compare", "--base", asked.base, "--with", tree, "--json", asked.suite)

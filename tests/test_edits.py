@@ -231,6 +231,11 @@ def test_a_bug_is_taken_away_again(tmp_path: Path) -> None:
     assert path.read_text() == "a b\n"
 
 
+@pytest.mark.parametrize("edit", read_text((TOP / "bench/planted.edits").read_text(), folders=()))
+def test_changes_of_the_sender_that_are_measured_can_be_planted(edit: Edit) -> None:
+    assert list(planted(edit, TOP))
+
+
 # Proves any library, and says of each edit of a crate that it is refused, but for two.
 KIT = """#!/bin/sh
 [ "$1" = must-fail ] || exit 0
