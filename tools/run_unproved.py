@@ -1,23 +1,40 @@
 """Runs a program of this tree once without proofs, as its launcher asks: run_unproved.py PROGRAM [WORD..]
 
-A line on standard error says so first. The program's input is read whole before anything is built. Then its two outputs
-and its status are handed through. Where there are none, a line says why, with what was said, and the status is 2.
+A line on standard error says so first. The program is built, if it isn't kept from before, and takes the place of this
+process.
+
+Where none can be built and kept, `rt try` runs it: the program's input is read whole before anything is built, then its
+two outputs and its status are handed through. Where there are none, a line says why, with what was said, and the status
+is 2.
 """
 from __future__ import annotations
 
 import contextlib
 import os
+import signal
 import sys
 import tempfile
+import time
 from pathlib import Path
+from typing import NoReturn
 
+import building
 import stopping
 import trying
+from kept_builds import OPTIMISED, PLAIN
 
 FAULT = 2
 BLOCK = 1 << 20
 # With one of these a program answers before it reads anything.
 HELP = ("--help", "-h")
+# What a terminal clears from the cursor on, and what is shown of each phase of a build.
+CLEAR = "\x1b[K"
+PHASES = {
+    building.WAITING: "another call builds it",
+    building.READING: "reading the sources",
+    building.COMPILING: "compiling",
+    building.LINKING: "linking",
+}
 
 
 class Failed(Exception):
@@ -70,8 +87,54 @@ def keep_input(file: Path) -> None:
             left -= len(octets)
 
 
+class Progress:
+    """Shows on a terminal which phase of a build goes on, and for how long. What it shows is gone at its end."""
+
+    def __init__(self, program: str) -> None:
+        self._program = program
+        self._is_shown = False
+        self._phase, self._begin = "", 0.0
+
+    def note(self, phase: str) -> None:
+        """Shows a phase."""
+        if phase != self._phase:
+            self._phase, self._begin = phase, time.monotonic()
+        if os.isatty(2):
+            self._is_shown = True
+            seconds = int(time.monotonic() - self._begin)
+            put(2, f"\r{CLEAR}{self._program}: unproved: {PHASES[phase]}, {seconds} s".encode())
+
+    def end(self) -> None:
+        if self._is_shown:
+            put(2, f"\r{CLEAR}".encode())
+
+
+def find(program: str) -> Path:
+    """The folder of the programs, which are built if none are kept; a line says first that the program isn't proved."""
+    # Where both ways are kept, the plain one says more of a fault.
+    folder = building.kept_programs(trying.TOP, (PLAIN, OPTIMISED))
+    first = "running without proofs" if folder else "building first, then running without proofs"
+    say(program, f"unproved: {first}; {way_to_prove(program)} proves it")
+    if folder is not None:
+        return folder
+    progress = Progress(program)
+    try:
+        return building.build(trying.TOP, PLAIN, progress.note)
+    finally:
+        progress.end()
+
+
+def become(program: Path, words: list[str]) -> NoReturn:
+    """Puts a program in the place of this process, with its streams, and the signals as a shell hands them on."""
+    for number in (signal.SIGPIPE, signal.SIGXFSZ):
+        signal.signal(number, signal.SIG_DFL)
+    for descriptor in range(3):
+        os.set_inheritable(descriptor, True)
+    os.execv(program, [str(program), *words])
+
+
 def run(program: str, words: list[str]) -> int:
-    """Runs the program, and gives the status."""
+    """Runs the program by `rt try`, and gives the status."""
     with tempfile.TemporaryDirectory(prefix=f"{program}-") as folder:
         room = Path(folder)
         given = room / "input"
@@ -107,9 +170,12 @@ def main() -> int:
     try:
         trying.find_kit()
         check_words(words)
-        way = way_to_prove(program)
-        say(program, f"unproved: running without proofs, which takes about a minute; {way} proves it")
+        with contextlib.suppress(building.NoBuild, FileNotFoundError):
+            become(find(program) / program, words)
         return run(program, words)
+    except building.NotCompiled as refused:
+        say(program, f"unproved: NotCompiled: {refused}")
+        put(2, refused.said)
     except Failed as fault:
         say(program, str(fault))
     except trying.Untried as untried:

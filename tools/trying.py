@@ -1,4 +1,4 @@
-"""Runs programs without proofs, by the kit's `rt try`, which builds the program anew at each call, in about a minute.
+"""Runs programs without proofs, by the kit's `rt try`, which builds the program anew at each call.
 
 `run_once` runs a program on one input, `run_cases` on many after one build, of this tree or of another one. The tree is
 only read: what is written goes into a folder that the caller names. Where there is no answer, a name that stays and a

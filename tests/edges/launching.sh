@@ -2,7 +2,7 @@
 # words, pipes, closed streams and signals.
 . "$top/tests/edges/crates.sh"
 
-first="unproved: running without proofs, which takes about a minute; $build/prove"
+first="unproved: building first, then running without proofs; $build/prove"
 
 unproved() { # PROGRAM: what is said first
     printf '! %s: %s %s proves it\n' "$1" "$first" "$1"

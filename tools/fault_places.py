@@ -1,0 +1,78 @@
+"""Which functions of a tree are on which lines, for tell_fault.py, with the lines that can have a fault."""
+from __future__ import annotations
+
+import re
+from collections.abc import Iterator
+from pathlib import Path
+from typing import Union
+
+Function = tuple[int, int, dict[str, list[int]]]
+Module = dict[str, Union[str, dict[str, Function]]]
+
+BLOCK = re.compile(r"(?:impl|trait)\b(?:<.*?>)? (?:.*? for )?(?:\w+::)*(\w+)")
+HEAD = re.compile(r"( *)(?:pub(?:\([^)]*\))? )?(?:const )?fn (\w+)")
+COMMENT = re.compile(r"//.*")
+QUOTED = re.compile(r'b?"(?:[^"\\]|\\.)*"|b?\'(?:[^\'\\]|\\.)\'')
+# What a line has that can go wrong by itself: an operation, an index, or what ends the program.
+LIKELY = {
+    "sums": re.compile(r" (?:[-+*/%]|<<|>>)=? |\.(?:sum|product|pow)\("),
+    "indexes": re.compile(r"[\w)\]]\["),
+    "ends": re.compile(r"\.(?:unwrap|expect)\(|\b(?:unreachable|panic|prove|assert)!"),
+}
+
+
+def places_of(top: Path) -> dict[str, Module]:
+    """The modules of a tree by their paths in Rattle, each with its file, below the tree, and its functions."""
+    files = sorted((top / "crates").glob("*/src/**/*.rt"))
+    return {module_of(it.relative_to(top)): module_in(it, top) for it in files}
+
+
+def module_of(file: Path) -> str:
+    """The path of the module that a file is.
+
+    >>> module_of(Path("crates/low/src/lib.rt")), module_of(Path("crates/low/src/high/top.rt"))
+    ('low', 'low::high::top')
+    """
+    _, crate, _, *parts = file.with_suffix("").parts
+    return "::".join([crate, *(it for it in parts if it not in ("lib", "main", "mod"))])
+
+
+def module_in(file: Path, top: Path) -> Module:
+    found = list(functions_in(file.read_text(encoding="utf-8", errors="replace").splitlines()))
+    names = [name for name, _ in found]
+    # A name that several types have is known with its type alone.
+    functions = {name.rpartition("::")[2]: it for name, it in found if ends_once(name, names)}
+    return {"path": str(file.relative_to(top)), "functions": {**functions, **dict(found)}}
+
+
+def ends_once(name: str, names: list[str]) -> bool:
+    """Whether no other of these names has the same last part."""
+    return [it.rpartition("::")[2] for it in names].count(name.rpartition("::")[2]) == 1
+
+
+def functions_in(lines: list[str]) -> Iterator[tuple[str, Function]]:
+    """The functions on these lines: their first and their last line, and the lines in between that can have a fault."""
+    block = ""
+    for first, line in enumerate(lines, 1):
+        if found := BLOCK.match(line):
+            block = f"{found[1]}::"
+        head = HEAD.match(line)
+        if head is None:
+            continue
+        ends = (last for last, it in enumerate(lines[first - 1 :], first) if it.rstrip() == f"{head[1]}}}")
+        last = first if line.rstrip().endswith("}") else next(ends, first)
+        body = {number: bare(lines[number - 1]) for number in range(first + 1, last + 1)} or {first: bare(line)}
+        name = f"{block if head[1] else ''}{head[2]}"
+        yield name, (first, last, {k: [n for n, it in body.items() if v.search(it)] for k, v in LIKELY.items()})
+
+
+def bare(line: str) -> str:
+    """A line without what it quotes and its comment; a clause of a contract is no code.
+
+    >>> bare('let a = "x + y" + b; // c + d')
+    'let a =  + b; '
+    >>> bare('    ensures { a + b ≡ c }')
+    ''
+    """
+    code = COMMENT.sub("", QUOTED.sub("", line))
+    return "" if re.match(r" *(?:ensures|requires|invariant|ghost)\b", code) else code

@@ -1,0 +1,163 @@
+"""Where programs are kept that are built without a proof: by what they are made of, in a folder of the user's own.
+
+A build has a folder named by its key, which is the checksum of all that it is made of. In it each way of building has a
+folder of its own, with the program by its two names and the program's checksum. What is kept there was put there whole.
+The folder of all builds is `pdregress/builds` below ~/.cache or XDG_CACHE_HOME, or the tree's out/ where that one isn't
+the user's own.
+"""
+from __future__ import annotations
+
+import contextlib
+import fcntl
+import hashlib
+import os
+import shutil
+import stat
+import time
+from collections.abc import Callable, Iterator
+from dataclasses import dataclass
+from pathlib import Path
+
+import source_sums
+from kit_tools import Kit
+
+TOOLS = Path(__file__).resolve().parent
+PROGRAMS = ("pdregress", "pdrecord")
+# What builds and runs what is kept: a change of it makes what was kept before the work of another one.
+MADE_BY = (
+    *("kept_builds.py", "kit_tools.py", "building.py", "either.rattle", "fault_handler.c"),
+    *("fault_places.py", "tell_fault.py", "run_unproved.py", "../pdregress", "../pdrecord"),
+)
+SUM = "sum"
+# The ways to build, and the kit's word for each.
+PLAIN, OPTIMISED = "plain", "optimised"
+LEVELS = {PLAIN: "-O0", OPTIMISED: "-O1"}
+# What is kept may have so many octets; what was used so many seconds ago at most stays in any case.
+MOST = 1 << 30
+RECENT = 3_600.0
+# How long is waited between two looks at a lock, in seconds.
+BETWEEN = 0.2
+
+
+class Unkept(Exception):
+    """That nothing can be kept, and why."""
+
+
+@dataclass(frozen=True)
+class Kept:
+    """The place of a build: its folder, whether or not it is there yet."""
+
+    folder: Path
+
+    def programs(self, way: str) -> Path | None:
+        """The folder of the two programs that were built so, if they are there as they were put there."""
+        folder = self.folder / way
+        try:
+            if any(not is_own(it) for it in (self.folder.parent, self.folder, folder)):
+                return None
+            said = (folder / SUM).read_text()
+            if {sum_of(folder / name) for name in PROGRAMS} != {said}:
+                return None
+            os.utime(self.folder)
+        except OSError:
+            return None
+        return folder
+
+    @contextlib.contextmanager
+    def alone(self, turn: Callable[[], None]) -> Iterator[None]:
+        """Lets one call at a time build it; the others wait, each with a turn now and then. Who ends lets others go."""
+        file = self.folder.with_name(f"{self.folder.name}.lock")
+        descriptor = os.open(file, os.O_RDWR | os.O_CREAT | os.O_NOFOLLOW | os.O_CLOEXEC, 0o600)
+        try:
+            while not is_locked(descriptor):
+                turn()
+                time.sleep(BETWEEN)
+            yield
+        finally:
+            os.close(descriptor)
+
+
+def kept_of(top: Path, kit: Kit) -> Kept:
+    """Where the build of a tree by this kit is kept."""
+    return Kept(folder_of_all(top) / key_of(top, kit))
+
+
+def key_of(top: Path, kit: Kit) -> str:
+    """The checksum of what a build is made of: the sources that are read, what builds them, and the kit."""
+    paths = sorted({it for name in PROGRAMS for it in source_sums.sources_below(str(top), name) if is_read(it)})
+    sources = source_sums.lines_of(source_sums.sums_of(str(top), paths))
+    own = source_sums.lines_of(source_sums.sums_of(str(TOOLS), MADE_BY))
+    main = hashlib.sha256(main_of(top).read_bytes()).hexdigest()
+    return hashlib.sha256(b"\0".join([sources, own, main.encode(), kit.identity().encode()])).hexdigest()
+
+
+def is_read(path: str) -> bool:
+    """Whether a build reads this file of a tree: a definition or a proof it doesn't.
+
+    >>> [is_read(it) for it in ("crates.txt", "crates/low/src/lib.rt", "crates/low/specs/Low.antt")]
+    [True, True, False]
+    """
+    parts = path.split("/")
+    return parts[0] != "crates" or (parts[2] == "src" and path.endswith(".rt"))
+
+
+def main_of(top: Path) -> Path:
+    """The main file that makes one program of both: the tree's own, or where it has none this tree's."""
+    own = top / "tools" / "either.rattle"
+    return own if own.is_file() else TOOLS / "either.rattle"
+
+
+def folder_of_all(top: Path) -> Path:
+    """The folder of all builds: the user's own, or else the tree's."""
+    for folder in (*cache(), top / "crates" / PROGRAMS[0] / "out" / "builds"):
+        with contextlib.suppress(OSError):
+            folder.mkdir(mode=0o700, parents=True, exist_ok=True)
+            if is_own(folder) and os.access(folder, os.W_OK | os.X_OK):
+                return folder
+    raise Unkept("no folder of this user's own can be written")
+
+
+def cache() -> Iterator[Path]:
+    """The folder below that which users have for what can be made again."""
+    above = os.environ.get("XDG_CACHE_HOME", "")
+    with contextlib.suppress(RuntimeError):
+        yield (Path(above) if os.path.isabs(above) else Path.home() / ".cache") / "pdregress" / "builds"
+
+
+def is_own(folder: Path) -> bool:
+    """Whether a folder is one, no link, is this user's, and nobody else may look into it or change it."""
+    found = folder.lstat()
+    return stat.S_ISDIR(found.st_mode) and found.st_uid == os.geteuid() and not found.st_mode & 0o077
+
+
+def sum_of(file: Path) -> str:
+    """The SHA-256 of a program that is a file by itself."""
+    with open(os.open(file, os.O_RDONLY | os.O_NOFOLLOW | os.O_CLOEXEC), "rb") as opened:
+        return hashlib.sha256(opened.read()).hexdigest()
+
+
+def is_locked(descriptor: int) -> bool:
+    """Whether this file is locked now for whoever asks."""
+    try:
+        fcntl.flock(descriptor, fcntl.LOCK_EX | fcntl.LOCK_NB)
+    except BlockingIOError:
+        return False
+    return True
+
+
+def make_room(all_builds: Path, own: Path) -> None:
+    """Removes builds that weren't used for the longest time, where all of them are too large; never the own one."""
+    with contextlib.suppress(OSError):
+        found = sorted((it.stat().st_mtime, it) for it in all_builds.iterdir() if it.is_dir() and it != own)
+        left = sum(size_of(it) for _, it in found) + size_of(own)
+        for used, folder in found:
+            if left > MOST and time.time() - used > RECENT:
+                left -= size_of(folder)
+                shutil.rmtree(folder, ignore_errors=True)
+                folder.with_name(f"{folder.name}.lock").unlink(missing_ok=True)
+
+
+def size_of(folder: Path) -> int:
+    """How many octets a build has; a program is counted once."""
+    files = {(it.stat().st_ino, it.stat().st_size) for it in folder.rglob("*") if it.is_file()}
+    return sum(size for _, size in files)
