@@ -54,8 +54,8 @@ def test_where_nothing_differs_the_status_is_0(tree: Tree) -> None:
     )
     assert called.out.endswith(" s UNPROVED\n") and tree.builds() == 1
     assert called.err == (
-        f"pdsuite: before: {tree.bin}; after: the tree as it stands, unknown, unproved; "
-        "building takes a minute or two\n"
+        f"pdsuite: before: {tree.bin}; after: the tree as it stands, unknown, unproved\n"
+        "pdsuite: building the sender first\n"
     )
 
 
@@ -185,7 +185,7 @@ def test_a_key_that_a_sender_lacks_counts_as_its_default_there_and_is_told_once(
     else:
         called = tree.call("compare", "--base", lacking(tree), "--with", tree.bin, *words, "--only", "on.pkt", "suite")
     said = f"{'the tree as it stands, unknown, unproved' if is_built else tree.suite.parent / 'other'}"
-    assert called.status == 1 and called.err.splitlines()[1:] == [
+    assert called.status == 1 and called.err.splitlines()[2 if is_built else 1 :] == [
         f"pdsuite: {said}: there is no setting early, which counts as its default"
     ]
     rows = [("before", "2"), ("after", "1")] if is_built else [("before", "1"), ("after", "2")]
@@ -217,7 +217,7 @@ def test_scripts_beside_one_that_the_changed_sender_ends_on_are_started_again_on
     tree.change("s/^row pass 9/crash/\n")
     called = compare(tree, "--json")
     assert called.status == 2 and tree.builds() == 2
-    assert called.err.splitlines()[1:] == [
+    assert called.err.splitlines()[2:] == [
         "pdsuite: pdregress: Faulted: a failed unwrap; 3 scripts are run again, each by itself",
         "pdsuite: pdrecord: Faulted: a failed unwrap; 3 scripts are recorded again, each by itself",
     ]
@@ -234,11 +234,11 @@ def test_a_folder_of_launchers_is_the_tree_that_they_are_of(tree: Tree) -> None:
         shutil.copy(TOP / name, tree.top)
         (links / name).symlink_to(tree.top / name)
     called = tree.call("compare", "--base", links, "--with", tree.bin, "suite")
-    said = f"pdsuite: before: {links}, unproved; after: {tree.bin}; building takes a minute or two\n"
+    said = f"pdsuite: before: {links}, unproved; after: {tree.bin}\npdsuite: building the sender first\n"
     assert (called.status, called.err, tree.builds()) == (0, said, 1)
     assert called.out.endswith(" s UNPROVED\n")
     called = tree.call("compare", "--base", tree.bin, "suite", PDSUITE_PROGRAMS=str(links))
-    assert called.err.startswith(f"pdsuite: before: {tree.bin}; after: {links}, unproved; ")
+    assert called.err.startswith(f"pdsuite: before: {tree.bin}; after: {links}, unproved\n")
 
 
 def test_a_tree_whose_programs_are_proved_is_not_built(tree: Tree) -> None:
@@ -289,7 +289,7 @@ def test_a_tree_that_does_not_compile_is_told_with_its_errors(tree: Tree) -> Non
     wrong.touch()
     called = compare(tree)
     assert (called.status, called.out) == (2, "")
-    assert called.err.splitlines()[1:] == [
+    assert called.err.splitlines()[2:] == [
         "pdsuite: unproved: NotCompiled: the program doesn't compile",
         f"{wrong}:1:2: error[mismatched-types]: wrong",
     ]

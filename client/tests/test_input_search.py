@@ -10,9 +10,9 @@ import pytest
 from pdsuite.compare.parting import played_events
 from pdsuite.compare.senders import Sender
 from pdsuite.packetdrill.items import Packet, TcpOption
+from pdsuite.programs.building import Untried
 from pdsuite.programs.recorder import Recording
 from pdsuite.programs.rows import Row, Verdict
-from pdsuite.programs.tree import Untried
 from pdsuite.search.asking import Asked, askers_of
 from pdsuite.search.finds import Differs, Fails, Reaches, without_trace
 from pdsuite.search.hunt import Hunt, Hunted, play_all

@@ -20,7 +20,7 @@ from pdsuite.scripts.text import Text, text_of
 from tests.helpers import TOP, ends, is_alive, wait_for, write
 from tests.trees import Tree
 
-FIRST = "unproved: running without proofs, which takes about a minute; {} proves the programs\n"
+FIRST = "unproved: building first, then running without proofs; {} proves the programs\n"
 TOTAL = b"total %d pass 0 fail 0 syntax 0 unsupported 0 limit 0 pending 0\n"
 
 

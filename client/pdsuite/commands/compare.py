@@ -2,7 +2,7 @@
 
 import time
 from collections.abc import Sequence
-from dataclasses import dataclass
+from dataclasses import dataclass, replace
 from pathlib import Path
 from tempfile import TemporaryDirectory
 from typing import TYPE_CHECKING
@@ -10,6 +10,7 @@ from typing import TYPE_CHECKING
 from pdsuite.commands.options import threads_of
 from pdsuite.compare.comparison import ComparedScript, Results, compare
 from pdsuite.compare.affected import Affected, Telling, affected_by, telling_of
+from pdsuite.compare.built_senders import with_programs
 from pdsuite.compare.senders import Sender, last_proved, sender_of, standing
 from pdsuite.compare.sides import Side, SettingsRefused, side_of
 from pdsuite.compare.two_senders import Task, run_both
@@ -63,7 +64,10 @@ def compare_senders(options: CompareOptions, screen: Screen) -> int:
             records = all(it.records for it in senders)
             telling = telling_of(senders[1], Path(room)) if options.affected else None
             task = Task(scripts, list(suite.claims()), records, page is not None, telling)
-            results = run_both(sides, task, threads_of(None), stop, screen.note)
+            built = zip(sides, with_programs(senders, "any", stop, screen))
+            results = run_both(
+                [replace(side, sender=it) for side, it in built], task, threads_of(None), stop, screen.note
+            )
             affected = None if telling is None else _affected(telling, senders[0], results, Path(room))
             return _tell(senders, results, (page, affected), options, screen, begin)
     except SettingsRefused as refused:
@@ -96,10 +100,9 @@ def _sides(options: CompareOptions, room: Path) -> tuple[Side, Side]:
 
 
 def _say_senders(senders: tuple[Sender, Sender], screen: Screen) -> None:
-    """Says what is compared, that it takes long where something is built, and what can't be compared."""
+    """Says what is compared, and what can't be."""
     before, after = senders
-    takes = "" if before.is_proved and after.is_proved else "; building takes a minute or two"
-    screen.note(f"pdsuite: before: {before}; after: {after}{takes}")
+    screen.note(f"pdsuite: before: {before}; after: {after}")
     for name in dict.fromkeys(str(it) for it in senders if not it.records):
         screen.note(f"pdsuite: {name} has no pdrecord: scripts whose row stays aren't compared")
 

@@ -8,10 +8,11 @@ from pdsuite.commands.options import threads_of
 from pdsuite.faults import Fault
 from pdsuite.files import write
 from pdsuite.imports.tables import is_key
-from pdsuite.programs.places import REGRESS, locate
+from pdsuite.programs.places import REGRESS
 from pdsuite.programs.program import Program
 from pdsuite.programs.refusals import refusals
 from pdsuite.programs.rows import Verdict
+from pdsuite.programs.unproved import program_of
 from pdsuite.run.choice import found_of, scripts_of
 from pdsuite.run.outcomes import Outcome
 from pdsuite.run.runs import Script, runs_of
@@ -58,7 +59,7 @@ def expect(options: ExpectOptions, screen: Screen) -> int:
         try:
             found = found_of(options.paths, options.only, suite, stop)
             scripts = scripts_of(found, suite)
-            program = locate(REGRESS)
+            program = program_of(REGRESS, stop, screen)
             asked = refusals(suite.claims(), lambda: Program([program], stop))
             lost = list(lost_tables(suite, options.paths, options.prune))
             if lines := [*_unused(suite, options.paths, lost), *asked]:

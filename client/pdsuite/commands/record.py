@@ -15,6 +15,7 @@ from pdsuite.programs.protocol import Cause
 from pdsuite.programs.recorder import DROP, LEAST, Recording, record_all
 from pdsuite.programs.refusals import refusals
 from pdsuite.programs.rows import Verdict
+from pdsuite.programs.unproved import program_of
 from pdsuite.run.choice import found_of, scripts_of
 from pdsuite.run.explainer import LEAVINGS, Asker, awaits_none, leaves_packets
 from pdsuite.run.outcomes import Outcome
@@ -83,7 +84,7 @@ def record(options: RecordOptions, screen: Screen) -> int:
         try:
             octets = _read_input() if INPUT in options.paths else None
             scripts = _scripts(options, suite, stop)
-            program = locate(REGRESS)
+            program = program_of(REGRESS, stop, screen)
             asked = refusals(suite.claims(), lambda: Program([program], stop))
             if lines := [*unused_in(suite, options.paths), *asked]:
                 for line in lines:

@@ -107,14 +107,21 @@ def run(options: RunOptions, screen: Screen) -> int:
             of_known = not isinstance(form, Plain) or bool(options.files.named) or options.html is not None
             if options.new_only:
                 form = only_new(form, Plain(True) if isinstance(form, Plain) else form, options.paths, screen.note)
-            program = _proved(options)
+            program, drawing = _proved(options), None
+            if is_unproved := program is None:
+                # What can be refused is refused before anything is built.
+                if lines := unused_in(suite, options.paths):
+                    return _refuse(lines)
+                drawing = _drawing(options, screen, is_unproved)
+                program = _built(stop, screen)
             if program is None:
-                return _run_unproved(suite, scripts, options, form, screen, begin, stop)
+                return _run_unproved(suite, scripts, options, form, screen, begin, stop, drawing)
             asked = refusals(suite.claims(), partial(Program, [program], stop))
             if lines := [*unused_in(suite, options.paths), *asked]:
                 return _refuse(lines)
+            drawing = drawing or _drawing(options, screen, is_unproved)
             with _mapper(options, program, of_known, stop, screen.note) as mapper:
-                return _run(mapper, scripts, options, form, screen, begin, stop)
+                return _run(mapper, scripts, options, form, screen, begin, stop, drawing, is_unproved)
         except Stopped as stopped:
             return stopped.status
 
@@ -146,22 +153,33 @@ def _proved(options: RunOptions) -> Path | None:
     return None
 
 
-def _run_unproved(
-    suite: Suite, scripts: Sequence[Script], options: RunOptions, form: Form, screen: Screen, begin: float, stop: Stop
-) -> int:
-    """Runs the scripts by the sender as it stands, reports what came of them, and answers the exit status."""
+def _built(stop: Stop, screen: Screen) -> Path | None:
+    """The program of a build of the sender as it stands, or none where no build can be kept."""
     # Only who has no proved program pays for what does without them.
-    from pdsuite.run.unproved_run import first_line, plan_of, run_unproved
+    from pdsuite.programs.unproved import take_build
 
-    if lines := unused_in(suite, options.paths):
-        return _refuse(lines)
-    screen.note(f"pdsuite: {first_line()}")
+    return locate(REGRESS) if take_build("any", stop, screen) else None
+
+
+def _run_unproved(
+    suite: Suite,
+    scripts: Sequence[Script],
+    options: RunOptions,
+    form: Form,
+    screen: Screen,
+    begin: float,
+    stop: Stop,
+    drawing: "Drawing | None",
+) -> int:
+    """Runs the scripts by `rt try` on the sender as it stands, reports what came of them, and answers the status."""
+    from pdsuite.run.unproved_run import plan_of, run_unproved
+
     by_keys = options.html is not None or options.by_keys
     plan = plan_of(runs_of(scripts), suite.claims(), by_keys, options.full_diff, of_ends=True)
     tried = run_unproved(plan, TOP, stop, screen.note)
     if tried.refused:
         return _refuse([it.line for it in tried.refused])
-    return _run(tried.steps, scripts, options, form, screen, begin, stop, tried)
+    return _run(tried.steps, scripts, options, form, screen, begin, stop, drawing, True, tried)
 
 
 def _drawing(options: RunOptions, screen: Screen, is_unproved: bool) -> "Drawing | None":
@@ -204,11 +222,12 @@ def _run(
     screen: Screen,
     begin: float,
     stop: Stop,
+    drawing: "Drawing | None",
+    is_unproved: bool,
     tried: "UnprovedResults | None" = None,
 ) -> int:
     """Runs the scripts by whoever is given, reports what came of them, and answers the exit status."""
-    report = Report(scripts, form, screen, is_unproved=tried is not None)
-    drawing = _drawing(options, screen, report.is_unproved)
+    report = Report(scripts, form, screen, is_unproved)
     checking = AssertionCheck(stop, screen.note)
     texts: dict[int, Text] = {}
     ended: Stopped | Cut | None = None

@@ -6,6 +6,7 @@ from dataclasses import dataclass, replace
 from pathlib import Path
 from tempfile import TemporaryDirectory
 
+from pdsuite.compare.built_senders import with_programs
 from pdsuite.compare.senders import Sender, sender_of, standing
 from pdsuite.compare.sides import Side, refuse_common, tell_lacks
 from pdsuite.faults import Fault
@@ -46,6 +47,9 @@ def search_state(text: str, word: str | None, options: SearchOptions, screen: Sc
             sender = standing() if word is None else sender_of(word, "--with", Path(room) / "sender")
             _need_recorder([sender])
             seed = _seed(options)
+            if not sender.is_proved:
+                screen.note(f"pdsuite: {sender}")
+            (sender,) = with_programs([sender], "optimised", stop, screen)
             with askers_of([sender], stop) as (asker,):
                 hunted = Hunt(asker, Reaches(pattern), None, sizes(), seed, options.seconds).run(_progress(screen))
             if hunted.find is not None:
@@ -70,6 +74,7 @@ def search_difference(
     senders = [it.sender for it in sides]
     _need_recorder(senders)
     seed = _seed(options)
+    senders = with_programs(senders, "optimised", stop, screen)
     with askers_of(senders, stop) as askers:
         before, after = _asking(askers, sides, common, screen)
         test, hidden = Fails(after), Differs(after)

@@ -25,16 +25,23 @@ class Sender:
     """A sender, as people call it: its programs by their names, or else the tree that it is built from.
 
     The tree is that of programs, too, where it is known; of those that ./prove has kept there is a commit instead.
+    Programs that were built without proofs say so.
     """
 
     name: str
     programs: dict[str, Path] | None
     tree: Path | None = TOP
     commit: str = ""
+    is_build: bool = False
 
     @property
     def is_proved(self) -> bool:
-        """Whether its programs are there. Who names a folder of programs says that they are proved."""
+        """Whether its programs are there and proved. Who names a folder of programs says that they are."""
+        return self.has_programs and not self.is_build
+
+    @property
+    def has_programs(self) -> bool:
+        """Whether its programs are there."""
         return self.programs is not None
 
     @property

@@ -1,4 +1,4 @@
-"""Runs two senders on the same scripts: proved programs at once, and what has to be built side by side."""
+"""Runs two senders on the same scripts: programs at once, and trees that `rt try` has to build side by side."""
 
 import os
 from collections import ChainMap
@@ -51,14 +51,14 @@ class Task:
 
 
 def run_both(sides: Sequence[Side], task: Task, workers: int, stop: Stop, note: Callable[[str], None]) -> list[Results]:
-    """The results of each sender, those that are proved first. Of each key that one of them lacks it is said once."""
-    found = [_asked(it, task, stop) if it.sender.is_proved else it for it in sides]
-    if all(it.sender.is_proved for it in sides):
+    """The results of each sender, those of programs first. Of each key that one of them lacks it is said once."""
+    found = [_asked(it, task, stop) if it.sender.has_programs else it for it in sides]
+    if all(it.sender.has_programs for it in sides):
         refuse_common(found, task.claims)
-    proved = [_run_proved(it, task, workers, stop, note) if it.sender.is_proved else None for it in found]
-    tried = _Tried([it for it in found if not it.sender.is_proved], task, stop, note)
+    proved = [_run_proved(it, task, workers, stop, note) if it.sender.has_programs else None for it in found]
+    tried = _Tried([it for it in found if not it.sender.has_programs], task, stop, note)
     unproved = iter(tried.sides)
-    found = [it if it.sender.is_proved else next(unproved) for it in found]
+    found = [it if it.sender.has_programs else next(unproved) for it in found]
     refuse_common(found, task.claims)
     tell_lacks(found, note)
     results = iter(tried.results())
@@ -66,7 +66,7 @@ def run_both(sides: Sequence[Side], task: Task, workers: int, stop: Stop, note: 
 
 
 class _Tried:
-    """What comes of senders that are built side by side, each with the keys that it lacks."""
+    """What comes of trees that `rt try` builds side by side, each with the keys that it lacks."""
 
     def __init__(self, sides: Sequence[Side], task: Task, stop: Stop, note: Callable[[str], None]) -> None:
         self._task, self._stop, self._note = task, stop, note
@@ -99,7 +99,7 @@ class _Tried:
 
 
 def _asked(side: Side, task: Task, stop: Stop) -> Side:
-    """A side of proved programs, without the keys that they lack."""
+    """A side of programs, without the keys that they lack."""
     program = _programs(side)[REGRESS]
     return side.without(refused_of(side.claims(task.claims), lambda: Program([program], stop)))
 
@@ -123,7 +123,7 @@ def _results(
 
 
 def _run_proved(side: Side, task: Task, workers: int, stop: Stop, note: Callable[[str], None]) -> Results:
-    """The results of proved programs."""
+    """The results of programs."""
     programs = _programs(side)
     program = programs[REGRESS]
     mapper = local_mapper(start_with(program, workers, 1, stop), Explainer(program, stop, note))

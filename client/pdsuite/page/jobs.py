@@ -10,7 +10,7 @@ from pdsuite.page.folder import TABLE, sweep
 from pdsuite.page.links import FOLDER
 from pdsuite.page.render import script_page, table_page
 from pdsuite.page.sheets import Entry, Row, sheet_of
-from pdsuite.programs.places import REGRESS, locate
+from pdsuite.programs.places import REGRESS, are_taken, locate
 from pdsuite.programs.protocol import Cause
 from pdsuite.programs.recorder import Recorder
 from pdsuite.programs.rows import Verdict
@@ -43,7 +43,7 @@ def carry_out(job: Job, stop: Stop, done: Callable[[int], None]) -> None:
         sweep(job.folder, (it.file for it in job.rows), job.plots)
     scripts = [Script(place, it.outcome.path, it.outcome.settings) for place, it in enumerate(job.entries)]
     # Where it tells nothing of a script, that has been said when its row was shown.
-    asker = None if job.is_unproved else Asker(locate(REGRESS), CAUSES, stop, lambda line: None)
+    asker = Asker(locate(REGRESS), CAUSES, stop, lambda line: None) if _has_programs(job) else None
     recorder = Recorder(stop, lambda line: None)
     for run in runs_of(scripts):
         for piece in run.pieces:
@@ -52,6 +52,11 @@ def carry_out(job: Job, stop: Stop, done: Callable[[int], None]) -> None:
                 stop.check()
                 _write_page(job, script.index, told.get(script.index), recorder)
                 done(script.index)
+
+
+def _has_programs(job: Job) -> bool:
+    """Whether there are programs to ask: proved ones, or a build that is kept."""
+    return not job.is_unproved or are_taken()
 
 
 def _known(piece: Sequence[Script], entries: Sequence[Entry]) -> dict[int, Cause]:
@@ -67,7 +72,7 @@ def _settled(piece: Sequence[Script], entries: Sequence[Entry]) -> SettledPiece:
 def _write_page(job: Job, place: int, cause: Cause | None, recorder: Recorder) -> None:
     entry = job.entries[place]
     diagram = diagram_of(entry.outcome, entry.text, entry.plot, cause, recorder, job.folder)
-    sheet = sheet_of(entry, cause, diagram, _met(entry, None if job.is_unproved else recorder))
+    sheet = sheet_of(entry, cause, diagram, _met(entry, recorder if _has_programs(job) else None))
     write(job.folder / FOLDER / sheet.row.file, script_page(sheet, job.is_unproved))
 
 

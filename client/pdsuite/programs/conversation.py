@@ -6,9 +6,10 @@ import tempfile
 from collections.abc import Iterator, Sequence
 from pathlib import Path
 
+from pdsuite.programs.building import Untried
 from pdsuite.programs.places import RECORD
 from pdsuite.programs.starts import Answer, Case, answer_of, input_of, parts_in, with_program
-from pdsuite.programs.tree import Build, Tool, Untried
+from pdsuite.programs.tree import Build, Tool
 from pdsuite.signals import Stop
 
 # So many starts may end the programs on the way; then others go on, of the same build.

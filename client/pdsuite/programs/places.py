@@ -13,6 +13,8 @@ FOLDER = "PDSUITE_PROGRAMS"
 PACKED = TOP / "version"
 # In a tree: what runs its programs as they stand, without proofs.
 TOOL = TOP / "tools/try_both.py"
+# What builds them so and keeps them, for any tree.
+BUILD_TOOL = TOP / "tools/build_unproved.py"
 # What says where a tree's program is, if it is proved.
 _BUILT = "tools/built.sh"
 REGRESS = "pdregress"
@@ -33,6 +35,16 @@ def locate(name: str) -> Path:
     if PACKED.exists():
         return TOP.parents[1] / "bin" / name
     return built(name, TOP)
+
+
+def take(folder: Path) -> None:
+    """Has the programs of a folder be those of this call from now on, also in processes that it starts."""
+    os.environ[FOLDER] = str(folder)
+
+
+def are_taken() -> bool:
+    """Whether the programs of this call are those of a folder."""
+    return bool(os.environ.get(FOLDER))
 
 
 def built(name: str, top: Path) -> Path:

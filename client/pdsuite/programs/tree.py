@@ -13,7 +13,7 @@ from dataclasses import dataclass
 from itertools import islice
 from pathlib import Path
 
-from pdsuite.faults import Fault
+from pdsuite.programs.building import Untried
 from pdsuite.programs.places import TOOL
 from pdsuite.programs.starts import Answer, Case, answers_in, input_of, parted, with_program
 from pdsuite.show.octets import shown
@@ -22,10 +22,6 @@ from pdsuite.signals import Stop
 # So many trees are built side by side at most.
 _MOST = 4
 _GRACE = 15.0
-
-
-class Untried(Fault):
-    """That a tree's programs can't be run as they stand; the lines below the first are what the compiler says."""
 
 
 @dataclass(frozen=True, slots=True)

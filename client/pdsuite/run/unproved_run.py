@@ -2,12 +2,11 @@
 
 from collections import ChainMap
 from collections.abc import Callable, Generator, Iterable, Mapping, Sequence
-from contextlib import suppress
 from dataclasses import dataclass, field, replace
 from pathlib import Path
 
 from pdsuite.faults import Fault
-from pdsuite.programs.places import RECORD, REGRESS, TOP
+from pdsuite.programs.places import RECORD, REGRESS
 from pdsuite.programs.program import Ended
 from pdsuite.programs.protocol import Cause, Unexpected
 from pdsuite.programs.protocol import add, blocks_in, causes_in, name_of, rows_in, set_and_show, set_key
@@ -23,7 +22,6 @@ from pdsuite.run.settling import SettledPiece, Step, load
 from pdsuite.scripts.settings import Settings, set_words
 from pdsuite.scripts.suite import Claim
 from pdsuite.scripts.text import Text
-from pdsuite.show.octets import shown_path
 from pdsuite.signals import Stop
 
 # Of a script the program is expected to say so much at most, beside as many octets as its text has.
@@ -64,11 +62,6 @@ class UnprovedResults:
     def steps(self, runs: Iterable[Run]) -> Generator[Step, None, None]:
         """The pieces of the runs, in their order."""
         yield from self.settled
-
-
-def first_line() -> str:
-    """What is said before a sender is run that isn't proved."""
-    return f"unproved: running without proofs, which takes about a minute; {_way_to_prove()} proves the programs"
 
 
 @dataclass(frozen=True)
@@ -264,11 +257,3 @@ def _settled(piece: Sequence[tuple[Script, Text | str]], outcomes: Mapping[int, 
 
 def _error(script: Script, reason: str) -> Outcome:
     return outcome_of(script, Row(Verdict.ERROR, word=reason))
-
-
-def _way_to_prove() -> str:
-    """The command that proves the programs of this tree, as it is written from here."""
-    with suppress(OSError):
-        if Path.cwd() == TOP:
-            return "./prove"
-    return shown_path(TOP / "prove")

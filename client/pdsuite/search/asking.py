@@ -96,9 +96,9 @@ class SideAsker:
 
 @contextmanager
 def askers_of(senders: Sequence[Sender], stop: Stop) -> Iterator[list[ClaimAsker]]:
-    """What asks senders: proved programs, or those of a tree, which are built once for the block, side by side."""
+    """What asks senders: programs, or those of a tree, which `rt try` builds once for the block, side by side."""
     with ExitStack() as stack:
-        trees = {it.top for it in senders if not it.is_proved}
+        trees = {it.top for it in senders if not it.has_programs}
         talks = {tree: stack.enter_context(Conversation(tree, stop)) for tree in trees}
         for talk in talks.values():
             talk.wait()
@@ -106,8 +106,8 @@ def askers_of(senders: Sequence[Sender], stop: Stop) -> Iterator[list[ClaimAsker
 
 
 def _asker(sender: Sender, stop: Stop, talks: Mapping[Path, Conversation]) -> ClaimAsker:
-    if sender.is_proved:
-        return ProvedAsker(sender, stop)
+    if sender.has_programs:
+        return ProgramAsker(sender, stop)
     return UnprovedAsker(sender, talks[sender.top])
 
 
@@ -118,8 +118,8 @@ def sizes() -> Iterator[int]:
     yield from repeat(_LATER)
 
 
-class ProvedAsker:
-    """Asks proved programs, several at a time."""
+class ProgramAsker:
+    """Asks programs, several at a time."""
 
     def __init__(self, sender: Sender, stop: Stop) -> None:
         programs = sender.programs or {}
@@ -174,7 +174,7 @@ class ProvedAsker:
 
 
 class UnprovedAsker:
-    """Asks the programs that were built of a tree as it stands."""
+    """Asks the programs of a tree as it stands, which `rt try` has built."""
 
     def __init__(self, sender: Sender, talk: Conversation) -> None:
         self._tree = sender.top

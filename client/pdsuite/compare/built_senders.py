@@ -1,0 +1,48 @@
+"""The senders that aren't proved, with programs that are built of their trees, side by side, or were built before."""
+
+from collections.abc import Callable, Sequence
+from concurrent.futures import ThreadPoolExecutor
+from dataclasses import replace
+from pathlib import Path
+
+from pdsuite.compare.senders import Sender
+from pdsuite.programs.building import NoBuild, Way, built, kept
+from pdsuite.programs.places import RECORD, REGRESS
+from pdsuite.programs.unproved import progress
+from pdsuite.show.screen import Screen
+from pdsuite.signals import Stop
+
+
+def with_programs(senders: Sequence[Sender], way: Way, stop: Stop, screen: Screen) -> list[Sender]:
+    """The senders, each with programs; where none can be built and kept, one stays a tree."""
+    trees = list(dict.fromkeys(it.top for it in senders if not it.has_programs))
+    folders = {it: kept(it, way) for it in trees}
+    if lacking := [it for it, folder in folders.items() if folder is None]:
+        what = "the sender" if len(lacking) == 1 else "both senders"
+        screen.note(f"pdsuite: building {what} first")
+        folders |= _built_side_by_side(lacking, way, stop, screen)
+    return [it if it.has_programs else _with(it, folders[it.top]) for it in senders]
+
+
+def _built_side_by_side(trees: Sequence[Path], way: Way, stop: Stop, screen: Screen) -> dict[Path, Path | None]:
+    """The folders of both programs of each tree."""
+    # Of several the line at the bottom of a terminal says how far the one is that spoke last.
+    tell = progress(screen, "" if len(trees) == 1 else " one of both")
+    try:
+        with ThreadPoolExecutor(len(trees)) as pool:
+            return dict(zip(trees, pool.map(lambda tree: _built(tree, way, stop, tell), trees)))
+    finally:
+        screen.clear()
+
+
+def _built(tree: Path, way: Way, stop: Stop, tell: Callable[[str, float], None]) -> Path | None:
+    try:
+        return built(tree, way, stop, tell)
+    except NoBuild:
+        return None
+
+
+def _with(sender: Sender, folder: Path | None) -> Sender:
+    if folder is None:
+        return sender
+    return replace(sender, programs={name: folder / name for name in (REGRESS, RECORD)}, is_build=True)
