@@ -1,4 +1,4 @@
-"""Tests of tools/source_sums.py: what the proof of a crate reads, and which kit it is that proves."""
+"""Tests of tools/source_sums.py and kit.py: what the proof of a crate reads, and which kit it is that proves."""
 
 import hashlib
 import os
@@ -11,7 +11,8 @@ import pytest
 TOP = Path(__file__).resolve().parents[1]
 sys.path.insert(0, str(TOP / "tools"))
 
-from source_sums import Unreadable, kit_identity, sources_below, sums  # noqa: E402
+from kit import kit_identity  # noqa: E402
+from source_sums import Unreadable, sources_below, sums  # noqa: E402
 
 READ = [
     "HANDLES",
@@ -60,8 +61,8 @@ def removed(path: Path) -> None:
 @pytest.mark.parametrize(
     ("change", "path", "why"),
     [
-        (linked, "crates/low", "crates/low is a link: put the folder itself there"),
-        (linked, "crates/low/src", "crates/low/src is a link: put the folder itself there"),
+        (linked, "crates/low", "crates/low is a link: put the file or folder itself there"),
+        (linked, "crates/low/src", "crates/low/src is a link: put the file or folder itself there"),
         (linked, "crates/low/proofs/f", "crates/low/proofs/f is a link: put the file or folder itself there"),
         (linked, "crates/low/src/lib.rt", "crates/low/src/lib.rt is a link: put the file or folder itself there"),
         (piped, "crates/low/src/lib.rt", "crates/low/src/lib.rt is no plain file"),

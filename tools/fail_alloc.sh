@@ -13,10 +13,9 @@
 #     status 2 and the fault 19 and writes nothing, or the refusal made no difference.
 # No run may take longer than a minute: some wait seconds for a thread that can't be made. Prints a line for each row, with
 # the refusals met, and `N passed, M failed` last.
-# Needs a C compiler, and test_book and test_desk as `rt run` leaves them in out/. PROGRAM, RECORD, BOOK and DESK name
-# other builds of the four.
+# Needs a C compiler. PROGRAM, RECORD, BOOK and DESK name other builds of pdregress, pdrecord, test_book and test_desk.
 #
-#   tools/fail_alloc.sh [INPUT..]    all, in minutes; pdregress and pdrecord are proved and built first, where need be
+#   tools/fail_alloc.sh [INPUT..]    all, in minutes; the programs are proved and built first, where need be
 #   tools/fail_alloc.sh --part       what the gate takes, in less than a minute: of a row with more than some allocations each
 #                                    second, third .. is refused; the programs are those that are built
 set -eu
@@ -42,9 +41,7 @@ lack() { # what is missing
 }
 
 built() { # NAME: its proved program
-    [ "$most" -gt 0 ] || case $1 in
-        pd*) "$top/prove" "$1" ;;
-    esac
+    [ "$most" -gt 0 ] || "$top/prove" "$1"
     "$top/tools/built.sh" "$1"
 }
 

@@ -1,15 +1,19 @@
-"""Lanes in which crates are proved: trees, each with one proof at a time, that hand each other what they proved."""
+"""Lanes in which crates are proved: copies of a tree, each with one proof at a time, that are handed what was proved."""
 from __future__ import annotations
 
 import contextlib
+import fcntl
 import os
 import re
 import shutil
 import signal
 import subprocess
+from collections.abc import Iterator
 from dataclasses import dataclass, field
 from pathlib import Path
 from threading import Lock
+
+from copies import Copy
 
 TOP = Path(__file__).resolve().parents[1]
 # What two lanes take at most, in octets, and how many jobs each of them gives a proof.
@@ -25,13 +29,18 @@ class Unproved(Exception):
 
 @dataclass
 class Lane:
-    """A tree of crates in which one crate at a time is proved, and the process that proves it."""
+    """A copy of crates in which one at a time is proved, by a kit's command, and the process that proves it."""
 
-    tree: Path
+    copy: Copy
+    command: str
     flags: list[str]
     proving: subprocess.Popen[bytes] | None = None
     is_stopped: bool = False
     lock: Lock = field(default_factory=Lock)
+
+    @property
+    def tree(self) -> Path:
+        return self.copy.tree
 
     def out(self, crate: str) -> Path:
         return self.tree / "crates" / crate / "out"
@@ -40,19 +49,24 @@ class Lane:
         """Calls rt on a crate, in a session of its own, and gives its status; what it says is the crate's log."""
         out = self.out(crate)
         out.mkdir(parents=True, exist_ok=True)
-        with (out / "build.log").open("wb") as log:
+        said = out / "build.log"
+        said.unlink(missing_ok=True)
+        with said.open("wb") as log:
             with self.lock:
                 if self.is_stopped:
                     raise Unproved(crate)
                 self.proving = subprocess.Popen(
-                    ["rt", *words],
+                    [self.command, *words],
                     cwd=out.parent,
                     stdin=subprocess.DEVNULL,
                     stdout=log,
                     stderr=log,
                     start_new_session=True,
                 )
-            return self.proving.wait()
+            status = self.proving.wait()
+        # Whoever reads it knows the tree alone.
+        said.write_bytes(said.read_bytes().replace(os.fsencode(self.tree), os.fsencode(TOP)))
+        return status
 
     def prove_library(self, library: str) -> None:
         if self.call(library, "lib", *self.flags):
@@ -81,7 +95,7 @@ def hand_over(folder: Path, to: Path, room: Path) -> None:
 
     ROOM is a folder of the same file system, where each part is made first, so that one who is killed leaves either.
     """
-    if folder == to or not folder.is_dir():
+    if not folder.is_dir():
         return
     to.mkdir(parents=True, exist_ok=True)
     for part in (it for it in folder.iterdir() if not it.name.startswith(LANE)):
@@ -109,6 +123,22 @@ def link(file: str, to: str) -> None:
         os.link(file, to, follow_symlinks=False)
     except OSError:
         shutil.copy2(file, to, follow_symlinks=False)
+
+
+@contextlib.contextmanager
+def held(crate: str, waits: bool = True) -> Iterator[bool]:
+    """Lets no `rt` work in a crate of the tree meanwhile, as each lets no other; without waiting, it may not come to that."""
+    folder = os.open(TOP / "crates" / crate, os.O_RDONLY)
+    is_held = True
+    try:
+        try:
+            fcntl.flock(folder, fcntl.LOCK_EX | (0 if waits else fcntl.LOCK_NB))
+        except OSError as error:
+            # Some file systems have no locks, and no rt waits there.
+            is_held = not isinstance(error, BlockingIOError)
+        yield is_held
+    finally:
+        os.close(folder)
 
 
 def copy_crates(crates: list[str], tree: Path) -> None:

@@ -1,24 +1,28 @@
-"""Proves and builds programs, all where none is named, and the libraries below them: prove [--lanes N] [PROGRAM..]
+"""Proves and builds programs, all where none is named, and the crates below them: prove [--lanes N] [CRATE..]
+
+A library that is named is proved with those below it. What is proved are copies of the files that the proofs read, made at
+the beginning. So an edit meanwhile is in no program, whether it stays or is taken back: where one stays, a line says
+that the tree has changed since. The errors name the tree's own files.
 
 Two crates are proved side by side, in two lanes, where the machine has four processors and 16 GB of free memory.
-`rt lib` locks each library below the one that it proves, so the second lane works in a copy of the crates. What is
-proved in one is handed to the other by hard links, and the copy is gone at the end.
+`rt lib` locks each library below the one that it proves, so each lane works in a copy of its own. What is kept of a crate
+comes into its lane by hard links, and so does what is proved into the tree and the other lane. The copies are gone at the
+end.
 
 Says on standard error which crate is proved, how many are left, and about how long they take: as long as they took
 last on this machine, as a file below ~/.cache/pdregress says. Where one isn't proved, it says each error with its file
 and line, which definitions aren't those by which it was proved last, and which laws name them. Interrupted, it keeps
-what was proved. Both end with status 2. Two calls in one tree work one after the other. In the end it keeps copies of
-all programs that are proved, with their commit, as tools/kept_programs.py says.
+what was proved. Both end with status 2, and so does a kit that doesn't say what its file KIT-ID has, or changes meanwhile.
+Two calls in one tree work one after the other. In the end it keeps copies of all programs that are proved, with their
+commit, as tools/kept_programs.py says.
 """
 from __future__ import annotations
 
 import argparse
 import contextlib
 import fcntl
-import hashlib
 import os
 import shutil
-import subprocess
 import sys
 import tempfile
 import time
@@ -27,13 +31,18 @@ from concurrent.futures import FIRST_COMPLETED, Future, ThreadPoolExecutor, wait
 from dataclasses import dataclass, field
 from pathlib import Path
 
+import kept_sums
+import proving_kit
 import stopping
 from changed_rules import keep, told
+from copies import Copy, copy_sources, settled
 from crate_graph import dependencies, libraries_below
 from kept_programs import keep_programs
-from lanes import JOBS, LANE, TOP, Lane, Unproved, copy_crates, hand_over, has_room
+from lanes import JOBS, LANE, TOP, Lane, Unproved, hand_over, has_room, held
+from proving_kit import Kit, Refused
 from prove_errors import errors
 from prove_times import Times, amount, key_of, time_of_proof
+from source_sums import TABLE, Unreadable, places_of, sources_below, sources_in, sums_of
 
 
 class Interrupted(Exception):
@@ -52,14 +61,14 @@ class Running:
 
 @dataclass
 class Work:
-    """Programs, the crates that are to be proved for them, those that are, and those that a lane is at.
+    """The crates that are to be proved, those that are, and those that a lane is at.
 
-    A program that is built is as old as this call, so an edit since is newer, and has the checksums of its sources.
+    `sums` are the checksums of what was copied, and `room` is a folder for what is handed over.
     """
 
-    programs: list[str]
-    begun: int
+    kit: Kit
     sums: dict[str, str]
+    room: Path
     uses: dict[str, list[str]]
     waiting: list[str]
     times: Times
@@ -83,8 +92,8 @@ class Work:
         above = max((self.chain_above(it) for it in self.waiting if crate in self.uses[it]), default=0.0)
         return self.expected[crate] + above
 
-    def prove(self, *lanes: Lane) -> None:
-        """Proves the crates in the first lane, and beside it in the last, which stands in a tree of its own."""
+    def prove(self, lanes: list[Lane]) -> None:
+        """Proves the crates, one in each lane at a time."""
         pool = ThreadPoolExecutor(len(lanes))
         try:
             while self.waiting or self.running:
@@ -96,9 +105,11 @@ class Work:
                 lane.stop()
             pool.shutdown()
             for it in self.running.values():
-                hand_over(it.lane.out(it.crate), lanes[0].out(it.crate), lanes[-1].tree)
+                with held(it.crate, waits=False) as is_held:
+                    if is_held:
+                        hand_over(it.lane.out(it.crate), out_of(it.crate), self.room)
 
-    def begin(self, pool: ThreadPoolExecutor, lanes: tuple[Lane, ...]) -> None:
+    def begin(self, pool: ThreadPoolExecutor, lanes: list[Lane]) -> None:
         """Gives each lane that is free a crate, with what is kept of it."""
         busy = [it.lane.tree for it in self.running.values()]
         for lane in (it for it in lanes if it.tree not in busy):
@@ -106,23 +117,31 @@ class Work:
             if crate is None:
                 return
             self.waiting.remove(crate)
-            hand_over(lanes[0].out(crate), lane.out(crate), lanes[-1].tree)
+            with held(crate):
+                hand_over(out_of(crate), lane.out(crate), self.room)
             self.say_begun(crate, len(lanes))
             running = Running(crate, lane, key_of(crate), time.time())
-            prove_crate = lane.prove_program if crate in self.programs else lane.prove_library
+            prove_crate = lane.prove_program if is_program(lane.tree, crate) else lane.prove_library
             self.running[pool.submit(prove_crate, crate)] = running
 
-    def end(self, future: Future[None], lanes: tuple[Lane, ...]) -> None:
-        """Gives the other lane what it reads of a crate that was proved, and the first all that is kept of it."""
+    def end(self, future: Future[None], lanes: list[Lane]) -> None:
+        """Gives the other lane what it reads of a crate that was proved, and the tree all that is kept of it."""
         future.result()
         it = self.running[future]
+        if changed := it.lane.copy.changed():
+            del self.running[future]
+            raise Refused(f"{it.lane.tree}/{changed} has changed while it was proved: run this again")
+        self.kit.check()
         self.keep_time(it)
-        keep(it.lane.out(it.crate), folders_for(it.crate, self.uses))
-        hand_over(it.lane.out(it.crate), lanes[0].out(it.crate), lanes[-1].tree)
-        if it.crate in self.programs:
-            self.date(it.crate, lanes[0].out(it.crate) / it.crate)
+        out = it.lane.out(it.crate)
+        keep(out, folders_for(it.lane.tree, it.crate, self.uses))
+        if is_program(it.lane.tree, it.crate):
+            self.keep_sums(it.crate, it.lane.tree)
         else:
-            hand_over(it.lane.out(it.crate) / "rlib", lanes[-1].out(it.crate) / "rlib", lanes[-1].tree)
+            for other in (lane for lane in lanes if lane.tree != it.lane.tree):
+                hand_over(out / "rlib", other.out(it.crate) / "rlib", self.room)
+        with held(it.crate):
+            hand_over(out, out_of(it.crate), self.room)
         # Only now, so that what was proved isn't lost where a signal comes in the midst.
         del self.running[future]
         self.proved.add(it.crate)
@@ -132,107 +151,125 @@ class Work:
         if time_of_proof(it.lane.out(it.crate)) >= it.begun:
             self.times.keep(it.key, time.time() - it.begun)
 
-    def date(self, program: str, built: Path) -> None:
-        """Makes a program as old as this call, and keeps the checksums beside it."""
-        own = f"{hashlib.sha256(built.read_bytes()).hexdigest()}  {built.relative_to(TOP)}\n"
-        built.with_suffix(".sums").write_text(own + self.sums[program])
-        os.utime(built, ns=(self.begun, self.begun))
+    def keep_sums(self, program: str, tree: Path) -> None:
+        """Keeps the checksums of a program and of what its proof read beside it."""
+        path = kept_sums.path_of(program)
+        read = {it: self.sums[it] for it in sources_below(str(tree), program)}
+        kept_sums.put(f"{tree}/{path}.sums", kept_sums.record(sums_of(str(tree), [path]), read, self.kit.name))
 
 
 def say(text: str) -> None:
     print(f"prove: {text}", file=sys.stderr, flush=True)
 
 
-def prove(programs: list[str], is_one_lane: bool) -> None:
-    begun = time.time_ns()
-    sums = {program: sums_of(program) for program in programs}
-    uses = dependencies((TOP / "crates.txt").read_text())
+def out_of(crate: str) -> Path:
+    """The folder of what is kept of a crate of the tree."""
+    return TOP / "crates" / crate / "out"
+
+
+def is_program(tree: Path, crate: str) -> bool:
+    return (tree / "crates" / crate / "src" / "main.rt").exists()
+
+
+def prove(named: list[str], uses: dict[str, list[str]], lanes: int, kit: Kit) -> str | None:
+    """Proves crates and those below them. Where what their proofs read isn't in the tree any more, that is told."""
+    crates = tuple(dict.fromkeys(low for it in named for low in [*libraries_below(it, uses), it]))
     times = Times.read()
-    crates = dict.fromkeys(it for program in programs for it in [*libraries_below(program, uses), program])
-    work = Work(programs, begun, sums, uses, list(crates), times, times.expected(uses))
-    try:
-        if is_one_lane:
-            work.prove(Lane(TOP, []))
-        else:
-            prove_in_two_lanes(work)
-    except KeyboardInterrupt:
-        raise Interrupted(" and ".join(it.crate for it in work.running.values())) from None
-
-
-def prove_in_two_lanes(work: Work) -> None:
-    flags = ["--jobs", str(JOBS)]
-    out = TOP / "crates" / work.programs[0] / "out"
+    out = out_of(named[0])
     out.mkdir(parents=True, exist_ok=True)
-    for left in out.glob(f"{LANE}*"):
+    for left in TOP.glob(f"crates/*/out/{LANE}*"):
         shutil.rmtree(left, ignore_errors=True)
-    with tempfile.TemporaryDirectory(prefix=LANE, dir=out) as copy:
-        copy_crates(work.waiting, Path(copy))
-        work.prove(Lane(TOP, flags), Lane(Path(copy), flags))
+    with tempfile.TemporaryDirectory(prefix=LANE, dir=out) as folder:
+        trees = [Path(folder) / str(number) for number in range(lanes)]
+        read = copy_sources(TOP, crates, trees)
+        work = Work(kit, read, Path(folder), uses, list(crates), times, times.expected(uses))
+        flags = ["--jobs", str(JOBS)] if lanes > 1 else []
+        try:
+            work.prove([Lane(settled(tree, crates), kit.command, flags) for tree in trees])
+        except KeyboardInterrupt:
+            raise Interrupted(" and ".join(it.crate for it in work.running.values())) from None
+    try:
+        differing = read.items() ^ sums_of(str(TOP), sources_in(places_of(str(TOP), crates))).items()
+    except Unreadable as why:
+        return str(why)
+    return f"{min(differing)[0]} has changed since this began" if differing else None
 
 
 @contextlib.contextmanager
 def alone() -> Iterator[None]:
     """Lets no other call work in this tree meanwhile."""
-    with (TOP / "crates.txt").open() as table:
+    tree = os.open(TOP, os.O_RDONLY)
+    try:
         try:
-            fcntl.flock(table, fcntl.LOCK_EX | fcntl.LOCK_NB)
+            fcntl.flock(tree, fcntl.LOCK_EX | fcntl.LOCK_NB)
         except BlockingIOError:
             say("waiting for another call that proves here")
-            fcntl.flock(table, fcntl.LOCK_EX)
+            fcntl.flock(tree, fcntl.LOCK_EX)
         yield
+    finally:
+        os.close(tree)
 
 
-def sums_of(program: str) -> str:
-    """The checksums of what the proof of a program reads."""
-    return subprocess.check_output([TOP / "tools" / "built.sh", "--sums", program], text=True)
-
-
-def is_built(program: str) -> bool:
-    return subprocess.run([TOP / "tools" / "built.sh", program], capture_output=True).returncode == 0
-
-
-def folders_for(crate: str, uses: dict[str, list[str]]) -> list[Path]:
+def folders_for(tree: Path, crate: str, uses: dict[str, list[str]]) -> list[Path]:
     """The folders of a crate and of those below it."""
-    return [TOP / "crates" / it for it in [*libraries_below(crate, uses), crate]]
+    return [tree / "crates" / it for it in [*libraries_below(crate, uses), crate]]
 
 
-def say_errors(crate: str) -> None:
+def say_errors(crate: str, uses: dict[str, list[str]]) -> None:
     """Says why a crate isn't proved, and which definitions have changed since it was."""
     folder = TOP / "crates" / crate
     log = folder / "out" / "build.log"
     text = log.read_text(errors="replace")
     say(f"{crate} isn't proved, or wasn't built:")
     print(*list(errors(text, folder)) or text.splitlines()[-5:], sep="\n", file=sys.stderr)
-    for line in told(log.parent, folders_for(crate, dependencies((TOP / "crates.txt").read_text()))):
+    for line in told(log.parent, folders_for(TOP, crate, uses)):
         print(line, file=sys.stderr)
     say(f"the whole log: {log}")
 
 
+def run(named: list[str], every: list[str], lanes: int) -> None:
+    """Proves crates that are named, those that aren't proved, by the kit that is there before and after."""
+    kit = proving_kit.working()
+    with alone():
+        uses = dependencies((TOP / TABLE).read_text())
+        left = [it for it in named if not (is_program(TOP, it) and kept_sums.is_proved(str(TOP), it))]
+        changed = prove(left, uses, lanes, kit) if left else None
+        proving_kit.working()
+        if changed:
+            raise Refused(f"{changed}, and what was proved is as all was before: run this again")
+        keep_programs([it for it in every if kept_sums.is_proved(str(TOP), it)])
+
+
+def say_proved(crates: list[str]) -> None:
+    programs = [it for it in crates if is_program(TOP, it)]
+    if programs:
+        say(f"proved and built: {', '.join(programs)}")
+    if libraries := [it for it in crates if it not in programs]:
+        say(f"proved: {', '.join(libraries)}")
+
+
 def main() -> int:
     every = (TOP / "packaging" / "programs.txt").read_text().split()
+    uses = dependencies((TOP / TABLE).read_text())
     parser = argparse.ArgumentParser(prog="prove", allow_abbrev=False, description=(__doc__ or "").partition("\n")[0])
-    parser.add_argument("programs", metavar="PROGRAM", nargs="*", help=", ".join(every))
+    parser.add_argument("crates", metavar="CRATE", nargs="*", help=f"{', '.join(every)}, or a library")
     parser.add_argument("--lanes", type=int, choices=(1, 2), help="how many crates are proved side by side")
     asked = parser.parse_args()
-    programs = list(dict.fromkeys(asked.programs)) or every
-    for unknown in (it for it in programs if it not in every):
-        parser.error(f"there is no program {unknown}")
-    if shutil.which("rt") is None:
-        say("the Rattle kit's command 'rt' has to be on the PATH")
-        return 2
+    named = list(dict.fromkeys(asked.crates)) or every
+    for unknown in (it for it in named if it not in uses):
+        parser.error(f"there is no crate {unknown}; there are {', '.join(uses)}")
     stopping.heed()
     try:
-        with alone():
-            left = [it for it in programs if not is_built(it)]
-            if left:
-                prove(left, (asked.lanes or (2 if has_room() else 1)) == 1)
-            keep_programs([it for it in every if it in programs or is_built(it)])
-        say(f"proved and built: {', '.join(programs)}")
+        run(named, every, asked.lanes or (2 if has_room() else 1))
+        say_proved(named)
     except Unproved as crate:
-        say_errors(str(crate))
+        say_errors(str(crate), uses)
         return 2
     except Interrupted as at:
         say(f"interrupted at {at}; what was proved is kept: run it again to go on")
+        return 2
+    except (Refused, Unreadable) as why:
+        say(str(why))
         return 2
     except OSError as error:
         say(f"can't go on: {error}")

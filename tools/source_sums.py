@@ -1,14 +1,13 @@
-"""What the proof of a crate reads, with checksums: its files in a tree, and the kit by which it is proved.
+"""What the proof of a crate reads: its files in a tree, with their checksums.
 
 A proof reads crates.txt, HANDLES, and of the crate and each one below it the files `.rt` and `.antt` of src/, specs/ and
-proofs/. Files are named by paths below the top of the tree, such as `crates/low/src/lib.rt`. Nothing here goes by times.
-
-Each start of a program runs this, so it imports little, and takes and gives paths as text.
+proofs/. Files are named by paths below the top of the tree, such as `crates/low/src/lib.rt`; a tree is named by its top.
 """
 from __future__ import annotations
 
 import os
 from collections.abc import Iterable, Iterator
+from hashlib import sha256
 
 from crate_graph import dependencies, libraries_below
 
@@ -16,14 +15,19 @@ TABLE = "crates.txt"
 HANDLES = "HANDLES"
 PARTS = ("src", "specs", "proofs")
 KINDS = (".rt", ".antt")
-# The kit's command, and the file beside its folder bin/ that names the kit.
-COMMAND = "rt"
-KIT = "KIT-ID"
 ESCAPES = {ord("\n"): "\\n", ord("\\"): "\\\\"}
+# What a place is: a file that is read, a folder, or else the reason why no proof reads the crate.
+FILE = "file"
+FOLDER = "folder"
+LINK = "is a link: put the file or folder itself there"
 
 
 class Unreadable(Exception):
-    """Why no proof reads a crate of a tree: the crate isn't named, a file isn't there, or is a link or a pipe."""
+    """Why no proof reads a crate of a tree: no line of crates.txt names it, or a file can't be read."""
+
+
+class NoFile(Unreadable):
+    """That a proof would read a link or a pipe, which the kit refuses."""
 
 
 def crates_of(top: str, crate: str) -> list[str]:
@@ -40,43 +44,55 @@ def crates_of(top: str, crate: str) -> list[str]:
 
 def sources_below(top: str, crate: str) -> list[str]:
     """The files that the proof of a crate reads, in the order of their paths. A link is refused, as the kit refuses it."""
-    return sorted((it for it, is_folder in places_below(top, crate) if not is_folder), key=os.fsencode)
+    return sources_in(places_below(top, crate))
 
 
-def places_below(top: str, crate: str) -> Iterator[tuple[str, bool]]:
-    """The files that the proof of a crate reads and the folders that they are in, and which of these are folders."""
-    yield from ((it, False) for it in (TABLE, HANDLES) if os.path.lexists(f"{top}/{it}"))
-    for name in crates_of(top, crate):
-        for folder in (f"crates/{name}", *(f"crates/{name}/{part}" for part in PARTS)):
-            if os.path.islink(f"{top}/{folder}"):
-                raise Unreadable(f"{folder} is a link: put the folder itself there")
-        if not os.path.isdir(f"{top}/crates/{name}"):
-            raise Unreadable(f"crates/{name} is no folder")
-        yield f"crates/{name}", True
-        for part in PARTS:
-            if os.path.lexists(f"{top}/crates/{name}/{part}"):
-                yield from places_in(top, f"crates/{name}/{part}")
+def sources_in(places: Iterable[tuple[str, str]]) -> list[str]:
+    """The files that are read of some places, if no place forbids it, in the order of their paths."""
+    found = []
+    for path, kind in places:
+        if kind == FILE:
+            found.append(path)
+        elif kind != FOLDER:
+            raise NoFile(f"{path} {kind}")
+    return sorted(found, key=os.fsencode)
 
 
-def places_in(top: str, folder: str) -> Iterator[tuple[str, bool]]:
-    """A folder, and the sources and folders below it. A link that leads to nothing, as an editor makes one, isn't read."""
-    try:
-        with os.scandir(f"{top}/{folder}") as found:
-            entries = list(found)
-    except OSError as error:
-        raise Unreadable(f"{folder}: {error.strerror}") from None
-    yield folder, True
-    for entry in entries:
-        path = f"{folder}/{entry.name}"
-        if entry.is_dir(follow_symlinks=False):
-            yield from places_in(top, path)
-        elif entry.is_symlink():
-            if os.path.exists(entry.path):
-                raise Unreadable(f"{path} is a link: put the file or folder itself there")
-        elif entry.name.endswith(KINDS):
-            if not entry.is_file(follow_symlinks=False):
-                raise Unreadable(f"{path} is no plain file")
-            yield path, False
+def places_below(top: str, crate: str) -> Iterator[tuple[str, str]]:
+    """All that the proof of a crate reads, the folders of that, and what forbids it: each with what it is."""
+    return places_of(top, crates_of(top, crate))
+
+
+def places_of(top: str, crates: Iterable[str]) -> Iterator[tuple[str, str]]:
+    """The same of these crates alone."""
+    yield from ((it, FILE) for it in (TABLE, HANDLES) if os.path.lexists(f"{top}/{it}"))
+    for folder in (f"crates/{it}" for it in crates):
+        if os.path.islink(f"{top}/{folder}"):
+            yield folder, LINK
+        elif not os.path.isdir(f"{top}/{folder}"):
+            raise Unreadable(f"{folder} is no folder")
+        else:
+            yield folder, FOLDER
+            for part in PARTS:
+                yield from places_at(f"{folder}/{part}", f"{top}/{folder}/{part}")
+
+
+def places_at(path: str, place: str) -> Iterator[tuple[str, str]]:
+    """What is read of a path, which is at this place, and of what is below it."""
+    if os.path.islink(place):
+        # A link of an editor, which leads to nothing, isn't read.
+        if os.path.exists(place):
+            yield path, LINK
+    elif os.path.isdir(place):
+        yield path, FOLDER
+        try:
+            names = sorted(os.listdir(place))
+        except OSError as error:
+            raise Unreadable(f"{path}: {error.strerror}") from None
+        for name in names:
+            yield from places_at(f"{path}/{name}", f"{place}/{name}")
+    elif path.endswith(KINDS) and os.path.exists(place):
+        yield path, FILE if os.path.isfile(place) else "is no plain file"
 
 
 def sums(top: str, crate: str) -> dict[str, str]:
@@ -86,8 +102,6 @@ def sums(top: str, crate: str) -> dict[str, str]:
 
 def sums_of(top: str, paths: Iterable[str]) -> dict[str, str]:
     """The SHA-256 of each of these files of a tree, by its path."""
-    from hashlib import sha256  # Who finds nothing changed doesn't pay for what makes it.
-
     found = {}
     for path in paths:
         try:
@@ -105,31 +119,3 @@ def lines_of(found: dict[str, str]) -> bytes:
     b'12  a\\n34  b\\\\nc\\n'
     """
     return os.fsencode("".join(f"{it}  {path.translate(ESCAPES)}\n" for path, it in found.items()))
-
-
-def command_of_kit() -> str | None:
-    """The path of the kit's command `rt`, the first one on the PATH, or None where there is none."""
-    for folder in os.environ.get("PATH", os.defpath).split(os.pathsep):
-        path = os.path.join(folder, COMMAND)
-        if os.path.isfile(path) and os.access(path, os.X_OK):
-            return path
-    return None
-
-
-def kit_identity() -> str | None:
-    """What names the kit whose command is the first `rt` on the PATH: the text of its file KIT-ID.
-
-    It is None where no `rt` is on the PATH, and empty, which is equal to no kit, where this is no command of a kit's.
-    """
-    command = command_of_kit()
-    return None if command is None else identity_of(command)
-
-
-def identity_of(command: str) -> str:
-    """What names the kit of a command, all links followed, or nothing."""
-    folder = os.path.dirname(os.path.dirname(os.path.realpath(command)))
-    try:
-        with open(f"{folder}/{KIT}", encoding="utf-8", errors="replace") as file:
-            return " ".join(file.read().split())
-    except OSError:
-        return ""

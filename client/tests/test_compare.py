@@ -244,8 +244,7 @@ def test_a_folder_of_launchers_is_the_tree_that_they_are_of(tree: Tree) -> None:
 def test_a_tree_whose_programs_are_proved_is_not_built(tree: Tree) -> None:
     for name in ("pdregress", "pdrecord"):
         shutil.copy(TOP / name, tree.top)
-        (tree.top / "crates" / name / "out").mkdir()
-        shutil.copy(tree.bin / name, tree.top / "crates" / name / "out")
+    tree.put_proved()
     called = tree.call("compare", "--base", tree.top, "--with", tree.bin, "suite")
     assert (called.status, called.err) == (0, f"pdsuite: before: {tree.top}; after: {tree.bin}\n")
     assert tree.builds() == 0 and "UNPROVED" not in called.out

@@ -61,7 +61,7 @@ def test_what_is_not_proved_is_not_packed(tmp_path: Path) -> None:
     tool = clone_of_tools(tmp_path)
     (tmp_path / "packaging").mkdir()
     (tmp_path / "packaging/programs.txt").write_text("pdregress\n")
-    for name in ("tools/built.sh", "tools/crates_below.sh", "crates.txt", "prove"):
+    for name in ("tools/built.sh", "crates.txt", "prove"):
         shutil.copy(TOP / name, tmp_path / name)
     for module in TOP.glob("tools/*.py"):
         shutil.copy(module, tmp_path / "tools")

@@ -12,6 +12,7 @@ from pathlib import Path
 import pytest
 
 from tests.helpers import HANGS, PASSES, TOP, Call, write
+from tests.trees import vouch
 
 
 def test_it_runs_under_the_systems_python_whatever_comes_first_on_the_path(
@@ -80,7 +81,7 @@ def test_a_program_that_is_not_built_is_named_with_its_command(words: list[str],
     assert not (tmp_path / "crates").exists()
 
 
-def test_a_program_older_than_its_sources_is_not_taken(stand_in: Path, tmp_path: Path) -> None:
+def test_a_program_whose_sources_have_changed_is_not_taken(stand_in: Path, tmp_path: Path) -> None:
     command = copied(tmp_path)
     (tmp_path / "crates.txt").write_text("low:\npdregress: low\n")
     for name in ("low/src", "pdregress/src", "pdregress/out"):
@@ -95,9 +96,13 @@ def test_a_program_older_than_its_sources_is_not_taken(stand_in: Path, tmp_path:
         words: list[str | Path] = [command, "run", "--proved", "suite"]
         return subprocess.run(words, cwd=tmp_path, env=environment, capture_output=True).returncode
 
-    os.utime(source, (1, 1))
+    assert status() == 2
+    vouch(tmp_path, ["pdregress"], environment)
     assert status() == 0
     os.utime(source, (2**32, 2**32))
+    assert status() == 0
+    source.write_text("// an edit\n")
+    os.utime(source, (1, 1))
     assert status() == 2
 
 

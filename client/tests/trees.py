@@ -1,8 +1,10 @@
 """A tree of a test's own, in which nothing is proved: the client and the tools, and crates that a stand-in builds."""
 
+import hashlib
 import os
 import shutil
 import subprocess
+from collections.abc import Iterable, Mapping
 from pathlib import Path
 
 from tests.helpers import HANGS, TOP, Called
@@ -13,9 +15,14 @@ PROGRAMS = ("pdregress", "pdrecord")
 PAGE = "# A page\n\n## Loss\n- An octet is lost when three runs lie above it. (RFC 6675, section 4)\n- Own.\n"
 _TOOLS = (
     "both.rattle",
+    "built.py",
     "built.sh",
-    "crates_below.sh",
+    "crate_graph.py",
+    "kept_sums.py",
+    "kit.py",
     "kept_programs.py",
+    "source_sums.py",
+    "stamps.py",
     "stopping.py",
     "try_both.py",
     "try_cases.py",
@@ -26,6 +33,17 @@ _STAND_INS = {
     "pdregress": "stand_in.py",
     "pdrecord": "stand_in_record.py",
 }
+
+
+def vouch(top: Path, programs: Iterable[str], environment: Mapping[str, str]) -> None:
+    """Keeps the checksums of a tree's programs and sources as they stand, as ./prove does."""
+    for name in programs:
+        path = f"crates/{name}/out/{name}"
+        words: list[str | Path] = [top / "tools/built.sh", "--sums", name]
+        kept = subprocess.run(words, env=environment, check=True, capture_output=True).stdout
+        kit = b"" if b"\nkit: " in kept else b"kit: a kit\n"  # As where no `rt` is on the PATH.
+        own = f"{hashlib.sha256((top / path).read_bytes()).hexdigest()}  {path}\n"
+        (top / f"{path}.sums").write_bytes(own.encode() + kept + kit)
 
 
 class Tree:
@@ -43,6 +61,7 @@ class Tree:
         shutil.copy(TOP / "client/packages.txt", self.top / "client")
         for name in _TOOLS:
             shutil.copy(TOP / "tools" / name, self.top / "tools")
+        (top / "KIT-ID").write_text("a kit\n")  # It names the kit of the stand-in for `rt`.
         for name, file in _STAND_INS.items():
             shutil.copy(HERE / file, self.bin / name)
         for name in PROGRAMS:
@@ -59,6 +78,13 @@ class Tree:
             "XDG_CACHE_HOME": str(self.notes / "cache"),
             "PATH": f"{self.bin}:{os.environ['PATH']}",
         }
+
+    def put_proved(self) -> None:
+        """Gives it stand-ins for its programs, which count as proved."""
+        for name in PROGRAMS:
+            (self.top / "crates" / name / "out").mkdir()
+            shutil.copy(self.bin / name, self.top / "crates" / name / "out")
+        vouch(self.top, PROGRAMS, self.environment)
 
     def put_rows(self, rows: str) -> None:
         """Gives it tests: rows, and what tells them."""

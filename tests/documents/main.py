@@ -87,9 +87,11 @@ def built_tree(files: list[Path], folder: Path) -> str | None:
         said = subprocess.run([TOP / "tools/built.sh", name], capture_output=True, text=True, check=False)
         if said.returncode:
             return said.stderr.strip()
+        built = Path(said.stdout.strip())
         out = folder / "crates" / name / "out"
         out.mkdir()
-        shutil.copy(said.stdout.strip(), out / name)
+        for path in (built, built.with_suffix(".sums")):
+            shutil.copy(path, out)
     return None
 
 

@@ -47,6 +47,8 @@ test_adding() {
     lines 4097 >"$work/scripts/too_long.pkt"
 
     expect adds "$(printf 'add good 2\none\ntwo\nadd empty 0\nadd -a_b_c 1\n\r\nstatus 0')" add good.pkt empty.pkt '-a=b c.pkt'
+    printf 'one\n' >"$work/scripts/.pkt"
+    expect name-that-is-an-ending "$(printf 'add .pkt 1\none\nstatus 0')" add .pkt
     expect newline-in-a-name "$(printf 'add a_b 1\none\nstatus 0')" add "$broken"
     expect a-name-is-cut "$(printf 'add %s 1\none\nstatus 0' "$(octets 65 | tr -d '\n')")" add "$long"
     expect no-file "$(refused 'no file is named: tools/add_scripts.sh FILE..')" add

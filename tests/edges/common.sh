@@ -19,6 +19,25 @@ expect() { # NAME WANTED COMMAND..
     fi
 }
 
+# What says which programs are proved.
+built='built.sh built.py crate_graph.py kept_sums.py kit.py source_sums.py stamps.py'
+
+copy_built() { # TREE
+    mkdir -p "$1/tools"
+    for tool in $built; do cp "$top/tools/$tool" "$1/tools"; done
+}
+
+vouch() { # TREE PROGRAM..: keeps the checksums of programs as they stand, as ./prove does
+    tree=$1
+    shift
+    for program in "$@"; do
+        file=crates/$program/out/$program
+        (cd "$tree" && sha256sum "$file" && tools/built.sh --sums "$program") >"$work/sums"
+        command -v rt >/dev/null || echo 'kit: a kit' >>"$work/sums"
+        mv "$work/sums" "$tree/$file.sums"
+    done
+}
+
 in_folder() ( # FOLDER COMMAND..
     cd "$1"
     shift

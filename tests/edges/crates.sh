@@ -2,11 +2,14 @@
 # that stands in. It is read by the tests that need it.
 programs='pdregress pdrecord'
 build=$work/build
+kit=$work/kit
 export NOTES="$work/notes" XDG_CACHE_HOME="$work/cache"
 
 make_crates() {
-    rm -rf "$build" "$NOTES" "$XDG_CACHE_HOME"
-    mkdir -p "$build/packaging" "$NOTES"
+    rm -rf "$build" "$kit" "$NOTES" "$XDG_CACHE_HOME"
+    mkdir -p "$build/packaging" "$kit/bin" "$NOTES"
+    cp "$top/tests/edges/stand_in/rt" "$kit/bin"
+    echo 'a kit' >"$kit/KIT-ID"
     cp -R "$top/tools" "$top/HANDLES" "$top/prove" "$top/pdregress" "$build"
     cp "$top/packaging/programs.txt" "$build/packaging"
     printf '%s\n' '# NAME: DEP DEP ..' low: 'left: low' 'right may_wait=1: low toml' 'high: left right' >"$build/crates.txt"
@@ -19,6 +22,7 @@ make_crates() {
         echo 'fn f() {}' >"$build/crates/$crate/src/lib.rt"
         echo '-- a lemma' >"$build/crates/$crate/proofs/Lib.antt"
     done
+    for program in $programs; do : >"$build/crates/$program/src/main.rt"; done
 }
 
 anew() {
@@ -27,7 +31,7 @@ anew() {
 }
 
 with_rt() { # COMMAND.. by the `rt` that stands in
-    env PATH="$top/tests/edges/stand_in:$PATH" "$@"
+    env PATH="$kit/bin:$PATH" "$@"
 }
 
 prove() { # WORD..

@@ -1,9 +1,9 @@
 # Tests of the programs called through links, in a copy whose programs say their names.
-# A copy of the two names, whose programs are newer than their sources and say which they are.
+# A copy of the two names, whose programs count as proved and say which they are.
 make_tree() {
-    mkdir -p "$work/tree/tools" "$work/bin" "$work/far/tree"
+    mkdir -p "$work/tree" "$work/bin" "$work/far/tree"
+    copy_built "$work/tree"
     cp "$top/pdregress" "$work/tree/pdregress"
-    cp "$top/tools/built.sh" "$top/tools/crates_below.sh" "$work/tree/tools"
     printf '%s:\n' pdregress pdrecord >"$work/tree/crates.txt"
     for program in pdregress pdrecord; do
         [ "$program" = pdregress ] || ln -s pdregress "$work/tree/$program"
@@ -12,6 +12,7 @@ make_tree() {
         printf '#!/bin/sh\necho "%s $*"\n' "$program" >"$work/tree/crates/$program/out/$program"
         chmod +x "$work/tree/crates/$program/out/$program"
     done
+    vouch "$work/tree" pdregress pdrecord
 }
 
 test_links() {
@@ -22,6 +23,8 @@ test_links() {
     ln -s ../tree/pdrecord "$work/bin/relative"
     ln -s relative "$work/bin/twice"
     ln -s ../tree/pdregress "$work/bin/runner"
+    mkdir "$work/other"
+    ln -s ../bin/pdrecord "$work/other/pdregress"
     ln -s "$work/bin" "$work/far/away"
     for folder in /tmp "$work/bin" "$work/far"; do
         for program in pdregress pdrecord; do
@@ -32,6 +35,7 @@ test_links() {
     expect own-link "$(printf 'pdrecord \nstatus 0')" in_folder "$work/tree" ./pdrecord
     expect relative-link "$(printf 'pdrecord \nstatus 0')" in_folder "$work/bin" ./relative
     expect link-to-a-link "$(printf 'pdrecord \nstatus 0')" in_folder "$work" bin/twice
+    expect last-name-on-the-way "$(printf 'pdrecord \nstatus 0')" in_folder "$work" other/pdregress
     expect link-of-another-name "$(printf 'pdregress \nstatus 0')" in_folder "$work/far" ../bin/runner
     expect folder-that-is-a-link "$(printf 'pdrecord \nstatus 0')" in_folder "$work/far" away/relative
     expect relative-path "$(printf 'pdrecord \nstatus 0')" in_folder "$work" env PATH="far/away:$PATH" pdrecord

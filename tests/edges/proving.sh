@@ -15,7 +15,7 @@ two_calls() { # what two say, of which one begins while the other proves: it has
 
 trees_of() { # PROGRAM..: each that is up to date, and in how many trees they were proved
     for program in "$@"; do
-        "$build/tools/built.sh" "$program" >"$work/built" || return
+        with_rt "$build/tools/built.sh" "$program" >"$work/built" || return
         echo "$program $(tail -n "$#" "$NOTES/trees" | sort -u | wc -l)"
     done
 }
@@ -23,11 +23,21 @@ trees_of() { # PROGRAM..: each that is up to date, and in how many trees they we
 hung_up() { # the status of one whose terminal is closed, as `nohup` begins it
     (
         trap '' HUP
-        TAKES=1 exec env PATH="$top/tests/edges/stand_in:$PATH" "$build/prove" pdregress
+        TAKES=1 exec env PATH="$kit/bin:$PATH" "$build/prove" pdregress
     ) 2>/dev/null &
     while [ ! -e "$NOTES/trees" ]; do sleep 0.1; done
     kill -HUP $!
     wait $! && echo 0
+}
+
+interrupted() { # what is said by one that a signal ends while it proves, and its status
+    (TAKES=60 exec env PATH="$kit/bin:$PATH" "$build/prove" --lanes 2 pdregress) 2>"$work/interrupted" &
+    while [ ! -e "$NOTES/trees" ]; do sleep 0.1; done
+    kill -TERM $!
+    code=0
+    wait $! || code=$?
+    cat "$work/interrupted"
+    echo "$code"
 }
 
 proved() { # what is kept of the crates, in the first tree, and how many trees there were
@@ -71,16 +81,148 @@ test_lanes() {
     expect one-lane "$(printf '! prove: proving %s crate%s and less than a minute are left\n' 'low; 5' s 'left; 4' s 'right; 3' s 'high; 2' s 'pdregress; 1' ''; printf '! prove: proved and built: pdregress\nstatus 0')" quick prove --lanes 1 pdregress
     anew
     expect two-lanes "$(printf 'prove: %s\n' 'proved and built: pdregress'; printf 'prove: proving %s\n' high left low pdregress right; echo status 0)" begun --lanes 2 pdregress
-    expect both-lanes-are-used "$(kept high left low; printf 'pdregress/out/%s\n' build.log definitions.json incremental pdregress pdregress.sums rlib; kept right; printf '2\nstatus 0')" proved
+    expect both-lanes-are-used "$(kept high left low; printf 'pdregress/out/%s\n' build.log definitions.json incremental pdregress pdregress.stamps pdregress.sums rlib; kept right; printf '2\nstatus 0')" proved
     expect nothing-is-left "$(printf '! prove: proved and built: pdregress\nstatus 0')" prove pdregress
     expect all-programs "$(printf 'prove: %s\n' 'proved and built: pdregress, pdrecord'; printf 'prove: proving %s\n' high left low pdrecord right; echo status 0)" begun
-    expect no-such-program "$(printf 'prove: error: there is no program low\nstatus 2')" refused_words low
+    expect no-such-crate "$(printf 'prove: error: there is no crate middle; there are low, left, right, high, pdregress, pdrecord\nstatus 2')" refused_words low middle
     expect no-such-word "$(printf 'prove: error: unrecognized arguments: --quick\nstatus 2')" refused_words --quick
     anew
     expect programs-in-two-lanes "$(printf 'prove: %s\n' 'proved and built: pdregress, pdrecord'; printf 'prove: proving %s\n' high left low pdrecord pdregress right; echo status 0)" begun --lanes 2
     expect programs-in-two-lanes-are-built "$(printf 'pdregress 2\npdrecord 2\nstatus 0')" trees_of $programs
     anew
     expect two-calls "$(printf 'prove: %s\n' 'proved and built: pdregress' 'proved and built: pdregress'; printf 'prove: proving %s\n' high left low pdregress right; echo 'prove: waiting for another call that proves here'; echo status 0)" two_calls
+}
+
+# The kit's command `rt` stands in for a kit whose name is in "$kit/KIT-ID".
+test_libraries() {
+    anew
+    expect a-library "$(printf 'prove: proved: left\n'; printf 'prove: proving %s\n' left low; echo status 0)" begun left
+    expect a-library-and-a-program "$(printf 'prove: %s\n' 'proved and built: pdregress' 'proved: left'; printf 'prove: proving %s\n' high left low pdregress right; echo status 0)" begun pdregress left
+}
+
+broken_kit() { # NAME COMMAND: a kit of this name, whose command does what the other one says
+    rm -rf "$work/broken"
+    mkdir -p "$work/broken/bin"
+    [ -z "$1" ] || echo "$1" >"$work/broken/KIT-ID"
+    printf '#!/bin/sh\n%s\n' "$2" >"$work/broken/bin/rt"
+    chmod +x "$work/broken/bin/rt"
+    env PATH="$work/broken/bin:$PATH" "$build/prove" pdregress
+}
+
+test_kits() {
+    broken=$work/broken/bin/rt
+    expect kit-that-fails "$(printf '! prove: %s --version ends with status 3\nstatus 2' "$broken")" broken_kit 'a kit' 'exit 3'
+    expect kit-that-says-another-name "$(printf "! prove: %s --version prints 'kit 2', and %s has 'a kit'\nstatus 2" "$broken" "$work/broken/KIT-ID")" broken_kit 'a kit' 'echo kit 2'
+    expect kit-without-a-name "$(printf "! prove: %s is of no kit: %s doesn't say which\nstatus 2" "$broken" "$work/broken/KIT-ID")" broken_kit '' 'echo a kit'
+    expect kit-that-only-says-its-name "$(printf "! prove: proving low; 5 crates and less than a minute are left\n! prove: low isn't proved, or wasn't built:\n! \n! prove: the whole log: %s\nstatus 2" "$build/crates/low/out/build.log")" broken_kit 'kit 2' '[ "$1" = --version ] && echo kit 2'
+    expect proved-by-the-first-kit "$(printf 'pdregress\nstatus 0')" with_rt sh -c '"$1" >/dev/null && echo pdregress' sh "$build/pdregress"
+    meanwhile "low) echo 'kit 2' >'$kit/KIT-ID' ;;"
+    expect kit-that-changes-meanwhile "$(printf '! prove: the kit of %s/bin/rt has changed while it proved: run this again\nstatus 2' "$kit")" without_progress --lanes 1 pdregress
+    echo 'a kit' >"$kit/KIT-ID"
+}
+
+meanwhile() { # CASE.. of a crate: what is done while that is proved, from nothing
+    anew
+    printf 'case $crate in %s esac\n' "$*" >"$NOTES/meanwhile"
+}
+
+source_of() { # what the program was built of, where it counts as proved
+    with_rt "$build/tools/built.sh" pdregress >/dev/null && "$build/crates/pdregress/out/pdregress" source
+}
+
+and_then() { # COMMAND what is printed of the source once that was done after a proof
+    without_progress --lanes 1 pdregress 2>/dev/null || echo "$?"
+    sh -c "$1"
+    source_of
+}
+
+killed() { # in the midst of the second proof, once high was edited: what counts as proved then, after the edit is taken back, and once all is proved again
+    quietly pdregress
+    echo 'fn edited() {}' >>"$high"
+    printf 'case $crate in high) kill -KILL "$PPID" ;; esac\n' >"$NOTES/meanwhile"
+    prove pdregress 2>/dev/null || echo "$?"
+    source_of 2>/dev/null || echo unproved
+    echo 'fn f() {}' >"$high"
+    source_of
+    rm "$NOTES/meanwhile"
+    echo 'fn again() {}' >"$high"
+    quietly pdregress
+    source_of
+    find "$build" -name 'lane-*' | wc -l
+    echo 'fn f() {}' >"$high"
+}
+
+quietly() {
+    prove "$@" 2>/dev/null
+}
+
+test_edits() {
+    high=$build/crates/high/src/lib.rt
+    changed="prove: crates/high/src/lib.rt has changed since this began, and what was proved is as all was before: run this again"
+    meanwhile "low) echo 'fn edited() {}' >>'$high' ;;"
+    expect edited-meanwhile "$(printf '! %s\nstatus 2' "$changed")" without_progress --lanes 2 pdregress
+    expect edited-meanwhile-is-not-proved "$(printf "! pdregress isn't proved and built, or has changed since: run ./prove pdregress\nstatus 2")" source_of
+    echo 'fn f() {}' >"$high"
+    expect edited-meanwhile-and-taken-back "$(printf 'fn f() {}\nstatus 0')" source_of
+    meanwhile "low) echo 'fn edited() {}' >>'$high' ;; pdregress) echo 'fn f() {}' >'$high' ;;"
+    expect taken-back-meanwhile "$(printf '! prove: proved and built: pdregress\nstatus 0')" without_progress --lanes 1 pdregress
+    expect taken-back-meanwhile-is-proved-as-it-was "$(printf 'fn f() {}\nstatus 0')" source_of
+    meanwhile "low) : >'$build/crates/left/src/more.rt' ;; pdregress) rm '$build/crates/left/src/more.rt' ;;"
+    expect a-file-that-comes-and-goes "$(printf '! prove: proved and built: pdregress\nstatus 0')" without_progress --lanes 2 pdregress
+    meanwhile "left) echo 'fn edited() {}' >>src/lib.rt ;;"
+    expect a-copy-that-changes "$(printf '! prove: FOLDER/0/crates/left/src/lib.rt has changed while it was proved: run this again\nstatus 2')" in_a_lane --lanes 1 pdregress
+    expect a-copy-that-changes-is-not-kept "$(printf 'status 2')" sh -c "ls '$build'/crates/left/out/rlib 2>/dev/null"
+    anew
+    mv "$high" "$work/elsewhere.rt" && ln -s "$work/elsewhere.rt" "$high"
+    expect a-link "$(printf '! prove: crates/high/src/lib.rt is a link: put the file or folder itself there\nstatus 2')" prove pdregress
+    rm "$high" && mv "$work/elsewhere.rt" "$high"
+    anew
+    expect killed "$(printf '137\nunproved\nfn f() {}\nfn again() {}\n0\nstatus 0')" killed
+    anew
+    expect two-calls-beside-another-crates.txt "$(printf 'prove: %s\n' 'proved and built: pdregress' 'proved and built: pdregress'; printf 'prove: proving %s\n' high left low pdregress right; echo 'prove: waiting for another call that proves here'; echo status 0)" two_calls_beside
+    anew
+    expect both-bases-are-kept "$(printf 'commit\npdrecord\npdregress\nstatus 0')" bases
+}
+
+gate() { # what the gate says, and which programs count as proved after it
+    code=0
+    with_rt "$build/tools/gate.py" || code=$?
+    for program in $programs; do with_rt "$build/tools/built.sh" "$program" >/dev/null 2>&1 && echo "$program"; done
+    return "$code"
+}
+
+test_gate() {
+    anew
+    expect gate "$(printf '6 passed, 0 failed\npdregress\npdrecord\nstatus 0')" gate
+    meanwhile "low) echo '// an edit' >>'$high' ;; high) echo 'fn f() {}' >'$high' ;;"
+    expect gate-beside-an-edit-that-is-taken-back "$(printf 'gate: crates/high/src/lib.rt has changed while rt ci ran: no program is taken for proved\n6 passed, 1 failed\nstatus 1')" gate
+    meanwhile "high) echo 'kit 2' >'$kit/KIT-ID' ;;"
+    expect gate-beside-another-kit "$(printf 'gate: the kit of %s/bin/rt has changed while it proved: run this again\n6 passed, 1 failed\nstatus 1' "$kit")" gate
+    echo 'a kit' >"$kit/KIT-ID"
+}
+
+in_a_lane() { # WORD.. what is said, with a name for the folder of the copies
+    code=0
+    without_progress "$@" 2>"$work/lane" || code=$?
+    sed 's,/[^ ]*/lane-[^/]*,FOLDER,' "$work/lane" >&2
+    return "$code"
+}
+
+two_calls_beside() { # what two say, where crates.txt is another file when the second one begins
+    (TAKES=1 prove pdregress 2>&1 | sed 's/;.*//' >"$work/first") &
+    while [ ! -e "$NOTES/trees" ]; do sleep 0.1; done
+    cp "$build/crates.txt" "$build/crates.new" && mv "$build/crates.new" "$build/crates.txt"
+    prove pdregress >"$work/second" 2>&1
+    wait
+    LC_ALL=C sort "$work/first" "$work/second"
+}
+
+bases() { # what is kept for a comparison after one program alone is proved anew
+    quietly
+    echo '// an edit' >>"$build/crates/pdregress/src/main.rt"
+    quietly pdregress
+    (cd "$(python3 -B "$build/tools/kept_programs.py")" && ls)
+    : >"$build/crates/pdregress/src/main.rt"
 }
 
 quick() { # COMMAND.. on a machine that took next to no time for each crate
@@ -127,7 +269,7 @@ test_stops() {
     expect not-a-program "$(printf '! %s\n' "prove: pdrecord isn't proved, or wasn't built:" 'another goal' "prove: the whole log: $build/crates/pdrecord/out/build.log"; echo status 2)" without_progress --lanes 2
     echo 'fn f() {}' >"$build/crates/pdrecord/src/lib.rt"
     anew
-    expect interrupted "$(printf '! prove: proving low; 5 crates and about a minute are left\n! prove: interrupted at low; what was proved is kept: run it again to go on\nstatus 124')" with_rt timeout -k 5 4 env TAKES=30 "$build/prove" --lanes 2 pdregress
+    expect interrupted "$(printf 'prove: proving low; 5 crates and about a minute are left\nprove: interrupted at low; what was proved is kept: run it again to go on\n2\nstatus 0')" interrupted
     anew
     expect hung-up-under-nohup "$(printf '0\nstatus 0')" hung_up
     anew
@@ -175,6 +317,10 @@ test_words() {
 }
 
 test_lanes
+test_libraries
+test_kits
+test_edits
+test_gate
 test_changes
 test_stops
 test_words

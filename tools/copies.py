@@ -1,0 +1,73 @@
+"""Copies of what proofs read, made in one go, so that no edit of the tree meanwhile is part of what is proved."""
+from __future__ import annotations
+
+import time
+from dataclasses import dataclass
+from hashlib import sha256
+from pathlib import Path
+
+import stamps
+from source_sums import TABLE, Unreadable, places_of, sources_in
+
+# How long a file system's clock may stand still, and how often it is looked at, in seconds.
+STILL = 4.0
+OFTEN = 0.002
+
+
+@dataclass(frozen=True)
+class Copy:
+    """A tree of some crates alone, without what is kept of them, and the stamps of all that is in it."""
+
+    tree: Path
+    crates: tuple[str, ...]
+    stamps: dict[str, str]
+
+    def changed(self) -> str | None:
+        """What of it isn't as it was copied, if anything is."""
+        differing = self.stamps.items() ^ stamps_in(self.tree, self.crates).items()
+        return min((path for path, _ in differing), default=None)
+
+
+def copy_sources(top: Path, crates: tuple[str, ...], trees: list[Path]) -> dict[str, str]:
+    """Copies what the proofs of crates read into trees, and gives the checksums of what was read for that.
+
+    The crates.txt of a copy has the lines of these crates alone. Raises Unreadable where a proof can't read a crate.
+    """
+    sums = {}
+    for path in sources_in(places_of(str(top), crates)):
+        octets = (top / path).read_bytes()
+        sums[path] = sha256(octets).hexdigest()
+        for tree in trees:
+            (tree / path).parent.mkdir(parents=True, exist_ok=True)
+            (tree / path).write_bytes(lines_for(crates, octets) if path == TABLE else octets)
+    return sums
+
+
+def lines_for(crates: tuple[str, ...], table: bytes) -> bytes:
+    """The lines of a crates.txt that name these crates.
+
+    >>> lines_for(("a", "c"), b"# a:\\na may_wait=1: b\\nb:\\n\\nc: a # last\\n")
+    b'a may_wait=1: b\\nc: a # last\\n'
+    """
+    names = {it.encode() for it in crates}
+    return b"".join(
+        it for it in table.splitlines(keepends=True) if names.intersection(it.partition(b":")[0].split()[:1])
+    )
+
+
+def settled(tree: Path, crates: tuple[str, ...]) -> Copy:
+    """A copy that was made, once each change of it from then on shows."""
+    until = time.monotonic() + STILL
+    while time.monotonic() < until:
+        found = stamps_in(tree, crates)
+        probe = stamps.probe_in(str(tree))
+        if probe and stamps.are_settled(found, probe):
+            return Copy(tree, crates, found)
+        time.sleep(OFTEN)
+    raise Unreadable(f"{tree}: the clock of the file system doesn't move on")
+
+
+def stamps_in(tree: Path, crates: tuple[str, ...]) -> dict[str, str]:
+    """The stamps of what the proofs of crates read in a copy; the folders of crates change, since proofs write there."""
+    own = {f"crates/{it}" for it in crates}
+    return stamps.stamps_of(str(tree), [it for it, _ in places_of(str(tree), crates) if it not in own])

@@ -1,0 +1,115 @@
+"""The checksums that ./prove keeps beside a proved program, and whether what is there now still has them.
+
+In out/NAME.sums are those of the program and of all that its proof read, and in the last line the kit by which it was
+proved. A program is proved while each of them is as it was; where no `rt` is on the PATH, the kept kit counts.
+"""
+from __future__ import annotations
+
+import contextlib
+import os
+import sys
+from collections.abc import Iterator
+
+import stamps
+from kit import command_of_kit, file_of_identity, kit_identity
+from source_sums import HANDLES, TABLE, NoFile, Unreadable, lines_of, places_below, sources_in, sums, sums_of
+
+KIT = b"kit: "
+FAULT = 2
+
+
+def path_of(program: str) -> str:
+    """Where a program is, from the top of the tree."""
+    return f"crates/{program}/out/{program}"
+
+
+def record(program: dict[str, str], read: dict[str, str], name: str) -> bytes:
+    """What is kept: the checksum of a program, those of what its proof read, and what names the kit."""
+    return lines_of({**program, **read}) + kit_line(name)
+
+
+def kit_line(name: str) -> bytes:
+    return KIT + os.fsencode(name) + b"\n" if name else b""
+
+
+def kit_in(kept: bytes) -> str:
+    """What names the kit in what is kept, or nothing."""
+    last = kept[kept[:-1].rfind(b"\n") + 1 : -1]
+    return os.fsdecode(last[len(KIT) :]) if last.startswith(KIT) else ""
+
+
+def is_proved(top: str, program: str) -> bool:
+    """Whether a program is proved, and all is as its proof read it. If so, the stamps of all are kept, if that can be.
+
+    Raises Unreadable where no proof could read it now.
+    """
+    path = path_of(program)
+    kept = octets_of(f"{top}/{path}.sums")
+    here = kit_identity()
+    name = kit_in(kept) if here is None else here
+    if not name or not os.access(f"{top}/{path}", os.X_OK):
+        return False
+    places = list(places_below(top, program))
+    looked_at = list(dict.fromkeys([path, f"{path}.sums", TABLE, HANDLES, *(it for it, _ in places)]))
+    before = stamps.stamps_of(top, looked_at)
+    probe = stamps.probe_in(os.path.dirname(f"{top}/{path}"))
+    if record(sums_of(top, [path]), sums_of(top, sources_in(places)), name) != kept:
+        return False
+    if probe and stamps.are_settled(before, probe) and places == list(places_below(top, program)):
+        # What was read is what has these stamps only where all still have them.
+        if before == stamps.stamps_of(top, looked_at):
+            put(f"{top}/{path}.stamps", stamps.kept_text(program, name, before))
+    return True
+
+
+def octets_of(path: str) -> bytes:
+    """What a file has; nothing where it can't be read."""
+    with contextlib.suppress(OSError), open(path, "rb") as file:
+        return file.read()
+    return b""
+
+
+def put(path: str, octets: bytes) -> None:
+    """Puts a file in the place of what is there, if that can be."""
+    fresh = f"{path}.{os.getpid()}"
+    with contextlib.suppress(OSError):
+        with open(fresh, "wb") as file:
+            file.write(octets)
+        os.replace(fresh, path)
+
+
+def looked_at(top: str, program: str) -> Iterator[str]:
+    """The whole paths of all on which it depends whether a program is proved, also of what isn't there."""
+    path = path_of(program)
+    yield from (f"{top}/{it}" for it in (TABLE, HANDLES, path, f"{path}.sums"))
+    command = command_of_kit()
+    if command is not None:
+        yield from (os.path.abspath(command), file_of_identity(command))
+    with contextlib.suppress(Unreadable):
+        yield from (f"{top}/{it}" for it, _ in places_below(top, program) if it not in (TABLE, HANDLES))
+
+
+def answer(top: str, words: list[str]) -> int:
+    """Prints what tools/built.sh is asked for in [--sums | --files] NAME, and gives its status."""
+    *asked, program = words
+    said = f"{program} isn't proved and built, or has changed since: run ./prove {program}"
+    try:
+        octets = octets_for(asked, top, program)
+    except NoFile as why:
+        octets, said = b"", f"{program} isn't proved: {why}"
+    except Unreadable as why:
+        octets, said = b"", str(why) if asked else said
+    if not octets:
+        print(said, file=sys.stderr)
+        return FAULT
+    sys.stdout.buffer.write(octets)
+    return 0
+
+
+def octets_for(asked: list[str], top: str, program: str) -> bytes:
+    """What is printed for these words: nothing where a program isn't proved."""
+    if asked == ["--files"]:
+        return b"".join(os.fsencode(it) + b"\0" for it in looked_at(top, program))
+    if asked == ["--sums"]:
+        return lines_of(sums(top, program)) + kit_line(kit_identity() or "")
+    return os.fsencode(f"{top}/{path_of(program)}\n") if is_proved(top, program) else b""

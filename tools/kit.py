@@ -1,0 +1,39 @@
+"""Which kit proves: that of the first command `rt` on the PATH, by the file KIT-ID beside the folder of this command.
+
+Each start of a program asks for it, so nothing is run, and little is imported.
+"""
+from __future__ import annotations
+
+import os
+
+COMMAND = "rt"
+NAME = "KIT-ID"
+
+
+def command_of_kit() -> str | None:
+    """The path of the kit's command, or None where there is none on the PATH."""
+    for folder in os.environ.get("PATH", os.defpath).split(os.pathsep):
+        path = os.path.join(folder, COMMAND)
+        if os.path.isfile(path) and os.access(path, os.X_OK):
+            return path
+    return None
+
+
+def file_of_identity(command: str) -> str:
+    """The file that names the kit of a command, all links followed."""
+    return os.path.join(os.path.dirname(os.path.dirname(os.path.realpath(command))), NAME)
+
+
+def identity_of(command: str) -> str:
+    """What names the kit of a command: the words of that file. Without one it is empty, which is the name of no kit."""
+    try:
+        with open(file_of_identity(command), encoding="utf-8", errors="replace") as file:
+            return " ".join(file.read().split())
+    except OSError:
+        return ""
+
+
+def kit_identity() -> str | None:
+    """What names the kit that is on the PATH, or None where there is none."""
+    command = command_of_kit()
+    return None if command is None else identity_of(command)
