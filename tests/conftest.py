@@ -117,7 +117,18 @@ def is_worker(config: pytest.Config) -> bool:
     return hasattr(config, "workerinput")
 
 
-def pytest_addoption(parser: pytest.Parser) -> None:
+class Processes:
+    """Tells xdist, where it is there, how many processes there are to be."""
+
+    def pytest_xdist_auto_num_workers(self, config: pytest.Config) -> int:
+        """With `-n auto`, one for each processor, and none where sources are told, all at once."""
+        programs = teller_of(config).programs
+        return len(os.sched_getaffinity(0)) if all(it in programs.direct for it in PROGRAMS) else 0
+
+
+def pytest_addoption(parser: pytest.Parser, pluginmanager: pytest.PytestPluginManager) -> None:
+    if pluginmanager.hasplugin("xdist"):
+        pluginmanager.register(Processes())
     group = parser.getgroup("rows", "programs that are told rows")
     group.addoption("--proved", action="store_true", help="the proved programs alone; if one isn't built, that fails")
     group.addoption("--unproved", action="store_true", help="the sources as they stand, without proofs")
@@ -143,13 +154,6 @@ def pytest_cmdline_main(config: pytest.Config) -> int | None:
         return None
     print(*(f"FAILED {it}" for it in unbuilt), f"0 passed, {len(unbuilt)} failed", sep="\n")
     return 1
-
-
-@pytest.hookimpl(optionalhook=True)
-def pytest_xdist_auto_num_workers(config: pytest.Config) -> int:
-    """With `-n auto`, one for each processor, and none where sources are told, all at once."""
-    programs = teller_of(config).programs
-    return len(os.sched_getaffinity(0)) if all(it in programs.direct for it in PROGRAMS) else 0
 
 
 def pytest_collect_file(file_path: Path, parent: pytest.Collector) -> RowFile | None:

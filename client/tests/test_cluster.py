@@ -227,6 +227,34 @@ def test_a_scheduler_that_goes_away_is_said_with_what_is_settled(
     assert (suite / "out.xml").read_bytes().count(b"<testcase ") == 513
 
 
+# A coroutine of the library that is left, and whose end can't be told, as where a scheduler has gone.
+LEFT = """
+import sys, types
+from distributed import utils
+from pdsuite.run import cluster
+
+@types.coroutine
+def pause():
+    yield
+
+async def left():
+    with utils.log_errors(unroll_stack=1_000):
+        await pause()
+
+if sys.argv[1:]:
+    cluster._quiet()
+coroutine = left()
+coroutine.send(None)
+del coroutine
+"""
+
+
+@pytest.mark.parametrize(("words", "is_quiet"), [(("quiet",), True), ((), False)])
+def test_what_the_library_leaves_says_nothing(words: tuple[str, ...], is_quiet: bool) -> None:
+    done = subprocess.run([sys.executable, "-c", LEFT, *words], cwd=TOP / "client", capture_output=True, text=True)
+    assert done.returncode == 0 and ("IndexError" in done.stderr) is not is_quiet, done.stderr
+
+
 def test_a_signal_shows_what_is_settled(started: Add, stand_in: Path, tmp_path: Path) -> None:
     suite = tmp_path / "suite"
     for script in range(512):

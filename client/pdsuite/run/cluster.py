@@ -5,7 +5,7 @@ import logging
 import platform
 import select
 import socket
-import threading
+import sys
 import time
 import warnings
 from collections import deque
@@ -70,12 +70,17 @@ def cluster(
             client.close(timeout=_LOOK)
 
 
+def _quiet() -> None:
+    """Has the library write nothing: what counts is said here."""
+    logging.disable()
+    warnings.filterwarnings("ignore", "Large object of size")
+    # A coroutine that is left where a scheduler went away fails once more at the end of the process.
+    sys.unraisablehook = lambda _: None
+
+
 def _connected(address: str) -> Client:
     gc.enable()  # the library's objects have cycles
-    # What counts is said here: where a thread of the library's ends, its calls fail.
-    logging.disable()
-    threading.excepthook = lambda _: None
-    warnings.filterwarnings("ignore", "Large object of size")
+    _quiet()
     dask.config.set({"distributed.comm.timeouts.connect": _PATIENCE})
     # The code goes along, with every call.
     pickle = import_module("cloudpickle")  # it declares no types
