@@ -35,7 +35,8 @@ BUGS = """
 ## Bugs that the scripts see
 
 Whoever changes a rule finds here the scripts to look at. {count} bugs, each a change of one line, were planted in the sender's \
-rules; {seen} of them make a script fail. Of the scripts that fail at most four are named.
+rules; {seen} of them make a script fail, of which some are named. Of bugs that aren't listed this says nothing: \
+`./pdsuite compare --search` makes a script for one that passes.
 """
 
 
@@ -67,7 +68,7 @@ def bug_lines(bugs: dict[str, list[dict[str, Any]]], scripts: dict[str, Path]) -
         yield f"\n### `{crate}`\n"
         for row in rows:
             seen = ", ".join(link(scripts[name]) for name in row.get("scripts", "").split())
-            more = f" and {row['others']} others" if "others" in row else ""
+            more = " and others" if row.get("has_more") else ""
             yield f"- {row['bug']}: {seen + more if seen else 'none: ' + row['unseen']}"
 
 
