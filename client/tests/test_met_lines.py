@@ -86,6 +86,38 @@ def test_a_packet_for_which_nothing_was_sent_and_one_that_no_line_asks_for_are_n
     ]
 
 
+def test_lines_that_a_script_lacks_are_told_and_the_next_ones_are_met_by_their_own() -> None:
+    sent = [f"+0 > . {first}:{first + 1000}(1000) ack 1 win 65535" for first in (1, 1001, 2001)]
+    last = "+0 > P. 3001:4001(1000) ack 1 win 65535"
+    script = f"{WRITE}\n+0 > . 2001:3001(1000) ack 1\n+0 > P. 3001:4001(1000) ack 1\n"
+    packets = [(it, "0.200000") for it in (*sent, last)]
+    found = met(script, Row(Verdict.FAIL, 9, "seq"), (WRITE, "0.200000"), *packets)
+    assert shown(found) == [
+        f"    8   {WRITE}",
+        f"      + {sent[0]} // 0.200000 (asked for by no line)",
+        f"      + {sent[1]} // 0.200000 (asked for by no line)",
+        "    9   +0 > . 2001:3001(1000) ack 1",
+        "   10   +0 > P. 3001:4001(1000) ack 1",
+    ]
+    keyed = [it["line"] for it in told_by_keys(found) if isinstance(it, dict)]
+    assert keyed[-4:] == [None, None, 9, 10]
+
+
+def test_a_line_that_is_too_many_is_met_by_nothing_and_one_that_differs_stands_beside_its_own() -> None:
+    sent = "+0 > . 1:1001(1000) ack 1 win 65535", "+0 > P. 1001:2001(1000) ack 1 win 65535"
+    script = f"{WRITE}\n+0 > R 7:7(0)\n+0 > . 1:1001(1000) ack 1\n+0 > . 1001:2001(1000) ack 1\n"
+    found = met(script, Row(Verdict.FAIL, 9, "flags"), (WRITE, "0.200000"), *((it, "0.200000") for it in sent))
+    assert shown(found) == [
+        f"    8   {WRITE}",
+        "    9 - +0 > R 7:7(0)",
+        "      + nothing was sent",
+        "   10   +0 > . 1:1001(1000) ack 1",
+        "   11 - +0 > .  1001:2001(1000) ack 1",
+        "      + +0 > P. 1001:2001(1000) ack 1 win 65535 // 0.200000",
+        "      ?    ^^^^",
+    ]
+
+
 def test_a_call_with_another_answer_and_a_packet_at_another_time_are_marked() -> None:
     script = "+0 write(4, ..., 1000) = 500\n+0.5 > P. 1:1001(1000) ack 1\n"
     found = met(script, Row(Verdict.FAIL, 8, "result"), (WRITE, "0.200000"), (SENT, "0.200000"))

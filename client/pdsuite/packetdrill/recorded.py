@@ -5,7 +5,8 @@ from collections.abc import Iterator, Mapping, Sequence
 from dataclasses import dataclass
 from math import inf
 
-from pdsuite.packetdrill.items import SECOND, HeaderOption, Time
+from pdsuite.packetdrill.alignment import Fields, aligned, fields_of
+from pdsuite.packetdrill.items import SECOND, HeaderOption, Packet, Time
 from pdsuite.packetdrill.layout import Event
 
 _TRACE = re.compile(
@@ -16,9 +17,12 @@ _BEFORE = re.compile(r"(?:[ \t\r\n]+|//[^\n]*|/\*.*?\*/|--[^ \t\r\n]*)*", re.DOT
 _TIME = re.compile(r"\S+ ")
 # As all packets of a recording are written.
 _PACKET = re.compile(
-    r"\S+ (?P<arrow>[<>]) [A-Z.-]+ \d+:\d+\(\d+\)(?: ack \d+)?(?: win \d+)?(?: <[^<>]*>)?(?=[ \t\r\n/]|$)", re.MULTILINE
+    r"\S+ (?P<arrow>[<>]) (?P<flags>[A-Z.-]+) (?P<start>\d+):(?P<end>\d+)\(\d+\)(?: ack (?P<ack>\d+))?"
+    r"(?: win (?P<win>\d+))?(?: (?P<options><[^<>]*>))?(?=[ \t\r\n/]|$)",
+    re.MULTILINE,
 )
 _TOLERANCE = "tolerance_usecs"
+_NO_FIELDS = Fields(frozenset(), (0, 0), None, None, None)
 
 
 @dataclass(frozen=True, slots=True)
@@ -44,6 +48,7 @@ class Recorded:
     moment: int
     state: State
     sent_by: str | None = None
+    fields: Fields | None = None  # of a packet
 
 
 @dataclass(frozen=True, slots=True)
@@ -89,7 +94,14 @@ def _recorded(recording: str, begin: int, trace: "re.Match[str]") -> Recorded:
         moment=int(trace["whole"]) * SECOND + int(trace["part"]),
         state=State(trace["name"], facts),
         sent_by=sent_by,
+        fields=None if packet is None else _fields(packet),
     )
+
+
+def _fields(packet: "re.Match[str]") -> Fields:
+    ack, win = (None if packet[it] is None else int(packet[it]) for it in ("ack", "win"))
+    octets = int(packet["start"]), int(packet["end"])
+    return Fields(frozenset(packet["flags"]) - {"-"}, octets, ack, win, "".join((packet["options"] or "").split()))
 
 
 def tolerance_of(items: Sequence[Event], settings: int) -> int:
@@ -104,11 +116,11 @@ def met_by(
 ) -> Iterator[Met]:
     """What each event is in the recording. The first events, `passed` in number, are known to have passed.
 
-    Packets are met in the order in which they left. Past the events that passed, one is met where it left before the
-    event's last moment, give or take the tolerance.
+    Packets are met in the order in which they left. Past the events that passed, those are met that are most alike, and
+    one is met where it left before the event's last moment, give or take the tolerance.
     """
     inputs = [place for place, it in enumerate(recorded) if it.is_input]
-    outputs = [place for place, it in enumerate(recorded) if not it.is_input]
+    pairs = _pairs(events, recorded, passed)
     base = clock = begin
     after: Recorded | None = None
     for number, event in enumerate(events):
@@ -119,12 +131,41 @@ def met_by(
         else:
             until = inputs[0] if inputs else len(recorded)
             last = inf if number < passed else max(clock, end + tolerance)
-            found = outputs.pop(0) if outputs and _is_met(recorded, outputs[0], until, last) else None
+            place = pairs.get(number)
+            found = place if place is not None and _is_met(recorded, place, until, last) else None
             base = _base_after(event.item.time, base, None if found is None else recorded[found].moment)
         if found is not None:
             after = recorded[found]
             clock = max(clock, after.moment)
         yield Met(event, None if found is None else recorded[found], after, first, end)
+
+
+def _pairs(events: Sequence[Event], recorded: Sequence[Recorded], passed: int) -> dict[int, int]:
+    """The place of the packet beside each event that awaits one: those that passed met theirs in order."""
+    awaited = [number for number, it in enumerate(events) if not it.is_input]
+    outputs = [place for place, it in enumerate(recorded) if not it.is_input]
+    taken = min(sum(number < passed for number in awaited), len(outputs))
+    pairs = dict(zip(awaited[:taken], outputs[:taken]))
+    left, sent = awaited[taken:], outputs[taken:]
+    until = _untils(events, recorded)
+    wanted = [fields_of(it.item.what) if isinstance(it.item.what, Packet) else None for it in (events[n] for n in left)]
+    there = [recorded[place].fields for place in sent]
+    found = aligned(
+        [it or _NO_FIELDS for it in wanted],
+        [it or _NO_FIELDS for it in there],
+        lambda one, other: sent[other] < until[left[one]],
+    )
+    return pairs | {left[one]: sent[other] for one, other in found.items()}
+
+
+def _untils(events: Sequence[Event], recorded: Sequence[Recorded]) -> list[int]:
+    """For each event the place of the next input after it in the recording, or its end."""
+    inputs = [place for place, it in enumerate(recorded) if it.is_input]
+    untils, count = [], 0
+    for it in events:
+        count += it.is_input
+        untils.append(inputs[count] if count < len(inputs) else len(recorded))
+    return untils
 
 
 def _is_met(recorded: Sequence[Recorded], place: int, until: int, last: float) -> bool:

@@ -75,11 +75,11 @@ def _cause(told: Sequence[str]) -> dict[str, object]:
 
 
 def _lines(met: Sequence[Met], recorded: Sequence[Recorded], recording: str, allowed: int) -> Iterator[MetLine]:
-    """The events in order; what none of them asks for comes before the next input."""
+    """The events in order; what none of them asks for comes before the next that met something."""
     asked = {it.recorded.start for it in met if it.recorded is not None}
     left = [it for it in recorded if it.start not in asked]
     for it in met:
-        if it.event.is_input and it.recorded is not None:
+        if it.recorded is not None:
             while left and left[0].start < it.recorded.start:
                 yield _unasked(left.pop(0), recording)
         yield _compared(it, recording, allowed)
