@@ -99,7 +99,7 @@ ABOVE, LATER = (10, "As RFC 2, section 5, has"), (12, "Later. (Steps 3 and 4)")
         ("limit = 3", "limit = 4", [SECOND, BOLD], "limit (crates/pd_board/specs/Rules.antt:5)"),
         ("reached = limit", "reached = 5", [BOLD], "reached (crates/pd_board/specs/Rules.antt:9)"),
         ("fourth = 4", "fourth = 5", [ABOVE, LATER], "fourth (crates/pd_board/specs/Rules.antt:15)"),
-        ("    MOST\n", "    MOST + 1\n", [BOLD], "count (crates/pd_board/src/rules.rt:8)"),
+        ("    MOST\n", "    MOST + 1\n", [], "count (crates/pd_board/src/rules.rt:8)"),
         ("u32 = 3", "u32 = 4", [BOLD], "MOST (crates/pd_board/src/rules.rt:5)"),
         ("        1\n", "        2\n", [], "own (crates/pd_board/src/rules.rt:16)"),
         ("It counts.", "It counts (RFC 2, section 5, step 3).", [], ""),

@@ -9,6 +9,9 @@ owed.py list ANSWERS [--before FOLDER]: JSON that names the rows and paragraphs 
 has six parts for each start: the output, the error text and the status of the sender before, and those of the one
 after. A status that is no number means that nothing was heard. FOLDER is the tree of the sender before, by which the
 paragraphs of pages are found.
+
+owed.py changed --before FOLDER [--after FOLDER]: JSON that lists the functions and constants of the sender that changed,
+with the names in them. Without --after it is this tree's.
 """
 from __future__ import annotations
 
@@ -21,7 +24,7 @@ from dataclasses import asdict
 from pathlib import Path
 from typing import Optional
 
-from owed_sections import sections_owed
+from owed_sections import names_changed, sections_owed
 
 TOP = Path(__file__).resolve().parents[1]
 sys.path.insert(0, str(TOP / "tests"))
@@ -86,8 +89,13 @@ def main(words: Sequence[str]) -> int:
     asked = kinds.add_parser("list")
     asked.add_argument("--before", metavar="FOLDER", type=Path)
     asked.add_argument("answers", metavar="ANSWERS", type=Path)
+    differing = kinds.add_parser("changed")
+    differing.add_argument("--before", metavar="FOLDER", type=Path, required=True)
+    differing.add_argument("--after", metavar="FOLDER", type=Path, default=TOP)
     chosen = parser.parse_args(words)
-    if chosen.kind == "starts":
+    if chosen.kind == "changed":
+        print(json.dumps([asdict(it) for it in names_changed(chosen.before, chosen.after)]))
+    elif chosen.kind == "starts":
         sys.stdout.buffer.writelines(start_of(it) for it in calls_of(asked_tables()))
     else:
         print(json.dumps(listed(chosen.answers.read_bytes(), chosen.before)))

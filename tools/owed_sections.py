@@ -1,8 +1,8 @@
 """Which paragraphs of pages a changed sender owes: those that cite a section of an RFC that the change cites, too.
 
 What changes are definitions in `specs/`, and functions and constants in `src/`. A definition cites what its comment
-does, and what those that name it cite; a function what its own comment and the definitions of its contract do; a
-constant what the functions that name it do. A comment that names a section or a step alone means the RFC, and the
+does, and what those that name it cite; a constant what the functions that name it do, and the definitions of their
+contracts. A function cites nothing, since its rule is a definition. A default is written in three places. A comment that names a section or a step alone means the RFC, and the
 section, of the heading above it, or of the file's first line.
 """
 from __future__ import annotations
@@ -13,6 +13,7 @@ from dataclasses import dataclass, field, replace
 from pathlib import Path
 
 from changed_rules import Key, Rule, files_of, named_in, names_of, rules_in
+from owed_defaults import changed_defaults, places_of
 
 # The pages whose paragraphs, or rows of tables, are about rules.
 PAGES = ("docs/SENDER.md", "docs/LINUX.md")
@@ -192,17 +193,42 @@ def changed_in(before: dict, after: dict) -> list[Item]:  # type: ignore[type-ar
     return others + [it for key, it in before.items() if key not in after]
 
 
+@dataclass(frozen=True)
+class Named:
+    """What changed, by the names in it: those in lines that changed, with its own and its users', and all."""
+
+    name: str
+    place: str
+    changed: tuple[str, ...]
+    whole: tuple[str, ...]
+
+
+def names_changed(before: Path, tree: Path) -> Iterator[Named]:
+    """The names in the functions and constants of the sender that changed."""
+    old, new = sources_of(before).code, sources_of(tree).code
+    for key, item in new.items():
+        lines = set(old[key].text.split("\n")) if key in old else set()
+        others = [it for it in item.text.split("\n") if it not in lines]
+        gone = lines - set(item.text.split("\n"))
+        if not others and not gone:
+            continue
+        word = re.compile(rf"\b{item.name}\b")
+        users = {it.name for it in new.values() if it is not item and word.search(it.text)}
+        changed = {item.name, *users, *IDENTIFIER.findall(" ".join([*others, *gone]))}
+        yield Named(item.name, item.place, tuple(sorted(changed)), tuple(sorted(set(IDENTIFIER.findall(item.text)))))
+
+
 def changed_items(before: Sources, after: Sources) -> Iterator[tuple[Item, set[Cited]]]:
-    """What changed, each with all that it cites."""
+    """What changed, each with all that it cites. A function cites nothing: its rule is the definition of its contract."""
     for item in changed_in(before.definitions, after.definitions):
         users = [it for it in after.definitions.values() if any(after.definitions.get(key) is item for key in it.names)]
         yield item, {*item.cited, *(cited for it in users for cited in it.cited)}
     for item in changed_in(before.code, after.code):
-        users = []
-        if item.is_constant:
-            word = re.compile(rf"\b{item.name}\b")
-            users = [it for it in after.code.values() if it is not item and word.search(it.text)]
-        each = [item, *users]
+        if not item.is_constant:
+            yield item, set()
+            continue
+        word = re.compile(rf"\b{item.name}\b")
+        each = [item, *(it for it in after.code.values() if it is not item and word.search(it.text))]
         named = {cited for it in each for key in it.names for cited in after.cited_by(key)}
         yield item, named.union(*(it.cited for it in each))
 
@@ -263,7 +289,11 @@ class SectionOwed:
 
 
 def sections_owed(before: Path, tree: Path) -> Iterator[SectionOwed]:
-    """The paragraphs that cite what something that changed cites, and last what changed without one."""
+    """Where changed defaults are written, the paragraphs of changed rules, and last what changed without one."""
+    for default in changed_defaults(before, tree):
+        said = f"its default is {default.after}, and was {default.before}"
+        for page, line in places_of(default.key, tree):
+            yield SectionOwed(page, line, "a default", default.key, (said,), (default.place,))
     changed = list(changed_items(sources_of(before), sources_of(tree)))
     told: set[str] = set()
     for page, it in ((page, it) for page in PAGES for it in paragraphs_of(tree / page)):
@@ -276,4 +306,5 @@ def sections_owed(before: Path, tree: Path) -> Iterator[SectionOwed]:
             )
     for item, _ in changed:
         if f"{item.name} ({item.place})" not in told:
-            yield SectionOwed("", 0, "", "", (), (f"{item.name} ({item.place})",))
+            is_code = "/src/" in item.place and not item.is_constant
+            yield SectionOwed("", 0, "", "code" if is_code else "", (), (f"{item.name} ({item.place})",))

@@ -75,6 +75,48 @@ def test_rows_runs_and_paragraphs_that_say_otherwise_are_named(tree: Tree) -> No
     assert tree.builds() == 2 and " turned 0 played otherwise 0 " in called.out
 
 
+DEFAULT = (
+    "impl Settings {{\n    pub fn new() -> Settings\n    {{\n"
+    "        Settings {{\n            mss: {},\n        }}\n    }}\n}}\n"
+)
+FUNCTION = "    /// A rule (RFC 6675, section 4).\n    pub fn rule() -> u32\n    {{\n        {}\n    }}\n"
+
+
+def test_a_changed_default_is_named_in_three_places_and_a_function_by_itself(tree: Tree) -> None:
+    places = {
+        "crates/pd_settings/src/fields.rt": DEFAULT.format("1_460"),
+        "crates/pd_board/src/rules.rt": FUNCTION.format(1),
+        "docs/SETTINGS.md": "# Settings\n\n| key |\n| `mss` | 1,460 |\n",
+        "packaging/man/pdregress.h2m": ".TP\n.B mss\n",
+        "client/pdsuite/scripts/defaults.py": (tree.top / "client/pdsuite/scripts/defaults.py").read_text(),
+    }
+    for name, text in places.items():
+        (tree.top / name).parent.mkdir(parents=True, exist_ok=True)
+        (tree.top / name).write_text(text)
+    for name in ("pdregress", "pdrecord"):
+        (tree.top / "crates" / name / "src/x").touch()
+    git(tree.top, "init", "-q")
+    git(tree.top, "add", ".")
+    git(tree.top, "commit", "-qm", "one")
+    (tree.top / "crates/pd_settings/src/fields.rt").write_text(DEFAULT.format("1_200"))
+    (tree.top / "crates/pd_board/src/rules.rt").write_text(FUNCTION.format(2))
+    called = compare(tree, "--base", "HEAD")
+    assert called.status == 0, called.err
+    lines = affected(called)
+    said = "a default, 'mss': its default is 1_200, and was 1_460"
+    number = places["client/pdsuite/scripts/defaults.py"].split('"mss"')[0].count("\n") + 1
+    assert lines == [
+        "affected in the tree: rows 0 runs 0 paragraphs 3",
+        f"  docs/SETTINGS.md:4: {said}",
+        "    crates/pd_settings/src/fields.rt:5",
+        f"  packaging/man/pdregress.h2m:2: {said}",
+        "    crates/pd_settings/src/fields.rt:5",
+        f"  client/pdsuite/scripts/defaults.py:{number}: {said}",
+        "    crates/pd_settings/src/fields.rt:5",
+        "  rule (crates/pd_board/src/rules.rt:2): its code changed, and paragraphs are about definitions",
+    ]
+
+
 def test_of_a_folder_of_programs_no_sources_are_known(tree: Tree) -> None:
     tree.change(CHANGE)
     called = compare(tree, "--base", tree.bin)
@@ -100,7 +142,7 @@ def test_a_sender_without_a_tree_has_nothing_affected(tree: Tree) -> None:
     said = f"pdsuite: --affected: {other} is no tree with tests/cases and tools/owed.py\n"
     assert (called.status, called.out, called.err.endswith(said)) == (2, "", True)
     called = tree.call("compare", "--base", tree.bin, "--search", "1", "--affected")
-    assert called.status == 2 and "without --html, --json and --affected" in called.err
+    assert called.status == 2 and "without --html, --json, --markdown and --affected" in called.err
 
 
 def test_where_nobody_asks_nothing_is_said_of_what_is_affected(tree: Tree) -> None:

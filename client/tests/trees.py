@@ -88,7 +88,7 @@ class Tree:
 
     def put_rows(self, rows: str) -> None:
         """Gives it tests: rows, and what tells them."""
-        for name in ("changed_rules.py", "owed.py", "owed_sections.py"):
+        for name in ("changed_rules.py", "owed.py", "owed_defaults.py", "owed_sections.py"):
             shutil.copy(TOP / "tools" / name, self.top / "tools")
         for name in ("model", "rows"):
             shutil.copytree(

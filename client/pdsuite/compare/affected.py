@@ -12,7 +12,7 @@ from typing import Any
 
 from pdsuite.compare.senders import Sender
 from pdsuite.faults import Fault
-from pdsuite.programs.places import RECORD, REGRESS
+from pdsuite.programs.places import RECORD, REGRESS, TOP
 from pdsuite.programs.program import Ended, Program
 from pdsuite.programs.starts import Answer, Case, Said, part, parts_in
 from pdsuite.programs.tree import Build, try_all
@@ -106,6 +106,14 @@ def _said(tree: Path, *words: str | Path) -> bytes:
         lines = done.stderr.splitlines() or [b"it ended with status %d" % done.returncode]
         raise Fault(f"{shown_path(tree / _TOOL)}: {shown(lines[-1])}")
     return done.stdout
+
+
+def names_changed(before: Path | None, after: Path | None) -> list[dict[str, Any]]:
+    """What changed between the sources of two senders, with the names in it; nothing where one isn't known."""
+    if before is None or after is None or not (TOP / _TOOL).is_file():
+        return []
+    changed: list[dict[str, Any]] = json.loads(_said(TOP, "changed", "--before", before, "--after", after))
+    return changed
 
 
 def heard_of_programs(programs: dict[str, Path], telling: Telling, stop: Stop) -> list[Said]:

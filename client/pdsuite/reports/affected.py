@@ -46,4 +46,5 @@ def _paragraph_lines(it: Paragraph) -> Iterator[str]:
         yield f"{_place(it.page, it.line)}: {it.heading}, '{it.name}': {', '.join(it.sections)}"
         yield from (f"  {rule}" for rule in it.rules)
     else:
-        yield from (f"{rule}: no paragraph cites its section" for rule in it.rules)
+        why = "its code changed, and paragraphs are about definitions" if it.name else "no paragraph cites its section"
+        yield from (f"{rule}: {why}" for rule in it.rules)
