@@ -95,10 +95,10 @@ def run(text: bytes, change: str, is_set: bool) -> Iterator[tuple[int, str, str]
         if not time.startswith(b"+"):
             continue
         now += round(float(time) * 1e6)
-        if event.startswith(b">"):
-            continue
         for _ in sender.advance(now):
             yield from taken(sender)
+        if event.startswith(b">"):
+            continue
         if event.startswith(b"<"):
             if not sender.arrive(now, event.split(b" ")):
                 yield number, "", f"unsupported {number}"

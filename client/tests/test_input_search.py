@@ -14,13 +14,15 @@ from pdsuite.programs.building import Untried
 from pdsuite.programs.recorder import Recording
 from pdsuite.programs.rows import Row, Verdict
 from pdsuite.search.asking import Asked, askers_of
+from pdsuite.search.drawing import Drawing
 from pdsuite.search.finds import Differs, Fails, Reaches, without_trace
-from pdsuite.search.hunt import Hunt, Hunted, play_all
 from pdsuite.search.inputs import Input, Inputs, call, packet
 from pdsuite.search.making import plans
 from pdsuite.search.peer import Peer
+from pdsuite.search.playing import play
 from pdsuite.search.plans import Act, Ending, Handshake, Network, Odd, Oddity, Plan, Receiver
 from pdsuite.search.reached import SHARES, Reached, pattern_of
+from pdsuite.search.searching import Search, Searched, play_all
 from pdsuite.signals import Stop
 from tests.helpers import Called
 from tests.stand_in_sender import lines_of, row_of
@@ -36,11 +38,11 @@ class Toy:
         self.change = change
         self.asked = 0
 
-    def recordings(self, inputs: Sequence[Inputs]) -> list[Recording]:
+    def recordings(self, inputs: Sequence[Inputs | Asked]) -> list[Recording]:
         self.asked += len(inputs)
         return [self._recording(it) for it in inputs]
 
-    def _recording(self, it: Inputs) -> Recording:
+    def _recording(self, it: Inputs | Asked) -> Recording:
         lines, fault = lines_of(it.script(), self.change, "mss" in dict(it.settings))
         return Recording("".join(f"{line}\n" for line in lines), f"pdrecord: {fault}" if fault else "")
 
@@ -56,19 +58,19 @@ class Toy:
         return ["so it is"]
 
 
-def hunt(change: str, lists: int = 1, seed: int = 1) -> Hunted:
+def searched(change: str, lists: int = 1, seed: int = 1) -> Searched:
     """Searches so many lists of inputs for what tells the changed stand-in from the other, however long it takes."""
     after = Toy(change)
-    return Hunt(Toy(), Fails(after), Differs(after), repeat(48, lists), seed, 300).run(lambda inputs: None)
+    return Search(Toy(), Fails(after), Differs(after), Drawing(seed, repeat(48, lists)), 300).run(lambda inputs: None)
 
 
 def test_a_sender_that_is_the_same_gives_no_find() -> None:
-    hunted = hunt("")
-    assert (hunted.find, hunted.unshown, hunted.reached.inputs >= 40) == (None, None, True)
+    came = searched("")
+    assert (came.find, came.unshown, came.reached.inputs >= 40) == (None, None, True)
 
 
 def test_a_find_is_shrunk_to_the_inputs_that_it_needs() -> None:
-    find = hunt("late").find
+    find = searched("late").find
     assert find is not None and find.row is not None and find.row.verdict is Verdict.FAIL
     calls = [str(it) for it in find.inputs.events]
     assert calls[0].startswith("listen(3") and calls[1].startswith("< S 0:0(0)") and calls[2].startswith("write(4")
@@ -77,26 +79,26 @@ def test_a_find_is_shrunk_to_the_inputs_that_it_needs() -> None:
 
 
 def test_a_find_that_needs_a_setting_keeps_it() -> None:
-    find = hunt("greedy", lists=100).find
+    find = searched("greedy", lists=100).find
     assert find is not None and [key for key, _ in find.inputs.settings] == ["mss"]
 
 
 def test_where_only_a_packet_at_the_end_differs_it_is_said_that_no_script_shows_it() -> None:
-    hunted = hunt("extra", lists=5)
-    assert hunted.find is None and hunted.unshown is not None  # after an RST nothing more leaves
-    flags = [it.what.flags for it in hunted.unshown.inputs.events if isinstance(it.what, Packet)]
-    assert flags[0] == "S" and "R" in flags[-1] and len(hunted.unshown.inputs.events) == 3
+    came = searched("extra", lists=5)
+    assert came.find is None and came.unshown is not None  # after an RST nothing more leaves
+    flags = [it.what.flags for it in came.unshown.inputs.events if isinstance(it.what, Packet)]
+    assert flags[0] == "S" and "R" in flags[-1] and len(came.unshown.inputs.events) == 3
 
 
 def test_moments_of_inputs_never_go_back() -> None:
     for seed in range(4):
-        for played in play_all(next(plans(seed, [48])), Toy()):
+        for played in play_all(map(play, next(plans(seed, [48]))), Toy()):
             moments = [it.at for it in played.inputs.events]
             assert moments == sorted(moments)
 
 
 def test_the_same_seed_makes_the_same_inputs() -> None:
-    made = [[it.inputs for it in play_all(next(plans(seed, [24])), Toy())] for seed in (3, 3, 4)]
+    made = [[it.inputs for it in play_all(map(play, next(plans(seed, [24]))), Toy())] for seed in (3, 3, 4)]
     assert made[0] == made[1] != made[2]
 
 
@@ -157,7 +159,7 @@ def test_packets_that_are_lost_come_to_no_peer_and_late_ones_later() -> None:
     network = Network(100_000, lost=frozenset((0,)), late={1: 30_000})
     write = (Act(0, call("write", 4, "...", 2_000)),)
     acts = Plan((), Handshake((), 1_000, 100_000), network, Receiver(), write, (), Ending.NONE, 6)
-    (played,) = play_all([acts], Toy())
+    (played,) = play_all([play(acts)], Toy())
     acks = [(it.at, it.what.ack) for it in played.inputs.events if isinstance(it.what, Packet)][2:]
     assert acks == [(330_000, 1), (1_300_000, 2_001)]
 
@@ -227,7 +229,9 @@ def test_a_saved_script_passes_before_and_fails_after(tree: Tree) -> None:
     assert any(line.startswith("  after: line ") and ": fail seq: " in line for line in lines)
     assert lines[-2].startswith("reached: data in flight ") and lines[-1].endswith(" s, seed 1")
     saved = (tree.suite / "found.pkt").read_text().splitlines()
-    assert saved[0] == f"// Recorded by {tree.bin}." and saved[1].startswith("// It fails (fail ")
+    # It ends with the line that fails, which its comment names.
+    assert saved[0] == f"// Recorded by {tree.bin}." and saved[1].startswith(f"// It fails (fail {len(saved)} ")
+    assert "found after " in lines[-1] and " s, cut down in " in lines[-1]
     runs = [tree.call("run", "suite", PDSUITE_PROGRAMS=str(it)) for it in (tree.bin, tree.suite.parent / "new")]
     assert [it.status for it in runs] == [0, 1]
 
@@ -287,8 +291,8 @@ def test_a_state_is_searched_for_with_one_sender(tree: Tree) -> None:
     ("words", "said"),
     [
         (("compare",), "Missing argument 'PATHS...', or --search"),
-        (("compare", "--search", "1", "suite"), "--search makes scripts, and takes no PATH"),
-        (("compare", "--search", "1", "--json"), "without --html, --json and --affected"),
+        (("compare", "--search", "1", "suite"), "--search makes scripts, and takes no PATH or --only"),
+        (("compare", "--search", "1", "--json"), "without --html, --json, --markdown and --affected"),
         (("compare", "--seed", "1", "suite"), "--seed and --save are of --search"),
         (("search", "--for", "CLOSING"), "--for: CLOSING: no facts as NAME:VALUE"),
         (("search", "--for", "una:1", "--save", "x"), "--save: x: no name of a script"),

@@ -6,19 +6,27 @@ from dataclasses import dataclass, replace
 from pathlib import Path
 from tempfile import TemporaryDirectory
 
+from pdsuite.compare.affected import names_changed
 from pdsuite.compare.built_senders import with_programs
 from pdsuite.compare.senders import Sender, sender_of, standing
 from pdsuite.compare.sides import Side, refuse_common, tell_lacks
 from pdsuite.faults import Fault
+from pdsuite.programs.places import TOP
+from pdsuite.programs.rows import Row
 from pdsuite.reports.search import found, totals
-from pdsuite.scripts.settings import Settings, settings_of
+from pdsuite.scripts.settings import settings_of
 from pdsuite.scripts.suite import Layer, claims_of
 from pdsuite.search.asking import ClaimAsker, SideAsker, askers_of, sizes
+from pdsuite.search.beginnings import beginnings, scripts_in
 from pdsuite.search.finds import Differs, Fails, Find, Reaches, script_of
-from pdsuite.search.hunt import Hunt
+from pdsuite.search.finishing import below, finished, with_head
+from pdsuite.search.drawing import Drawing
 from pdsuite.search.making import KEYS
+from pdsuite.search.plans import Emphasis
+from pdsuite.search.relevance import emphasis_of
 from pdsuite.search.reached import pattern_of
 from pdsuite.search.saving import check_place, save
+from pdsuite.search.searching import Search
 from pdsuite.show.octets import shown_text
 from pdsuite.show.screen import Screen
 from pdsuite.signals import Stop, Stopped
@@ -51,23 +59,32 @@ def search_state(text: str, word: str | None, options: SearchOptions, screen: Sc
                 screen.note(f"pdsuite: {sender}")
             (sender,) = with_programs([sender], "optimised", stop, screen)
             with askers_of([sender], stop) as (asker,):
-                hunted = Hunt(asker, Reaches(pattern), None, sizes(), seed, options.seconds).run(_progress(screen))
-            if hunted.find is not None:
-                settings = hunted.find.inputs.settings
-                screen.show(found(hunted.find, f"an input reaches {shown_text(text)}", [settings], None, ()))
-                _save(options, hunted.find, [f"Reaches {shown_text(text)}.", f"Recorded by {sender}."], settings)
-            screen.show(totals(hunted, seed, not sender.is_proved))
-            return 1 if hunted.find is None else 0
+                drawing = Drawing(seed, sizes(), Emphasis(), beginnings(scripts_in(TOP, stop), asker, frozenset()))
+                searched = Search(asker, Reaches(pattern), None, drawing, options.seconds).run(_progress(screen))
+            if searched.find is not None:
+                settings = searched.find.inputs.settings
+                screen.show(found(searched.find, f"an input reaches {shown_text(text)}", [settings], None, None, ()))
+                if options.save is not None:
+                    head = [f"Reaches {shown_text(text)}.", f"Recorded by {sender}."]
+                    save(options.save, below(head, script_of(searched.find).octets), settings)
+            screen.show(totals(searched, seed, not sender.is_proved))
+            return 1 if searched.find is None else 0
     except Stopped as stopped:
         return stopped.status
 
 
 def search_difference(
-    sides: tuple[Side, Side], common: Layer, options: SearchOptions, stop: Stop, screen: Screen
+    sides: tuple[Side, Side],
+    common: Layer,
+    trees: tuple[Path | None, Path | None],
+    options: SearchOptions,
+    stop: Stop,
+    screen: Screen,
 ) -> int:
     """Searches for what tells two senders apart, and answers the exit status: 1 where something does.
 
-    What is common sets settings of both sides, which no input sets then.
+    What is common sets settings of both sides, which no input sets then. The trees are the senders' sources, as far as
+    they are known.
     """
     if options.save is not None:
         check_place(options.save)
@@ -77,14 +94,14 @@ def search_difference(
     senders = with_programs(senders, "optimised", stop, screen)
     with askers_of(senders, stop) as askers:
         before, after = _asking(askers, sides, common, screen)
-        test, hidden = Fails(after), Differs(after)
-        hunt = Hunt(before, test, hidden, sizes(), seed, options.seconds, _fixed(before.side, after.side, common))
-        hunted = hunt.run(_progress(screen))
-        find = hunted.find or hunted.unshown
+        emphasis = emphasis_of(names_changed(*trees), _fixed(before.side, after.side, common))
+        scripts = scripts_in(trees[0] or TOP, stop)
+        drawing = Drawing(seed, sizes(), emphasis, beginnings(scripts, before, emphasis.fixed))
+        searched = Search(before, Fails(after), Differs(after), drawing, options.seconds).run(_progress(screen))
+        find = searched.find or searched.unshown
         if find is not None:
-            _show_difference(find, before, after, screen)
-            _save(options, find, _head(find, before, after), before.settings(find.inputs.settings))
-    screen.show(totals(hunted, seed, not all(it.is_proved for it in senders)))
+            _finish(find, before, after, options, screen)
+    screen.show(totals(searched, seed, not all(it.is_proved for it in senders)))
     return 0 if find is None else 1
 
 
@@ -108,26 +125,27 @@ def _fixed(before: Side, after: Side, common: Layer) -> frozenset[str]:
     return frozenset().union(common.keys, *(it.option.keys for it in (before, after)), before.lacks, after.lacks)
 
 
-def _show_difference(find: Find, before: SideAsker, after: SideAsker, screen: Screen) -> None:
+def _finish(find: Find, before: SideAsker, after: SideAsker, options: SearchOptions, screen: Screen) -> None:
+    """Shows what was found, as it is saved."""
+    script = finished(find, before, after)
+    if options.save is not None:
+        script = with_head(script, lambda row: _head(row, before, after), after)
     (other,) = after.recordings([find.inputs])
     settings = [it.settings(find.inputs.settings) for it in (before, after)]
-    if find.row is None:
+    if script.row is None:
         what = "recordings differ, and no script that was tried shows it: the senders' packets differ at the end alone"
-        screen.show(found(find, what, settings, other.text, ()))
+        screen.show(found(find, what, settings, other.text, script.row, ()))
     else:
         what = "a script fails under the sender after"
-        screen.show(found(find, what, settings, other.text, after.told(script_of(find))))
-
-
-def _head(find: Find, before: SideAsker, after: SideAsker) -> list[str]:
-    """The comment of a saved script."""
-    fails = "It passes under" if find.row is None else f"It fails ({find.row.whole}) under"
-    return [f"Recorded by {before.side.sender}.", f"{fails} {after.side.sender}."]
-
-
-def _save(options: SearchOptions, find: Find, head: Sequence[str], settings: Settings) -> None:
+        screen.show(found(find, what, settings, other.text, script.row, after.told(script.script)))
     if options.save is not None:
-        save(options.save, find, head, settings)
+        save(options.save, script.script.octets, before.settings(find.inputs.settings))
+
+
+def _head(row: Row | None, before: SideAsker, after: SideAsker) -> list[str]:
+    """The comment of a saved script, which has this row under the sender after, if it fails there."""
+    fails = "It passes under" if row is None else f"It fails ({row.whole}) under"
+    return [f"Recorded by {before.side.sender}.", f"{fails} {after.side.sender}."]
 
 
 def _need_recorder(senders: Sequence[Sender]) -> None:

@@ -1,11 +1,12 @@
 """Two recordings of one script's inputs, event by event: the first event in which they differ."""
 
-import re
 from collections.abc import Iterator
 from dataclasses import dataclass
 from itertools import zip_longest
 
-_STATE = re.compile(r"//= at (\d+\.\d{6}) (.+?)(?: sent_by:\w+)?")
+# pdrecord keeps each comment of a script apart from the lines of its trace, which begin so.
+_STATE = "//= at "
+_SENT_BY = " sent_by:"
 _COMMENT = "//"
 
 
@@ -35,8 +36,9 @@ def played_events(recording: str) -> Iterator[PlayedEvent]:
     """The events of a recording that was made with a trace."""
     lines: list[str] = []
     for line in recording.split("\n"):
-        if found := _STATE.fullmatch(line):
-            yield PlayedEvent(" ".join(lines), found[1], found[2])
+        if line.startswith(_STATE):
+            moment, _, state = line.removeprefix(_STATE).partition(" ")
+            yield PlayedEvent(" ".join(lines), moment, state.partition(_SENT_BY)[0])
             lines = []
         elif line and not line.startswith(_COMMENT):
             lines.append(line)

@@ -4,26 +4,33 @@ from collections.abc import Iterator, Mapping, Sequence
 from itertools import zip_longest
 
 from pdsuite.compare.parting import PlayedEvent, played_events
+from pdsuite.programs.rows import Row
 from pdsuite.run.outcomes import UNPROVED
 from pdsuite.scripts.settings import Settings, settings_text
 from pdsuite.search.finds import Find
-from pdsuite.search.hunt import Hunted
-from pdsuite.search.reached import Reached
+from pdsuite.search.searching import Searched
+from pdsuite.search.reached import SHARES, Reached
 from pdsuite.show.octets import shown_text
 from pdsuite.show.styled_text import StyledText
 
 _ENDS = "nothing more"
+_SETTINGS = "settings"
 
 
-def found(find: Find, what: str, settings: Sequence[Settings], other: str | None, told: Sequence[str]) -> StyledText:
-    """A find: its recording beside the other sender's, if there is one, each with its settings, and why it fails."""
+def found(
+    find: Find, what: str, settings: Sequence[Settings], other: str | None, row: Row | None, told: Sequence[str]
+) -> StyledText:
+    """A find: its recording beside the other sender's, if there is one, each with its settings, and why it fails.
+
+    The row is that of its script as it is saved.
+    """
     text = StyledText().append(f"{what}\n", "bold red")
     text.append("".join(f"  {line}\n" for line in _settings_lines(settings)))
     pairs = _alone(find.recording) if other is None else _beside(find.recording, other)
     text.append("".join(f"  {shown_text(line)}\n" for line in pairs))
-    if find.row is not None:
-        line = "" if find.row.line is None else f"line {find.row.line}: "
-        meaning, *below = told or [str(find.row)]
+    if row is not None:
+        line = "" if row.line is None else f"line {row.line}: "
+        meaning, *below = told or [str(row)]
         text.append(f"  after: {line}{meaning}\n", "bold")
         text.append("".join(f"    {it}\n" for it in below))
     return text
@@ -64,20 +71,22 @@ def _side(name: str, it: PlayedEvent | None) -> Iterator[str]:
         yield f"    {it.state}"
 
 
-def totals(hunted: Hunted, seed: int, is_unproved: bool) -> StyledText:
-    """The last lines: which shares of the inputs reach what, and how many there were."""
-    reached = hunted.reached
+def totals(searched: Searched, seed: int, is_unproved: bool) -> StyledText:
+    """The last lines: how many of the inputs met what, and how many there were."""
+    reached = searched.reached
     text = StyledText()
-    if hunted.find is None:
-        for name, counts in _named(reached):
+    for name, counts in _named(reached):
+        if searched.find is None or name == _SETTINGS:
             text.append(f"{name}: {' '.join(f'{it} {count}' for it, count in sorted(counts.items())) or 'none'}\n")
-    shares = ", ".join(f"{name} {share:.0%}".replace("%", " %") for name, share in reached.shares.items())
+    shares = ", ".join(f"{name} {reached.counts[name]}" for name in SHARES)
     mark = f" {UNPROVED}" if is_unproved else ""
     text.append(f"reached: {shares}\n")
-    return text.append(f"total {reached.inputs} inputs in {hunted.seconds:.2f} s, seed {seed}{mark}\n")
+    tried = f"{reached.inputs} inputs in {searched.seconds:.2f} s"
+    cut = "" if searched.find is None and searched.unshown is None else f", cut down in {searched.shrinking:.2f} s"
+    return text.append(f"{'total' if searched.find is None else 'found after'} {tried}{cut}, seed {seed}{mark}\n")
 
 
 def _named(reached: Reached) -> Iterator[tuple[str, Mapping[str, int]]]:
     yield "states", reached.states
     yield "options", reached.options
-    yield "settings", reached.settings
+    yield _SETTINGS, reached.settings

@@ -31,7 +31,7 @@ from pdsuite.search.inputs import Inputs
 from pdsuite.show.octets import shown
 from pdsuite.signals import Stop
 
-A = TypeVar("A", Inputs, "Asked")
+A = TypeVar("A", bound="Inputs | Asked")
 T = TypeVar("T")
 U = TypeVar("U")
 
@@ -48,12 +48,16 @@ class Asked:
     settings: Settings
     octets: bytes
 
+    def script(self) -> bytes:
+        """The script."""
+        return self.octets
+
 
 class SenderAsker(Protocol):
     """Asks one sender."""
 
-    def recordings(self, inputs: Sequence[Inputs]) -> list[Recording]:
-        """The recordings of inputs, with states."""
+    def recordings(self, inputs: Sequence[Inputs | Asked]) -> list[Recording]:
+        """The recordings of inputs or of scripts, with states."""
 
     def rows(self, scripts: Sequence[Asked]) -> list[Row]:
         """What comes of scripts."""
@@ -81,7 +85,7 @@ class SideAsker:
         """The settings under which inputs or a script with these are played."""
         return self.side.settings(settings_of({**dict(given), **dict(self.common)}))
 
-    def recordings(self, inputs: Sequence[Inputs]) -> list[Recording]:
+    def recordings(self, inputs: Sequence[Inputs | Asked]) -> list[Recording]:
         return self.asker.recordings([replace(it, settings=self.settings(it.settings)) for it in inputs])
 
     def rows(self, scripts: Sequence[Asked]) -> list[Row]:
@@ -131,13 +135,13 @@ class ProgramAsker:
     def refused(self, claims: Sequence[Claim]) -> list[Refusal]:
         return refused_of(claims, lambda: Program([self._program], self._stop))
 
-    def recordings(self, inputs: Sequence[Inputs]) -> list[Recording]:
+    def recordings(self, inputs: Sequence[Inputs | Asked]) -> list[Recording]:
         return self._by_settings(inputs, self._recordings)
 
     def rows(self, scripts: Sequence[Asked]) -> list[Row]:
         return self._by_settings(scripts, self._rows)
 
-    def _recordings(self, inputs: Sequence[Inputs]) -> list[Recording]:
+    def _recordings(self, inputs: Sequence[Inputs | Asked]) -> list[Recording]:
         """The recordings of inputs with equal settings."""
         texts = [it.script() for it in inputs]
         return list(record_all(self._recorder, texts, inputs[0].settings, self._stop, (TRACE,)))
@@ -187,7 +191,7 @@ class UnprovedAsker:
             raise Fault(answer.fault)
         return refused_at_once(claims, answer.output)
 
-    def recordings(self, inputs: Sequence[Inputs]) -> list[Recording]:
+    def recordings(self, inputs: Sequence[Inputs | Asked]) -> list[Recording]:
         answers = self._talk.answers(recording(self._tree, [(it.settings, it.script()) for it in inputs]))
         return [recording_of(it) for it in answers]
 

@@ -4,14 +4,15 @@ from collections.abc import Sequence
 from dataclasses import dataclass
 from typing import Protocol
 
-from pdsuite.compare.parting import parting_of
+from pdsuite.compare.parting import parting_of, played_events
 from pdsuite.programs.recorder import Recording
 from pdsuite.programs.rows import Row, Verdict
 from pdsuite.search.asking import Asked, SenderAsker
 from pdsuite.search.inputs import Inputs
 from pdsuite.search.reached import Pattern
+from pdsuite.search.states import is_input
 
-_TRACE = "//= "
+TRACE = "//= "
 
 
 @dataclass(frozen=True)
@@ -32,7 +33,7 @@ class Test(Protocol):
 
 def without_trace(recording: str) -> bytes:
     """A recording as a script, without the sender's states."""
-    lines = (it for it in recording.split("\n") if not it.startswith(_TRACE))
+    lines = (it for it in recording.split("\n") if not it.startswith(TRACE))
     return "\n".join(lines).encode("utf-8", "surrogateescape")
 
 
@@ -57,10 +58,24 @@ class Fails:
 
 
 @dataclass(frozen=True)
+class Difference:
+    """Inputs on which two senders differ: in what is played, or in a state alone; after so many inputs."""
+
+    find: Find
+    is_played: bool
+    after: int
+
+
+@dataclass(frozen=True)
 class Differs:
     """Finds inputs that another sender is recorded otherwise on, whether or not a script fails by it."""
 
     other: SenderAsker
+
+    def differences(self, inputs: Sequence[Inputs], recordings: Sequence[Recording]) -> list[Difference | None]:
+        """How the senders differ on each, if they do."""
+        others = self.other.recordings(inputs)
+        return [_difference(it, one, other) for it, one, other in zip(inputs, recordings, others)]
 
     def finds(self, inputs: Sequence[Inputs], recordings: Sequence[Recording]) -> list[Find | None]:
         others = self.other.recordings(inputs)
@@ -78,6 +93,19 @@ class Reaches:
 
     def finds(self, inputs: Sequence[Inputs], recordings: Sequence[Recording]) -> list[Find | None]:
         return [Find(it, one.text) if self.pattern.is_in(one.text) else None for it, one in zip(inputs, recordings)]
+
+
+def _difference(inputs: Inputs, one: Recording, other: Recording) -> Difference | None:
+    if not one.text:
+        return None
+    if _differ(one, other):
+        return Difference(Find(inputs, one.text), True, len(inputs.events))
+    count = 0
+    for it, that in zip(played_events(one.text), played_events(other.text)):
+        count += is_input(it)
+        if it.state != that.state:
+            return Difference(Find(inputs, one.text), False, count)
+    return None
 
 
 def _differ(one: Recording, other: Recording) -> bool:

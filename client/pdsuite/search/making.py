@@ -1,16 +1,13 @@
-"""Makes plans by python3-hypothesis: the same ones for the same seed."""
+"""Makes plans by a random generator: the same ones for the same seed."""
 
-from collections.abc import Callable, Iterable, Iterator, Sequence
-from functools import cache
+from collections.abc import Iterable, Iterator, Sequence
+from random import Random
 from typing import TypeVar
-
-from hypothesis import HealthCheck, Phase, given, seed, settings
-from hypothesis import strategies as st
 
 from pdsuite.packetdrill.items import SECOND, TcpOption
 from pdsuite.scripts.settings import Settings, Value, settings_of
 from pdsuite.search.inputs import call
-from pdsuite.search.plans import Act, Ending, Handshake, Network, Odd, Oddity, Plan, Receiver
+from pdsuite.search.plans import Act, Emphasis, Ending, Handshake, Network, Odd, Oddity, Plan, Receiver, Theme
 
 T = TypeVar("T")
 
@@ -27,6 +24,8 @@ _OUTAGES = (500_000, 2 * SECOND, 10 * SECOND, 70 * SECOND, 200 * SECOND)
 _LONG_HANDSHAKES = (1_200_000, 3_500_000, 8 * SECOND)
 _IDLE = (2 * SECOND, 5 * SECOND, 70 * SECOND)
 _RESTART = "restart_after_idle"
+# So long before and after an RTO.
+_AROUND = (-400_000, -1, 0, 1, 1, 1_000, 500_000, 2 * SECOND, 10 * SECOND)
 # What inputs set, each one of these values.
 KEYS: dict[str, tuple[Value, ...]] = {
     "byte_counting": (2, 3, 8),
@@ -51,51 +50,31 @@ _LATER = tuple(it for it in Oddity if it not in (Oddity.FIN, Oddity.RESET))
 _NUMBERS = (0, 1, 2, 3, 100, 1_000, 2_500)
 
 
-def plans(first_seed: int, sizes: Iterable[int], fixed: frozenset[str] = frozenset()) -> Iterator[list[Plan]]:
-    """Lists of so many plans each, one after the other, that set no key which is fixed."""
+def plans(seed: int, sizes: Iterable[int], emphasis: Emphasis = Emphasis()) -> Iterator[list[Plan]]:
+    """Lists of so many plans each, one after the other."""
     for number, size in enumerate(sizes):
-        yield _drawn(first_seed * _APART + number, size, fixed)
+        yield drawn(seed, number, size, emphasis)
 
 
-def _drawn(number: int, size: int, fixed: frozenset[str]) -> list[Plan]:
-    """So many plans, by one seed."""
-    made: list[Plan] = []
-
-    def keep(plan: Plan) -> None:
-        made.append(plan)
-
-    how = settings(
-        max_examples=size,
-        database=None,
-        deadline=None,
-        phases=[Phase.generate],
-        suppress_health_check=list(HealthCheck),
-    )
-    seed(number)(how(given(_plans(fixed))(keep)))()
-    return made
-
-
-@st.composite
-def _plans(draw: st.DrawFn, fixed: frozenset[str]) -> Plan:
-    return _Maker(draw, fixed).plan()
-
-
-@cache
-def _below(number: int) -> st.SearchStrategy[int]:
-    return st.integers(0, number - 1)
+def drawn(seed: int, number: int, size: int, emphasis: Emphasis) -> list[Plan]:
+    """So many plans, the list of this number by a seed."""
+    maker = _Maker(Random(seed * _APART + number), emphasis)
+    return [maker.plan() for _ in range(size)]
 
 
 class _Maker:
-    """Makes a plan of what Hypothesis draws."""
+    """Makes plans of what a random generator draws."""
 
-    def __init__(self, draw: Callable[[st.SearchStrategy[int]], int], fixed: frozenset[str]) -> None:
-        self._draw = draw
-        self._keys = tuple(it for it in KEYS if it not in fixed)
+    def __init__(self, random: Random, emphasis: Emphasis) -> None:
+        self._random = random
+        self._keys = tuple(it for it in KEYS if it not in emphasis.fixed)
+        self._first = tuple(it for it in self._keys if it in emphasis.keys)
+        self._themes = emphasis.themes
 
     def plan(self) -> Plan:
         chosen = self._settings()
         network = self._network()
-        closed = self._after(network.round_trip) if self._one_in(2) else None
+        closed = self._after(network.round_trip) if self._often(Theme.CLOSE, 2) else None
         return Plan(
             chosen,
             self._handshake(network.round_trip),
@@ -105,16 +84,21 @@ class _Maker:
             self._oddities(network.round_trip, closed),
             self._pick((Ending.WAIT, Ending.WRITE, Ending.WRITE, Ending.NONE)),
             self._from(4, 14),
+            self._idle(chosen),
         )
 
     def _number(self, below: int) -> int:
-        return self._draw(_below(below))
+        return self._random.randrange(below)
 
     def _from(self, first: int, last: int) -> int:
         return first + self._number(last - first + 1)
 
     def _one_in(self, number: int) -> bool:
         return self._number(number) == number - 1
+
+    def _often(self, theme: Theme, number: int) -> bool:
+        """Whether one of so many has something, or where the theme comes first two of three."""
+        return not self._one_in(3) if theme in self._themes else self._one_in(number)
 
     def _pick(self, values: Sequence[T]) -> T:
         return values[self._number(len(values))]
@@ -124,14 +108,19 @@ class _Maker:
         return frozenset(self._number(below) for _ in range(self._from(1, most)))
 
     def _settings(self) -> Settings:
-        if self._one_in(2) or not self._keys:
+        if not self._keys or self._one_in(8 if self._first else 2):
             return ()
+        if self._first and not self._one_in(4):
+            first = {self._pick(self._first) for _ in range(self._pick((1, 2, 3)))}
+            more = {self._pick(self._keys) for _ in range(self._pick((0, 0, 1)))}
+            return settings_of({key: self._pick(KEYS[key]) for key in sorted(first | more)})
         keys = {self._pick(self._keys) for _ in range(self._pick((1, 1, 2, 3)))}
         return settings_of({key: self._pick(KEYS[key]) for key in sorted(keys)})
 
     def _handshake(self, round_trip: int) -> Handshake:
-        takes = self._pick(_LONG_HANDSHAKES) if self._one_in(8) else round_trip
-        odd = (Odd(takes // 2, self._pick(_IN_HANDSHAKES), self._number(200)),) if self._one_in(8) else ()
+        takes = self._pick(_LONG_HANDSHAKES) if self._often(Theme.HANDSHAKE, 8) else round_trip
+        is_odd = self._often(Theme.HANDSHAKE, 8)
+        odd = (Odd(takes // 2, self._pick(_IN_HANDSHAKES), self._number(200)),) if is_odd else ()
         window = self._pick((32_792, 32_792, 1_000, 2_000, 65_535, 0))
         return Handshake(self._options(), window, takes, odd, self._one_in(16), self._one_in(16))
 
@@ -141,7 +130,7 @@ class _Maker:
             options.append(TcpOption("mss", (1_000 if self._one_in(2) else self._pick(_SEGMENTS),)))
         if self._one_in(16):
             options.append(TcpOption("eol"))
-        if not self._one_in(3):
+        if not self._often(Theme.NO_SACK, 3):
             options.append(TcpOption("sackOK"))
         if not self._one_in(4):
             options.append(TcpOption("wscale", (self._pick((7, 7, 7, 0, 1, 2, 10, 14, 15, 16)),)))
@@ -156,13 +145,13 @@ class _Maker:
             late = {self._number(12): self._from(1, 60) * step for _ in range(self._from(1, 3))}
         lost_acks = self._some(3, 10) if self._one_in(4) else frozenset()
         outage = (0, 0)
-        if self._one_in(6):
+        if self._often(Theme.EXPIRY, 6):
             begin = self._number(7) * round_trip
             outage = (begin, begin + self._pick(_OUTAGES))
         return Network(round_trip, more, self._losses(), late, lost_acks, outage)
 
     def _losses(self) -> frozenset[int]:
-        kind = self._number(6)
+        kind = self._from(1, 5) if Theme.LOSS in self._themes else self._number(6)
         if kind == 0:
             return frozenset()
         first = self._number(8)
@@ -174,18 +163,18 @@ class _Maker:
 
     def _receiver(self) -> Receiver:
         windows = {0: self._window()}
-        if self._one_in(3):
+        if self._often(Theme.WINDOW, 3):
             windows |= {self._from(1, 8): self._window() for _ in range(self._from(1, 2))}
         each = self._pick((1, 1, 1, 2, 3, 8))
         delay = self._pick((40, 200)) * _MILLISECOND
         return Receiver(each, delay, not self._one_in(16), not self._one_in(5), tuple(sorted(windows.items())))
 
     def _window(self) -> int:
-        return self._pick(_NARROW) if self._one_in(4) else self._pick(_WIDE)
+        return self._pick(_NARROW) if self._often(Theme.WINDOW, 4) else self._pick(_WIDE)
 
     def _acts(self, round_trip: int, chosen: Settings, closed: int | None) -> tuple[Act, ...]:
         sizes = [*_SHORT, *_LONG, *(int(str(value)) - 1 for key, value in chosen if key == "sndbuf")]
-        first = self._pick(sizes) if self._one_in(3) else self._pick(_LONG)
+        first = self._pick(sizes) if self._often(Theme.SMALL, 3) else self._pick(_LONG)
         acts = [Act(0, call("write", 4, "...", first))]
         for _ in range(self._number(5)):
             acts.append(Act(self._after(round_trip), call("write", 4, "...", self._pick(sizes))))
@@ -200,6 +189,13 @@ class _Maker:
                 acts.append(Act(closed, call("write", 4, "...", 100)))
         return tuple(sorted(acts, key=_moment))
 
+    def _idle(self, chosen: Settings) -> tuple[Act, ...]:
+        """What is written after idle times."""
+        if _RESTART not in dict(chosen) and not self._often(Theme.IDLE, 8):
+            return ()
+        count = self._from(1, 2)
+        return tuple(Act(self._pick(_AROUND), call("write", 4, "...", self._pick(_LONG))) for _ in range(count))
+
     def _oddities(self, round_trip: int, closed: int | None) -> tuple[Odd, ...]:
         odd = []
         if self._one_in(3):
@@ -207,7 +203,7 @@ class _Maker:
             odd.append(Odd((closed or 0) + round_trip // 4 if is_near else self._after(round_trip), Oddity.FIN))
         if self._one_in(10):
             odd.append(Odd(self._after(round_trip), Oddity.RESET, self._number(2)))
-        if self._one_in(3):
+        if self._often(Theme.ODD, 3):
             for _ in range(self._from(1, 4)):
                 odd.append(Odd(self._after(round_trip), self._pick(_LATER), self._pick(_NUMBERS)))
         return tuple(sorted(odd, key=_moment))

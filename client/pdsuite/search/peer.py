@@ -30,6 +30,12 @@ class Peer:
         self._spans: list[Span] = []
         self._newest: Span | None = None
 
+    def resume(self, una: int, top: int, number: int) -> None:
+        """Goes on where octets up to a number are acknowledged, others were sent, and its own number is this."""
+        self.next = self._acked = una
+        self.top = top
+        self._number = number
+
     def take(self, span: Span) -> bool:
         """Takes a segment from the network; whether it is acknowledged at once."""
         start, end = span

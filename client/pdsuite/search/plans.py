@@ -41,7 +41,7 @@ class Odd:
 
 @dataclass(frozen=True, slots=True)
 class Act:
-    """A call, so many microseconds after the handshake."""
+    """A call, so many microseconds after the handshake, or after another moment that is said."""
 
     after: int
     call: Call
@@ -85,6 +85,29 @@ class Receiver:
     windows: tuple[tuple[int, int], ...] = ((0, 65_535),)
 
 
+class Theme(StrEnum):
+    """What a connection may meet more often."""
+
+    LOSS = "loss"
+    NO_SACK = "no SACK"
+    EXPIRY = "expiries"
+    IDLE = "idle times"
+    CLOSE = "closing"
+    ODD = "odd packets"
+    WINDOW = "small windows"
+    HANDSHAKE = "odd handshakes"
+    SMALL = "small writes"
+
+
+@dataclass(frozen=True, slots=True)
+class Emphasis:
+    """What comes first in what is drawn, settings and themes, and the settings that aren't drawn."""
+
+    keys: frozenset[str] = frozenset()
+    themes: frozenset[Theme] = frozenset()
+    fixed: frozenset[str] = frozenset()
+
+
 class Ending(StrEnum):
     """What comes last, once the rest is over."""
 
@@ -105,3 +128,5 @@ class Plan:
     odd: tuple[Odd, ...]
     ending: Ending
     rounds: int
+    # What is written once nothing is outstanding: so long before or after an RTO since octets were sent last.
+    idle: tuple[Act, ...] = ()

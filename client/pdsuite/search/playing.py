@@ -3,7 +3,7 @@
 import heapq
 import re
 from collections.abc import Generator, Iterator
-from dataclasses import dataclass
+from dataclasses import dataclass, replace
 from itertools import count
 
 from pdsuite.compare.parting import PlayedEvent, played_events
@@ -12,6 +12,7 @@ from pdsuite.programs.recorder import Recording
 from pdsuite.search.inputs import Input, Inputs, call, packet
 from pdsuite.search.peer import Peer
 from pdsuite.search.plans import Ending, Handshake, Odd, Oddity, Plan
+from pdsuite.search.states import State, state_of
 
 SYN_AT = 100_000
 # A call that changes nothing.
@@ -25,8 +26,8 @@ LONG_GAPS = 18
 _LONG_WRITE = 20_000
 _TRIES = 4
 _SENT = re.compile(r"\S+ > (\S+) (\d+):(\d+)\(\d+\)")
-_EXPIRY = re.compile(r" expiry:(\d+)\.(\d{6})")
-_REFUSED = re.compile(r"(?:unsupported|limit|fail|syntax) (\d+)")
+_REFUSED = re.compile(r"(?:.*: )?(?:unsupported|limit|fail|syntax) (\d+)")
+_WRITABLE = ("ESTABLISHED", "CLOSE-WAIT")
 
 
 @dataclass(frozen=True)
@@ -63,6 +64,42 @@ def play(plan: Plan) -> Playing:
     return (yield from _Game(plan).play())
 
 
+def play_on(plan: Plan, begun: Inputs) -> Playing:
+    """Inputs that begin as these do, and go on by a plan; its moments count from where these end.
+
+    Where no connection is open at their end, they are all.
+    """
+    return (yield from _Game(_fitted(plan, begun)).play_on(begun))
+
+
+def play_as(inputs: Inputs) -> Playing:
+    """Inputs as they are, without what the sender doesn't run."""
+    events = list(inputs.events)
+    recording = Recording("", "nothing is recorded yet")
+    for _ in range(_TRIES):
+        recording = yield replace(inputs, events=tuple(events))
+        place = _refused_place(recording, inputs, len(events))
+        if place is None:
+            break
+        del events[place]
+    return Played(replace(inputs, events=tuple(events)), recording)
+
+
+def _refused_place(recording: Recording, inputs: Inputs, count: int) -> int | None:
+    """The place of the input that a sender doesn't run, if that is why there is no recording."""
+    refused = _REFUSED.match(recording.fault)
+    if recording.text or refused is None or not count:
+        return None
+    return min(int(refused[1]) - 1 - inputs.header_lines, count - 1)
+
+
+def _fitted(plan: Plan, begun: Inputs) -> Plan:
+    """A plan with the settings of inputs, and the options of their SYN."""
+    syns = [it.what for it in begun.events if isinstance(it.what, Packet) and it.what.flags == "S"]
+    options = syns[0].options if syns else ()
+    return replace(plan, settings=begun.settings, handshake=replace(plan.handshake, options=options))
+
+
 class _Game:
     """A plan that is played: what was put in, what is due, and what the sender has sent."""
 
@@ -77,12 +114,37 @@ class _Game:
         self._now = 0
         self._sent = 0
         self._seen = 0
+        self._idle = list(plan.idle)
+        self._rto: int | None = None
+        self._last_sent = 0
         self._established_at = SYN_AT + plan.handshake.takes
         self._recording = Recording("", "nothing is recorded yet")
 
     def play(self) -> Playing:
         for at, what in _beginning(self._plan.handshake, self._peer.window):
             self._put(at, what)
+        return (yield from self._go_on())
+
+    def play_on(self, begun: Inputs) -> Playing:
+        """Takes up inputs where they end: what is outstanding then is on its way to the peer."""
+        taken = yield from play_as(begun)
+        self._events, self._recording = list(taken.inputs.events), taken.recording
+        played = list(played_events(self._recording.text))
+        state = state_of(played[-1].state) if played else State("CLOSED")
+        if not state.is_open:
+            return Played(self._inputs(), self._recording)
+        self._note(played[-1])
+        self._established_at = self._now
+        una = state.number("una", 1)
+        self._peer.resume(una, state.number("top", 1), 2 if any(_is_fin(it.what) for it in begun.events) else 1)
+        segments = list(_segments(played))
+        self._seen = len(segments)
+        for start, end in dict.fromkeys((start, end) for _, start, end in segments if end > una):
+            self._send(self._now, start, end)
+        return (yield from self._go_on())
+
+    def _go_on(self) -> Playing:
+        """Plays the acts, the oddities and the end."""
         for it in self._plan.acts:
             self._put(self._established_at + it.after, it.call)
         for odd in self._plan.odd:
@@ -105,6 +167,8 @@ class _Game:
     def _step(self) -> bool:
         """Puts in what is due before the sender could be answered; whether there was anything."""
         while True:
+            if not self._due and self._expiry is None:
+                self._write_after_idle()
             first = self._due[0].at if self._due else None
             expiry = None if self._expiry is None else self._after_outage(self._expiry)
             if expiry is not None and (first is None or expiry < first):
@@ -120,6 +184,12 @@ class _Game:
                 self._react(due)
             if len(self._events) > put:
                 return True
+
+    def _write_after_idle(self) -> None:
+        """Where nothing is due, writes an RTO after what was sent last, give or take what the plan says."""
+        if self._idle and self._rto is not None and self._state in _WRITABLE:
+            act = self._idle.pop(0)
+            self._put(max(self._last_sent + self._rto + act.after, self._now + 1), act.call)
 
     def _after_outage(self, at: int) -> int:
         begin, end = (self._established_at + it for it in self._plan.network.outage)
@@ -155,11 +225,10 @@ class _Game:
         for _ in range(_TRIES):
             inputs = self._inputs()
             self._recording = yield inputs
-            refused = _REFUSED.match(self._recording.fault.partition(": ")[2])
-            if self._recording.text or refused is None:
+            place = _refused_place(self._recording, inputs, len(self._events))
+            if place is None:
                 break
-            place = int(refused[1]) - 1 - inputs.header_lines
-            del self._events[min(place, len(self._events) - 1)]
+            del self._events[place]
         played = list(played_events(self._recording.text))
         if played:
             self._note(played[-1])
@@ -167,11 +236,13 @@ class _Game:
         for at, start, end in segments[self._seen :]:
             self._send(at, start, end)
         self._seen = len(segments)
+        self._last_sent = segments[-1][0] if segments else self._now
 
     def _note(self, last: PlayedEvent) -> None:
-        self._state = last.state.partition(" ")[0]
-        found = _EXPIRY.search(last.state)
-        self._expiry = int(found[1]) * SECOND + int(found[2]) if found else None
+        state = state_of(last.state)
+        self._state = state.name
+        self._expiry = state.moment("expiry")
+        self._rto = state.moment("RTO")
         self._now = max(self._events[-1].at, _moment(last))
 
     def _send(self, at: int, start: int, end: int) -> None:
@@ -192,7 +263,7 @@ class _Game:
             yield from (Input(at + number * LONGEST_GAP, TICK) for number in range(1, LONG_GAPS + 1))
         elif self._expiry is not None and ending is not Ending.NONE:
             yield Input(self._expiry + (self._expiry - at) // 2 + 1, TICK)
-        elif ending is Ending.WRITE and self._state in ("ESTABLISHED", "CLOSE-WAIT"):
+        elif ending is Ending.WRITE and self._state in _WRITABLE:
             yield Input(at + 1_000, call("write", 4, "...", _LONG_WRITE))
             yield Input(at + 10 * SECOND, TICK)
 
@@ -224,6 +295,10 @@ def _odd_in_handshake(odd: Odd) -> Packet:
             return packet(".", 0, 1, 1_000)
         case _:
             return packet(".", 70_000, 1, 1_000)
+
+
+def _is_fin(what: Packet | Call) -> bool:
+    return isinstance(what, Packet) and "F" in what.flags
 
 
 def _segments(played: list[PlayedEvent]) -> Iterator[tuple[int, int, int]]:

@@ -1,7 +1,6 @@
 """Saves a find as a script, with its settings in the pdsuite.toml beside it."""
 
 import os
-from collections.abc import Iterable
 from pathlib import Path
 
 from pdsuite.faults import Fault
@@ -10,7 +9,6 @@ from pdsuite.imports.tables import is_key, table
 from pdsuite.scripts.search import SUFFIX, ScriptFile
 from pdsuite.scripts.settings import Settings
 from pdsuite.scripts.suite import FILE, Suite, option_of, read_layer
-from pdsuite.search.finds import Find, script_of
 from pdsuite.show.octets import shown_path
 
 _OPTION = "--save"
@@ -30,9 +28,8 @@ def check_place(path: Path) -> None:
         raise Fault(f"{_OPTION}: {shown_path(path)}: a {FILE} has settings for it; choose another name or folder")
 
 
-def save(path: Path, find: Find, head: Iterable[str], settings: Settings) -> None:
-    """Writes the script of a find, below lines of comment; its settings come to the end of the file beside it."""
-    comment = "".join(f"// {line}\n" for line in head).encode("utf-8", "surrogateescape")
-    write(path, comment + script_of(find).octets)
+def save(path: Path, octets: bytes, settings: Settings) -> None:
+    """Writes a script; its settings come to the end of the file beside it."""
+    write(path, octets)
     if settings:
         append(path.with_name(FILE), table(path.name, settings).encode())

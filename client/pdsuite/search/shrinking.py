@@ -3,16 +3,22 @@
 import time
 from collections.abc import Iterable, Iterator, Sequence
 from dataclasses import dataclass, replace
+from itertools import islice
 
+from pdsuite.compare.parting import played_events
 from pdsuite.packetdrill.items import Call, Packet, TcpOption
 from pdsuite.search.asking import SenderAsker
-from pdsuite.search.finds import Find, Test
+from pdsuite.search.finds import TRACE, Find, Test
 from pdsuite.search.inputs import Input, Inputs, options_text
+from pdsuite.search.renumbering import without_rounds
+from pdsuite.search.states import states_before
 
 _GAPS = (0, 1_000, 100_000, 200_000, 1_000_000, 10_000_000)
 _WINDOWS = (257, 32_792, 1_000)
 _SIZES = (1, 100, 1_000, 2_000, 3_000, 4_000, 5_000, 8_000, 10_000)
 _WRITE = "write"
+# So many inputs without a round are tried at once.
+_AT_ONCE = 96
 _NOT_ZERO = tuple(b"%d" % digit for digit in range(1, 10))
 # How simple inputs are: the events, settings and octets that they have, and how round their numbers are.
 _Size = tuple[int, int, int, int, int]
@@ -46,12 +52,24 @@ def size_of(it: Inputs) -> _Size:
     return (len(it.events), len(it.settings), int(it.is_exact), len(text), sum(map(text.count, _NOT_ZERO)))
 
 
+def _size_of_find(it: Find) -> tuple[int, _Size]:
+    """How simple a find is: the lines of its script up to the one that fails, and its inputs."""
+    lines = it.recording.count(TRACE) if it.row is None or it.row.line is None else it.row.line
+    return lines, size_of(it.inputs)
+
+
 def _smaller(find: Find, test: Test, before: SenderAsker) -> Find | None:
-    """A smaller find, if there is one: first without some events, then under fewer rules, then with simpler events."""
+    """A smaller find, if there is one: without events or rounds, then under fewer rules, then with simpler events."""
     whole = find.inputs
     for changes in (list(_pieces(whole)), list(_singles(whole))):
         if (found := _changed(find, changes, test, before)) is not None:
             return found
+    states = states_before(list(played_events(find.recording)))
+    if len(states) == len(whole.events) + 1:
+        rounds = without_rounds(whole, states)
+        while some := list(islice(rounds, _AT_ONCE)):
+            if (found := _best(find, some, test, before)) is not None:
+                return found
     if (found := _best(find, list(_fewer_rules(whole)), test, before)) is not None:
         return found
     return _changed(find, list(_simpler_events(whole)), test, before)
@@ -59,23 +77,24 @@ def _smaller(find: Find, test: Test, before: SenderAsker) -> Find | None:
 
 def _changed(find: Find, changes: Sequence[_Changes], test: Test, before: SenderAsker) -> Find | None:
     """The find that all changes lead to which lead to one by themselves, or else half of these, and so on."""
-    size = size_of(find.inputs)
-    smaller = [it for it in changes if size_of(_with(find.inputs, it)) < size]
-    found = _tested([_with(find.inputs, it) for it in smaller], test, before)
-    good = [(size_of(it.inputs), number) for number, it in enumerate(found) if it is not None]
-    chosen = [number for _, number in sorted(good)]
+    size, least = size_of(find.inputs), _size_of_find(find)
+    tried = [it for it in changes if size_of(_with(find.inputs, it)) < size]
+    found = _tested([_with(find.inputs, it) for it in tried], test, before)
+    good = [(_size_of_find(it), number) for number, it in enumerate(found) if it is not None]
+    chosen = [number for smaller, number in sorted(good) if smaller < least]
     while len(chosen) > 1:
-        together = _with(find.inputs, [change for number in chosen for change in smaller[number]])
+        together = _with(find.inputs, [change for number in chosen for change in tried[number]])
         (both,) = _tested([together], test, before)
-        if both is not None:
+        if both is not None and _size_of_find(both) < least:
             return both
         chosen = chosen[: len(chosen) // 2]
     return found[chosen[0]] if chosen else None
 
 
 def _best(find: Find, candidates: Sequence[Inputs], test: Test, before: SenderAsker) -> Find | None:
-    there = [it for it in _tested(candidates, test, before) if it is not None]
-    return min(there, key=lambda it: size_of(it.inputs)) if there else None
+    least = _size_of_find(find)
+    there = [it for it in _tested(candidates, test, before) if it is not None and _size_of_find(it) < least]
+    return min(there, key=_size_of_find) if there else None
 
 
 def _tested(candidates: Sequence[Inputs], test: Test, before: SenderAsker) -> list[Find | None]:

@@ -1,0 +1,53 @@
+"""What comes first in a search: the settings and themes that the functions and definitions consult which changed."""
+
+import re
+from collections.abc import Iterable, Mapping, Sequence
+
+from pdsuite.scripts.defaults import KEYS
+from pdsuite.search.plans import Emphasis, Theme
+
+
+# By a part of a name in the sources: the settings, and what a connection has to meet, so that it matters.
+_PARTS: Mapping[str, tuple[Sequence[str], Sequence[Theme]]] = {
+    "idle|restart|last_sent": (("restart_after_idle", "byte_counting"), (Theme.IDLE,)),
+    "follows_expiry|byte_limit|growth|limit": (("byte_counting", "restart_after_idle"), (Theme.EXPIRY,)),
+    "prr|reduction|sndcnt|proportion|recover_fs|delivered|pace": (("recovery_rate",), (Theme.LOSS,)),
+    "early|limited": (("limited_transmit",), (Theme.LOSS,)),
+    "nagle|held_back": (("nagle",), (Theme.SMALL,)),
+    "widest|half_window|sendable|usable": ((), (Theme.WINDOW, Theme.SMALL)),
+    "rwnd|window_edge|wl1|wl2": ((), (Theme.WINDOW, Theme.ODD)),
+    "sack|score|block|span|range|mark|lost|pipe|high_rxt|rescue|fresh|(^|_)hole": ((), (Theme.LOSS, Theme.ODD)),
+    "dup|recover|half|note|step_c": ((), (Theme.LOSS,)),
+    "plain|fast_retransmit|new_segment|take_number": (("sack",), (Theme.NO_SACK, Theme.LOSS)),
+    "expir|timeout|rto|deadline|timed|sample|overlap": (("min_rto_us",), (Theme.EXPIRY, Theme.LOSS)),
+    "srtt|rttvar|estimate|granularity": (("min_rto_us", "granularity_us"), (Theme.EXPIRY,)),
+    "(^|_)fin(_|$)|close": ((), (Theme.CLOSE, Theme.ODD)),
+    "(^|_)rst|reset|challenge|ruling|check_|refus": ((), (Theme.ODD, Theme.CLOSE)),
+    "sndbuf|free": (("sndbuf",), (Theme.SMALL,)),
+    "ssthresh|cwnd|widen": (("initial_ssthresh",), (Theme.LOSS,)),
+    "first_window|window_by|initial_window|first_segments": (("initial_window", "mss"), ()),
+    "smss_of|announced|DEFAULT_MSS": (("mss",), (Theme.SMALL,)),
+    "scal|shift|peer_count": (("wscale",), (Theme.HANDSHAKE,)),
+    "rcv": (("rcv_wnd",), (Theme.ODD,)),
+    "resent|handshake|establish|syn|reinitialize|offer": ((), (Theme.HANDSHAKE,)),
+}
+
+
+def emphasis_of(changed: Iterable[Mapping[str, Sequence[str]]], fixed: frozenset[str]) -> Emphasis:
+    """What comes first, by names that stand in the lines that changed, or else in all that changed."""
+    each = list(changed)
+    for names in ("changed", "whole"):
+        found = _emphasis({name for it in each for name in it[names]}, fixed)
+        if found.keys or found.themes:
+            return found
+    return Emphasis(fixed=fixed)
+
+
+def _emphasis(names: Iterable[str], fixed: frozenset[str]) -> Emphasis:
+    keys = {name for name in names if name in KEYS}
+    themes: set[Theme] = set()
+    for part, (some, more) in _PARTS.items():
+        if any(re.search(part, name) for name in names):
+            keys.update(some)
+            themes.update(more)
+    return Emphasis(frozenset(keys), frozenset(themes), fixed)

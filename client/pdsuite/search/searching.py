@@ -1,0 +1,147 @@
+"""Searches for inputs that are a find, as long as there is time, and shrinks what it finds."""
+
+import time
+from collections.abc import Callable, Iterable, Iterator, Sequence
+from dataclasses import dataclass, replace
+
+from pdsuite.packetdrill.items import Packet
+from pdsuite.programs.recorder import Recording
+from pdsuite.search.asking import SenderAsker
+from pdsuite.search.drawing import Drawing
+from pdsuite.search.endings import going_on
+from pdsuite.search.finds import Difference, Differs, Find, Test
+from pdsuite.search.inputs import Inputs
+from pdsuite.search.playing import Played, Playing, play_on
+from pdsuite.search.reached import Reached
+from pdsuite.search.shrinking import shrunk, size_of
+
+# So many inputs on which senders differ, and no script fails, are tried with other ends, each with so many plans.
+_TRIED = 6
+_PLANS = 6
+
+
+@dataclass(frozen=True)
+class Searched:
+    """What a search came to: a find, or one that no script shows, what was reached, and how long both parts took."""
+
+    find: Find | None
+    unshown: Find | None
+    reached: Reached
+    seconds: float
+    shrinking: float = 0.0  # in seconds
+
+
+@dataclass(frozen=True)
+class Search:
+    """What is searched for: finds by a test, and by a second one those that their script doesn't show yet.
+
+    Inputs are made for so many seconds, and a find is shrunk for as long again at most.
+    """
+
+    before: SenderAsker
+    test: Test
+    hidden: Differs | None
+    drawing: Drawing
+    seconds: float
+
+    def run(self, advance: Callable[[int], None]) -> Searched:
+        """Searches until something is found, or the time is over."""
+        begin = time.monotonic()
+        reached = Reached()
+        unshown: Find | None = None
+        for games in self.drawing.lists():
+            played = [it for it in play_all(games, self.before) if it.recording.text]
+            _note(reached, played)
+            self.drawing.learn(played)
+            found, hidden = self._look(played)
+            unshown = unshown or hidden
+            if found is not None:
+                return self._shrunk(found, self.test, reached, time.monotonic() - begin)
+            advance(reached.inputs)
+            if time.monotonic() - begin >= self.seconds:
+                break
+        if unshown is not None and self.hidden is not None:
+            return self._shrunk(unshown, self.hidden, reached, time.monotonic() - begin)
+        return Searched(None, None, reached, time.monotonic() - begin)
+
+    def _shrunk(self, find: Find, test: Test, reached: Reached, seconds: float) -> Searched:
+        begin = time.monotonic()
+        least = shrunk(find, test, self.before, self.seconds)
+        found, unshown = (least, None) if test is self.test else (None, least)
+        return Searched(found, unshown, reached, seconds, time.monotonic() - begin)
+
+    def _look(self, played: Sequence[Played]) -> tuple[Find | None, Find | None]:
+        """The simplest find, or else the simplest input on which senders play otherwise, and nothing shows it."""
+        inputs, recordings = [it.inputs for it in played], [it.recording for it in played]
+        if self.hidden is None:
+            return _simplest(self.test.finds(inputs, recordings)), None
+        differences = [it for it in self.hidden.differences(inputs, recordings) if it is not None]
+        shown = sorted((it for it in differences if it.is_played), key=_size)
+        found = self._simplest_of([it.find for it in shown])
+        if found is not None:
+            return found, None
+        further = [more for it in shown[:_TRIED] for more in going_on(it.find)]
+        found = _simplest(self.test.finds(further, self.before.recordings(further))) if further else None
+        if found is None:
+            found = self._further(sorted((it for it in differences if not it.is_played), key=_size) + shown)
+        return found, shown[0].find if shown else None
+
+    def _simplest_of(self, finds: Sequence[Find]) -> Find | None:
+        inputs = [it.inputs for it in finds]
+        return _simplest(self.test.finds(inputs, [Recording(it.recording) for it in finds])) if inputs else None
+
+    def _further(self, differences: Sequence[Difference]) -> Find | None:
+        """A find among inputs that go on from where the senders began to differ."""
+        begun = list(dict.fromkeys(_begun(it) for it in differences))[:_TRIED]
+        if not begun:
+            return None
+        plans = self.drawing.more_plans(len(begun) * _PLANS)
+        played = play_all([play_on(plan, begun[number % len(begun)]) for number, plan in enumerate(plans)], self.before)
+        there = [it for it in played if it.recording.text]
+        self.drawing.learn(there)
+        return (
+            _simplest(self.test.finds([it.inputs for it in there], [it.recording for it in there])) if there else None
+        )
+
+
+def _size(it: Difference) -> tuple[int, int]:
+    return it.after, len(it.find.inputs.events)
+
+
+def _begun(it: Difference) -> Inputs:
+    """The inputs up to the one after which senders differ."""
+    return replace(it.find.inputs, events=it.find.inputs.events[: it.after])
+
+
+def play_all(games: Iterable[Playing], asker: SenderAsker) -> list[Played]:
+    """Plays side by side: all that is asked for next is recorded at once. The results come in the order of games."""
+    running = list(enumerate(games))
+    asked = [(number, game, next(game)) for number, game in running]
+    done: dict[int, Played] = {}
+    while asked:
+        recordings = asker.recordings([inputs for _, _, inputs in asked])
+        asked = list(_answered([(number, game) for number, game, _ in asked], recordings, done))
+    return [done[number] for number in sorted(done)]
+
+
+def _answered(
+    games: Sequence[tuple[int, Playing]], recordings: Sequence[Recording], done: dict[int, Played]
+) -> Iterator[tuple[int, Playing, Inputs]]:
+    """The games that go on, each with what it asks for next; those that end come to the ones that are done."""
+    for (number, game), recording in zip(games, recordings):
+        try:
+            yield number, game, game.send(recording)
+        except StopIteration as end:
+            done[number] = end.value
+
+
+def _simplest(finds: Iterable[Find | None]) -> Find | None:
+    there = sorted((it for it in finds if it is not None), key=lambda it: size_of(it.inputs))
+    return there[0] if there else None
+
+
+def _note(reached: Reached, played: Iterable[Played]) -> None:
+    for it in played:
+        syns = [event.what for event in it.inputs.events if isinstance(event.what, Packet) and event.what.flags == "S"]
+        options = [option.name for syn in syns for option in syn.options]
+        reached.note(it.recording.text, options, [key for key, _ in it.inputs.settings])

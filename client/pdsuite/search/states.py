@@ -1,0 +1,108 @@
+"""What a trace says of a sender: facts as numbers, and what kind of state it is in, whatever the numbers are."""
+
+from collections.abc import Iterator, Mapping, Sequence
+from dataclasses import dataclass, field
+
+from pdsuite.compare.parting import PlayedEvent, played_events
+from pdsuite.packetdrill.items import SECOND
+
+# How two states differ of which one follows the other: the kind before, what happened, and the kind after.
+Step = tuple[str, str, str]
+_SEGMENT = 1_000
+
+
+@dataclass(frozen=True, slots=True)
+class State:
+    """A state: its name, and its facts as the trace has them."""
+
+    name: str
+    facts: Mapping[str, str] = field(default_factory=dict)
+
+    def number(self, name: str, default: int = 0) -> int:
+        """A fact that is a number, or what holds where there is none."""
+        value = self.facts.get(name, "")
+        return int(value) if value.isdecimal() else default
+
+    def moment(self, name: str) -> int | None:
+        """A fact that is a time, in microseconds."""
+        return moment_of(self.facts.get(name, ""))
+
+    @property
+    def is_open(self) -> bool:
+        """Whether the connection is established, and no RST has come."""
+        return "cwnd" in self.facts and self.name != "CLOSED"
+
+    @property
+    def kind(self) -> str:
+        """What kind of state it is: numbers count by their order and by rough sizes alone."""
+        una, top = self.number("una"), self.number("top")
+        cwnd, flight, rwnd = self.number("cwnd"), self.number("FlightSize"), self.number("rwnd")
+        parts = [
+            self.name,
+            self.facts.get("recovery", ""),
+            self.facts.get("connection", ""),
+            str(min(self.number("DupAcks"), 3)),
+            _order(cwnd, self.number("ssthresh")),
+            _order(flight, cwnd),
+            _order(flight, rwnd) if rwnd else "0",
+            _order(self.number("next"), top),
+            _order(top, self.number("end")),
+            str(min(flight // _SEGMENT, 4)) if flight else "none",
+            "runs" if self.moment("expiry") is not None else "stopped",
+            _order(self.number("pipe"), cwnd) if "pipe" in self.facts else "",
+            _order(self.number("prr_delivered"), self.number("prr_out")) if una < top else "",
+        ]
+        return " ".join(parts)
+
+
+def moment_of(text: str) -> int | None:
+    """A time in seconds with decimals, in microseconds."""
+    whole, _, part = text.partition(".")
+    return int(whole) * SECOND + int(part.ljust(6, "0")) if whole.isdecimal() and part.isdecimal() else None
+
+
+def state_of(text: str) -> State:
+    """The state that a trace says."""
+    name, *facts = text.split(" ")
+    return State(name, dict(it.split(":", 1) for it in facts))
+
+
+def is_input(it: PlayedEvent) -> bool:
+    """Whether an event is a call or a packet that arrives."""
+    return it.line.split(" ", 2)[1:2] != [">"]
+
+
+def states_before(played: Sequence[PlayedEvent]) -> list[State]:
+    """The sender's state before each input, and last the one at the end."""
+    states = [State("CLOSED")]
+    last = states[0]
+    for it in played:
+        if is_input(it):
+            states.append(last)
+        last = state_of(it.state)
+    return [*states[1:], last]
+
+
+def steps_in(recording: str) -> Iterator[Step]:
+    """The steps of a recording: each from one kind of state to another, or on which a packet leaves."""
+    before = ""
+    for it in played_events(recording):
+        kind = state_of(it.state).kind
+        what = _what(it)
+        if kind != before or what != "leaves":
+            yield before, what, kind
+        before = kind
+
+
+def _what(it: PlayedEvent) -> str:
+    """What happened, roughly."""
+    words = it.line.split(" ")
+    if words[1:2] == [">"]:
+        return "leaves"
+    if words[1:2] == ["<"]:
+        return f"{words[2]} {'sack' if 'sack ' in it.line else ''}"
+    return words[1].partition("(")[0] if len(words) > 1 else ""
+
+
+def _order(one: int, other: int) -> str:
+    return "<" if one < other else "=" if one == other else ">"
