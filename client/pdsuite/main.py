@@ -195,6 +195,14 @@ def diff_command(old: Path, new: tuple[Path, ...], no_color: bool) -> int:
 @click.option("--with-settings", default="", metavar="TEXT", help="Settings of the sender after, before all others.")
 @html_option
 @click.option("--json", "is_json", is_flag=True, help="Print JSON.")
+@click.option("--markdown", "is_markdown", is_flag=True, help="Print Markdown, for a pull request.")
+@click.option("--every", is_flag=True, help="Show all scripts of a group whole, not only its first.")
+@click.option(
+    "--sort",
+    type=click.Choice(("segments", "again", "expiries", "time")),
+    default="time",
+    help="The quantity whose largest changes come first: time, if nothing is said.",
+)
 @click.option("--affected", is_flag=True, help="Name rows of tests and paragraphs of pages that say otherwise, too.")
 @click.option(
     "--search",
@@ -227,10 +235,9 @@ def _searching(seconds: int | None, seed: int | None, save: Path | None) -> "Sea
         if seed is not None or save is not None:
             raise click.UsageError("--seed and --save are of --search")
         return None
-    need("hypothesis")
     from pdsuite.commands.search import SearchOptions
 
-    gc.enable()  # what makes inputs makes cycles
+    gc.enable()  # a search makes many values
     return SearchOptions(seconds, seed, save)
 
 
@@ -240,8 +247,14 @@ def _refuse_search(options: "CompareOptions") -> None:
         raise click.UsageError("Missing argument 'PATHS...', or --search")
     if options.search is not None and (options.paths or options.only):
         raise click.UsageError("--search makes scripts, and takes no PATH or --only")
-    if options.search is not None and (options.html is not None or options.is_json or options.affected):
-        raise click.UsageError("--search shows what it finds as text, without --html, --json and --affected")
+    if options.is_json and options.is_markdown:
+        raise click.UsageError("--json and --markdown are two forms of one report")
+    if options.search is not None and (
+        options.html is not None or options.is_json or options.is_markdown or options.affected
+    ):
+        raise click.UsageError(
+            "--search shows what it finds as text, without --html, --json, --markdown and --affected"
+        )
 
 
 @pdsuite.command(name="search")
@@ -263,11 +276,10 @@ def search_command(
 
     A fact is NAME:VALUE as a trace has it, and state:NAME the state's name; VALUE may have * and ?.
     """
-    need("hypothesis")
     # Only who searches pays for what makes inputs.
     from pdsuite.commands.search import SearchOptions, search_state
 
-    gc.enable()  # what makes inputs makes cycles
+    gc.enable()  # a search makes many values
     with Screen(wants_color() and not no_color, progress=False) as screen:
         return search_state(pattern, sender, SearchOptions(seconds, seed, save), screen)
 

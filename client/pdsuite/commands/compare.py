@@ -11,11 +11,13 @@ from pdsuite.commands.options import threads_of
 from pdsuite.compare.comparison import ComparedScript, Results, compare
 from pdsuite.compare.affected import Affected, Telling, affected_by, telling_of
 from pdsuite.compare.built_senders import with_programs
+from pdsuite.compare.quantities import Quantity
 from pdsuite.compare.senders import Sender, last_proved, sender_of, standing
 from pdsuite.compare.sides import Side, SettingsRefused, side_of
 from pdsuite.compare.two_senders import Task, run_both
 from pdsuite.programs.rows import Verdict
 from pdsuite.reports.comparison import Told, as_json, plain
+from pdsuite.reports.comparison_markdown import as_markdown
 from pdsuite.run.choice import found_of, scripts_of
 from pdsuite.scripts.suite import BASE_OPTION, WITH_OPTION, Suite, option_of
 from pdsuite.scripts.unused_tables import unused_in
@@ -43,6 +45,9 @@ class CompareOptions:
     is_json: bool
     affected: bool
     html: Path | None
+    sort: str = Quantity.TIME
+    every: bool = False
+    is_markdown: bool = False
     search: "SearchOptions | None" = None
 
 
@@ -83,7 +88,8 @@ def _search(options: CompareOptions, search: "SearchOptions", room: Path, stop: 
 
     sides = _sides(options, room)
     _say_senders((sides[0].sender, sides[1].sender), screen)
-    return search_difference(sides, option_of(options.settings), search, stop, screen)
+    before, after = (it.sender.sources(room / f"sources of {it.option.place}") for it in sides)
+    return search_difference(sides, option_of(options.settings), (before, after), search, stop, screen)
 
 
 def _refuse(lines: Sequence[str]) -> int:
@@ -137,8 +143,11 @@ def _tell(
     if page is not None:
         page.write(compared, (before, after), names, is_unproved)
     seconds = time.monotonic() - begin
-    told = Told(compared, affected, seconds, is_unproved)
-    screen.show(as_json(told, names) if options.is_json else plain(told))
+    told = Told(compared, affected, seconds, is_unproved, Quantity(options.sort), options.every)
+    if options.is_markdown:
+        screen.show(as_markdown(told, names))
+    else:
+        screen.show(as_json(told, names) if options.is_json else plain(told))
     return _status(compared, affected)
 
 

@@ -12,6 +12,7 @@ from pdsuite.programs.recorder import Recording
 from pdsuite.programs.starts import Said
 from pdsuite.run.outcomes import Outcome
 from pdsuite.scripts.text import Text
+from pdsuite.show.octets import shown
 
 
 class Kind(StrEnum):
@@ -47,6 +48,8 @@ class ComparedScript:
     after: Outcome
     parting: Parting | None = None
     unrecorded: tuple[str, str] = ("", "")  # why there is no recording before and after
+    recordings: tuple[str, str] = ("", "")  # with their traces, before and after
+    comment: str = ""  # the first line of its text, if that is a comment
 
     @property
     def path(self) -> str:
@@ -73,9 +76,16 @@ def _compared(index: int, before: Results, after: Results) -> ComparedScript:
         kind = Kind.OTHERWISE
     else:
         kind = Kind.SAME if one.text else Kind.UNKNOWN
-    return ComparedScript(index, kind, old, new, parting, why)
+    return ComparedScript(index, kind, old, new, parting, why, (one.text, other.text), _comment(after.texts.get(index)))
 
 
+def _comment(text: Text | None) -> str:
+    """The first line of a text, if that is a comment."""
+    line = b"" if text is None else text.octets.partition(b"\n")[0].strip()
+    return shown(line.removeprefix(_COMMENT).strip()) if line.startswith(_COMMENT) else ""
+
+
+_COMMENT = b"//"
 _NO_RECORDING = Recording("", "nothing is recorded")
 
 

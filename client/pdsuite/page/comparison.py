@@ -4,7 +4,8 @@ from collections.abc import Iterator, Sequence
 from dataclasses import dataclass
 from pathlib import Path
 
-from pdsuite.compare.comparison import ComparedScript, Count, Results, counts_of
+from pdsuite.compare.comparison import ComparedScript, Count, Kind, Results, counts_of
+from pdsuite.compare.groups import groups_of
 from pdsuite.diagram.failing_line import failing_line_of
 from pdsuite.diagram.strokes import strokes_of
 from pdsuite.files import write
@@ -39,6 +40,7 @@ class Section:
     kind: str
     lines: tuple[str, ...]
     pictures: tuple[Picture, ...]
+    group: str = ""  # what a group of several begins with
 
 
 class Page:
@@ -63,14 +65,22 @@ class Page:
 
 
 def _sections(compared: Sequence[ComparedScript], results: tuple[Results, Results]) -> Iterator[Section]:
-    differing = [it for it in compared if it.differs]
-    differing.sort(key=lambda it: it.kind.name != "TURNED")
-    for number, it in enumerate(differing):
-        pictures = [
-            _picture(side, it.index, sender, number < _MOST) for side, sender in zip(("before", "after"), results)
-        ]
-        path = shown_path(it.path)
-        yield Section(path, file_of(it.path).removesuffix(".html"), it.kind, tuple(lines_of(it)), tuple(pictures))
+    """The scripts that differ, those that turned first, group by group."""
+    number = 0
+    for kind in (Kind.TURNED, Kind.OTHERWISE):
+        for group in groups_of([it for it in compared if it.kind is kind]):
+            title = f"{len(group.scripts)} scripts differ first in {group.title}" if len(group.scripts) > 1 else ""
+            for it in group.scripts:
+                yield _section(it, results, number < _MOST, title)
+                title = ""
+                number += 1
+
+
+def _section(it: ComparedScript, results: tuple[Results, Results], is_drawn: bool, title: str) -> Section:
+    pictures = [_picture(side, it.index, sender, is_drawn) for side, sender in zip(("before", "after"), results)]
+    name = file_of(it.path).removesuffix(".html")
+    lines = [it.comment] * bool(it.comment) + lines_of(it)
+    return Section(shown_path(it.path), name, it.kind, tuple(lines), tuple(pictures), title)
 
 
 def _picture(side: str, index: int, sender: Results, is_drawn: bool) -> Picture:

@@ -6,9 +6,12 @@ from dataclasses import asdict, dataclass
 
 from pdsuite.compare.comparison import ComparedScript, Count, Kind, counts_of
 from pdsuite.compare.affected import Affected
+from pdsuite.compare.groups import Group, groups_of
 from pdsuite.compare.parting import Parting, PlayedEvent
+from pdsuite.compare.quantities import Quantity
 from pdsuite.reports.outcome_text import block, meaning
 from pdsuite.reports.affected import affected_lines
+from pdsuite.reports.quantities import quantities_by_keys, quantity_lines
 from pdsuite.run.outcomes import UNPROVED, Outcome
 from pdsuite.show.octets import shown_path, shown_text
 from pdsuite.show.styled_text import StyledText, unstyled
@@ -57,22 +60,39 @@ def _unrecorded(why: str) -> str:
 
 @dataclass(frozen=True)
 class Told:
-    """What is told of a comparison: scripts, what is affected in a tree, the seconds, and whether it is unproved."""
+    """What is told of a comparison: scripts, what is affected in a tree, the seconds, and whether it is unproved.
+
+    Scripts whose quantities changed are sorted by one of them. With `is_every` all scripts are told whole.
+    """
 
     compared: Sequence[ComparedScript]
     affected: Affected | None
     seconds: float
     is_unproved: bool
+    sort: Quantity = Quantity.TIME
+    is_every: bool = False
+
+    def groups(self) -> Iterator[tuple[Kind, Group]]:
+        """The groups of the scripts that turned, and then of those that are played otherwise."""
+        for kind in _STYLES:
+            for group in groups_of([it for it in self.compared if it.kind is kind]):
+                yield kind, group
 
 
 def plain(told: Told) -> StyledText:
     """Scripts that turned, those that are played otherwise, totals by folder, and what is affected in the tree."""
     text = StyledText()
-    for kind in _STYLES:
-        for it in told.compared:
-            if it.kind is kind:
-                text.append(f"{shown_path(it.path)}: ").append(kind, _STYLES[kind]).append("\n")
-                text.append("".join(f"  {line}\n" for line in lines_of(it)), "dim")
+    for kind, group in told.groups():
+        whole = len(group.scripts) if told.is_every else 1
+        if len(group.scripts) > 1:
+            text.append(f"{len(group.scripts)} scripts differ first in {group.title}:\n", "bold")
+        for it in group.scripts[:whole]:
+            text.append(f"{shown_path(it.path)}: ").append(kind, _STYLES[kind]).append("\n")
+            text.append("".join(f"  {line}\n" for line in lines_of(it)), "dim")
+        for it in group.scripts[whole:]:
+            text.append(f"{shown_path(it.path)}: ").append(kind, _STYLES[kind])
+            text.append(f": {it.comment}\n" if it.comment else "\n")
+    text.append("".join(f"{line}\n" for line in quantity_lines(told.compared, told.sort, told.is_every)))
     *folders, total = counts_of(told.compared)
     for count in folders:
         text.append(f"{shown_path(count.name)}: {count}\n")
@@ -89,6 +109,8 @@ def as_json(told: Told, names: tuple[str, str]) -> StyledText:
         "version": VERSION,
         **dict(zip(_SIDES, names)),
         "scripts": [_script(it) for it in told.compared if it.differs],
+        "groups": [_group(kind, it) for kind, it in told.groups()],
+        "quantities": quantities_by_keys(told.compared, told.sort),
         "folders": {shown_path(it.name): _counts(it) for it in folders},
         "total": _counts(total),
         "seconds": round(told.seconds, 2),
@@ -121,6 +143,15 @@ def _script(it: ComparedScript) -> dict[str, object]:
     elif it.kind is Kind.OTHERWISE:
         script["unrecorded"] = dict(zip(_SIDES, it.unrecorded))
     return script
+
+
+def _group(kind: Kind, it: Group) -> dict[str, object]:
+    return {
+        "kind": kind.value,
+        "field": it.field,
+        "event": it.event,
+        "scripts": [{"path": shown_path(each.path), "comment": each.comment} for each in it.scripts],
+    }
 
 
 def _event(it: PlayedEvent | None, state: str) -> dict[str, object]:

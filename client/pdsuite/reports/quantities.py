@@ -1,0 +1,56 @@
+"""What two senders send with the same scripts, and how long it takes: as lines, and by keys."""
+
+from collections.abc import Iterator, Sequence
+
+from pdsuite.compare.comparison import ComparedScript
+from pdsuite.compare.quantities import Change, Quantities, Quantity, changes_of, total_of
+from pdsuite.packetdrill.items import SECOND
+from pdsuite.show.octets import shown_path
+
+# So many scripts are told of, where not all are asked for.
+_MOST = 10
+_NAMES = {
+    Quantity.SEGMENTS: "segments",
+    Quantity.AGAIN: "octets sent again",
+    Quantity.EXPIRIES: "expiries",
+    Quantity.TIME: "last octet acknowledged at",
+}
+
+
+def quantity_lines(compared: Sequence[ComparedScript], sort: Quantity, is_every: bool) -> Iterator[str]:
+    """A line for all scripts, and one for each whose quantities changed, the largest change first."""
+    changes = changes_of(compared, sort)
+    if not changes:
+        return
+    yield f"quantities of all scripts: {_told(total_of(compared), list(Quantity))}"
+    for it in changes if is_every else changes[:_MOST]:
+        yield f"  {shown_path(it.path)}: {_told(it, [each for each in Quantity if it.by(each)])}"
+    if not is_every and len(changes) > _MOST:
+        yield f"  {len(changes) - _MOST} more (--every)"
+
+
+def _told(it: Change, quantities: Sequence[Quantity]) -> str:
+    before, after = it.before.named(), it.after.named()
+    return ", ".join(
+        f"{_NAMES[each]} {_number(each, before[each])} to {_number(each, after[each])}" for each in quantities
+    )
+
+
+def _number(quantity: Quantity, value: int) -> str:
+    return f"{value / SECOND:.6f}" if quantity is Quantity.TIME else f"{value:,}"
+
+
+def quantities_by_keys(compared: Sequence[ComparedScript], sort: Quantity) -> dict[str, object]:
+    """The same by keys: of all scripts, and of those whose quantities changed."""
+    return {
+        "total": _by_keys(total_of(compared)),
+        "scripts": [{"path": shown_path(it.path), **_by_keys(it)} for it in changes_of(compared, sort)],
+    }
+
+
+def _by_keys(it: Change) -> dict[str, object]:
+    return {"before": _named(it.before), "after": _named(it.after)}
+
+
+def _named(it: Quantities) -> dict[str, object]:
+    return {"segments": it.segments, "again": it.again, "expiries": it.expiries, "time_us": it.time}
