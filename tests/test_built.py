@@ -71,6 +71,7 @@ CHANGES = {
     "checksums of another program": f"sed -i '1s/^./x/' {PROGRAM}.sums",
     "checksums without a kit": f"sed -i '$d' {PROGRAM}.sums",
     "checksums that end early": f"head -n -3 {PROGRAM}.sums >x && cat x >{PROGRAM}.sums",
+    "what decides is another": f"printf '\\n\\ndef is_proved(*_: str) -> bool:\\n    return False\\n' >>tools/kept_sums.py",
     "another kit": 'echo "kit 2" >"$KIT/KIT-ID"',
     "a command of no kit": 'rm "$KIT/KIT-ID"',
     "another kit first on the PATH": 'mkdir -p "$KIT/../first/bin" && cp -p "$KIT/bin/rt" "$KIT/../first/bin"',
@@ -183,6 +184,19 @@ def test_what_changed_in_the_tick_of_a_look_is_read_again(tmp_path: Path, monkey
     monkeypatch.setenv("PATH", tree.environment["PATH"])
     # As if the clock hadn't moved on since this source was written.
     monkeypatch.setattr(stamps, "probe_in", lambda _: (tree.top / CODE).stat())
+    assert kept_sums.is_proved(str(tree.top), "top")
+    assert not (tree.top / f"{PROGRAM}.stamps").exists()
+
+
+def test_where_a_program_can_set_the_clock_of_a_file_nothing_is_kept(
+    tmp_path: Path, monkeypatch: pytest.MonkeyPatch
+) -> None:
+    tree = Tree(tmp_path)
+    monkeypatch.setenv("PATH", tree.environment["PATH"])
+    assert stamps.probe_in(str(tmp_path))
+    # As FAT has it, where the moment of a change is that of the last edit, which any program may set.
+    probe = os.stat_result((0o100644, 1, 1, 1, 0, 0, 0, 0, 0, 0))
+    monkeypatch.setattr(os, "fstat", lambda _: probe)
     assert kept_sums.is_proved(str(tree.top), "top")
     assert not (tree.top / f"{PROGRAM}.stamps").exists()
 

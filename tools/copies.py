@@ -64,7 +64,7 @@ def settled(tree: Path, crates: tuple[str, ...]) -> Copy:
         if probe and stamps.are_settled(found, probe):
             return Copy(tree, crates, found)
         time.sleep(OFTEN)
-    raise Unreadable(f"{tree}: the clock of the file system doesn't move on")
+    raise Unreadable(f"{tree}: the file system has no clock of its own that moves on")
 
 
 def stamps_in(tree: Path, crates: tuple[str, ...]) -> dict[str, str]:

@@ -7,8 +7,11 @@ def dependencies(table: str) -> dict[str, list[str]]:
 
     >>> dependencies("# NAME: DEP DEP ..\\nlow:\\nhigh may_wait=1: low toml\\ntop: low,high # so\\n")
     {'low': [], 'high': ['low'], 'top': ['low', 'high']}
+    >>> dependencies("low:\\nhigh:\\ntop: low\\fhigh\\n")["top"]
+    ['low', 'high']
     """
-    lines = (line.partition("#")[0].partition(":") for line in table.splitlines())
+    # Only a newline ends a line, as the kit has it.
+    lines = (line.partition("#")[0].partition(":") for line in table.split("\n"))
     named = {crate.split()[0]: below.replace(",", " ").split() for crate, _, below in lines if crate.split()}
     return {crate: [it for it in below if it in named] for crate, below in named.items()}
 

@@ -15,6 +15,8 @@ from kit import command_of_kit, file_of_identity, kit_identity
 from source_sums import HANDLES, TABLE, NoFile, Unreadable, lines_of, places_below, sources_in, sums, sums_of
 
 KIT = b"kit: "
+# What decides here. Where it is changed, what it found before doesn't count.
+MADE_BY = [f"tools/{it}.py" for it in ("built", "crate_graph", "kept_sums", "kit", "source_sums", "stamps")]
 FAULT = 2
 
 
@@ -50,7 +52,7 @@ def is_proved(top: str, program: str) -> bool:
     if not name or not os.access(f"{top}/{path}", os.X_OK):
         return False
     places = list(places_below(top, program))
-    looked_at = list(dict.fromkeys([path, f"{path}.sums", TABLE, HANDLES, *(it for it, _ in places)]))
+    looked_at = list(dict.fromkeys([*MADE_BY, path, f"{path}.sums", TABLE, HANDLES, *(it for it, _ in places)]))
     before = stamps.stamps_of(top, looked_at)
     probe = stamps.probe_in(os.path.dirname(f"{top}/{path}"))
     if record(sums_of(top, [path]), sums_of(top, sources_in(places)), name) != kept:

@@ -237,7 +237,10 @@ def run(named: list[str], every: list[str], lanes: int) -> None:
         proving_kit.working()
         if changed:
             raise Refused(f"{changed}, and what was proved is as all was before: run this again")
-        keep_programs([it for it in every if kept_sums.is_proved(str(TOP), it)])
+        proved = [it for it in every if kept_sums.is_proved(str(TOP), it)]
+        # Where libraries alone were asked for, what is kept stays.
+        if set(proved).intersection(named):
+            keep_programs(proved)
 
 
 def say_proved(crates: list[str]) -> None:

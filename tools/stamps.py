@@ -34,7 +34,10 @@ def stamps_of(top: str, paths: list[str]) -> dict[str, str]:
 
 
 def probe_in(folder: str) -> os.stat_result | None:
-    """What is said of a file that is made now in a folder, and removed again, if one can be made there."""
+    """What is said of a file that is made now in a folder, and removed again, if one can be made there.
+
+    It is None, too, where the file system has no clock of its own, but gives what a program set as the moment of a change.
+    """
     place = f"{folder}/probe.{os.getpid()}"
     try:
         descriptor = os.open(place, os.O_WRONLY | os.O_CREAT | os.O_EXCL)
@@ -42,9 +45,13 @@ def probe_in(folder: str) -> os.stat_result | None:
         return None
     try:
         os.unlink(place)
-        return os.fstat(descriptor)
+        os.utime(descriptor, ns=(0, 0))
+        probe = os.fstat(descriptor)
+    except OSError:
+        return None
     finally:
         os.close(descriptor)
+    return None if probe.st_ctime_ns == probe.st_mtime_ns else probe
 
 
 def are_settled(stamps: dict[str, str], probe: os.stat_result) -> bool:

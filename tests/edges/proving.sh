@@ -182,6 +182,7 @@ test_edits() {
     expect two-calls-beside-another-crates.txt "$(printf 'prove: %s\n' 'proved and built: pdregress' 'proved and built: pdregress'; printf 'prove: proving %s\n' high left low pdregress right; echo 'prove: waiting for another call that proves here'; echo status 0)" two_calls_beside
     anew
     expect both-bases-are-kept "$(printf 'commit\npdrecord\npdregress\nstatus 0')" bases
+    expect bases-stay-where-a-library-is-proved "$(printf 'commit\npdrecord\npdregress\nstatus 0')" bases_beside_a_library
 }
 
 gate() { # what the gate says, and which programs count as proved after it
@@ -223,6 +224,13 @@ bases() { # what is kept for a comparison after one program alone is proved anew
     quietly pdregress
     (cd "$(python3 -B "$build/tools/kept_programs.py")" && ls)
     : >"$build/crates/pdregress/src/main.rt"
+}
+
+bases_beside_a_library() { # what is kept for a comparison after an edit, once that library is proved
+    echo '// an edit' >>"$high"
+    quietly high
+    (cd "$(python3 -B "$build/tools/kept_programs.py")" && ls)
+    echo 'fn f() {}' >"$high"
 }
 
 quick() { # COMMAND.. on a machine that took next to no time for each crate
@@ -313,7 +321,7 @@ test_times() {
 }
 
 test_words() {
-    expect words-of-times-and-errors "status 0" in_folder "$top/tools" python3 -B -m doctest changed_rules.py crate_graph.py owed.py owed_sections.py prove_times.py prove_errors.py refusing.py source_sums.py
+    expect words-of-times-and-errors "status 0" in_folder "$top/tools" python3 -B -m doctest changed_rules.py crate_graph.py owed.py owed_sections.py prove_times.py prove_errors.py refusing.py source_sums.py copies.py
 }
 
 test_lanes
