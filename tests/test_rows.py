@@ -179,6 +179,27 @@ def test_explanations_and_beginnings(teller: Teller) -> None:
     assert list(teller.faults("[a] beginnings\n0\n", lambda _: said)) == ["line-2"]
 
 
+@pytest.mark.parametrize(
+    "verdict, block, is_well",
+    [
+        ("syntax 1", '"line": 1, "column": null, "text": "0", "expected": ["b"]', True),
+        ("syntax 1", '"line": 1, "column": 0, "text": "0", "expected": ["b"]', True),
+        ("syntax 1", '"line": 2, "column": null, "text": "0", "expected": ["b"]', False),
+        ("syntax 1", '"line": 1, "column": null, "text": "0", "expected": []', False),
+        ("syntax 1", '"line": 1, "column": 1, "text": "0", "expected": ["b"]', False),
+        ("pass 0", '"line": 1', True),
+    ],
+)
+def test_what_stands_after_a_beginning_is_told(verdict: str, block: str, is_well: bool, teller: Teller) -> None:
+    def explain(call: Call) -> Said:
+        names = list(scripts_of(call))
+        rows = "".join(f"{name} {verdict}\n" for name in names)
+        blocks = "".join(f'{{"name": "{name}", "verdict": "{verdict[:6]}", {block}}}\n' for name in names)
+        return Said(rows.encode(), blocks.encode(), 1)
+
+    assert (teller.faults("[a] beginnings\n0\n", explain) == {}) is is_well
+
+
 def test_octets_and_cuts(teller: Teller) -> None:
     text = "[a] octets\n= pass 1: 0@\n- fail 1 result: x\n[b] cuts\nfail 1 result | $x^y\npass 1 | x\n"
     faults = teller.faults(text, judge)

@@ -106,10 +106,12 @@ class Copies:
         finally:
             self.idle.put(tree)
 
-    def make_tests(self, kind: str, places: Sequence[str], tree: Path) -> tuple[int, str]:
-        """What tests of a kind say in a copy, and the status."""
+    def make_tests(self, kind: str, places: Sequence[str], tree: Path, row: str = "") -> tuple[int, str]:
+        """What tests of a kind say in a copy, and the status; of edges all, or one of this name."""
         folder, words = command(kind, places, tree)
         more = {"PDSUITE_PROGRAMS": str(self.programs)} if self.programs else {}
+        if row:
+            more["EDGE"] = row
         said = tree.with_suffix(".said")
         limited = ["timeout", "-k", "10", str(self.seconds), *words]
         status = self.commands.call(limited, folder, said, PYTHONDONTWRITEBYTECODE="1", **more)
@@ -143,7 +145,7 @@ def is_seen(bug: Bug, copies: Copies) -> bool:
     test = named_test(bug)
     try:
         with copies.one() as tree, with_bug(bug, tree):
-            status, said = copies.make_tests(test.kind, [test.place], tree)
+            status, said = copies.make_tests(test.kind, [test.place], tree, test.row)
     except Unread as reason:
         print(f"{bug.name}: {reason}", flush=True)
         return False

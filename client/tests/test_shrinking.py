@@ -94,10 +94,10 @@ def test_settings_and_exact_times_go_where_nothing_needs_them() -> None:
 
 
 def test_inputs_go_on_with_acks_of_all_that_was_sent_at_the_last_state() -> None:
-    endings = list(going_on(Find(inputs_of((SECOND, WRITE)), RECORDED)))
-    acks = [it.events[1].what for it in endings if isinstance(it.events[1].what, Packet)]
+    endings = list(going_on(Find(inputs_of((0, TICK), (SECOND, WRITE)), RECORDED)))
+    acks = [it.events[2].what for it in endings if isinstance(it.events[2].what, Packet)]
     assert [(it.start, it.ack) for it in acks] == [(1, 3_001), (2, 3_001)]
-    assert all(it.events[0] == Input(SECOND, WRITE) and it.events[1].at > SECOND for it in endings)
+    assert all(it.events[1] == Input(SECOND, WRITE) and it.events[2].at > SECOND for it in endings)
     ends = [it.events[-1].at - 2 * SECOND for it in endings]
     assert ends == [10 * SECOND] * 5 + [LONG_GAPS * LONGEST_GAP] * 2
 

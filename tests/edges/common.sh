@@ -3,6 +3,8 @@
 # standard error, and its status.
 expect() { # NAME WANTED COMMAND..
     name=$1
+    # Where the environment names one test as EDGE, all others are left out.
+    [ "${EDGE:-$name}" = "$name" ] || return 0
     printf '%s\n' "$2" >"$work/want"
     shift 2
     status=0
