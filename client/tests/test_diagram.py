@@ -1,5 +1,6 @@
 """Diagrams as data: from a recording to strokes, and where a script fails; then as octets of pictures."""
 
+from dataclasses import replace
 from pathlib import Path
 
 import pytest
@@ -41,6 +42,16 @@ def stairs(steps: tuple[Step, ...]) -> list[tuple[int, int | None]]:
 
 def notes(found: Strokes) -> list[tuple[int, str]]:
     return [(it.at // 1000, it.words) for it in found.notes]
+
+
+@pytest.mark.parametrize(
+    ("edges", "most"),
+    [((), 8_002), ((9_000, 12_803), 12_803), ((9_000, 12_804), 9_000), ((7_000, None), 8_002)],
+)
+def test_a_diagram_is_as_high_as_a_window_that_is_not_far_above(edges: tuple[int | None, ...], most: int) -> None:
+    """Up to 1.6 times the octets that are sent, which go to 8,002."""
+    found = replace(strokes("timeout"), edge=tuple(Step(200_000, it) for it in edges))
+    assert figure_of(found, WIDE).axes[0].get_ylim()[1] == pytest.approx(1.05 * most)
 
 
 def test_a_timeout() -> None:

@@ -102,6 +102,20 @@ def test_any_other_answer_is_not_taken(told: bytes) -> None:
     assert str(unexpected.value).isprintable()
 
 
+@pytest.mark.parametrize(
+    ("line", "said"),
+    [
+        (b"x" * 81, f"answered \"{'x' * 77}...\", which isn't the row that is due"),
+        (b"x" * 80, f"answered \"{'x' * 80}\", which isn't the row that is due"),
+        (b"refused " + b"x" * 73, f"refused {'x' * 69}..."),
+    ],
+)
+def test_of_a_line_that_is_not_due_at_most_80_octets_are_shown(line: bytes, said: str) -> None:
+    with pytest.raises(Unexpected) as unexpected:
+        rows_in(line + b"\n" + answer("s0 pass 1"), b"", [b"s0"], 1)
+    assert str(unexpected.value) == said
+
+
 def test_refusals_are_named_by_their_word() -> None:
     assert refusal_in(b"refused 4 BadValue\n" + answer()) == "BadValue"
     assert refusal_in(answer()) is None

@@ -1,0 +1,73 @@
+"""Runs that stay up, and programs that an editor asks anew, by a program that takes all that it is told."""
+
+from pathlib import Path
+from typing import Any
+
+import pytest
+
+from pdsuite.lsp import tools
+from pdsuite.programs.protocol import SETTLE, add, name_of
+from pdsuite.programs.rows import Row, Verdict
+from pdsuite.scripts.text import text_of
+from pdsuite.signals import Stop
+from pdsuite.watch.live_run import LiveRun
+from pdsuite.watch.run_changes import Act, Add, Remove, RunContents, Set
+
+ONE = text_of(b"one\n")
+
+
+class Program:
+    """Passes all scripts whose names it was told, and keeps what it is asked."""
+
+    def __init__(self, *words: object) -> None:
+        self.asked: list[bytes] = []
+        self.names: list[bytes] = []
+
+    def __enter__(self) -> "Program":
+        return self
+
+    def __exit__(self, *why: object) -> None:
+        ...
+
+    def ask(self, commands: bytes, most: int) -> bytes:
+        self.asked.append(commands)
+        for words in (line.split() for line in commands.split(b"\n")):
+            if words[:1] == [b"add"]:
+                self.names.append(words[1])
+            elif words[:1] == [b"remove"]:
+                self.names.remove(words[1])
+        rows = b"".join(name + b" pass 1\n" for name in self.names)
+        count = len(self.names)
+        return rows + f"total {count} pass {count} fail 0 syntax 0 unsupported 0 limit 0 pending 0\n".encode()
+
+    def said(self) -> bytes:
+        return b""
+
+
+def carried_out(run: LiveRun, *acts: Act) -> int:
+    """How many acts more a run has after these."""
+    before = run.acts
+    run.carry_out(acts, RunContents((), {}))
+    return run.acts - before
+
+
+def test_an_act_is_recorded_with_the_start_and_the_end_of_each_job_that_it_leads_to() -> None:
+    program: Any = Program()
+    run = LiveRun((), lambda settings: program)
+    assert carried_out(run, Add("a", ONE), Add("b", ONE), Add("c", ONE)) == 3 * 5
+    assert run.rows == {it: Row(Verdict.PASS, 1) for it in "abc"}
+    assert carried_out(run, Set("mss", "100")) == 1 + 4 * 3
+    assert carried_out(run, Remove("b"), Set("mss", "200")) == 5 + 1 + 4 * 2
+    assert list(run.rows) == ["a", "c"]
+
+
+def test_a_text_is_asked_with_the_octets_that_an_editor_has(monkeypatch: pytest.MonkeyPatch) -> None:
+    """One half of a pair of UTF-16 stays what it is, so that no other text is judged in its place."""
+    program: Any = Program()
+    monkeypatch.setattr(tools, "locate", Path)
+    monkeypatch.setattr(tools, "Program", lambda words, stop: program)
+    with Stop() as stop:
+        found = tools.Tools(stop, lambda line: None).rows(["a\ud800", "\n" * 5_000, "b"], ())
+    assert found == [Row(Verdict.PASS, 1), None, Row(Verdict.PASS, 1)]
+    texts = text_of(b"a\xed\xa0\x80\n"), text_of(b"b\n")
+    assert program.asked == [add(name_of(0), texts[0]) + add(name_of(2), texts[1]) + SETTLE]
