@@ -200,6 +200,14 @@ def test_what_stands_after_a_beginning_is_told(verdict: str, block: str, is_well
     assert (teller.faults("[a] beginnings\n0\n", explain) == {}) is is_well
 
 
+def test_an_explanation_of_a_limit_has_its_number(teller: Teller) -> None:
+    block = b'{"name": "a1", "verdict": "limit", "line": 1, "rule": "time", "limit": 3600, "rule_words": "a time"}\n'
+    said = Said(b"a1 limit 1\ntotal 1\n", block, 1)
+    assert teller.faults("[a] explained\n> limit 1 time 3600: a time\n< 0\n", lambda _: said) == {}
+    other = Said(said.output, block.replace(b'"limit": 3600, ', b""), 1)
+    assert teller.faults("[a] explained\n> limit 1 time: a time\n< 0\n", lambda _: other) == {}
+
+
 def test_octets_and_cuts(teller: Teller) -> None:
     text = "[a] octets\n= pass 1: 0@\n- fail 1 result: x\n[b] cuts\nfail 1 result | $x^y\npass 1 | x\n"
     faults = teller.faults(text, judge)
@@ -230,7 +238,9 @@ def test_what_holds_of_each_recording(change: Callable[[bytes], bytes], fault: s
     scripts = [Script("a", "", b"0 b /**/\n"), Script("d", "", b"0 e\n")]
     for program, wanted in ((record, ["", ""]), (record_wrongly, [f"a: {fault}", f"d: {other}" if other else ""])):
         found = run(tell_recordings(scripts), lambda calls: [program(it) for it in calls])
-        assert [it.fault.split("\n")[0] for it in found] == wanted
+        assert [(it.fault.split("\n")[0], it.is_untold) for it in found] == [(it, False) for it in wanted]
+    untold = run(tell_recordings(scripts), lambda calls: [None if it.program == "pdrecord" else EMPTY for it in calls])
+    assert [it.is_untold for it in untold] == [True, True]
 
 
 def trace_of(transfer: Transfer) -> str:

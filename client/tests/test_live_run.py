@@ -8,6 +8,7 @@ import pytest
 from pdsuite.lsp import tools
 from pdsuite.programs.protocol import SETTLE, add, name_of
 from pdsuite.programs.rows import Row, Verdict
+from pdsuite.scripts.settings import Settings
 from pdsuite.scripts.text import text_of
 from pdsuite.signals import Stop
 from pdsuite.watch.live_run import LiveRun
@@ -44,6 +45,10 @@ class Program:
         return b""
 
 
+def started(settings: Settings) -> Any:
+    return Program()
+
+
 def carried_out(run: LiveRun, *acts: Act) -> int:
     """How many acts more a run has after these."""
     before = run.acts
@@ -52,8 +57,7 @@ def carried_out(run: LiveRun, *acts: Act) -> int:
 
 
 def test_an_act_is_recorded_with_the_start_and_the_end_of_each_job_that_it_leads_to() -> None:
-    program: Any = Program()
-    run = LiveRun((), lambda settings: program)
+    run = LiveRun((), started)
     assert carried_out(run, Add("a", ONE), Add("b", ONE), Add("c", ONE)) == 3 * 5
     assert run.rows == {it: Row(Verdict.PASS, 1) for it in "abc"}
     assert carried_out(run, Set("mss", "100")) == 1 + 4 * 3
