@@ -28,19 +28,25 @@ class Copy:
         return min((path for path, _ in differing), default=None)
 
 
-def copy_sources(top: Path, crates: tuple[str, ...], trees: list[Path]) -> dict[str, str]:
-    """Copies what the proofs of crates read into trees, and gives the checksums of what was read for that.
+def copied(top: Path, crates: tuple[str, ...], trees: list[Path]) -> tuple[dict[str, str], list[Copy]]:
+    """Copies what the proofs of crates read into trees, and gives the checksums of what was read for that, too.
 
     The crates.txt of a copy has the lines of these crates alone. Raises Unreadable where a proof can't read a crate.
     """
-    sums = {}
-    for path in sources_in(places_of(str(top), crates)):
-        octets = (top / path).read_bytes()
-        sums[path] = sha256(octets).hexdigest()
+    read = {it: (top / it).read_bytes() for it in sources_in(places_of(str(top), crates))}
+    if TABLE not in read:
+        raise Unreadable(f"there is no {TABLE}")
+    written = {**read, TABLE: lines_for(crates, read[TABLE])}
+    for path, octets in written.items():
         for tree in trees:
             (tree / path).parent.mkdir(parents=True, exist_ok=True)
-            (tree / path).write_bytes(lines_for(crates, octets) if path == TABLE else octets)
-    return sums
+            (tree / path).write_bytes(octets)
+    copies = [settled(tree, crates) for tree in trees]
+    # From here on a change of a copy shows by its stamps, so what is in it now is what is proved.
+    for tree in trees:
+        if {it: (tree / it).read_bytes() for it in sources_in(places_of(str(tree), crates))} != written:
+            raise Unreadable(f"{tree} has changed while it was made")
+    return {path: sha256(octets).hexdigest() for path, octets in read.items()}, copies
 
 
 def lines_for(crates: tuple[str, ...], table: bytes) -> bytes:

@@ -35,7 +35,7 @@ import kept_sums
 import proving_kit
 import stopping
 from changed_rules import keep, told
-from copies import Copy, copy_sources, settled
+from copies import copied
 from crate_graph import dependencies, libraries_below
 from kept_programs import keep_programs
 from lanes import JOBS, LANE, TOP, Lane, Unproved, hand_over, has_room, held
@@ -181,11 +181,11 @@ def prove(named: list[str], uses: dict[str, list[str]], lanes: int, kit: Kit) ->
         shutil.rmtree(left, ignore_errors=True)
     with tempfile.TemporaryDirectory(prefix=LANE, dir=out) as folder:
         trees = [Path(folder) / str(number) for number in range(lanes)]
-        read = copy_sources(TOP, crates, trees)
+        read, copies = copied(TOP, crates, trees)
         work = Work(kit, read, Path(folder), uses, list(crates), times, times.expected(uses))
         flags = ["--jobs", str(JOBS)] if lanes > 1 else []
         try:
-            work.prove([Lane(settled(tree, crates), kit.command, flags) for tree in trees])
+            work.prove([Lane(copy, kit.command, flags) for copy in copies])
         except KeyboardInterrupt:
             raise Interrupted(" and ".join(it.crate for it in work.running.values())) from None
     try:

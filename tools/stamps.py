@@ -3,7 +3,8 @@
 A stamp has the moment of the last change by the file system's clock, which no program can set, and the number of the file,
 its size, and more. Stamps are compared for equality alone, so a clock that was set back lets no change pass. But the clock
 stands still for some milliseconds at a time: a file that changes twice in one tick may have one stamp before and after.
-So a stamp is kept only once the clock has moved on since.
+So a stamp is kept only once the clock has moved on since. What a program writes through a mapping that it shares with a file
+and wrote to just before gives the file no other stamp; no editor and no git writes so.
 """
 from __future__ import annotations
 

@@ -10,7 +10,7 @@ from pathlib import Path
 
 import pytest
 
-from tests.helpers import HANGS, TOP, Called
+from tests.helpers import HANGS, PASSES, TOP, Called, write
 from tests.test_run import expected_rows
 
 PROVED = (TOP / "packaging/programs.txt").read_text().split()
@@ -68,6 +68,26 @@ def test_what_is_not_proved_is_not_packed(tmp_path: Path) -> None:
     said = output(tool, tmp_path, PATH="/usr/bin:/bin:/usr/sbin:/sbin")  # without rt nothing is proved
     assert said.endswith("package: pdregress isn't proved and built\n")
     assert not list(tmp_path.glob("*.deb"))
+
+
+def test_the_programs_of_a_package_have_no_sources_that_could_change(tmp_path: Path, stand_in: Path) -> None:
+    top = tmp_path / "usr/lib/pdregress"
+    shutil.copytree(TOP / "client", top / "client", ignore=shutil.ignore_patterns("tests", ".mypy_cache"))
+    shutil.copy(TOP / "pdsuite", top)
+    (top / "version").write_text("1.2.3\n")
+    (top / "tools").mkdir()
+    (top / "tools/built.sh").write_text(f'#!/bin/sh\necho "$*" >>"{tmp_path}/asked"\nexit 2\n')
+    (top / "tools/built.sh").chmod(0o755)
+    (tmp_path / "usr/bin").mkdir()
+    shutil.copy(stand_in / "pdregress", tmp_path / "usr/bin")
+    write(tmp_path / "suite", a=PASSES)
+    environment = {key: value for key, value in os.environ.items() if key != "PDSUITE_PROGRAMS"}
+    for changed in ("client/pdsuite/main.py", "../../bin/pdregress", "crates.txt"):
+        (top / changed).touch()
+        words: list[str | Path] = [top / "pdsuite", "run", "--proved", tmp_path / "suite"]
+        done = subprocess.run(words, env=environment, capture_output=True, text=True)
+        assert (done.returncode, done.stderr, done.stdout.split(" s ")[0][:14]) == (0, "", "total 1 pass 1")
+    assert not (tmp_path / "asked").exists()
 
 
 def test_each_command_has_its_page() -> None:
