@@ -8,8 +8,13 @@ from pathlib import Path
 
 import pytest
 
+from pdsuite.compare.built_senders import with_programs
+from pdsuite.compare.senders import Sender
 from pdsuite.programs import building
 from pdsuite.programs.building import Building, NoBuild, Untried, built, kept
+from pdsuite.programs.rows import Verdict
+from pdsuite.search.asking import Asked, ProgramAsker
+from pdsuite.show.screen import Screen
 from pdsuite.signals import Stop, Stopped
 from tests.helpers import TOP, Called, is_alive, wait_for, write
 from tests.trees import Tree
@@ -106,6 +111,40 @@ def test_a_search_takes_an_optimised_build(tree: Tree) -> None:
     call(tree, "search", "--for", "una:1", "--seed", "1", "--seconds", "1")
     (found,) = (tree.notes / "cache/pdregress/builds").glob("*/optimised")
     assert "# -O1" in (found / "pdregress").read_text()
+
+
+STOPS = """#!/bin/sh
+kind=overflow
+case $BUILT in */optimised/*) kind=check ;; esac
+echo "pdregress: unproved: Faulted: kind=$kind" >&2
+exit 2
+"""
+
+
+def test_where_an_optimised_program_stops_the_plain_one_says_why(tree: Tree, monkeypatch: pytest.MonkeyPatch) -> None:
+    (tree.bin / "pdregress").write_text(STOPS)
+    monkeypatch.setenv("STAND_INS", str(tree.bin))
+    with Stop(()) as stop, Screen(False, False) as screen:
+        (sender,) = with_programs([Sender("it", None, tree.top)], "optimised", stop, screen)
+        assert (str(sender), sender.is_proved) == ("it, unproved", False)
+        (row,) = ProgramAsker(sender, stop).rows([Asked((), b"x\n")])
+    assert (row.verdict, row.word) == (Verdict.ERROR, "pdregress: unproved: Faulted: kind=overflow")
+
+
+def test_many_scripts_are_run_by_an_optimised_build_where_one_is_kept(
+    tree: Tree, monkeypatch: pytest.MonkeyPatch
+) -> None:
+    (tree.bin / "pdregress").write_text("#!/bin/sh\necho $BUILT >$NOTES/built\nexit 2\n")
+    monkeypatch.setenv("STAND_INS", str(tree.bin))
+    with Stop(()) as stop:
+        for folder in (built(tree.top, "optimised", stop), built(tree.top, "plain", stop)):
+            assert folder.is_dir()
+    write(tree.suite / "many", **{f"s{number}": ROW for number in range(1_998)})
+    call(tree, "run", "suite")
+    assert "/plain/" in (tree.notes / "built").read_text()
+    write(tree.suite / "many", last=ROW)
+    call(tree, "run", "suite")
+    assert "/optimised/" in (tree.notes / "built").read_text()
 
 
 @pytest.mark.parametrize(

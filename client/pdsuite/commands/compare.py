@@ -69,7 +69,7 @@ def compare_senders(options: CompareOptions, screen: Screen) -> int:
             records = all(it.records for it in senders)
             telling = telling_of(senders[1], Path(room)) if options.affected else None
             task = Task(scripts, list(suite.claims()), records, page is not None, telling)
-            built = zip(sides, with_programs(senders, "any", stop, screen))
+            built = zip(sides, with_programs(senders, "plain", stop, screen))
             results = run_both(
                 [replace(side, sender=it) for side, it in built], task, threads_of(None), stop, screen.note
             )

@@ -44,6 +44,10 @@ if TYPE_CHECKING:
     from pdsuite.run.unproved_run import UnprovedResults
 
 
+# More scripts than these are run by an optimised build, if one is kept, though a plain one says more of where it stops.
+_MANY = 2_000
+
+
 @dataclass(frozen=True)
 class RunOptions:
     """What a call asks for: which scripts, and how they are run."""
@@ -113,7 +117,7 @@ def run(options: RunOptions, screen: Screen) -> int:
                 if lines := unused_in(suite, options.paths):
                     return _refuse(lines)
                 drawing = _drawing(options, screen, is_unproved)
-                program = _built(stop, screen)
+                program = _built(len(scripts), stop, screen)
             if program is None:
                 return _run_unproved(suite, scripts, options, form, screen, begin, stop, drawing)
             asked = refusals(suite.claims(), partial(Program, [program], stop))
@@ -153,12 +157,12 @@ def _proved(options: RunOptions) -> Path | None:
     return None
 
 
-def _built(stop: Stop, screen: Screen) -> Path | None:
-    """The program of a build of the sender as it stands, or none where no build can be kept."""
+def _built(count: int, stop: Stop, screen: Screen) -> Path | None:
+    """The program of a build of the sender as it stands for so many scripts, or none where no build can be kept."""
     # Only who has no proved program pays for what does without them.
     from pdsuite.programs.unproved import take_build
 
-    return locate(REGRESS) if take_build("any", stop, screen) else None
+    return locate(REGRESS) if take_build("any" if count > _MANY else "plain", stop, screen) else None
 
 
 def _run_unproved(

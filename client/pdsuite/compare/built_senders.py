@@ -6,7 +6,7 @@ from dataclasses import replace
 from pathlib import Path
 
 from pdsuite.compare.senders import Sender
-from pdsuite.programs.building import NoBuild, Way, built, kept
+from pdsuite.programs.building import NoBuild, Untried, Way, built, kept
 from pdsuite.programs.places import RECORD, REGRESS
 from pdsuite.programs.unproved import progress
 from pdsuite.show.screen import Screen
@@ -39,6 +39,17 @@ def _built(tree: Path, way: Way, stop: Stop, tell: Callable[[str, float], None])
     try:
         return built(tree, way, stop, tell)
     except NoBuild:
+        return None
+
+
+def plain_of(sender: Sender, stop: Stop) -> Sender | None:
+    """The same sender as a plain build, which says where it stops, if it is an optimised one that can be built so."""
+    programs = sender.programs or {}
+    if not sender.is_build or programs[REGRESS].parent.name != "optimised":
+        return None
+    try:
+        return _with(sender, built(sender.top, "plain", stop))
+    except (NoBuild, Untried):
         return None
 
 

@@ -26,7 +26,7 @@ def program_of(name: str, stop: Stop, screen: Screen) -> Path:
     try:
         return locate(name)
     except Unproved:
-        if not (TOOL.is_file() and take_build("any", stop, screen)):
+        if not (TOOL.is_file() and take_build("plain", stop, screen)):
             raise
     return locate(name)
 

@@ -9,6 +9,7 @@ from itertools import repeat
 from pathlib import Path
 from typing import Protocol, TypeVar
 
+from pdsuite.compare.built_senders import plain_of
 from pdsuite.compare.senders import Sender
 from pdsuite.compare.sides import Side
 from pdsuite.faults import Fault
@@ -35,6 +36,8 @@ A = TypeVar("A", bound="Inputs | Asked")
 T = TypeVar("T")
 U = TypeVar("U")
 
+# Begins what a program that isn't proved says where it stops.
+_STOPS = "unproved: Faulted: "
 # So many scripts are run by one start of a program at most.
 _PIECE = 16
 _FIRST = (8, 16, 32)
@@ -126,6 +129,7 @@ class ProgramAsker:
     """Asks programs, several at a time."""
 
     def __init__(self, sender: Sender, stop: Stop) -> None:
+        self._sender = sender
         programs = sender.programs or {}
         self._program = programs[REGRESS]
         self._recorder = programs[RECORD]
@@ -165,8 +169,14 @@ class ProgramAsker:
                 return rows_in(answer, b"", _names(scripts), len(scripts))
         except (Ended, Unexpected) as end:
             if len(scripts) == 1:
-                return [Row(Verdict.ERROR, 0, str(end))]
+                return [Row(Verdict.ERROR, 0, self._why(scripts[0], str(end)))]
             return [row for it in scripts for row in self._rows([it])]
+
+    def _why(self, script: Asked, end: str) -> str:
+        """Why the program ended on a script. Where an optimised one stops, a plain one says where."""
+        plain = plain_of(self._sender, self._stop) if _STOPS in end else None
+        (row,) = ProgramAsker(plain, self._stop).rows([script]) if plain else [Row(Verdict.ERROR, 0, end)]
+        return row.word if row.verdict is Verdict.ERROR else end
 
     def _started(self, settings: Settings, *words: str) -> Program:
         text = settings_text(settings)
