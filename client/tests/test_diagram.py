@@ -11,7 +11,7 @@ from pdsuite.diagram.labels import MOST_ROWS, Label, placed
 from pdsuite.diagram.pictures import for_page, png_file, svg_file
 from pdsuite.diagram.plot import figure_of
 from pdsuite.diagram.strokes import strokes_of
-from pdsuite.diagram.values import Arrival, Block, Expected, Flag, Kind, Segment, Step, Strokes
+from pdsuite.diagram.values import Arrival, Block, Expected, Flag, Kind, Note, Segment, Step, Strokes
 from pdsuite.page.plots import Plot, Plots, plots_of
 from pdsuite.programs.rows import Row, Verdict
 from pdsuite.programs.trace import events_in
@@ -52,6 +52,15 @@ def test_a_diagram_is_as_high_as_a_window_that_is_not_far_above(edges: tuple[int
     """Up to 1.6 times the octets that are sent, which go to 8,002."""
     found = replace(strokes("timeout"), edge=tuple(Step(200_000, it) for it in edges))
     assert figure_of(found, WIDE).axes[0].get_ylim()[1] == pytest.approx(1.05 * most)
+
+
+def test_each_row_of_words_has_its_room() -> None:
+    """Words at one moment stand in rows, one above another."""
+    found = strokes("timeout")
+    notes = [tuple(Note(1_300_000, "w" * 20) for _ in range(count)) for count in range(4)]
+    heights = [figure_of(replace(found, notes=it), WIDE).get_size_inches()[1] for it in notes]
+    steps = [after - before for before, after in zip(heights, heights[1:])]
+    assert steps[0] > 0.1 and steps == pytest.approx([steps[0]] * 3)
 
 
 def test_a_timeout() -> None:
