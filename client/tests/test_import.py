@@ -7,6 +7,9 @@ from pathlib import Path
 
 import pytest
 
+from pdsuite.commands import import_
+from pdsuite.scripts.search import ScriptFile
+from pdsuite.show.screen import Screen
 from tests.helpers import PASSES, TOP, Call, write
 from tests.schemas import held
 from tests.test_import_conversion import LEFT, OPEN, REPLACED
@@ -31,7 +34,21 @@ sysctl -q net.ipv4.tcp_min_tso_segs=10`
 +0 > P. 10001:12001(2000) ack 1
 +0 %{{ assert tcpi_snd_cwnd == 11 }}%
 """
+# Two scripts, of which the first can't be looked at.
+FOUND = (("a", "Permission denied"), ("b", ""))
 CONNECTS = "0 connect(3, ..., ...) = 0\n"
+
+
+def test_what_cannot_be_looked_at_is_told_and_not_imported(
+    tmp_path: Path, monkeypatch: pytest.MonkeyPatch, capsys: pytest.CaptureFixture[str]
+) -> None:
+    write(tmp_path / "net", a=OPEN.encode(), b=OPEN.encode())
+    found = [ScriptFile(str(tmp_path / f"net/{it}.pkt"), str(tmp_path / "net"), f"{it}.pkt", why) for it, why in FOUND]
+    monkeypatch.setattr(import_, "find", lambda paths, only, stop: found)
+    with Screen(False, progress=False) as screen:
+        assert import_.import_scripts(tmp_path / "net", tmp_path / "new", False, False, screen) == 2
+    assert f"{tmp_path}/net/a.pkt: error: Permission denied\n" in capsys.readouterr().out
+    assert [it.name for it in (tmp_path / "new").glob("*.pkt")] == ["b.pkt"]
 
 
 def kernel(folder: Path) -> Path:
