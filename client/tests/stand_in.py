@@ -187,6 +187,8 @@ def told_by_keys(name: str, verdict: str, line: int, kind: list[str], text: list
     said = "so it is" if text else ""
     told: dict[str, object] = {"name": name, "line": line, "verdict": verdict, "what": said}
     told |= KEYS[verdict]
+    if "text_line" in told:
+        told["text_line"] = line
     if kind:
         told["kind"] = kind[0]
         told |= KEYS.get(kind[0], KEYS["packet"])

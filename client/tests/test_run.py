@@ -1,5 +1,6 @@
 """Real folders, by the built program."""
 
+import json
 import os
 import subprocess
 from pathlib import Path
@@ -59,9 +60,39 @@ def test_only_what_does_not_pass_is_shown_with_its_block(programs: Path, tmp_pat
         "  expected result: 1",
         "  actual result: 0",
     ]
-    worse = lines.index("in/er/worse.pkt:1: syntax: the text is no script")
+    worse = lines.index(
+        "in/er/worse.pkt:1: syntax: expected an option of the header, a command, a time or the end of the text"
+    )
     assert lines[worse + 1] == "  ?"
     assert called.totals == {"pass": 1, "fail": 1, "syntax": 1}
+
+
+BROKEN = b"""// One
++0.1 < . 1:1(0) ack 1
+// a comment
+
++0 accept(3, ..., ...) = 4
+"""
+
+
+def test_a_text_that_breaks_off_is_told_where_it_does_with_what_it_lacks(
+    programs: Path, tmp_path: Path, call: Call
+) -> None:
+    write(tmp_path / "in", a=BROKEN, b=b"+0 bind(3, ..., ...) =\n")
+    end = "expected a whole number up to 4,294,967,295, a hexadecimal number up to 0xffffffff or `-` at the end of the text"
+    told = ["in/a.pkt:2: syntax: expected `win`", f"in/b.pkt:1: syntax: {end}"]
+    called = call(programs, "run", "--junit", "report.xml", "in")
+    assert [it for it in called.out.splitlines() if ": syntax" in it] == told
+    xml = (tmp_path / "report.xml").read_text()
+    assert f'line="2"><error message="{told[0]}"' in xml and f'line="1"><error message="{told[1]}"' in xml
+    github = call(programs, "run", "--github", "in/a.pkt", GITHUB_STEP_SUMMARY=str(tmp_path / "summary"))
+    assert github.out.startswith(f"::error file=in/a.pkt,line=2,title=syntax::{told[0]}%0A")
+    assert (tmp_path / "summary").read_text().endswith(r"| in\/a\.pkt | 2 | syntax | expected \`win\` |" + "\n")
+    assert call(programs, "run", "--tap", "in/a.pkt").out.splitlines()[2] == f"# {told[0]}"
+    (script,) = json.loads(call(programs, "run", "--json", "in/a.pkt").out)["scripts"]
+    assert (script["line"], script["explanation"]["place"]["line"]) == (5, 2)
+    (tmp_path / "in/pdsuite.toml").write_text('["a.pkt"]\nexpect = "syntax 5"\nreason = "so"\n')
+    assert call(programs, "run", "-v", "in/a.pkt").rows == ["in/a.pkt:2: known: syntax (so)"]
 
 
 def test_what_is_printed_is_the_same_with_any_number_of_workers(programs: Path, call: Call) -> None:

@@ -87,7 +87,7 @@ def test_what_does_not_pass_comes_first_then_what_passes_and_what_went(programs:
         lines = without_times(watching.out)
     first = lines.index(total(2, **{"pass": 2, "fail": 1}))
     news = lines[first + 1 :]
-    told = news.index("b.pkt:1: syntax: the text is no script")
+    told = news.index("b.pkt:1: syntax: expected an option of the header, a command, a time or the end of the text")
     assert news[told + 1] == "  ?"
     rows = [it for it in heads([*news[:told], *news[told + 1 :]]) if not it.startswith("total ")]
     assert rows == ["b.pkt:1: syntax", "a.pkt: pass 1", f"a.pkt: {AWAITS_NONE}", "c.pkt: gone"]

@@ -178,8 +178,7 @@ def _run_unproved(
     """Runs the scripts by `rt try` on the sender as it stands, reports what came of them, and answers the status."""
     from pdsuite.run.unproved_run import plan_of, run_unproved
 
-    by_keys = options.html is not None or options.by_keys
-    plan = plan_of(runs_of(scripts), suite.claims(), by_keys, options.full_diff, of_ends=True)
+    plan = plan_of(runs_of(scripts), suite.claims(), True, options.full_diff, of_ends=True)
     tried = run_unproved(plan, TOP, stop, screen.note)
     if tried.refused:
         return _refuse([it.line for it in tried.refused])

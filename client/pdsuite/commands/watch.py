@@ -102,6 +102,7 @@ class View:
 
     def _show(self, outcomes: Outcomes, wanted: Mapping[str, WantedScript], begin: float) -> None:
         """Shows what changed: the rows at once, what is told of them once it is; at first all in one."""
+        outcomes = self._placed(outcomes, wanted)
         rows, moves = StyledText(), self._news.moves(self.outcomes, outcomes, self._wanted, wanted)
         if self.status is not None:
             rows = self._news.rows(self.outcomes, outcomes, moves)
@@ -116,6 +117,16 @@ class View:
             # Also where a signal comes while that is asked for.
             self._close(after, bool(rows.plain), moves, begin)
             self._wanted = wanted
+
+    def _placed(self, outcomes: Outcomes, wanted: Mapping[str, WantedScript]) -> Outcomes:
+        """The outcomes, those of texts that are no scripts with what is told of them: it says where these break off."""
+        placed = dict(outcomes)
+        unread = [it for it in outcomes.values() if it.row.verdict is Verdict.SYNTAX and not self._is_told(it, wanted)]
+        try:
+            placed.update((it.path, it) for it in self._explained(unread, wanted))
+        except Stopped:
+            pass  # the rows are shown all the same
+        return placed
 
     def _close(self, after: Outcomes, has_changed: bool, moves: Sequence[Move], begin: float) -> None:
         """Shows what stands after the rows, and notes what was shown."""
@@ -143,7 +154,7 @@ class View:
 
     def _is_asked(self, outcome: Outcome) -> bool:
         """Whether it is asked why an outcome is so; of a known one nothing is shown but on the page."""
-        return outcome.row.line is not None and (self._of_known or not outcome.is_known)
+        return outcome.row.line is not None and not outcome.told and (self._of_known or not outcome.is_known)
 
     def _explained(self, outcomes: Sequence[Outcome], wanted: Mapping[str, WantedScript]) -> Iterator[Outcome]:
         """Outcomes with what is told of them, piece by piece."""

@@ -154,11 +154,18 @@ def row_of(outcome: Outcome) -> Row:
         row.verdict,
         outcome.tally,
         "" if row.verdict is Verdict.ERROR else row.word,
-        row.line,
-        "" if outcome.text is None else shown(outcome.text.expandtabs().strip(), _LONGEST_LINE),
+        outcome.line,
+        _text(outcome),
         _why(outcome),
         _expected(outcome),
     )
+
+
+def _text(outcome: Outcome) -> str:
+    """The line of its text that the row is about, as it is shown."""
+    if outcome.line != outcome.row.line and outcome.told:
+        return outcome.told[0].strip()  # the program marks another one than the row has
+    return "" if outcome.text is None else shown(outcome.text.expandtabs().strip(), _LONGEST_LINE)
 
 
 def sheet_of(entry: Entry, cause: Cause | None, diagram: Diagram, met: Differences | None = None) -> Sheet:
@@ -167,7 +174,7 @@ def sheet_of(entry: Entry, cause: Cause | None, diagram: Diagram, met: Differenc
     return Sheet(
         row=row_of(outcome),
         events=outcome.row.number if outcome.row.verdict is Verdict.PASS else None,
-        lines=tuple(_lines(entry.text, outcome.row.line)) if entry.text else (),
+        lines=tuple(_lines(entry.text, outcome.line)) if entry.text else (),
         settings=tuple(Fact(key, _safe(shown_value(value))) for key, value in outcome.settings),
         packets=_packets(told),
         reason=_said(told, "reason_words"),

@@ -34,7 +34,7 @@ def lines_of(it: ComparedScript) -> list[str]:
 
 
 def _told(side: str, outcome: Outcome) -> Iterator[str]:
-    line = "" if outcome.row.line is None else f"line {outcome.row.line}: "
+    line = "" if outcome.line is None else f"line {outcome.line}: "
     yield f"{side}: {line}{outcome.row}{meaning(outcome)}"
     yield from (f"  {it}" for it in block(outcome))
 

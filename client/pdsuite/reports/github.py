@@ -60,8 +60,8 @@ class Github:
         if self._counts[level] > _MOST:
             return f"- {told[0].replace(_COMMAND, _NO_COMMAND)}\n"
         where = f"file={_property(shown_path(self._placed(outcome.path)))}"
-        if outcome.row.line is not None:
-            where += f",line={outcome.row.line}"
+        if outcome.line is not None:
+            where += f",line={outcome.line}"
         return f"::{level} {where},title={_property(title)}::{'%0A'.join(map(_data, told))}\n"
 
     def _placed(self, path: str) -> str:
@@ -104,7 +104,7 @@ def _summary_rows(outcome: Outcome) -> Iterator[str]:
     if outcome.tally is Verdict.ERROR:
         yield _cells(path, "", row.verdict.value, row.word)
     elif outcome.tally not in (Verdict.PASS, Verdict.NOT_RUN, Tally.KNOWN):
-        yield _cells(path, "" if row.line is None else str(row.line), said(outcome), reason(outcome))
+        yield _cells(path, "" if outcome.line is None else str(outcome.line), said(outcome), reason(outcome))
     for warning in warnings(outcome):
         yield _cells(path, "", str(row), warning)
 

@@ -56,7 +56,7 @@ def _case(folder: str, outcome: Outcome) -> TestCase:
     path = shown_path(outcome.path)
     case = TestCase(path, classname=folder, time=0)
     case.file = path
-    case.line = outcome.row.line or _FIRST
+    case.line = outcome.line or _FIRST
     if outcome.tally is not Verdict.PASS:
         result = _result(outcome)
         below = (f"  {it}" for it in block(outcome))

@@ -7,17 +7,20 @@ from pdsuite.show.octets import shown, shown_path
 _MOST = 200
 _REASON = "reason: "
 _RULE = "rule: "
+_EXPECTED = "expected: "
+_END = "at the end of the text"
 
 
 def place(outcome: Outcome) -> str:
-    """The path, with the line that the row names."""
+    """The path, with the line that the row is about."""
     path = shown_path(outcome.path)
-    return path if outcome.row.line is None else f"{path}:{outcome.row.line}"
+    return path if outcome.line is None else f"{path}:{outcome.line}"
 
 
 def meaning(outcome: Outcome) -> str:
     """What comes after the row: what it means, where that is told."""
-    return f": {outcome.why}" if outcome.why else ""
+    why = _lacking(outcome) if outcome.row.verdict is Verdict.SYNTAX else outcome.why
+    return f": {why}" if why else ""
 
 
 def said(outcome: Outcome) -> str:
@@ -41,9 +44,18 @@ def reason(outcome: Outcome) -> str:
         found = (it.removeprefix(_REASON) for it in outcome.told if it.startswith(_REASON))
         return next(found, outcome.why)
     if outcome.row.verdict is Verdict.SYNTAX:
-        return outcome.why
+        return _lacking(outcome)
     rule = next((it.removeprefix(_RULE) for it in outcome.told[:1] if it.startswith(_RULE)), "")
     return f"{outcome.why}: {rule}" if rule else outcome.why
+
+
+def _lacking(outcome: Outcome) -> str:
+    """What a text that is no script lacks where it breaks off, as far as that is told."""
+    below = outcome.told[1:]  # the first is the line of the text
+    expected = next((it for it in below if it.startswith(_EXPECTED)), "")
+    if not expected:
+        return outcome.why
+    return f"expected {expected.removeprefix(_EXPECTED)}" + (f" {_END}" if _END in below else "")
 
 
 def summary(outcome: Outcome) -> str:

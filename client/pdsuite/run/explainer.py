@@ -104,7 +104,8 @@ class Asker(Generic[T]):
 class Explainer:
     """Has the program tell why scripts don't pass, in lines for people.
 
-    And of those that are known not to, by keys, and what those that pass leave at the end, where that is asked for.
+    And of those that are known not to, by keys, and what those that pass leave at the end, where that is asked for. Of a
+    text that is no script it always tells by keys, which say where it breaks off.
     """
 
     def __init__(
@@ -118,7 +119,8 @@ class Explainer:
     ) -> None:
         say = _each_once(note)
         self._asker = Asker(program, BLOCKS, stop, say)
-        self._by_keys = Asker(program, CAUSES, stop, say) if by_keys else None
+        self._causes = Asker(program, CAUSES, stop, say)
+        self._by_keys = by_keys
         self._of_ends = Asker(program, ENDINGS, stop, say) if of_ends else None
         self._of_known = of_known
 
@@ -126,7 +128,7 @@ class Explainer:
         """The outcomes of a piece, each with what is told of it."""
         asked = step if self._of_known else replace(step, outcomes=[it for it in step.outcomes if not it[1].is_known])
         blocks = self._asker.told(asked)
-        causes = {} if self._by_keys is None else self._by_keys.told(asked)
+        causes = self._causes.told(asked if self._by_keys else _unread(step))
         ends = {} if self._of_ends is None else self._of_ends.told(step)
         if not blocks and not causes and not ends:
             return step.outcomes
@@ -135,6 +137,11 @@ class Explainer:
             for it, outcome in step.outcomes
         ]
         return [(it, with_end(outcome, ends.get(it.index))) for it, outcome in told]
+
+
+def _unread(step: SettledPiece) -> SettledPiece:
+    """The scripts of a piece whose texts are none."""
+    return replace(step, outcomes=[it for it in step.outcomes if it[1].row.verdict is Verdict.SYNTAX])
 
 
 def with_block(outcome: Outcome, block: Sequence[bytes] | None) -> Outcome:

@@ -14,6 +14,8 @@ if TYPE_CHECKING:
 
 # Stands in each report of a sender that isn't proved.
 UNPROVED = "UNPROVED"
+# The line that the program marks, in what it tells by keys.
+_TEXT_LINE = "text_line"
 
 
 class Tally(StrEnum):
@@ -50,6 +52,12 @@ class Outcome:
     explanation: Mapping[str, object] | None = None
     at_end: str = ""
     differences: "Differences | None" = None
+
+    @property
+    def line(self) -> int | None:
+        """The line of its text that the row is about: that of the row, or the one before at whose end a text breaks off."""
+        found = self.explanation.get(_TEXT_LINE) if self.explanation is not None else None
+        return found if isinstance(found, int) else self.row.line
 
     @property
     def is_known(self) -> bool:
