@@ -28,6 +28,8 @@ TOKEN = re.compile(
 )
 ITEM = re.compile(r"(?P<indent> *)(?:pub(?:\(\w+\))? )?(?P<kind>const fn|fn|const) (?P<name>\w+)")
 GHOST_USE = re.compile(r"^ghost use Rattle\.(\w+)\.specs\.(\w+)\.\{([^}]*)\};", re.MULTILINE)
+# What more functions than these name has a name that says little of who uses it.
+MOST_USERS = 5
 IDENTIFIER = re.compile(r"[^\W\d][\w-]*")
 
 
@@ -195,17 +197,22 @@ def changed_in(before: dict, after: dict) -> list[Item]:  # type: ignore[type-ar
 
 @dataclass(frozen=True)
 class Named:
-    """What changed, by the names in it: those in lines that changed, with its own and its users', and all."""
+    """What changed, by the names in it: those in lines that changed, with its own and its users', and all.
+
+    And the sections that it cites, as its contract does.
+    """
 
     name: str
     place: str
+    sections: tuple[str, ...]
     changed: tuple[str, ...]
     whole: tuple[str, ...]
 
 
 def names_changed(before: Path, tree: Path) -> Iterator[Named]:
     """The names in the functions and constants of the sender that changed."""
-    old, new = sources_of(before).code, sources_of(tree).code
+    old, after = sources_of(before).code, sources_of(tree)
+    new = after.code
     for key, item in new.items():
         lines = set(old[key].text.split("\n")) if key in old else set()
         others = [it for it in item.text.split("\n") if it not in lines]
@@ -214,8 +221,12 @@ def names_changed(before: Path, tree: Path) -> Iterator[Named]:
             continue
         word = re.compile(rf"\b{item.name}\b")
         users = {it.name for it in new.values() if it is not item and word.search(it.text)}
+        users = users if len(users) <= MOST_USERS else set()
         changed = {item.name, *users, *IDENTIFIER.findall(" ".join([*others, *gone]))}
-        yield Named(item.name, item.place, tuple(sorted(changed)), tuple(sorted(set(IDENTIFIER.findall(item.text)))))
+        cited = [*item.cited, *(it for key in sorted(item.names) for it in after.cited_by(key))]
+        sections = tuple(dict.fromkeys(map(str, cited)))
+        whole = tuple(sorted(set(IDENTIFIER.findall(item.text))))
+        yield Named(item.name, item.place, sections, tuple(sorted(changed)), whole)
 
 
 def changed_items(before: Sources, after: Sources) -> Iterator[tuple[Item, set[Cited]]]:

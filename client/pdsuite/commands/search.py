@@ -13,7 +13,7 @@ from pdsuite.compare.sides import Side, refuse_common, tell_lacks
 from pdsuite.faults import Fault
 from pdsuite.programs.places import TOP
 from pdsuite.programs.rows import Row
-from pdsuite.reports.search import found, totals
+from pdsuite.reports.search import found, offered, totals
 from pdsuite.scripts.settings import settings_of
 from pdsuite.scripts.suite import Layer, claims_of
 from pdsuite.search.asking import ClaimAsker, SideAsker, askers_of, sizes
@@ -23,7 +23,7 @@ from pdsuite.search.finishing import below, finished, with_head
 from pdsuite.search.drawing import Drawing
 from pdsuite.search.making import KEYS
 from pdsuite.search.plans import Emphasis
-from pdsuite.search.relevance import emphasis_of
+from pdsuite.search.relevance import emphasis_of, offer
 from pdsuite.search.reached import pattern_of
 from pdsuite.search.saving import check_place, save
 from pdsuite.search.searching import Search
@@ -94,13 +94,15 @@ def search_difference(
     senders = with_programs(senders, "optimised", stop, screen)
     with askers_of(senders, stop) as askers:
         before, after = _asking(askers, sides, common, screen)
-        emphasis = emphasis_of(names_changed(*trees), _fixed(before.side, after.side, common))
+        changed = names_changed(*trees)
+        emphasis = emphasis_of(changed, _fixed(before.side, after.side, common))
         scripts = scripts_in(trees[0] or TOP, stop)
         drawing = Drawing(seed, sizes(), emphasis, beginnings(scripts, before, emphasis.fixed))
         searched = Search(before, Fails(after), Differs(after), drawing, options.seconds).run(_progress(screen))
         find = searched.find or searched.unshown
         if find is not None:
             _finish(find, before, after, options, screen)
+            screen.show(offered(offer(changed)))
     screen.show(totals(searched, seed, not all(it.is_proved for it in senders)))
     return 0 if find is None else 1
 

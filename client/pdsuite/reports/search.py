@@ -36,6 +36,16 @@ def found(
     return text
 
 
+def offered(offer: Sequence[str]) -> StyledText:
+    """The name and the first lines with which a script may come into the suite, if there are any."""
+    text = StyledText()
+    if offer:
+        name, *lines = offer
+        text.append(f"for examples/suite: as {shown_text(name)}, below lines that say what it tests:\n")
+        text.append("".join(f"  {shown_text(line)}\n" for line in lines))
+    return text
+
+
 def _settings_lines(settings: Sequence[Settings]) -> Iterator[str]:
     """The settings, or where they aren't the same on both sides those of each."""
     texts = [settings_text(it).splitlines() or ["no settings"] for it in settings]

@@ -2,6 +2,7 @@
 
 import re
 from collections.abc import Iterable, Mapping, Sequence
+from typing import Any
 
 from pdsuite.scripts.defaults import KEYS
 from pdsuite.search.plans import Emphasis, Theme
@@ -33,7 +34,7 @@ _PARTS: Mapping[str, tuple[Sequence[str], Sequence[Theme]]] = {
 }
 
 
-def emphasis_of(changed: Iterable[Mapping[str, Sequence[str]]], fixed: frozenset[str]) -> Emphasis:
+def emphasis_of(changed: Iterable[Mapping[str, Any]], fixed: frozenset[str]) -> Emphasis:
     """What comes first, by names that stand in the lines that changed, or else in all that changed."""
     each = list(changed)
     for names in ("changed", "whole"):
@@ -41,6 +42,15 @@ def emphasis_of(changed: Iterable[Mapping[str, Sequence[str]]], fixed: frozenset
         if found.keys or found.themes:
             return found
     return Emphasis(fixed=fixed)
+
+
+def offer(changed: Iterable[Mapping[str, Any]]) -> list[str]:
+    """How a script of a changed rule may come into the suite: its name, and the two lines that say what it tests."""
+    for it in changed:
+        if it["sections"]:
+            about = f"// {'; '.join(it['sections'])}: {it['name'].replace('_', ' ')}: WHAT THE SECTION ASKS FOR."
+            return [f"{it['name']}.pkt", about, "// If it fails, WHAT IS WRONG THEN."]
+    return []
 
 
 def _emphasis(names: Iterable[str], fixed: frozenset[str]) -> Emphasis:

@@ -1,0 +1,69 @@
+"""What comes first in a search, and that the same seed draws the same inputs: plain functions, and the stand-in."""
+
+from itertools import islice
+
+from pdsuite.search.drawing import Drawing
+from pdsuite.search.making import plans
+from pdsuite.search.plans import Emphasis, Theme
+from pdsuite.search.relevance import emphasis_of, offer
+from pdsuite.search.searching import play_all
+from pdsuite.search.states import state_of, states_before, steps_in
+from pdsuite.compare.parting import played_events
+from tests.test_input_search import Toy
+
+CHANGED = {"name": "restart", "sections": ["RFC 5681, section 4.1"], "changed": ["restart", "u32"], "whole": ["widest"]}
+OTHER = {"name": "x", "sections": [], "changed": ["u32"], "whole": ["widest"]}
+TRACE = (
+    "+0 listen(3, 1) = 0\n//= at 0.000000 LISTEN\n"
+    "+0.1 < . 1:1(0) ack 1 win 9\n//= at 0.100000 ESTABLISHED una:1 top:1 cwnd:4000\n"
+    "+0 > . 1:1001(1000) ack 1\n//= at 0.100000 ESTABLISHED una:1 top:1001 cwnd:4000 sent_by:line2\n"
+    "+0.1 < . 1:1(0) ack 1001 win 9\n//= at 0.200000 ESTABLISHED una:1001 top:1001 cwnd:5000\n"
+)
+
+
+def test_what_the_changed_lines_name_comes_first_or_else_what_all_that_changed_names() -> None:
+    found = emphasis_of([CHANGED], frozenset({"mss"}))
+    assert "restart_after_idle" in found.keys and found.themes == {Theme.IDLE} and found.fixed == {"mss"}
+    assert emphasis_of([OTHER], frozenset()).themes == {Theme.WINDOW, Theme.SMALL}
+    assert emphasis_of([], frozenset({"mss"})) == Emphasis(fixed=frozenset({"mss"}))
+
+
+def test_a_script_is_offered_by_the_name_and_the_sections_of_what_changed() -> None:
+    assert offer([OTHER, CHANGED]) == [
+        "restart.pkt",
+        "// RFC 5681, section 4.1: restart: WHAT THE SECTION ASKS FOR.",
+        "// If it fails, WHAT IS WRONG THEN.",
+    ]
+    assert offer([OTHER]) == []
+
+
+def test_settings_that_come_first_are_drawn_in_most_plans_and_fixed_ones_in_none() -> None:
+    (made,) = plans(3, [200], Emphasis(frozenset({"recovery_rate"}), frozenset(), frozenset({"mss"})))
+    keys = [[key for key, _ in it.settings] for it in made]
+    assert sum("recovery_rate" in it for it in keys) > 100 and not any("mss" in it for it in keys)
+
+
+def drawn(seed: int) -> list[object]:
+    """What is tried in three lists, where all that was played is learnt from."""
+    drawing = Drawing(seed, [12, 12, 24])
+    tried: list[object] = []
+    for games in drawing.lists():
+        played = play_all(games, Toy())
+        tried += [it.inputs for it in played]
+        drawing.learn(played)
+    return tried
+
+
+def test_the_same_seed_tries_the_same_inputs_in_the_same_order_variations_too() -> None:
+    one, again, other = drawn(5), drawn(5), drawn(6)
+    assert one == again and len(one) == 48 and one != other
+
+
+def test_the_state_before_each_input_is_the_one_after_all_that_left_before() -> None:
+    played = list(played_events(TRACE))
+    assert [it.number("una") for it in states_before(played)] == [0, 0, 1, 1001]
+    assert [it.is_open for it in states_before(played)] == [False, False, True, True]
+    assert state_of(played[1].state).number("cwnd") == 4000
+    # A packet that leaves in the same kind of state is no step.
+    steps = list(islice(steps_in(TRACE), 9))
+    assert [what for _, what, _ in steps][:2] == ["listen", ". "] and len({it[2] for it in steps}) >= 3
