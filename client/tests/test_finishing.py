@@ -27,7 +27,7 @@ def test_without_a_round_what_arrives_later_acknowledges_as_much_less() -> None:
     states = [state(0, 1, False), state(1, 2001), state(1001, 3001), state(2001, 4001), state(3001, 5001)]
     found = list(without_rounds(inputs, states))
     assert [[str(it.what) for it in one.events] for one in found] == [
-        # All that follows the handshake; then two of three, by how far all is acknowledged, which is as far as it is sent.
+        # All that follows the handshake; then two of three, by how far all is acknowledged and sent.
         ["< . 1:1(0) ack 1 win 257"],
         ["< . 1:1(0) ack 1 win 257", "< . 1:1(0) ack 1001 win 257 <sack 2001:3001>"],
         ["< . 1:1(0) ack 1 win 257", "< . 1:1(0) ack 1001 win 257"],
