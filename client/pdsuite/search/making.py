@@ -18,6 +18,8 @@ _SEGMENTS = (64, 536, 1_000, 1_095, 1_096, 1_460, 2_190, 2_191, 3_000, 8_960)
 _ROUND_TRIPS = tuple(it * _MILLISECOND for it in (100, 100, 100, 10, 50, 200, 300, 400, 1_500, 30_000))
 _WIDE = (65_535, 65_535, 32_896, 32_896, 1_000_000)
 _NARROW = (20_000, 10_000, 5_000, 4_000, 3_000, 2_500, 2_000, 1_500, 1_000, 500, 100, 1, 0)
+# About a segment, and half of one.
+_SMALL = (0, 200, 300, 400, 600, 900, 1_200, 1_500, 2_000, 3_000, 4_000)
 _LONG = (20_000, 20_000, 12_000, 10_000, 8_000, 30_000)
 _SHORT = (1_000, 2_000, 3_000, 4_000, 5_000, 1, 100, 500, 1_500, 2_500, 0)
 _OUTAGES = (500_000, 2 * SECOND, 10 * SECOND, 70 * SECOND, 200 * SECOND)
@@ -121,7 +123,7 @@ class _Maker:
         takes = self._pick(_LONG_HANDSHAKES) if self._often(Theme.HANDSHAKE, 8) else round_trip
         is_odd = self._often(Theme.HANDSHAKE, 8)
         odd = (Odd(takes // 2, self._pick(_IN_HANDSHAKES), self._number(200)),) if is_odd else ()
-        window = self._pick((32_792, 32_792, 1_000, 2_000, 65_535, 0))
+        window = self._pick(_SMALL if Theme.WINDOW in self._themes else (32_792, 32_792, 1_000, 2_000, 65_535, 0))
         return Handshake(self._options(), window, takes, odd, self._one_in(16), self._one_in(16))
 
     def _options(self) -> tuple[TcpOption, ...]:
@@ -164,12 +166,14 @@ class _Maker:
     def _receiver(self) -> Receiver:
         windows = {0: self._window()}
         if self._often(Theme.WINDOW, 3):
-            windows |= {self._from(1, 8): self._window() for _ in range(self._from(1, 2))}
+            windows |= {self._from(1, 8): self._window() for _ in range(self._from(1, 3))}
         each = self._pick((1, 1, 1, 2, 3, 8))
         delay = self._pick((40, 200)) * _MILLISECOND
         return Receiver(each, delay, not self._one_in(16), not self._one_in(5), tuple(sorted(windows.items())))
 
     def _window(self) -> int:
+        if Theme.WINDOW in self._themes and self._one_in(2):
+            return self._pick(_SMALL)
         return self._pick(_NARROW) if self._often(Theme.WINDOW, 4) else self._pick(_WIDE)
 
     def _acts(self, round_trip: int, chosen: Settings, closed: int | None) -> tuple[Act, ...]:
