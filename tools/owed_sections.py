@@ -2,8 +2,9 @@
 
 What changes are definitions in `specs/`, and functions and constants in `src/`. A definition cites what its comment
 does, and what those that name it cite; a constant what the functions that name it do, and the definitions of their
-contracts. A function cites nothing, since its rule is a definition. A default is written in three places. A comment that names a section or a step alone means the RFC, and the
-section, of the heading above it, or of the file's first line.
+contracts. A function cites nothing, since its rule is a definition. A default is written in three places. A comment
+that names a section or a step alone means the RFC, and the section, of the heading above it, or of the file's first
+line.
 """
 from __future__ import annotations
 
@@ -230,7 +231,7 @@ def names_changed(before: Path, tree: Path) -> Iterator[Named]:
 
 
 def changed_items(before: Sources, after: Sources) -> Iterator[tuple[Item, set[Cited]]]:
-    """What changed, each with all that it cites. A function cites nothing: its rule is the definition of its contract."""
+    """What changed, each with all that it cites: a function nothing, since its rule is what its contract names."""
     for item in changed_in(before.definitions, after.definitions):
         users = [it for it in after.definitions.values() if any(after.definitions.get(key) is item for key in it.names)]
         yield item, {*item.cited, *(cited for it in users for cited in it.cited)}
