@@ -3,9 +3,9 @@
 
 bench/search.py [--seconds N] [--seed N] [--suite FOLDER] [NAME..]
 
-Those of these names are planted, or all. The search varies the scripts of FOLDER, or of this tree's suite. For each bug a
-line says whether a script of that suite fails with it; after how many inputs and seconds the search found it, if it did;
-and how many lines the script has. It takes a build for each bug. The status is 1 where one isn't found.
+Those of these names are planted, or all. The search varies the scripts of FOLDER, or of this tree's suite. For each bug
+a line says whether a script of that suite fails with it; after how many inputs and seconds the search found it, if it
+did; and how many lines the script has. It takes a build for each bug. The status is 1 where one isn't found.
 """
 
 import argparse

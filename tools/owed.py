@@ -10,8 +10,8 @@ has six parts for each start: the output, the error text and the status of the s
 after. A status that is no number means that nothing was heard. FOLDER is the tree of the sender before, by which the
 paragraphs of pages are found.
 
-owed.py changed --before FOLDER [--after FOLDER]: JSON that lists the functions and constants of the sender that changed,
-with the names in them. Without --after it is this tree's.
+owed.py changed --before FOLDER [--after FOLDER]: JSON that lists the functions and constants of the sender that
+changed, with the names in them. Without --after it is this tree's.
 """
 from __future__ import annotations
 

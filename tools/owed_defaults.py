@@ -35,7 +35,8 @@ class ChangedDefault:
 def defaults_in(text: str) -> dict[str, tuple[int, str]]:
     """The defaults of the sources, each with its line.
 
-    >>> defaults_in("    pub fn new() -> Settings\\n    {\\n        Settings {\\n            a: 1_000,\\n        }\\n    }")
+    >>> text = "    pub fn new() -> Settings\\n    {\\n        Settings {\\n            a: 1_000,\\n        }\\n    }"
+    >>> defaults_in(text)
     {'a': (4, '1_000')}
     """
     found = DEFAULTS.search(text)

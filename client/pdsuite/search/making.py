@@ -113,7 +113,7 @@ class _Maker:
         if not self._keys or self._one_in(8 if self._first else 2):
             return ()
         if self._first and not self._one_in(4):
-            first = {self._pick(self._first) for _ in range(self._pick((1, 2, 3)))}
+            first = {key for key in self._first if not self._one_in(3)} or {self._pick(self._first)}
             more = {self._pick(self._keys) for _ in range(self._pick((0, 0, 1)))}
             return settings_of({key: self._pick(KEYS[key]) for key in sorted(first | more)})
         keys = {self._pick(self._keys) for _ in range(self._pick((1, 1, 2, 3)))}
