@@ -42,10 +42,11 @@ def _number(quantity: Quantity, value: int) -> str:
 
 def quantities_by_keys(compared: Sequence[ComparedScript], sort: Quantity) -> dict[str, object]:
     """The same by keys: of all scripts, and of those whose quantities changed."""
-    return {
-        "total": _by_keys(total_of(compared)),
-        "scripts": [{"path": shown_path(it.path), **_by_keys(it)} for it in changes_of(compared, sort)],
-    }
+    scripts: list[dict[str, object]] = [
+        {"path": shown_path(it.path), "before": _named(it.before), "after": _named(it.after)}
+        for it in changes_of(compared, sort)
+    ]
+    return {"total": _by_keys(total_of(compared)), "scripts": scripts}
 
 
 def _by_keys(it: Change) -> dict[str, object]:
