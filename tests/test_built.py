@@ -195,7 +195,7 @@ def test_where_a_program_can_set_the_clock_of_a_file_nothing_is_kept(
     monkeypatch.setenv("PATH", tree.environment["PATH"])
     assert stamps.probe_in(str(tmp_path))
     # As FAT has it, where the moment of a change is that of the last edit, which any program may set.
-    probe = os.stat_result((0o100644, 1, 1, 1, 0, 0, 0, 0, 0, 0))
+    probe = os.stat_result((0o100644, 1, tree.top.stat().st_dev, 1, 0, 0, 0, 0, 0, 0))
     monkeypatch.setattr(os, "fstat", lambda _: probe)
     assert kept_sums.is_proved(str(tree.top), "top")
     assert not (tree.top / f"{PROGRAM}.stamps").exists()
@@ -217,6 +217,20 @@ def test_what_changes_while_it_is_read_is_read_again(
     monkeypatch.setattr(kept_sums, "sums_of", read_and_change)
     assert kept_sums.is_proved(str(tree.top), "top")
     assert not (tree.top / f"{PROGRAM}.stamps").exists()
+
+
+def test_what_comes_before_the_stamps_are_taken_is_read_again(tmp_path: Path, monkeypatch: pytest.MonkeyPatch) -> None:
+    tree = Tree(tmp_path)
+    monkeypatch.setenv("PATH", tree.environment["PATH"])
+    taken = stamps.stamps_of
+
+    def take_late(top: str, paths: list[str]) -> dict[str, str]:
+        tree.do("cp -p crates/low/src/lib.rt crates/low/src/more.rt")
+        return taken(top, paths)
+
+    monkeypatch.setattr(stamps, "stamps_of", take_late)
+    assert kept_sums.is_proved(str(tree.top), "top")
+    assert not tree.is_proved()
 
 
 def test_stamps_that_were_cut_short_are_not_taken(tree: Tree) -> None:

@@ -234,6 +234,8 @@ def run(named: list[str], every: list[str], lanes: int) -> None:
         uses = dependencies((TOP / TABLE).read_text())
         left = [it for it in named if not (is_program(TOP, it) and kept_sums.is_proved(str(TOP), it))]
         changed = prove(left, uses, lanes, kit) if left else None
+        # Also where nothing was left to prove, and by what its command says.
+        kit.check()
         proving_kit.working()
         if changed:
             raise Refused(f"{changed}, and what was proved is as all was before: run this again")

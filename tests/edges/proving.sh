@@ -110,6 +110,7 @@ broken_kit() { # NAME COMMAND: a kit of this name, whose command does what the o
 }
 
 test_kits() {
+    quietly pdregress
     broken=$work/broken/bin/rt
     expect kit-that-fails "$(printf '! prove: %s --version ends with status 3\nstatus 2' "$broken")" broken_kit 'a kit' 'exit 3'
     expect kit-that-says-another-name "$(printf "! prove: %s --version prints 'kit 2', and %s has 'a kit'\nstatus 2" "$broken" "$work/broken/KIT-ID")" broken_kit 'a kit' 'echo kit 2'
