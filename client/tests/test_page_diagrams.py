@@ -51,7 +51,7 @@ def test_the_first_that_fail_are_drawn_and_the_others_say_how_they_are(
     assert "since it passes: --plot PATTERN draws" in pages["c"]
     assert "There is no recording: the text is no script." in pages["d"]
     assert "There is no recording: the sender doesn&#39;t run the script." in pages["e"]
-    assert not list((tmp_path / "out/plots").iterdir())
+    assert not (tmp_path / "out/plots").exists()
 
 
 def test_what_is_asked_for_is_drawn_also_as_files_and_the_same_run_gives_the_same_octets(

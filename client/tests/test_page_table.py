@@ -72,3 +72,10 @@ def test_the_table_can_be_sorted_at_every_width(width: int, few: Browser) -> Non
     few.look(width=width)
     heads(few)["Script"].click()
     assert order(few) == "$<xfgmpey"
+
+
+@pytest.mark.parametrize("width", [360, 1_300])
+def test_a_head_sorts_wherever_it_is_clicked(width: int, few: Browser) -> None:
+    few.look(width=width)
+    few.all("#scripts thead th")[0].click()  # in its middle, where no word is
+    assert order(few) == "$<xfgmpey"

@@ -123,6 +123,8 @@ def test_a_file_that_cannot_be_written_is_named_before_anything_runs(
         (["--junit", "-"], "Invalid value for '--junit': - is no file, and standard output has the report."),
         (["--json=a", "--json=b"], "--json names two files: a and b"),
         (["--tap", "a.tap"], "Missing argument 'PATHS...'."),
+        (["--json", "--tap"], "--json and --tap print a report each: one alone, or --json=FILE"),
+        (["--github", "--json=-"], "--github and --json print a report each: one alone, or --json=FILE"),
     ],
 )
 def test_words_that_name_no_file_are_refused(

@@ -67,6 +67,25 @@ def test_only_what_does_not_pass_is_shown_with_its_block(programs: Path, tmp_pat
     assert called.totals == {"pass": 1, "fail": 1, "syntax": 1}
 
 
+def test_standard_input_is_a_script(programs: Path, tmp_path: Path) -> None:
+    def called(*words: str | Path) -> tuple[int, list[str], str]:
+        environment = {**os.environ, "PDSUITE_PROGRAMS": str(programs)}
+        text = (
+            b"0 socket(..., SOCK_STREAM, IPPROTO_TCP) = 3\n+0 setsockopt(3, SOL_TCP, TCP_NODELAY, [1], 4) = 0\n" + b"?"
+        )
+        done = subprocess.run(
+            [TOP / "pdsuite", "run", *words], cwd=tmp_path, env=environment, input=text, capture_output=True, text=False
+        )
+        return done.returncode, done.stdout.decode().splitlines(), done.stderr.decode()
+
+    status, lines, _ = called("-")
+    assert (status, lines[0].partition(": expected")[0]) == (1, "-:3: syntax")
+    (tmp_path / "pdsuite.toml").write_text("mss = 10\n")
+    assert called("-")[2] == "pdsuite.toml:1: mss: BadValue: it takes 64 to 65,495 octets\n"
+    assert called("-", ".") == (2, [], "pdsuite: -: standard input stands alone\n")
+    assert called("--shard", "1/2", "-") == (2, [], "pdsuite: -: standard input is no part of a suite\n")
+
+
 BROKEN = b"""// One
 +0.1 < . 1:1(0) ack 1
 // a comment

@@ -7,7 +7,7 @@ from dataclasses import dataclass
 from pathlib import Path
 
 from pdsuite.commands.options import threads_of
-from pdsuite.faults import Fault, why
+from pdsuite.faults import Fault
 from pdsuite.files import write
 from pdsuite.programs.places import RECORD, REGRESS, locate
 from pdsuite.programs.program import Program
@@ -16,13 +16,12 @@ from pdsuite.programs.recorder import DROP, LEAST, Recording, record_all
 from pdsuite.programs.refusals import refusals
 from pdsuite.programs.rows import Verdict
 from pdsuite.programs.unproved import program_of
-from pdsuite.run.choice import found_of, scripts_of
+from pdsuite.run.choice import INPUT, found_of, input_of, scripts_of
 from pdsuite.run.explainer import LEAVINGS, Asker, awaits_none, leaves_packets
 from pdsuite.run.outcomes import Outcome
 from pdsuite.run.runs import Script, runs_of
 from pdsuite.run.settling import Restart, settle, start_with
 from pdsuite.scripts.rewriting import Rewriting, as_written, hunks_of
-from pdsuite.scripts.search import ScriptFile
 from pdsuite.scripts.settings import Settings
 from pdsuite.scripts.suite import Suite, option_of
 from pdsuite.scripts.text import LONGEST_FILE, Text, Unfit, read_file, text_of
@@ -33,7 +32,6 @@ from pdsuite.show.styled_text import StyledText, unstyled
 from pdsuite.signals import Stop, Stopped
 
 _FAULT = 2
-INPUT = Path("-")
 _STYLES = {"+": "green", "-": "red", "@": "cyan"}
 # The words by which a script is recorded; None where it stays as it is.
 Way = Sequence[str] | None
@@ -82,7 +80,6 @@ def record(options: RecordOptions, screen: Screen) -> int:
     with Stop() as stop:
         suite = Suite(option_of(options.settings))
         try:
-            octets = _read_input() if INPUT in options.paths else None
             scripts = _scripts(options, suite, stop)
             program = program_of(REGRESS, stop, screen)
             asked = refusals(suite.claims(), lambda: Program([program], stop))
@@ -91,7 +88,7 @@ def record(options: RecordOptions, screen: Screen) -> int:
                     say(line)
                 return _FAULT
             recorder = locate(RECORD)
-            texts = {it.index: _text(it, octets) for it in scripts}
+            texts = {it.index: _text(it) for it in scripts}
             ways = _ways(scripts, texts, program, options, screen, stop)
             each = _recorded(scripts, texts, ways, recorder, screen, stop)
         except Stopped as stopped:
@@ -102,29 +99,18 @@ def record(options: RecordOptions, screen: Screen) -> int:
 
 
 def _scripts(options: RecordOptions, suite: Suite, stop: Stop) -> list[Script]:
-    """The scripts that are meant; standard input has the settings of the working folder."""
-    if INPUT not in options.paths:
-        return scripts_of(found_of(options.paths, options.only, suite, stop), suite)
-    if len(options.paths) > 1:
-        raise Fault("-: standard input stands alone")
-    folder = os.path.realpath(os.curdir)
-    suite.look([folder])
-    return scripts_of([ScriptFile(str(INPUT), folder, str(INPUT))], suite)
+    """The scripts that are meant: standard input, or those that are found."""
+    if (script := input_of(options.paths, suite)) is not None:
+        return [script]
+    return scripts_of(found_of(options.paths, options.only, suite, stop), suite)
 
 
-def _read_input() -> bytes:
-    try:
-        return sys.stdin.buffer.read(LONGEST_FILE + 1)
-    except OSError as error:
-        raise Fault(f"standard input: {why(error)}") from error
-
-
-def _text(script: Script, octets: bytes | None) -> bytes | str:
+def _text(script: Script) -> bytes | str:
     """The octets of a script's file, or why it can't be recorded."""
     if script.fault:
         return script.fault
     try:
-        held = read_file(script.path, LONGEST_FILE + 1) if octets is None else octets
+        held = read_file(script.path, LONGEST_FILE + 1) if script.held is None else script.held
         text_of(held)
     except Unfit as unfit:
         return str(unfit)

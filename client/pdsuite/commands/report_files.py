@@ -23,6 +23,7 @@ from pdsuite.show.octets import shown_path
 # Flags that print a report, or write it where a file comes after `=`, or as the next word if that ends so.
 _SUFFIXES = {"--json": ".json", "--tap": ".tap"}
 _JUNIT, _JSON, _TAP = "--junit", "--json", "--tap"
+_FORMS = (_JSON, _TAP, "--github")
 # Names standard output, as without a file.
 _OUTPUT = "-"
 _END = "--"
@@ -52,11 +53,20 @@ class ReportCommand(click.Command):
         options = [it for it in self.params if isinstance(it, click.Option)]
         taking = {name for it in options if not it.is_flag for name in it.opts}
         words, files = parted(args, taking)
+        if len(printed := _printed(words, taking)) > 1 and not ctx.resilient_parsing:
+            raise click.UsageError(f"{' and '.join(printed)} print a report each: one alone, or --json=FILE", ctx)
         left = super().parse_args(ctx, words)
         for option in options:
             for name in _SUFFIXES.keys() & set(option.opts):
                 ctx.params[name.lstrip("-")] = None if ctx.resilient_parsing else _file_of(option, files[name], ctx)
         return left
+
+
+def _printed(words: Sequence[str], taking: Collection[str]) -> list[str]:
+    """The flags among words that say how the report is printed, each once; the word after an option is none."""
+    before = words[: words.index(_END)] if _END in words else words
+    flags = [it for it, last in zip(before, ("", *before)) if it in _FORMS and last not in taking]
+    return list(dict.fromkeys(flags))
 
 
 def _file_of(option: click.Option, named: Sequence[str], ctx: click.Context) -> Path | None:

@@ -27,7 +27,7 @@ from pdsuite.reports.plain import Plain
 from pdsuite.reports.report import Report
 from pdsuite.reports.tap import Tap
 from pdsuite.run.assertion_check import AssertionCheck
-from pdsuite.run.choice import Part, found_of, scripts_of
+from pdsuite.run.choice import INPUT, Part, found_of, input_of, scripts_of
 from pdsuite.run.explainer import Explainer
 from pdsuite.run.local_mapper import local_mapper
 from pdsuite.run.runs import Script, runs_of
@@ -103,7 +103,7 @@ def run(options: RunOptions, screen: Screen) -> int:
         suite = Suite(option_of(options.settings))
         part = Part(options.shard, failed_last(options.paths) if options.last_failed else None)
         try:
-            scripts = scripts_of(found_of(options.paths, options.only, suite, stop, part), suite, options.strict)
+            scripts = _scripts(options, suite, part, stop)
             if not scripts:
                 screen.note(f"pdsuite: {part.nothing()}")
             options.files.check(it.path for it in scripts)
@@ -128,6 +128,15 @@ def run(options: RunOptions, screen: Screen) -> int:
                 return _run(mapper, scripts, options, form, screen, begin, stop, drawing, is_unproved)
         except Stopped as stopped:
             return stopped.status
+
+
+def _scripts(options: RunOptions, suite: Suite, part: Part, stop: Stop) -> list[Script]:
+    """The scripts that are meant: standard input, or those that are found."""
+    if (script := input_of(options.paths, suite, options.strict)) is not None:
+        if options.is_part:
+            raise Fault("-: standard input is no part of a suite")
+        return [script]
+    return scripts_of(found_of(options.paths, options.only, suite, stop, part), suite, options.strict)
 
 
 def _form(options: RunOptions) -> Form:
@@ -248,7 +257,8 @@ def _run(
                 say(line)
     finally:
         # Also where nothing can be shown any more.
-        leave(options.paths, [*report.outcomes, *report.left()], options.is_part, screen.note)
+        if INPUT not in options.paths:
+            leave(options.paths, [*report.outcomes, *report.left()], options.is_part, screen.note)
         faults = _write_files(options, report, time.monotonic() - begin)
         if drawing is not None and ended is None:
             causes = {} if tried is None else tried.causes

@@ -97,5 +97,6 @@ def _write_files(folder: Path, path: str, strokes: Strokes) -> tuple[str, ...]:
     names = plot_files(path)
     title = shown_path(path)
     for name, octets in zip(names, (svg_file(strokes, title), png_file(strokes, title))):
+        (folder / PLOTS).mkdir(exist_ok=True)
         write(folder / PLOTS / name, octets)
     return names

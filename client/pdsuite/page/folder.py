@@ -1,6 +1,7 @@
 """The folder of a page: which files it has, and that nothing else is overwritten."""
 
-from collections.abc import Iterable
+from collections.abc import Collection, Iterable
+from contextlib import suppress
 from pathlib import Path
 
 from pdsuite.faults import Fault, why
@@ -19,20 +20,22 @@ def prepare(folder: Path) -> None:
     try:
         if folder.exists() and (other := _other(folder)):
             raise Fault(f"{shown_path(folder)}: holds {shown_path(other)}, which is no part of a page")
-        for name in (FOLDER, PLOTS):
-            (folder / name).mkdir(parents=True, exist_ok=True)
+        (folder / FOLDER).mkdir(parents=True, exist_ok=True)
     except OSError as error:
         raise Fault(f"{shown_path(folder)}: {why(error)}") from error
     for name in STATIC:
         write(folder / name, static(name))
 
 
-def sweep(folder: Path, files: Iterable[str], plots: Iterable[str]) -> None:
-    """Takes away the pages of scripts, and the files of diagrams, that aren't among these."""
+def sweep(folder: Path, files: Iterable[str], plots: Collection[str]) -> None:
+    """Takes away the pages of scripts, and the files of diagrams, that aren't among these, and a folder of none."""
     for name, is_ours, stay in ((FOLDER, is_file, set(files)), (PLOTS, is_plot, set(plots))):
-        for path in (folder / name).iterdir():
+        for path in (folder / name).iterdir() if (folder / name).exists() else ():
             if is_ours(path.name) and path.name not in stay:
                 path.unlink(missing_ok=True)
+    if not plots:
+        with suppress(OSError):  # it isn't there, or holds what is hidden
+            (folder / PLOTS).rmdir()
 
 
 def _other(folder: Path) -> str | None:

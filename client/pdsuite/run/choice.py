@@ -1,14 +1,17 @@
 """What the commands have in common: which scripts are meant, and with which settings."""
 
+import os
+import sys
 from collections.abc import Iterable, Sequence, Set
-from dataclasses import dataclass
+from dataclasses import dataclass, replace
 from pathlib import Path
 
-from pdsuite.faults import Fault
+from pdsuite.faults import Fault, why
 from pdsuite.run.runs import Script
 from pdsuite.scripts.search import ScriptFile, find_with_folders
 from pdsuite.scripts.shards import Shard, members
 from pdsuite.scripts.suite import Suite
+from pdsuite.scripts.text import LONGEST_FILE
 from pdsuite.show.octets import absolute_paths
 from pdsuite.signals import Stop
 
@@ -26,6 +29,8 @@ class Part:
 
 
 _WHOLE = Part()
+# Standard input, as a path.
+INPUT = Path("-")
 
 
 def found_of(
@@ -37,6 +42,24 @@ def found_of(
         raise Fault("no script found")
     suite.look(finding.folders)
     return _chosen(finding.scripts, part)
+
+
+def input_of(paths: Sequence[Path], suite: Suite, is_strict: bool = False) -> Script | None:
+    """The script that standard input is, where `-` is meant; it has the settings of the working folder."""
+    if INPUT not in paths:
+        return None
+    if len(paths) > 1:
+        raise Fault(f"{INPUT}: standard input stands alone")
+    folder = os.path.realpath(os.curdir)
+    suite.look([folder])
+    return replace(_script(0, ScriptFile(str(INPUT), folder, str(INPUT)), suite, is_strict), held=_read_input())
+
+
+def _read_input() -> bytes:
+    try:
+        return sys.stdin.buffer.read(LONGEST_FILE + 1)
+    except OSError as error:
+        raise Fault(f"standard input: {why(error)}") from error
 
 
 def scripts_of(found: Iterable[ScriptFile], suite: Suite, is_strict: bool = False) -> list[Script]:

@@ -18,7 +18,10 @@ T = TypeVar("T")
 
 @dataclass(slots=True)
 class Script:
-    """A script to run: its place in the order of paths, its file, its settings, and why it can't be run."""
+    """A script to run: its place in the order of paths, its file, its settings, and why it can't be run.
+
+    Of one without a file `held` has the octets.
+    """
 
     index: int
     path: str
@@ -26,6 +29,7 @@ class Script:
     fault: str = ""
     is_strict: bool = False  # whether a warning makes it fail
     expected: Expectation | None = None  # the row that it is known to have
+    held: bytes | None = None
 
 
 def outcome_of(

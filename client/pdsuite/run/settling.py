@@ -12,7 +12,7 @@ from pdsuite.programs.rows import Row, Verdict
 from pdsuite.run.outcomes import Outcome
 from pdsuite.run.runs import Piece, Run, Script, outcome_of
 from pdsuite.scripts.settings import Settings, settings_text
-from pdsuite.scripts.text import Text, Unfit, read_text
+from pdsuite.scripts.text import Text, Unfit, read_text, text_of
 from pdsuite.show.octets import shown_path
 from pdsuite.signals import Stop
 
@@ -62,7 +62,7 @@ def load(script: Script) -> Text | str:
     if script.fault:
         return script.fault
     try:
-        return read_text(script.path)
+        return read_text(script.path) if script.held is None else text_of(script.held)
     except Unfit as unfit:
         return str(unfit)
 

@@ -70,13 +70,14 @@ function recall() {
   sorted = Math.abs(column) <= heads.length ? column : 0;
 }
 
-// A button in the head of each column sorts by it, at a second press from the end, and at a third as it was.
+// The head of each column sorts by it, wherever it is clicked, at a second press from the end, and at a third as it was. The
+// button in it is for keys, whose press the head hears too.
 heads.forEach((head, place) => {
   const button = document.createElement("button");
   button.type = "button";
   button.append(...head.childNodes);
   head.append(button);
-  button.addEventListener("click", () => {
+  head.addEventListener("click", () => {
     const column = place + 1;
     sorted = sorted === column ? -column : sorted === -column ? 0 : column;
     sort();
