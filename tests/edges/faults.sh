@@ -8,6 +8,21 @@ test_words() {
     done
 }
 
+# A folder can be opened and not read: no program takes that for the end of its input.
+test_reads() {
+    for program in pdregress pdrecord; do
+        for words in '' --explain --trace; do
+            case $program$words in pdregress--trace | pdrecord--explain) continue ;; esac
+            # shellcheck disable=SC2086
+            expect "$program-input-that-cannot-be-read$words" "$(printf '! pdregress: 17 Read\nstatus 2')" from_folder "$("$top/tools/built.sh" "$program")" $words
+        done
+    done
+}
+
+from_folder() { # COMMAND.. with a folder as its input
+    "$@" </
+}
+
 # Settles a script beside workers where a thread takes a stack of 256 MB.
 settle_within() ( # KILOBYTES WORKERS
     ulimit -s 262144
@@ -63,5 +78,6 @@ test_files() {
 }
 
 test_words
+test_reads
 test_files
 test_threads
