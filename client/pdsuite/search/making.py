@@ -26,6 +26,8 @@ _OUTAGES = (500_000, 2 * SECOND, 10 * SECOND, 70 * SECOND, 200 * SECOND)
 _LONG_HANDSHAKES = (1_200_000, 3_500_000, 8 * SECOND)
 _IDLE = (2 * SECOND, 5 * SECOND, 70 * SECOND)
 _RESTART = "restart_after_idle"
+# So many recordings more are made where an idle time comes at the end.
+_MORE_ROUNDS = 10
 # So long before and after an RTO.
 _AROUND = (-400_000, -1, 0, 1, 1, 1_000, 500_000, 2 * SECOND, 10 * SECOND)
 # What inputs set, each one of these values.
@@ -77,6 +79,7 @@ class _Maker:
         chosen = self._settings()
         network = self._network()
         closed = self._after(network.round_trip) if self._often(Theme.CLOSE, 2) else None
+        idle = self._idle(chosen)
         return Plan(
             chosen,
             self._handshake(network.round_trip),
@@ -85,8 +88,8 @@ class _Maker:
             self._acts(network.round_trip, chosen, closed),
             self._oddities(network.round_trip, closed),
             self._pick((Ending.WAIT, Ending.WRITE, Ending.WRITE, Ending.NONE)),
-            self._from(4, 14),
-            self._idle(chosen),
+            self._from(4, 14) + (_MORE_ROUNDS if idle else 0),
+            idle,
         )
 
     def _number(self, below: int) -> int:
