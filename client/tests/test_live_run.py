@@ -1,11 +1,14 @@
 """Runs that stay up, and programs that an editor asks anew, by a program that takes all that it is told."""
 
+import select
 from pathlib import Path
 from typing import Any
 
 import pytest
 
 from pdsuite.lsp import tools
+from pdsuite.programs.program import Ended
+from pdsuite.programs.program import Program as StartedProgram
 from pdsuite.programs.protocol import SETTLE, add, name_of
 from pdsuite.programs.rows import Row, Verdict
 from pdsuite.scripts.settings import Settings
@@ -13,6 +16,7 @@ from pdsuite.scripts.text import text_of
 from pdsuite.signals import Stop
 from pdsuite.watch.live_run import LiveRun
 from pdsuite.watch.run_changes import Act, Add, Remove, RunContents, Set
+from tests.helpers import HANGS
 
 ONE = text_of(b"one\n")
 
@@ -63,6 +67,17 @@ def test_an_act_is_recorded_with_the_start_and_the_end_of_each_job_that_it_leads
     assert carried_out(run, Set("mss", "100")) == 1 + 4 * 3
     assert carried_out(run, Remove("b"), Set("mss", "200")) == 5 + 1 + 4 * 2
     assert list(run.rows) == ["a", "c"]
+
+
+def test_a_program_that_says_what_nobody_asked_is_at_an_end() -> None:
+    """Whoever watches looks at it from time to time."""
+    total = "total 0 pass 0 fail 0 syntax 0 unsupported 0 limit 0 pending 0"
+    says = f"read line; echo {total}; sleep 0.3; echo x; sleep 20"
+    with Stop() as stop, StartedProgram(["sh", "-c", says], stop) as program:
+        assert program.ask(b"settle\n", 1_000) == f"{total}\n".encode()
+        with pytest.raises(Ended, match="sh answered more than was asked"):
+            while select.select([program.fileno()], [], [], HANGS)[0]:
+                program.check()
 
 
 def test_a_text_is_asked_with_the_octets_that_an_editor_has(monkeypatch: pytest.MonkeyPatch) -> None:

@@ -8,6 +8,7 @@ from datetime import UTC, datetime
 from pathlib import Path
 from xml.etree import ElementTree
 
+import pytest
 from junitparser import Error, Failure, JUnitXml, Skipped
 
 from tests.helpers import TOP, Call, write
@@ -220,6 +221,15 @@ def test_the_suites_of_junit_share_the_time_of_the_run(stand_in: Path, tmp_path:
 def files_of(out: str) -> list[str]:
     """The files that annotations are of."""
     return [it[1] for it in re.finditer(r"^::[a-z]+ file=([^,]*),", out, re.M)]
+
+
+@pytest.mark.parametrize(("words", "level"), [((), "warning"), (("--strict",), "error")])
+def test_a_warning_of_github_is_an_error_where_it_is_strict(
+    words: tuple[str, ...], level: str, stand_in: Path, tmp_path: Path, call: Call
+) -> None:
+    write(tmp_path, a=b"row pass 0")
+    (annotation, *_) = call(stand_in, "run", "--github", *words, ".").out.splitlines()
+    assert annotation.startswith(f"::{level} file=")
 
 
 def test_github_gets_paths_from_the_root_of_the_repository(stand_in: Path, tmp_path: Path, call: Call) -> None:

@@ -14,7 +14,7 @@ from pdsuite.programs.refusals import questions, refused_at_once
 from pdsuite.programs.rows import Row, Verdict
 from pdsuite.programs.starts import Answer, Case, answer_of, answers_in, input_of, parted, parts_in
 from pdsuite.run.runs import Script
-from pdsuite.run.unproved_run import Batch, batches_of, causes_of, outcomes_of, read_answers
+from pdsuite.run.unproved_run import _causes, Batch, batches_of, causes_of, outcomes_of, read_answers
 from pdsuite.scripts.suite import Claim
 from pdsuite.scripts.text import Text, text_of
 from tests.helpers import TOP, ends, is_alive, wait_for, write
@@ -89,6 +89,13 @@ def test_what_is_told_by_keys_comes_to_its_script() -> None:
     assert cause[0] == 1 and cause[1]["kind"] == "seq"
     assert causes_of(batch(b"x\n"), Answer(b"", b"no JSON\n")) == {}
     assert causes_of(batch(b"x\n"), Answer(b"", told)) == {}
+
+
+def test_what_is_told_by_keys_stands_after_the_answers_of_the_batches_themselves() -> None:
+    batches = [batch(b"x\n"), batch(b"y\n")]
+    told = [Answer(b"", b'{"name": "s0", "line": %d}\n' % line) for line in (1, 2, 3)]
+    assert _causes(batches[:1], told[:2]) == {0: {"name": "s0", "line": 2}}
+    assert _causes(batches[:1], told[:1]) == {}
 
 
 def test_each_setting_is_asked_once_and_each_claim_of_a_refused_one_is_told() -> None:
