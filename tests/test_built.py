@@ -18,6 +18,7 @@ import stamps  # noqa: E402
 SECONDS = 60
 TOOLS = ("built.py", "built.sh", "crate_graph.py", "kept_sums.py", "kit.py", "source_sums.py", "stamps.py")
 RULE = "crates/low/specs/Rule.antt"
+OTHER = "crates/low/specs/Two.antt"
 CODE = "crates/low/src/lib.rt"
 PROGRAM = "crates/top/out/top"
 OLD = "2001-01-01"
@@ -51,7 +52,7 @@ CHANGES = {
     "a file less": f"rm {RULE}",
     "a file of another name": f"mv {RULE} crates/low/specs/Other.antt",
     "a name of another case": f"mv {RULE} crates/low/specs/rule.antt",
-    "two files with each other's names": f"mv {RULE} x && mv crates/low/specs/Two.antt {RULE} && mv x crates/low/specs/Two.antt",
+    "two files with each other's names": f"mv {RULE} x && mv {OTHER} {RULE} && mv x {OTHER}",
     "a folder moved": "mv crates/low/proofs/f crates/low/proofs/g",
     "a crate moved": "mv crates/low crates/lower",
     "its line in crates.txt": "sed -i 's/^top:.*/top may_wait=1: low/' crates.txt",
@@ -60,7 +61,9 @@ CHANGES = {
     "no crates.txt": "rm crates.txt",
     "other handles": "echo 'Handles allowed: none.' >HANDLES",
     "no handles": "rm HANDLES",
-    "another program in its place": f"cp -p {PROGRAM} old && sed -i s/proved/other/ {PROGRAM} && touch -r old {PROGRAM}",
+    "another program in its place": (
+        f"cp -p {PROGRAM} old && sed -i s/proved/other/ {PROGRAM} && touch -r old {PROGRAM}"
+    ),
     "another program, of an old date, and a source touched": (
         f"sed s/proved/other/ {PROGRAM} >x && chmod +x x && touch -d {OLD} x && mv x {PROGRAM} && touch {CODE}"
     ),
@@ -71,7 +74,7 @@ CHANGES = {
     "checksums of another program": f"sed -i '1s/^./x/' {PROGRAM}.sums",
     "checksums without a kit": f"sed -i '$d' {PROGRAM}.sums",
     "checksums that end early": f"head -n -3 {PROGRAM}.sums >x && cat x >{PROGRAM}.sums",
-    "what decides is another": f"printf '\\n\\ndef is_proved(*_: str) -> bool:\\n    return False\\n' >>tools/kept_sums.py",
+    "what decides is another": "printf '\\n\\ndef is_proved(*_):\\n    return False\\n' >>tools/kept_sums.py",
     "another kit": 'echo "kit 2" >"$KIT/KIT-ID"',
     "a command of no kit": 'rm "$KIT/KIT-ID"',
     "another kit first on the PATH": 'mkdir -p "$KIT/../first/bin" && cp -p "$KIT/bin/rt" "$KIT/../first/bin"',
@@ -94,7 +97,7 @@ class Tree:
             "HANDLES": "Handles allowed: Threads, Wait.\n",
             CODE: "pub const COUNT: u32 = 3;\n",
             RULE: "count = three\n",
-            "crates/low/specs/Two.antt": "other = two\n",
+            OTHER: "other = two\n",
             "crates/low/proofs/f/Answers.antt": "-- a lemma\n",
             "crates/other/src/lib.rt": "fn f() {}\n",
             "crates/top/src/main.rt": "fn main() {}\n",
@@ -253,7 +256,7 @@ def test_all_is_named_on_which_it_depends(tmp_path: Path) -> None:
         "crates/low/proofs/f/Answers.antt",
         "crates/low/specs",
         RULE,
-        "crates/low/specs/Two.antt",
+        OTHER,
         "crates/low/src",
         CODE,
         "crates/low/src/other.rt",

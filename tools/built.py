@@ -1,7 +1,7 @@
 """Says where a proved program is, as tools/built.sh asks: built.py [--sums | --files] NAME
 
-What finds out is kept_sums.py, which reads all files. That takes a tenth of a second, so it keeps their stamps, and while
-all files have these, nothing is read.
+What finds out is kept_sums.py, which reads all files. That takes a tenth of a second, so it keeps their stamps, and
+while all files have these, nothing is read.
 """
 from __future__ import annotations
 

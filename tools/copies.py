@@ -56,9 +56,8 @@ def lines_for(crates: tuple[str, ...], table: bytes) -> bytes:
     b'a may_wait=1: b\\nc: a # last\\n'
     """
     names = {it.encode() for it in crates}
-    return b"".join(
-        it for it in table.splitlines(keepends=True) if names.intersection(it.partition(b":")[0].split()[:1])
-    )
+    lines = table.splitlines(keepends=True)
+    return b"".join(it for it in lines if names.intersection(it.partition(b":")[0].split()[:1]))
 
 
 def settled(tree: Path, crates: tuple[str, ...]) -> Copy:
@@ -74,6 +73,6 @@ def settled(tree: Path, crates: tuple[str, ...]) -> Copy:
 
 
 def stamps_in(tree: Path, crates: tuple[str, ...]) -> dict[str, str]:
-    """The stamps of what the proofs of crates read in a copy; the folders of crates change, since proofs write there."""
+    """The stamps of what the proofs of crates read in a copy, but for the folders of crates, where proofs write."""
     own = {f"crates/{it}" for it in crates}
     return stamps.stamps_of(str(tree), [it for it, _ in places_of(str(tree), crates) if it not in own])

@@ -6,7 +6,6 @@ program is taken for proved, and that counts as a failure. The last line is that
 """
 from __future__ import annotations
 
-import os
 import re
 import subprocess
 import sys

@@ -1,4 +1,4 @@
-"""Lanes in which crates are proved: copies of a tree, each with one proof at a time, that are handed what was proved."""
+"""Lanes in which crates are proved: copies of a tree with one proof at a time each, handed what was proved."""
 from __future__ import annotations
 
 import contextlib
@@ -127,7 +127,7 @@ def link(file: str, to: str) -> None:
 
 @contextlib.contextmanager
 def held(crate: str, waits: bool = True) -> Iterator[bool]:
-    """Lets no `rt` work in a crate of the tree meanwhile, as each lets no other; without waiting, it may not come to that."""
+    """Lets no `rt` work in a crate of the tree meanwhile. It yields whether it came to that."""
     folder = os.open(TOP / "crates" / crate, os.O_RDONLY)
     is_held = True
     try:

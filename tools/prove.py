@@ -1,20 +1,20 @@
 """Proves and builds programs, all where none is named, and the crates below them: prove [--lanes N] [CRATE..]
 
-A library that is named is proved with those below it. What is proved are copies of the files that the proofs read, made at
-the beginning. So an edit meanwhile is in no program, whether it stays or is taken back: where one stays, a line says
+A library that is named is proved with those below it. What is proved are copies of the files that the proofs read, made
+at the beginning. So an edit meanwhile is in no program, whether it stays or is taken back: where one stays, a line says
 that the tree has changed since. The errors name the tree's own files.
 
 Two crates are proved side by side, in two lanes, where the machine has four processors and 16 GB of free memory.
-`rt lib` locks each library below the one that it proves, so each lane works in a copy of its own. What is kept of a crate
-comes into its lane by hard links, and so does what is proved into the tree and the other lane. The copies are gone at the
-end.
+`rt lib` locks each library below the one that it proves, so each lane works in a copy of its own. What is kept of a
+crate comes into its lane by hard links, and so does what is proved into the tree and the other lane. The copies are
+gone at the end.
 
 Says on standard error which crate is proved, how many are left, and about how long they take: as long as they took
 last on this machine, as a file below ~/.cache/pdregress says. Where one isn't proved, it says each error with its file
 and line, which definitions aren't those by which it was proved last, and which laws name them. Interrupted, it keeps
-what was proved. Both end with status 2, and so does a kit that doesn't say what its file KIT-ID has, or changes meanwhile.
-Two calls in one tree work one after the other. In the end it keeps copies of all programs that are proved, with their
-commit, as tools/kept_programs.py says.
+what was proved. Both end with status 2, and so does a kit that doesn't say what its file KIT-ID has, or changes
+meanwhile. Two calls in one tree work one after the other. In the end it keeps copies of all programs that are proved,
+with their commit, as tools/kept_programs.py says.
 """
 from __future__ import annotations
 
@@ -105,8 +105,9 @@ class Work:
                 lane.stop()
             pool.shutdown()
             for it in self.running.values():
-                with held(it.crate, waits=False) as is_held:
+                with contextlib.suppress(Refused), held(it.crate, waits=False) as is_held:
                     if is_held:
+                        self.check(it.lane)
                         hand_over(it.lane.out(it.crate), out_of(it.crate), self.room)
 
     def begin(self, pool: ThreadPoolExecutor, lanes: list[Lane]) -> None:
@@ -128,10 +129,7 @@ class Work:
         """Gives the other lane what it reads of a crate that was proved, and the tree all that is kept of it."""
         future.result()
         it = self.running[future]
-        if changed := it.lane.copy.changed():
-            del self.running[future]
-            raise Refused(f"{it.lane.tree}/{changed} has changed while it was proved: run this again")
-        self.kit.check()
+        self.check(it.lane)
         self.keep_time(it)
         out = it.lane.out(it.crate)
         keep(out, folders_for(it.lane.tree, it.crate, self.uses))
@@ -145,6 +143,12 @@ class Work:
         # Only now, so that what was proved isn't lost where a signal comes in the midst.
         del self.running[future]
         self.proved.add(it.crate)
+
+    def check(self, lane: Lane) -> None:
+        """Sees that what is proved in a lane is what was copied, by the kit that was there at the beginning."""
+        if changed := lane.copy.changed():
+            raise Refused(f"{lane.tree}/{changed} has changed while it was proved: run this again")
+        self.kit.check()
 
     def keep_time(self, it: Running) -> None:
         """Keeps what a proof took, if it was one: a crate that hasn't changed isn't proved again."""

@@ -1,7 +1,7 @@
 """What the proof of a crate reads: its files in a tree, with their checksums.
 
-A proof reads crates.txt, HANDLES, and of the crate and each one below it the files `.rt` and `.antt` of src/, specs/ and
-proofs/. Files are named by paths below the top of the tree, such as `crates/low/src/lib.rt`; a tree is named by its top.
+A proof reads crates.txt, HANDLES, and of the crate and each one below it the files `.rt` and `.antt` of src/, specs/
+and proofs/. Files are named by paths below the top of the tree, such as `crates/low/src/lib.rt`, and a tree by its top.
 """
 from __future__ import annotations
 
@@ -43,7 +43,7 @@ def crates_of(top: str, crate: str) -> list[str]:
 
 
 def sources_below(top: str, crate: str) -> list[str]:
-    """The files that the proof of a crate reads, in the order of their paths. A link is refused, as the kit refuses it."""
+    """The files that the proof of a crate reads, in the order of their paths. Links are refused, as by the kit."""
     return sources_in(places_below(top, crate))
 
 
@@ -113,7 +113,7 @@ def sums_of(top: str, paths: Iterable[str]) -> dict[str, str]:
 
 
 def lines_of(found: dict[str, str]) -> bytes:
-    """Checksums as octets: a line `SUM  PATH` for each, in which a newline of a path is two octets, and a backslash too.
+    """Checksums as octets: a line `SUM  PATH` for each, where a newline of a path is two octets, and a backslash too.
 
     >>> lines_of({"a": "12", "b\\nc": "34"})
     b'12  a\\n34  b\\\\nc\\n'

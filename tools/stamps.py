@@ -1,10 +1,10 @@
-"""What the file system says of files, by which a file is known to be as it was: its stamp, without a look at what it has.
+"""Stamps of files: what the file system says of a file, by which it is known to be as it was without being read.
 
-A stamp has the moment of the last change by the file system's clock, which no program can set, and the number of the file,
-its size, and more. Stamps are compared for equality alone, so a clock that was set back lets no change pass. But the clock
-stands still for some milliseconds at a time: a file that changes twice in one tick may have one stamp before and after.
-So a stamp is kept only once the clock has moved on since. What a program writes through a mapping that it shares with a file
-and wrote to just before gives the file no other stamp; no editor and no git writes so.
+A stamp has the moment of the last change by the file system's clock, which no program can set, and the number of the
+file, its size, and more. Stamps are compared for equality alone, so a clock that was set back lets no change pass. But
+the clock stands still for some milliseconds at a time: a file that changes twice in one tick may have one stamp before
+and after. So a stamp is kept only once the clock has moved on since. What a program writes through a mapping that it
+shares with a file and wrote to just before gives the file no other stamp; no editor and no git writes so.
 """
 from __future__ import annotations
 
@@ -37,7 +37,8 @@ def stamps_of(top: str, paths: list[str]) -> dict[str, str]:
 def probe_in(folder: str) -> os.stat_result | None:
     """What is said of a file that is made now in a folder, and removed again, if one can be made there.
 
-    It is None, too, where the file system has no clock of its own, but gives what a program set as the moment of a change.
+    It is None, too, where the file system has no clock of its own, but gives what a program set as the moment of a
+    change.
     """
     place = f"{folder}/probe.{os.getpid()}"
     try:
@@ -67,7 +68,7 @@ def are_settled(stamps: dict[str, str], probe: os.stat_result) -> bool:
 def kept_text(program: str, kit: str, found: dict[str, str]) -> bytes:
     """The stamps of all on which it depends that a program is proved, as octets that can be kept.
 
-    They are parts of which each ends with a NUL, since no path has one: the program, the name of its kit, and the stamps.
+    They are parts of which each ends with a NUL, since no path has one: the program, what names its kit, the stamps.
     """
     return os.fsencode("\0".join([program, kit, *(f"{it} {path}" for path, it in found.items()), END]))
 
