@@ -45,6 +45,10 @@ from prove_times import Times, amount, key_of, time_of_proof
 from source_sums import TABLE, Unreadable, places_of, sources_below, sources_in, sums_of
 
 
+# What was said last of a proof that was refused.
+REFUSED = TOP / "crates" / "pdregress" / "out" / "refused"
+
+
 class Interrupted(Exception):
     """A signal came, while these crates were proved."""
 
@@ -220,21 +224,26 @@ def folders_for(tree: Path, crate: str, uses: dict[str, list[str]]) -> list[Path
 
 
 def say_errors(crate: str, uses: dict[str, list[str]]) -> None:
-    """Says why a crate isn't proved, and which definitions have changed since it was."""
+    """Says why a crate isn't proved, and which definitions have changed since it was; what follows the sender reads it."""
     folder = TOP / "crates" / crate
     log = folder / "out" / "build.log"
     text = log.read_text(errors="replace")
-    say(f"{crate} isn't proved, or wasn't built:")
-    print(*list(errors(text, folder)) or text.splitlines()[-5:], sep="\n", file=sys.stderr)
-    for line in told(log.parent, folders_for(TOP, crate, uses)):
-        print(line, file=sys.stderr)
-    say(f"the whole log: {log}")
+    lines = [f"prove: {crate} isn't proved, or wasn't built:"]
+    lines += list(errors(text, folder)) or text.splitlines()[-5:] or [""]
+    lines += [*told(log.parent, folders_for(TOP, crate, uses)), f"prove: the whole log: {log}"]
+    print(*lines, sep="\n", file=sys.stderr, flush=True)
+    with contextlib.suppress(OSError):
+        REFUSED.parent.mkdir(parents=True, exist_ok=True)
+        beside = REFUSED.with_suffix(".new")
+        beside.write_text("".join(f"{line}\n" for line in lines))
+        beside.replace(REFUSED)
 
 
 def run(named: list[str], every: list[str], lanes: int) -> None:
     """Proves crates that are named, those that aren't proved, by the kit that is there before and after."""
     kit = proving_kit.working()
     with alone():
+        REFUSED.unlink(missing_ok=True)
         uses = dependencies((TOP / TABLE).read_text())
         left = [it for it in named if not (is_program(TOP, it) and kept_sums.is_proved(str(TOP), it))]
         changed = prove(left, uses, lanes, kit) if left else None

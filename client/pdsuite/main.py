@@ -98,6 +98,7 @@ def run_command(no_color: bool, **words: Any) -> int:
 @html_option
 @plot_options
 @click.option("-v", "--verbose", is_flag=True, help="At first a line for each script.")
+@click.option("--base", metavar="SENDER", help="Tell scripts that turn against this sender, as compare does.")
 def watch_command(no_color: bool, **words: Any) -> int:
     """Watches files and folders, and shows at once what each change did."""
     # Only who watches pays for what reports changes.

@@ -123,7 +123,7 @@ def call(tmp_path: Path) -> Call:
 @pytest.fixture
 def site(tmp_path: Path, monkeypatch: pytest.MonkeyPatch) -> Iterator[Site]:
     """A folder that is watched in this process, where nobody goes on writing."""
-    monkeypatch.setattr("pdsuite.watch.file_stamps._FRESH", 0)
+    monkeypatch.setattr("pdsuite.file_stamps._FRESH", 0)
     top = tmp_path / "top"
     top.mkdir()
     (top / "pdsuite.toml").write_text("root = true\n")

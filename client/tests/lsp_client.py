@@ -5,7 +5,7 @@ import os
 import subprocess
 import threading
 import time
-from collections.abc import Callable, Iterator, Sequence
+from collections.abc import Callable, Iterator, Mapping, Sequence
 from pathlib import Path
 from typing import Any
 
@@ -38,14 +38,22 @@ class Refusal(Exception):
 class LspClient:
     """A started server, the texts that are open in this client, and what the server has told it."""
 
-    def __init__(self, programs: Path | None, *roots: Path, words: Sequence[str] = (), can: Json | None = None) -> None:
-        environment = {**os.environ, "PDSUITE_PROGRAMS": str(programs)}
+    def __init__(
+        self,
+        programs: Path | None,
+        *roots: Path,
+        words: Sequence[str] = (),
+        can: Json | None = None,
+        pdsuite: Path = TOP / "pdsuite",
+        there: Mapping[str, str] | None = None,
+    ) -> None:
+        environment = {**(os.environ if there is None else there), "PDSUITE_PROGRAMS": str(programs)}
         if programs is None:
             del environment["PDSUITE_PROGRAMS"]
         self._roots = roots
         self._can = CAPABILITIES if can is None else can
         self.process = subprocess.Popen(
-            [TOP / "pdsuite", "lsp", *words],
+            [pdsuite, "lsp", *words],
             env=environment,
             stdin=subprocess.PIPE,
             stdout=subprocess.PIPE,
@@ -56,6 +64,7 @@ class LspClient:
         self.stale: list[str] = []
         self.shown: list[str] = []
         self.logged: list[str] = []
+        self.progress: list[Json] = []
         self.asked: list[Json] = []
         self.refused: list[int] = []
         self.times: dict[str, float] = {}
@@ -198,6 +207,8 @@ class LspClient:
                 self._take(message["params"])
             elif method == "window/showMessage":
                 self.shown.append(message["params"]["message"])
+            elif method == "$/progress":
+                self.progress.append(message["params"])
             elif method == "window/logMessage":
                 self.logged.append(message["params"]["message"])
             self._news.notify_all()

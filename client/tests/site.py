@@ -5,7 +5,6 @@ from dataclasses import dataclass, field
 from pathlib import Path
 from typing import cast
 
-from pdsuite.commands.watch import View, step
 from pdsuite.programs.program import Program
 from pdsuite.run.explainer import Explainer
 from pdsuite.run.runs import Script
@@ -21,7 +20,9 @@ from pdsuite.signals import Stop
 from pdsuite.watch.change_report import ChangeReport
 from pdsuite.watch.fleet import Fleet
 from pdsuite.watch.folders import Choice, Folders
+from pdsuite.watch.session import step
 from pdsuite.watch.settings_files import SettingsFiles
+from pdsuite.watch.view import View
 from pdsuite.watch.watcher import Event, Watcher
 from tests.helpers import Replay
 from tests.model import Model, Teller, meaning_of, row_of, settings_words

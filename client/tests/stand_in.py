@@ -2,6 +2,8 @@
 """Stands in for pdregress: it passes each script, unless the script's first line says what it is to do in its place.
 
 It has each setting but those whose names begin with `no_`.
+A script whose first line is `sender` has the row SENDER, so that another sender can be made of this one; `touch PATH`
+changes a file at a settle.
 
 With --explain it takes a script's first line for its row, and what stands below that for its block. With --ends a line
 `ends WORDS` below the row of a script that passes is what is said of its end.
@@ -14,6 +16,7 @@ import sys
 import time
 
 KILL, SEGV = 9, 11
+SENDER = "pass 1"
 
 # What is told by keys of a script that doesn't pass, by its verdict and, where it fails, its kind.
 KEYS: dict[str, dict[str, object]] = {
@@ -91,6 +94,8 @@ def act(words: list[str]) -> None:
         case ["flood"]:
             while True:
                 say("x" * 80)
+        case ["touch", path]:
+            write(path, "// changed meanwhile\n")
         case ["noise"]:
             sys.stderr.write("y" * 3_000_000 + "\n")
         case ["refuse", *refusal]:
@@ -115,6 +120,8 @@ def row(name: str) -> list[str]:
             return [f"{name} pending"]
         case ["row", *words]:
             return [f"{name} {' '.join(words)}"]
+        case ["sender"]:
+            return [f"{name} {SENDER}"]
         case ["told", key]:
             return [f"{name} pass {settings.get(key, '1')}"]
     return [f"{name} pass 1"]
@@ -221,6 +228,8 @@ def explain() -> int:
         match first.decode("latin-1").split():
             case ["row", verdict, *row] if verdict != "pass":
                 said += block(words[1], [verdict, *row], text)
+            case ["sender"] if not SENDER.startswith("pass"):
+                said += block(words[1], SENDER.split(" "), [f"by {SENDER}\n".encode()])
             case ["row", "pass", _] if "--ends" in sys.argv:
                 ends = [it.removeprefix(b"ends ") for it in text[:1] if it.startswith(b"ends ")]
                 said += b"".join(ending(words[1], it) for it in ends)

@@ -32,7 +32,7 @@ def test_each_change_is_shown_at_once_and_nothing_twice(site: Site) -> None:
 
 
 def test_what_is_being_written_is_taken_at_once_when_it_is_closed(site: Site, monkeypatch: pytest.MonkeyPatch) -> None:
-    monkeypatch.setattr("pdsuite.watch.file_stamps._FRESH", 10**12)
+    monkeypatch.setattr("pdsuite.file_stamps._FRESH", 10**12)
     (site.top / "a.pkt").write_bytes(b"one\n")
     site.wait(0)
     (site.top / "b.pkt").write_bytes(b"two\n")

@@ -11,11 +11,13 @@ from pdsuite.programs.program import Ended
 from pdsuite.programs.program import Program as StartedProgram
 from pdsuite.programs.protocol import SETTLE, add, name_of
 from pdsuite.programs.rows import Row, Verdict
+from pdsuite.programs.standing import standing_of
 from pdsuite.scripts.settings import Settings
 from pdsuite.scripts.text import text_of
 from pdsuite.signals import Stop
 from pdsuite.watch.live_run import LiveRun
 from pdsuite.watch.run_changes import Act, Add, Remove, RunContents, Set
+from pdsuite.watch.sender import LiveSender
 from tests.helpers import HANGS
 
 ONE = text_of(b"one\n")
@@ -83,10 +85,10 @@ def test_a_program_that_says_what_nobody_asked_is_at_an_end() -> None:
 def test_a_text_is_asked_with_the_octets_that_an_editor_has(monkeypatch: pytest.MonkeyPatch) -> None:
     """One half of a pair of UTF-16 stays what it is, so that no other text is judged in its place."""
     program: Any = Program()
-    monkeypatch.setattr(tools, "locate", Path)
     monkeypatch.setattr(tools, "Program", lambda words, stop: program)
+    sender = LiveSender(standing_of(Path(__file__)), None)
     with Stop() as stop:
-        found = tools.Tools(stop, lambda line: None).rows(["a\ud800", "\n" * 5_000, "b"], ())
+        found = tools.Tools(sender, stop, lambda line: None).rows(["a\ud800", "\n" * 5_000, "b"], ())
     assert found == [Row(Verdict.PASS, 1), None, Row(Verdict.PASS, 1)]
     texts = text_of(b"a\xed\xa0\x80\n"), text_of(b"b\n")
     assert program.asked == [add(name_of(0), texts[0]) + add(name_of(2), texts[1]) + SETTLE]

@@ -219,7 +219,7 @@ def test_the_same_run_gives_the_same_octets_and_takes_away_what_is_gone(
     assert call(programs, "run", "--html", "one", "in").status == 1
     one = octets_in(tmp_path / "one")
     assert sorted(one) == sorted(
-        ["index.html", "page.css", "page.js", *(f"scripts/{file_of(f'in/{name}.pkt')}" for name in "abc")]
+        ["index.html", "page.css", "page.js", "sender.css", *(f"scripts/{file_of(f'in/{name}.pkt')}" for name in "abc")]
     )
     called = call(programs, "run", "--html", "two", "in")
     assert (called.status, called.err, octets_in(tmp_path / "two")) == (1, "", one)

@@ -262,7 +262,7 @@ def test_settings_change_for_folders_and_single_scripts(programs: Path, tmp_path
         watching.await_truth(".")
         assert len(watching.programs()) == 2
         toml.write_text("min_rto_us = 200000\nmss = 10\n")
-        said = "pdsuite.toml:1: mss: BadValue: it takes 64 to 65,495 octets; its last good settings stay\n"
+        said = "pdsuite.toml:2: mss: BadValue: it takes 64 to 65,495 octets; its last good settings stay\n"
         watching.await_err(said)
         toml.unlink()
         watching.await_truth(".")

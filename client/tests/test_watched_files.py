@@ -11,7 +11,7 @@ import pytest
 
 from pdsuite.scripts.search import ScriptFile
 from pdsuite.scripts.text import Text, text_of
-from pdsuite.watch.file_stamps import StampedValue
+from pdsuite.file_stamps import StampedValue
 from pdsuite.watch.watched_files import GRACE, Update, WatchedFile, WatchedFiles, is_other, update_of, watched_file
 from pdsuite.watch.watched_files import watched_files
 

@@ -46,6 +46,21 @@ def vouch(top: Path, programs: Iterable[str], environment: Mapping[str, str]) ->
         (top / f"{path}.sums").write_bytes(own.encode() + kept + kit)
 
 
+def stand_in(sender: str = "pass 1") -> bytes:
+    """A program that stands in for pdregress, whose sender gives this row."""
+    return (HERE / "stand_in.py").read_bytes().replace(b'"pass 1"', f'"{sender}"'.encode(), 1)
+
+
+def put_program(path: Path, octets: bytes) -> Path:
+    """Puts a program at a path at once, in place of what lies there."""
+    path.parent.mkdir(parents=True, exist_ok=True)
+    beside = path.with_name(".beside")
+    beside.write_bytes(octets)
+    beside.chmod(0o755)
+    beside.replace(path)
+    return path
+
+
 class Tree:
     """A tree in a folder, and a folder `suite` beside it, where ./pdsuite is called."""
 
@@ -75,6 +90,7 @@ class Tree:
         return {
             **there,
             "NOTES": str(self.notes),
+            "STAND_INS": str(HERE),
             "XDG_CACHE_HOME": str(self.notes / "cache"),
             "PATH": f"{self.bin}:{os.environ['PATH']}",
         }
@@ -107,6 +123,22 @@ class Tree:
         folder = self.top / "crates/pd_board/src"
         folder.mkdir(parents=True, exist_ok=True)
         (folder / "counts.rt").write_text(f"/// A rule (RFC 6675, section 4).\npub const RULE: u32 = {value};\n")
+
+    def put_program(self, name: str, octets: bytes) -> Path:
+        """Puts a program where a proved one lies; its path. Its times are older than those of all else."""
+        path = put_program(self.top / "crates" / name / "out" / name, octets)
+        os.utime(path, (0, 0))
+        return path
+
+    def prove(self, **programs: bytes) -> None:
+        """Has these programs count as proved of the tree as it stands."""
+        for name, octets in programs.items():
+            self.put_program(name, octets)
+        vouch(self.top, programs, self.environment)
+
+    def build_stand_ins(self) -> None:
+        """Has what isn't proved be built as stand-ins, as a source says."""
+        shutil.copy(HERE / "stand_in_build.py", self.top / "tools/build_unproved.py")
 
     def change(self, commands: str) -> None:
         """Changes its sender, by commands of `sed`."""

@@ -5,7 +5,7 @@ import signal
 import subprocess
 import threading
 import time
-from collections.abc import Callable
+from collections.abc import Callable, Mapping
 from pathlib import Path
 from typing import IO
 
@@ -15,11 +15,22 @@ from tests.helpers import HANGS, TOP, Called, Replay
 class Watching:
     """A started `pdsuite watch`; its outputs are read while it runs."""
 
-    def __init__(self, folder: Path, programs: Path, *words: str, before: tuple[str, ...] = ()) -> None:
+    def __init__(
+        self,
+        folder: Path,
+        programs: Path | None,
+        *words: str,
+        before: tuple[str, ...] = (),
+        pdsuite: Path = TOP / "pdsuite",
+        environment: Mapping[str, str] | None = None,
+    ) -> None:
         self.folder = folder
-        self._environment = {**os.environ, "PDSUITE_PROGRAMS": str(programs)}
+        self._environment = dict(os.environ if environment is None else environment)
+        if programs is not None:
+            self._environment["PDSUITE_PROGRAMS"] = str(programs)
+        self._pdsuite = pdsuite
         self._process = subprocess.Popen(
-            [*before, TOP / "pdsuite", "watch", *words],
+            [*before, pdsuite, "watch", *words],
             cwd=folder,
             env=self._environment,
             stdout=subprocess.PIPE,
@@ -77,7 +88,7 @@ class Watching:
     def await_truth(self, *words: str) -> None:
         """Waits until what was reported is what `pdsuite run` reports."""
         done = subprocess.run(
-            [TOP / "pdsuite", "run", "-v", *words], cwd=self.folder, env=self._environment, capture_output=True
+            [self._pdsuite, "run", "-v", *words], cwd=self.folder, env=self._environment, capture_output=True
         )
         truth = Replay(done.stdout.decode())
         self._await(lambda: Replay(self.out).totals == truth.totals, truth.totals)

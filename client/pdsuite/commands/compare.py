@@ -16,6 +16,7 @@ from pdsuite.compare.senders import Sender, last_proved, sender_of, standing
 from pdsuite.compare.sides import Side, SettingsRefused, side_of
 from pdsuite.compare.two_senders import Task, run_both
 from pdsuite.programs.rows import Verdict
+from pdsuite.programs.standing import Steady
 from pdsuite.reports.comparison import Told, as_json, plain
 from pdsuite.reports.comparison_markdown import as_markdown
 from pdsuite.run.choice import found_of, scripts_of
@@ -69,10 +70,12 @@ def compare_senders(options: CompareOptions, screen: Screen) -> int:
             records = all(it.records for it in senders)
             telling = telling_of(senders[1], Path(room)) if options.affected else None
             task = Task(scripts, list(suite.claims()), records, page is not None, telling)
+            steady = Steady(*(it.look for it in senders))
             built = zip(sides, with_programs(senders, "plain", stop, screen))
             results = run_both(
                 [replace(side, sender=it) for side, it in built], task, threads_of(None), stop, screen.note
             )
+            steady.need_same("compare again")
             affected = None if telling is None else _affected(telling, senders[0], results, Path(room))
             return _tell(senders, results, (page, affected), options, screen, begin)
     except SettingsRefused as refused:

@@ -12,6 +12,7 @@ from pdsuite.programs.places import REGRESS
 from pdsuite.programs.program import Program
 from pdsuite.programs.refusals import refusals
 from pdsuite.programs.rows import Verdict
+from pdsuite.programs.standing import Steady, own_look
 from pdsuite.programs.unproved import program_of
 from pdsuite.run.choice import found_of, scripts_of
 from pdsuite.run.outcomes import Outcome
@@ -59,6 +60,7 @@ def expect(options: ExpectOptions, screen: Screen) -> int:
         try:
             found = found_of(options.paths, options.only, suite, stop)
             scripts = scripts_of(found, suite)
+            steady = Steady(own_look(REGRESS))
             program = program_of(REGRESS, stop, screen)
             asked = refusals(suite.claims(), lambda: Program([program], stop))
             lost = list(lost_tables(suite, options.paths, options.prune))
@@ -67,6 +69,7 @@ def expect(options: ExpectOptions, screen: Screen) -> int:
                     say(line)
                 return _FAULT
             outcomes = _outcomes(scripts, start_with(program, threads_of(options.workers), 1, stop), screen)
+            steady.need_same("nothing is written")
         except Stopped as stopped:
             return stopped.status
         finally:

@@ -15,6 +15,7 @@ from pdsuite.programs.protocol import Cause
 from pdsuite.programs.recorder import DROP, LEAST, Recording, record_all
 from pdsuite.programs.refusals import refusals
 from pdsuite.programs.rows import Verdict
+from pdsuite.programs.standing import Steady, own_look
 from pdsuite.programs.unproved import program_of
 from pdsuite.run.choice import INPUT, found_of, input_of, scripts_of
 from pdsuite.run.explainer import LEAVINGS, Asker, awaits_none, leaves_packets
@@ -81,6 +82,7 @@ def record(options: RecordOptions, screen: Screen) -> int:
         suite = Suite(option_of(options.settings))
         try:
             scripts = _scripts(options, suite, stop)
+            steady = Steady(own_look(REGRESS, RECORD))
             program = program_of(REGRESS, stop, screen)
             asked = refusals(suite.claims(), lambda: Program([program], stop))
             if lines := [*unused_in(suite, options.paths), *asked]:
@@ -91,6 +93,7 @@ def record(options: RecordOptions, screen: Screen) -> int:
             texts = {it.index: _text(it) for it in scripts}
             ways = _ways(scripts, texts, program, options, screen, stop)
             each = _recorded(scripts, texts, ways, recorder, screen, stop)
+            steady.need_same("nothing is written" if options.writes else "record again")
         except Stopped as stopped:
             return stopped.status
         finally:

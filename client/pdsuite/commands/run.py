@@ -15,10 +15,11 @@ from pdsuite.faults import Cut, Fault
 from pdsuite.files import append
 from pdsuite.packages import need
 from pdsuite.page.plots import plots_asked
-from pdsuite.programs.places import REGRESS, TOOL, TOP, Unproved, digest, locate
+from pdsuite.programs.places import RECORD, REGRESS, TOOL, TOP, Unproved, digest, locate
 from pdsuite.programs.program import Program
 from pdsuite.programs.protocol import Cause
 from pdsuite.programs.refusals import refusals
+from pdsuite.programs.standing import CHANGED, Look, Steady, own_look
 from pdsuite.reports.as_json import Json
 from pdsuite.reports.form import Form
 from pdsuite.reports.github import SUMMARY, Github, summary_of
@@ -79,6 +80,11 @@ class RunOptions:
         return bool(self.only) or self.shard is not None or self.last_failed
 
     @property
+    def programs(self) -> Sequence[str]:
+        """The programs that it asks."""
+        return (REGRESS, RECORD) if self.full_diff or self.html is not None else (REGRESS,)
+
+    @property
     def files(self) -> ReportFiles:
         """The files that reports are written to, too."""
         return ReportFiles(self.junit, self.json, self.tap)
@@ -111,7 +117,9 @@ def run(options: RunOptions, screen: Screen) -> int:
             of_known = not isinstance(form, Plain) or bool(options.files.named) or options.html is not None
             if options.new_only:
                 form = only_new(form, Plain(True) if isinstance(form, Plain) else form, options.paths, screen.note)
-            program, drawing = _proved(options), None
+            look = own_look(*options.programs)
+            steady = Steady(look)
+            program, drawing = _proved(options, look), None
             if is_unproved := program is None:
                 # What can be refused is refused before anything is built.
                 if lines := unused_in(suite, options.paths):
@@ -119,13 +127,13 @@ def run(options: RunOptions, screen: Screen) -> int:
                 drawing = _drawing(options, screen, is_unproved)
                 program = _built(len(scripts), stop, screen)
             if program is None:
-                return _run_unproved(suite, scripts, options, form, screen, begin, stop, drawing)
+                return _run_unproved(suite, scripts, options, form, screen, begin, stop, steady, drawing)
             asked = refusals(suite.claims(), partial(Program, [program], stop))
             if lines := [*unused_in(suite, options.paths), *asked]:
                 return _refuse(lines)
             drawing = drawing or _drawing(options, screen, is_unproved)
             with _mapper(options, program, of_known, stop, screen.note) as mapper:
-                return _run(mapper, scripts, options, form, screen, begin, stop, drawing, is_unproved)
+                return _run(mapper, scripts, options, form, screen, begin, stop, steady, drawing, is_unproved)
         except Stopped as stopped:
             return stopped.status
 
@@ -156,10 +164,10 @@ def _refuse(lines: Iterable[str]) -> int:
     return 2
 
 
-def _proved(options: RunOptions) -> Path | None:
+def _proved(options: RunOptions, look: Look) -> Path | None:
     """The proved program, or none where the sender may run without proofs."""
     try:
-        return locate(REGRESS)
+        return look.need(REGRESS).path
     except Unproved:
         if options.proved or options.scheduler is not None or not TOOL.is_file():
             raise
@@ -182,6 +190,7 @@ def _run_unproved(
     screen: Screen,
     begin: float,
     stop: Stop,
+    steady: Steady,
     drawing: "Drawing | None",
 ) -> int:
     """Runs the scripts by `rt try` on the sender as it stands, reports what came of them, and answers the status."""
@@ -191,7 +200,7 @@ def _run_unproved(
     tried = run_unproved(plan, TOP, stop, screen.note)
     if tried.refused:
         return _refuse([it.line for it in tried.refused])
-    return _run(tried.steps, scripts, options, form, screen, begin, stop, drawing, True, tried)
+    return _run(tried.steps, scripts, options, form, screen, begin, stop, steady, drawing, True, tried)
 
 
 def _drawing(options: RunOptions, screen: Screen, is_unproved: bool) -> "Drawing | None":
@@ -234,6 +243,7 @@ def _run(
     screen: Screen,
     begin: float,
     stop: Stop,
+    steady: Steady,
     drawing: "Drawing | None",
     is_unproved: bool,
     tried: "UnprovedResults | None" = None,
@@ -251,6 +261,8 @@ def _run(
             if options.full_diff:
                 told = _differing(told, tried, stop, screen.note)
             ended = _take(told, report, checking, screen, options.fail_fast)
+        if has_changed := steady.has_changed():
+            screen.note(f"pdsuite: {CHANGED}: run the scripts again")
         totals = report.close(time.monotonic() - begin)
         if ended is None:
             for line in checking.lines():
@@ -265,7 +277,7 @@ def _run(
             ended = _draw(drawing, report, texts, causes, screen, stop)
     if isinstance(ended, Cut):
         raise ended
-    if faults:
+    if faults or has_changed:
         return 2
     if ended is not None:
         return ended.status

@@ -13,6 +13,7 @@ from pdsuite.compare.sides import Side, refuse_common, tell_lacks
 from pdsuite.faults import Fault
 from pdsuite.programs.places import TOP
 from pdsuite.programs.rows import Row
+from pdsuite.programs.standing import Steady
 from pdsuite.reports.search import found, offered, totals
 from pdsuite.scripts.settings import settings_of
 from pdsuite.scripts.suite import Layer, claims_of
@@ -32,6 +33,7 @@ from pdsuite.show.screen import Screen
 from pdsuite.signals import Stop, Stopped
 
 _SEEDS = 1_000_000
+_AGAIN = "search again"
 
 
 @dataclass(frozen=True)
@@ -54,13 +56,14 @@ def search_state(text: str, word: str | None, options: SearchOptions, screen: Sc
         with Stop() as stop, TemporaryDirectory(prefix="pdsuite-") as room:
             sender = standing() if word is None else sender_of(word, "--with", Path(room) / "sender")
             _need_recorder([sender])
-            seed = _seed(options)
+            seed, steady = _seed(options), Steady(sender.look)
             if not sender.is_proved:
                 screen.note(f"pdsuite: {sender}")
             (sender,) = with_programs([sender], "optimised", stop, screen)
             with askers_of([sender], stop) as (asker,):
                 drawing = Drawing(seed, sizes(), Emphasis(), beginnings(scripts_in(TOP, stop), asker, frozenset()))
                 searched = Search(asker, Reaches(pattern), None, drawing, options.seconds).run(_progress(screen))
+            steady.need_same(_AGAIN)
             if searched.find is not None:
                 settings = searched.find.inputs.settings
                 screen.show(found(searched.find, f"an input reaches {shown_text(text)}", [settings], None, None, ()))
@@ -90,7 +93,7 @@ def search_difference(
         check_place(options.save)
     senders = [it.sender for it in sides]
     _need_recorder(senders)
-    seed = _seed(options)
+    seed, steady = _seed(options), Steady(*(it.look for it in senders))
     senders = with_programs(senders, "optimised", stop, screen)
     with askers_of(senders, stop) as askers:
         before, after = _asking(askers, sides, common, screen)
@@ -99,6 +102,7 @@ def search_difference(
         scripts = scripts_in(trees[0] or TOP, stop)
         drawing = Drawing(seed, sizes(), emphasis, beginnings(scripts, before, emphasis.fixed))
         searched = Search(before, Fails(after), Differs(after), drawing, options.seconds).run(_progress(screen))
+        steady.need_same(_AGAIN)
         find = searched.find or searched.unshown
         if find is not None:
             _finish(find, before, after, options, screen)

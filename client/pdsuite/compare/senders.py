@@ -11,6 +11,7 @@ from pathlib import Path
 from pdsuite.faults import Fault, why
 from pdsuite.programs.places import FOLDER, PACKED, RECORD, REGRESS, TOOL, TOP
 from pdsuite.programs.places import Unproved, built, commit, launched_from, locate
+from pdsuite.programs.standing import Look, programs_look, tree_look
 from pdsuite.show.octets import shown, shown_path, shown_text
 
 _KEPT = TOP / "tools/kept_programs.py"
@@ -48,6 +49,13 @@ class Sender:
     def records(self) -> bool:
         """Whether it can record."""
         return self.programs is None or RECORD in self.programs
+
+    @property
+    def look(self) -> Look:
+        """A look at its programs, or at the tree that it is built from."""
+        if self.programs is not None:
+            return programs_look(self.programs) if self.tree is None else tree_look(self.tree, *self.programs)
+        return tree_look(self.top, REGRESS)
 
     def sources(self, place: Path) -> Path | None:
         """The tree of its sources, if it is known; that of a commit is put into a new folder."""

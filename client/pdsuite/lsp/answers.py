@@ -3,6 +3,7 @@
 from collections.abc import Iterator, Sequence
 from dataclasses import dataclass
 
+from pdsuite.compare.comparison import ComparedScript
 from pdsuite.lsp import pages
 from pdsuite.lsp.actions import Action, Failing, edits_to, leads_past
 from pdsuite.lsp.actions import mending_all, recording_all, recording_from_here, recording_what_leaves
@@ -23,6 +24,9 @@ from pdsuite.programs.protocol import Cause
 from pdsuite.programs.rows import Row, Verdict
 from pdsuite.run.met_lines import passed_before, tolerance
 from pdsuite.run.row_place import failing_event
+from pdsuite.watch.run_changes import WantedScript
+from pdsuite.watch.sender import LiveSender
+from pdsuite.watch.turned import BuildBefore, Shown, turned
 
 DRAW = "pdsuite.draw"
 _NO_CAUSE: Cause = {}
@@ -49,7 +53,7 @@ class Answers:
     """Answers of the programs about texts. What was found of a text is kept until it is another."""
 
     def __init__(self, tools: Tools) -> None:
-        self._tools = tools
+        self.tools = tools
         self._layouts: dict[str, tuple[str, Layout]] = {}
 
     def layout(self, document: Document) -> Layout:
@@ -107,7 +111,7 @@ class Answers:
         """The recording of a script, or of as much of it as can be recorded."""
         layout = self.layout(document)
         for text in dict.fromkeys(_recordable(layout, result)):
-            recording = self._tools.recording(text, result.outcome.settings).text
+            recording = self.tools.recording(text, result.outcome.settings).text
             if recorded := recorded_in(recording):
                 return _Played(recording, recorded, [it for it in layout.events if it.item.end <= len(text)])
         return _Played("", (), ())
@@ -121,7 +125,7 @@ class Answers:
         if not _touches(failing, places):
             return []
         each = list(self._thinkable(failing, result))
-        rows = self._tools.rows([it.text for it in each], result.outcome.settings)
+        rows = self.tools.rows([it.text for it in each], result.outcome.settings)
         good = [it for it, after in zip(each, rows) if after is not None and leads_past(it, row, after)]
         first = {it.title: it for it in reversed(good)}
         return [Offer(it, edits_to(document.lines, it.text)) for it in good if first[it.title] is it]
@@ -129,14 +133,14 @@ class Answers:
     def _thinkable(self, failing: Failing, result: Result) -> Iterator[Action]:
         settings = result.outcome.settings
         if failing.row.verdict is Verdict.PASS:
-            recording = self._tools.recording(failing.lines.text, settings).text
-            yield from recording_what_leaves(failing, self._tools.mended(failing.lines.text, settings), recording)
+            recording = self.tools.recording(failing.lines.text, settings).text
+            yield from recording_what_leaves(failing, self.tools.mended(failing.lines.text, settings), recording)
             return
         yield from taking(failing)
         if failing.row.verdict is Verdict.FAIL:
-            recording = self._tools.recording(failing.lines.text, settings).text
+            recording = self.tools.recording(failing.lines.text, settings).text
             yield from recording_from_here(failing, recording)
-            yield from mending_all(failing, self._tools.mended(failing.lines.text, settings))
+            yield from mending_all(failing, self.tools.mended(failing.lines.text, settings))
             yield from recording_all(failing, recording)
         yield from switching_off(failing)
 
@@ -150,7 +154,7 @@ class Answers:
             return items_of(list(keys_proposed()), lines, offset, snippets) if "=" not in line else []
         settings = () if result is None else result.outcome.settings
         before = document.text[: typed_before(document.text, offset)]
-        expected = self._tools.expected(before, settings)
+        expected = self.tools.expected(before, settings)
         return items_of(list(proposals(expected)), lines, offset, snippets, newline)
 
 
@@ -160,13 +164,27 @@ class Running:
 
     workspace: Workspace
     answers: Answers
+    sender: LiveSender
 
 
-def lenses(uri: str, result: Result | None) -> list[Json]:
-    """What stands above a script: what came of it, and what can be done."""
+def turned_between(before: Running, after: Running) -> list[ComparedScript]:
+    """The scripts that one sender turned after another."""
+    shown, now = (_shown(it.workspace) for it in (before, after))
+    tools = after.answers.tools
+    return turned(BuildBefore(before.sender.paths), after.sender.paths, shown, now, tools.stop, tools.note)
+
+
+def _shown(workspace: Workspace) -> Shown:
+    results = workspace.results
+    wanted = {path: WantedScript(it.outcome.settings, it.text) for path, it in results.items() if it.text is not None}
+    return Shown({path: it.outcome for path, it in results.items()}, wanted)
+
+
+def lenses(uri: str, result: Result | None, mark: str) -> list[Json]:
+    """What stands above a script: what came of it, whose that is where that has to be said, and what can be done."""
     start = {"line": 0, "character": 0}
     place = {"start": start, "end": start}
-    titles = [] if result is None else [(_verdict(result), "")]
+    titles = [] if result is None else [(f"{_verdict(result)}{mark}", "")]
     return [
         {"range": place, "command": {"title": title, "command": command, "arguments": [uri]}}
         for title, command in [*titles, ("draw", DRAW)]

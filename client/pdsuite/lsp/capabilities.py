@@ -40,11 +40,13 @@ class Client:
     roots: tuple[Path, ...] = ()
     watches: bool = False
     has_related: bool = False
+    has_tags: bool = False
     takes_snippets: bool = False
     takes_versions: bool = False
     takes_markdown: bool = True
     shows_documents: bool = False
     refreshes_lenses: bool = False
+    takes_progress: bool = False
 
 
 def client_of(params: object) -> Client:
@@ -54,10 +56,12 @@ def client_of(params: object) -> Client:
         roots=tuple(_roots(params)),
         watches=optional(can, "workspace", "didChangeWatchedFiles", "dynamicRegistration") is True,
         has_related=optional(can, "textDocument", "publishDiagnostics", "relatedInformation") is True,
+        has_tags=optional(can, "textDocument", "publishDiagnostics", "tagSupport") is not None,
         takes_snippets=optional(can, "textDocument", "completion", "completionItem", "snippetSupport") is True,
         takes_versions=optional(can, "workspace", "workspaceEdit", "documentChanges") is True,
         takes_markdown="markdown" in (optional(can, "textDocument", "hover", "contentFormat") or ["markdown"]),
         shows_documents=optional(can, "window", "showDocument", "support") is True,
+        takes_progress=optional(can, "window", "workDoneProgress") is True,
         refreshes_lenses=optional(can, "workspace", "codeLens", "refreshSupport") is True,
     )
 

@@ -13,6 +13,7 @@ from pdsuite.page.plots import Plot
 from pdsuite.page.sheets import Entry, row_of
 from pdsuite.programs.worker import Worker
 from pdsuite.reports.report_cache import cache_folder
+from pdsuite.watch.sender import LiveSender
 
 _DRAWER = "pdsuite.page.drawer"
 _FOLDER = "drawn"
@@ -22,14 +23,16 @@ _DIGITS = 16
 class Drawn:
     """A page that is being drawn; once its process has ended, `fault` says why it isn't there, if it isn't."""
 
-    def __init__(self, result: Result) -> None:
+    def __init__(self, result: Result, sender: LiveSender) -> None:
         path = result.file.path
         folder = cache_folder() / _FOLDER / hashlib.sha256(os.fsencode(path)).hexdigest()[:_DIGITS]
         prepare(folder)
         self.page = folder / FOLDER / file_of(path)
         self.fault = missing("matplotlib")
         entry = Entry(result.outcome, result.text, Plot.NONE if self.fault else Plot.FILES)
-        job = Job(folder, (row_of(result.outcome),), plot_files(path), (entry,))
+        regress, record = sender.paths
+        rows = (row_of(result.outcome),)
+        job = Job(folder, rows, plot_files(path), (entry,), not sender.is_proved, regress, record)
         self._worker = Worker(_DRAWER, job)
 
     def fileno(self) -> int:

@@ -16,16 +16,21 @@ from pdsuite.scripts.suite import LONGEST
 from pdsuite.scripts.text import Unfit, read_file
 
 _METHOD = "textDocument/publishDiagnostics"
+# The tag of what is shown dimmed.
+_UNNECESSARY = 1
 
 
 class Publisher:
     """What was published, by URIs; a file without diagnostics isn't among it.
 
-    `documents` has what is open; `has_related` says whether the client shows what belongs to a diagnostic elsewhere.
+    `documents` has what is open; `has_related` says whether the client shows what belongs to a diagnostic elsewhere,
+    and `has_tags` whether it dims one.
     """
 
     def __init__(self, notify: Callable[[str, object], None], documents: Mapping[str, Document]) -> None:
         self.has_related = False
+        self.has_tags = False
+        self._mark = ""
         self._notify = notify
         self._documents = documents
         self._published: dict[str, list[Json]] = {}
@@ -33,8 +38,9 @@ class Publisher:
         self._faulty: set[str] = set()  # the settings files that have faults
         self._running: Running | None = None
 
-    def publish(self, running: Running, changed: Iterable[str]) -> None:
-        """Tells what came of scripts that changed, and the faults of settings files."""
+    def publish(self, running: Running, changed: Iterable[str], mark: str = "") -> None:
+        """Tells what came of scripts that changed, with a mark if there is one, and the faults of settings files."""
+        self._mark = mark
         for path in dict.fromkeys([*changed, *self._left_by(running)]):
             result = running.workspace.results.get(path)
             uri = running.workspace.uri(path) or _uri(path)
@@ -77,7 +83,7 @@ class Publisher:
         if result.version != document.version:
             return  # the next one comes at once
         found = running.answers.diagnostics(document, result)
-        said = [self._json(document.uri, document.lines, it) for it in found]
+        said = [self._marked(self._json(document.uri, document.lines, it)) for it in found]
         self._published[document.uri] = said
         self._notify(_METHOD, {"uri": document.uri, "version": document.version, "diagnostics": said})
 
@@ -86,7 +92,15 @@ class Publisher:
         text = octets.decode("utf-8", "surrogateescape")
         lines = Lines(text)
         found = diagnostics_of(result.outcome, result.cause, layout_of(text), lines) if result.is_told else ()
-        self._say(uri, [self._json(uri, lines, it) for it in found], None)
+        self._say(uri, [self._marked(self._json(uri, lines, it)) for it in found], None)
+
+    def _marked(self, told: Json) -> Json:
+        """A diagnostic that says whose it is where its sender doesn't stand; it is dimmed where the client can."""
+        if not self._mark:
+            return told
+        first, *below = str(told["message"]).split("\n")
+        marked = {**told, "message": "\n".join([f"{first}{self._mark}", *below])}
+        return {**marked, "tags": [_UNNECESSARY]} if self.has_tags else marked
 
     def _publish_settings(self, faults: Mapping[Path, Sequence[str]], places: Mapping[Path, str]) -> None:
         told = {places.get(path) or uri_of(str(path)): (path, lines) for path, lines in faults.items()}

@@ -1,13 +1,15 @@
 """The server: it takes what a client says, and tells it what came of its scripts."""
 
 import os
-from collections.abc import Callable, Mapping
+from collections.abc import Callable, Mapping, Sequence
 from dataclasses import dataclass, replace
+from functools import partial
 from pathlib import Path
 from typing import Any
 
+from pdsuite.compare.comparison import ComparedScript
 from pdsuite.faults import Fault
-from pdsuite.lsp.answers import DRAW, Running, lenses
+from pdsuite.lsp.answers import DRAW, Running, lenses, turned_between
 from pdsuite.lsp.capabilities import OFFERED, REGISTRATION, Client, client_of, folders_of
 from pdsuite.lsp.comments import foldings_of, symbols_of
 from pdsuite.lsp.documents import Document, opened, path_of, position_in, uri_of
@@ -15,12 +17,15 @@ from pdsuite.lsp.drawing import Drawn
 from pdsuite.lsp.hover import plain
 from pdsuite.lsp.json_values import Json, Malformed, list_in, member, optional, text_in
 from pdsuite.lsp.publisher import Publisher
+from pdsuite.lsp.sender_news import SenderNews
 from pdsuite.lsp.streams import CONTENT_MODIFIED, INTERNAL, INVALID_PARAMS, INVALID_REQUEST, NOT_INITIALIZED
 from pdsuite.lsp.streams import Promise, Refused, Streams
 from pdsuite.packetdrill.lines import Extent
 from pdsuite.programs.places import commit
 from pdsuite.programs.program import Ended
+from pdsuite.programs.standing import SenderChanged
 from pdsuite.signals import Stopped
+from pdsuite.watch.change_report import BEFORE
 from pdsuite.watch.watcher import Event, Kind
 
 _ERROR, _WARNING, _INFO = 1, 2, 3
@@ -55,8 +60,10 @@ class Server:
         self._is_shut_down = False
         self._pending: list[Request] = []
         self._told = ""
+        self._turned: Callable[[], Sequence[ComparedScript]] | None = None
         self._streams: Streams | None = None
         self._publisher: Publisher | None = None
+        self._news: SenderNews | None = None
 
     # ---- how it is used
 
@@ -69,6 +76,13 @@ class Server:
         """Takes the streams on which it is heard."""
         self._streams = streams
         self._publisher = Publisher(streams.notify, self.documents)
+        self._news = SenderNews(streams.notify, streams.request)
+
+    @property
+    def news(self) -> SenderNews:
+        """What the client is told of the sender."""
+        assert self._news is not None
+        return self._news
 
     @property
     def streams(self) -> Streams:
@@ -97,7 +111,7 @@ class Server:
 
     def begin(self) -> None:
         """Looks for the programs, and begins with what is open; where they aren't there, says so once."""
-        self.running = None
+        before, self.running = self.running, None
         try:
             self.running = self._run(self)
         except Fault as fault:
@@ -108,6 +122,13 @@ class Server:
             return
         for document in self.documents.values():
             self.running.workspace.put(document)
+        self._turned = None if before is None else partial(turned_between, before, self.running)
+
+    def await_sender(self, reason: str) -> None:
+        """Tells what is known without a sender, while one is built."""
+        if self._told != reason:
+            self._told = reason
+            self.publish_unproved()
 
     @property
     def is_behind(self) -> bool:
@@ -122,7 +143,12 @@ class Server:
         changed = self.running.workspace.settle(reported, now, is_at_rest)
         if changed and self.streams.is_waiting:
             self.streams.take()
-        self._publisher.publish(self.running, changed)
+        if self.news.is_anew():
+            changed = list(dict.fromkeys([*changed, *self.running.workspace.results]))
+        self._publisher.publish(self.running, changed, BEFORE if self.news.is_of_before else "")
+        if self._turned is not None:
+            turned, self._turned = self._turned, None
+            self.news.tell_turned(turned())
         if changed and self.client.refreshes_lenses:
             self.streams.request("workspace/codeLens/refresh", None)
 
@@ -164,6 +190,9 @@ class Server:
         self.client = client_of(params)
         if self._publisher is not None:
             self._publisher.has_related = self.client.has_related
+            self._publisher.has_tags = self.client.has_tags
+        if self._news is not None:
+            self._news.takes_progress = self.client.takes_progress
         return {"capabilities": OFFERED, "serverInfo": {"name": "pdsuite", "version": commit()}}
 
     def _initialized(self, params: object) -> None:
@@ -259,7 +288,13 @@ class Server:
                 request.promise.answer(None)
             else:
                 document = self._document(text_in(member(request.params, "textDocument"), "uri"))
-                request.promise.answer(_ANSWERS[request.method](self, document, request.params))
+                found = _ANSWERS[request.method](self, document, request.params)
+                if self.running is not None:
+                    self.running.sender.check()
+                request.promise.answer(found)
+        except SenderChanged:
+            request.promise.refuse(CONTENT_MODIFIED, "the sender has changed")
+            raise
         except Malformed as malformed:
             request.promise.refuse(INVALID_PARAMS, str(malformed))
         except (Ended, Fault) as fault:
@@ -277,6 +312,7 @@ class Server:
         if found is None:
             return None
         words, extent = found
+        words += f"\n\n{self.news.mark.strip(' ()')}" if self.news.mark else ""
         kind = "markdown" if self.client.takes_markdown else "plaintext"
         shown = words if self.client.takes_markdown else plain(words)
         return {"contents": {"kind": kind, "value": shown}, "range": document.lines.range(extent)}
@@ -291,7 +327,7 @@ class Server:
         found = optional(params, "context", "diagnostics")
         return [
             {
-                "title": it.action.title,
+                "title": f"{it.action.title}{BEFORE if self.news.is_of_before else ''}",
                 "kind": it.action.kind,
                 "diagnostics": found if isinstance(found, list) else [],
                 "isPreferred": number == 0,
@@ -312,7 +348,7 @@ class Server:
             return []
         if self.running.workspace.path(document.uri) is None:
             return []
-        return lenses(document.uri, self.running.workspace.result(document.uri))
+        return lenses(document.uri, self.running.workspace.result(document.uri), self.news.mark)
 
     def _symbols(self, document: Document, params: object) -> list[Json]:
         return symbols_of(document.lines)
@@ -335,11 +371,13 @@ class Server:
             raise Malformed(f"{DRAW} takes a URI")
         document = self._document(words[0])
         result = None if self.running is None else self.running.workspace.result(document.uri)
-        if result is None or result.text is None:
+        if self.running is None or result is None or result.text is None:
             raise Fault("nothing was run that could be drawn")
+        if self.news.is_of_before:
+            raise Fault("the sender has changed: what would be drawn is of the one before")
         if document.uri in self.drawn:
             self.drawn.pop(document.uri).close()
-        self.drawn[document.uri] = Drawn(result)
+        self.drawn[document.uri] = Drawn(result, self.running.sender)
 
     def _show_page(self, drawn: Drawn) -> None:
         if drawn.fault:

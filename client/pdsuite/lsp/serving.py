@@ -17,10 +17,13 @@ from pdsuite.lsp.settings_open import OpenSettings
 from pdsuite.lsp.streams import Streams
 from pdsuite.lsp.tools import Tools
 from pdsuite.lsp.workspace import Askers, Workspace
+from pdsuite.programs.places import RECORD, REGRESS
+from pdsuite.programs.standing import SenderChanged, buildable, own_look
 from pdsuite.scripts.suite import claims_of, option_of
 from pdsuite.signals import Stop, Stopped
 from pdsuite.watch.fleet import Fleet
 from pdsuite.watch.folders import Choice, Folders
+from pdsuite.watch.sender import SenderFollower
 from pdsuite.watch.watcher import Watcher
 
 # Where nothing is said for so long, what can wait is done. What is due waits no longer than that. And so often programs
@@ -28,6 +31,8 @@ from pdsuite.watch.watcher import Watcher
 _QUIET = 0.5
 _PATIENCE = 2.0
 _AGAIN = 10.0
+# So often it is looked at whether another sender stands, whatever is reported: that takes longer than an answer may.
+_LOOK = 1.0
 # Garbage is looked for at rest, where so many objects came since, as a look takes longer than an answer may.
 _MANY = 10_000
 
@@ -41,6 +46,8 @@ class Serving:
         self._held = ExitStack()
         self._watcher: Watcher | None = None
         self._server = Server(self._run)
+        self._follower = SenderFollower(own_look(REGRESS, RECORD), (REGRESS, RECORD), buildable())
+        self._sources = Watcher()
         self._looked_at = -inf
 
     def serve(self, source: BinaryIO, target: BinaryIO) -> int:
@@ -54,20 +61,54 @@ class Serving:
                     return self._server.status
                 if streams.is_at_end:
                     return FAILED
-                self._step()
+                try:
+                    self._step()
+                except SenderChanged:
+                    self._looked_at = -inf
+                    continue  # the next look says what stands
                 self._wait(streams)
                 self._stop.check()
         finally:
             for drawn in self._server.drawn.values():
                 drawn.close()
             self._held.close()
+            self._follower.close()
+
+    def _look(self) -> None:
+        """Looks at which sender stands, where a file of it may have changed: as it is told, and from time to time."""
+        events, now = self._sources.read(), time.monotonic()
+        server, follower = self._server, self._follower
+        is_due = now >= self._look_due(now) or self._is_heard()
+        if not server.is_ready or not (events or is_due):
+            return
+        self._looked_at = now
+        has_changed = follower.look(now)
+        self._sources.watch(follower.folders())
+        is_other = server.running is not None and follower.sender != server.running.sender
+        if server.running is None and not follower.filenos() or has_changed and is_other:
+            server.begin()
+        elif server.running is None and has_changed and follower.sender is not None:
+            server.begin()
+        if server.running is None and follower.filenos():
+            server.await_sender("the sender is being built")
+        server.news.look(follower, server.running is not None)
+
+    def _look_due(self, now: float) -> float:
+        """The moment of the next look, whatever is reported."""
+        period = _AGAIN if self._server.running is None else _LOOK
+        return min(self._looked_at + period, max(self._follower.due(self._looked_at), self._looked_at))
+
+    def _is_heard(self) -> bool:
+        """Whether a build has something to say."""
+        poll = select.poll()
+        for file in self._follower.filenos():
+            poll.register(file, select.POLLIN)
+        return bool(poll.poll(0))
 
     def _step(self) -> None:
         """Does what is due: runs, answers and pages."""
         server = self._server
-        if server.running is None and server.is_ready and time.monotonic() >= self._looked_at + _AGAIN:
-            self._looked_at = time.monotonic()
-            server.begin()
+        self._look()
         now = time.monotonic()
         server.settle([] if self._watcher is None else self._watcher.read(), now, now >= self._due())
         server.look_at_drawn()
@@ -88,7 +129,7 @@ class Serving:
         """When folders are looked at, or programs: a look takes longer than an answer may, so it waits for a pause."""
         running = self._server.running
         if running is None:
-            return self._looked_at + _AGAIN
+            return self._look_due(time.monotonic())
         due = running.workspace.due()
         return max(due, min(self._server.streams.heard_at + _QUIET, due + _PATIENCE))
 
@@ -97,7 +138,8 @@ class Serving:
         watcher = None if self._watcher is None else self._watcher.fileno()
         running = [] if self._server.running is None else self._server.running.workspace.filenos()
         drawn = [it.fileno() for it in self._server.drawn.values()]
-        for file in (streams.fileno(), self._stop.fileno(), watcher, *running, *drawn):
+        ours = (self._stop.fileno(), self._sources.fileno(), *self._follower.filenos())
+        for file in (streams.fileno(), watcher, *ours, *running, *drawn):
             if file is not None:
                 poll.register(file, select.POLLIN)
         if streams.is_waiting or self._server.is_behind:
@@ -105,18 +147,22 @@ class Serving:
         return bool(poll.poll(max(0.0, until - time.monotonic()) * 1_000))
 
     def _run(self, server: Server) -> Running:
-        """Looks for the programs, and starts what serves by them in place of what did."""
-        tools = Tools(self._stop, server.log)
+        """Starts what serves by the sender in place of what did; a fault where none is there."""
+        self._held.close()
+        self._follower.look(time.monotonic())
+        if (sender := self._follower.sender) is None:
+            raise Fault(self._follower.reason)
+        tools = Tools(sender, self._stop, server.log)
         option = option_of(self._settings)
         if lines := tools.refused(list(claims_of([option]))):
             raise Fault("; ".join(lines))
-        self._held.close()
         self._watcher = self._held.enter_context(_Unwatched() if server.client.watches else Watcher())
         settings = OpenSettings(option, lambda claims: tools.refused(list(claims)))
         fleet = self._held.enter_context(Fleet(tools.start, server.log, lambda doing: None))
         folders = Folders(Choice(server.client.roots, ()), settings, self._watcher, self._stop, server.log)
         askers = Askers(tools.causes, tools.endings)
-        return Running(Workspace(folders, settings, fleet, askers, home_of(server.client)), Answers(tools))
+        home = home_of(server.client)
+        return Running(Workspace(folders, settings, fleet, askers, home, sender.check), Answers(tools), sender)
 
 
 class _Unwatched(Watcher):

@@ -4,7 +4,7 @@ from collections.abc import Callable, Sequence
 
 from pdsuite.lsp.completion import PROBE
 from pdsuite.run.explainer import CAUSES, ENDINGS, EXPLAIN, JSON, Asker
-from pdsuite.programs.places import RECORD, REGRESS, locate
+from pdsuite.programs.places import REGRESS
 from pdsuite.programs.program import Ended, Program
 from pdsuite.programs.protocol import LONGEST_CAUSE, LONGEST_LINE, SETTLE, Cause, Unexpected
 from pdsuite.programs.protocol import add, causes_in, name_of, rows_in
@@ -16,6 +16,7 @@ from pdsuite.scripts.settings import Settings, settings_text
 from pdsuite.scripts.suite import Claim
 from pdsuite.scripts.text import Text, Unfit, text_of
 from pdsuite.signals import Stop
+from pdsuite.watch.sender import LiveSender
 
 # Has the program say how many steps each run takes.
 STEPS = "--steps"
@@ -24,24 +25,25 @@ _KEPT = 8
 
 
 class Tools:
-    """The programs, each asked anew; `note` is told where one ends. A fault where they aren't proved and built."""
+    """The programs of a sender, each asked anew; `note` is told where one ends."""
 
-    def __init__(self, stop: Stop, note: Callable[[str], None]) -> None:
-        self._regress = locate(REGRESS)
-        locate(RECORD)
-        self._stop = stop
-        self._recorder = Recorder(stop, note)
+    def __init__(self, sender: LiveSender, stop: Stop, note: Callable[[str], None]) -> None:
+        self.sender = sender
+        self._regress, record = sender.paths
+        self.stop = stop
+        self.note = note
+        self._recorder = Recorder(stop, note, record)
         self._recordings: dict[tuple[bytes, Settings], Recording] = {}
         self.causes: Asker[Cause] = Asker(self._regress, CAUSES, stop, note)
         self.endings: Asker[list[bytes]] = Asker(self._regress, ENDINGS, stop, note)
 
     def start(self, settings: Settings) -> Program:
-        """Starts a run that stays up."""
+        """Starts a run that stays up; SenderChanged where another file lies at the program's path."""
         return self._started(settings, STEPS, "--cache", str(RUN))
 
     def refused(self, claims: Sequence[Claim]) -> list[str]:
         """The lines of the settings that are refused."""
-        return refusals(claims, lambda: Program([self._regress], self._stop))
+        return refusals(claims, lambda: Program([self._regress], self.stop))
 
     def recording(self, text: str, settings: Settings) -> Recording:
         """The recording of a script with its trace; that of the same script is kept for a while."""
@@ -50,11 +52,13 @@ class Tools:
         if key not in self._recordings:
             while len(self._recordings) >= _KEPT:
                 del self._recordings[next(iter(self._recordings))]
+            self.sender.check()
             self._recordings[key] = self._recorder.record("the script", octets, settings)
         return self._recordings[key]
 
     def mended(self, text: str, settings: Settings) -> str:
         """A script with the least change with which it passes; empty where there is none."""
+        self.sender.check()
         return self._recorder.record("the script", text.encode("utf-8", "surrogatepass"), settings, LEAST).text
 
     def rows(self, texts: Sequence[str], settings: Settings) -> list[Row | None]:
@@ -86,8 +90,9 @@ class Tools:
         return _words(cause, before)
 
     def _started(self, settings: Settings, *words: str) -> Program:
+        self.sender.check()
         text = settings_text(settings)
-        return Program([self._regress, *words, *(["--settings", text] if text else [])], self._stop)
+        return Program([self._regress, *words, *(["--settings", text] if text else [])], self.stop)
 
 
 def _words(cause: Cause | None, before: str) -> list[str]:

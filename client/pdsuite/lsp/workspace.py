@@ -1,7 +1,7 @@
 """The scripts of a workspace, those in files and those that are open, and what came of them."""
 
 import os
-from collections.abc import Iterator, Mapping, Sequence
+from collections.abc import Callable, Iterator, Mapping, Sequence
 from dataclasses import dataclass, replace
 from pathlib import Path
 from typing import TypeVar
@@ -71,13 +71,22 @@ class Askers:
 class Workspace:
     """What is seen in folders and what is open, and the results. Results are by paths, as `pdsuite run` has these."""
 
-    def __init__(self, folders: Folders, settings: OpenSettings, fleet: Fleet, askers: Askers, home: Path) -> None:
+    def __init__(
+        self,
+        folders: Folders,
+        settings: OpenSettings,
+        fleet: Fleet,
+        askers: Askers,
+        home: Path,
+        check: Callable[[], None] = lambda: None,
+    ) -> None:
         self.results: Mapping[str, Result] = {}
         self._folders = folders
         self._settings = settings
         self._fleet = fleet
         self._askers = askers
         self._home = home
+        self._check = check  # raises SenderChanged where what was told isn't surely of the program that ran
         self._documents: dict[str, Document] = {}
         self._open: dict[str, OpenScript] = {}
         self._paths: dict[str, str] = {}
@@ -229,6 +238,7 @@ class Workspace:
             if kept is not old:
                 changed.append(path)
         self._ask(results, [path for path in changed if not results[path].is_asked])
+        self._check()
         self.results = results
         return [*changed, *(path for path in before if path not in results)]
 

@@ -8,10 +8,12 @@ from pathlib import Path
 
 from pdsuite.packages import need
 from pdsuite.page.drawer import FAILED, FAULT
+from pdsuite.files import write
 from pdsuite.page.folder import prepare
 from pdsuite.page.jobs import Job
 from pdsuite.page.links import plot_files
 from pdsuite.page.plots import Plot, Plots, plots_of
+from pdsuite.page.render import SENDER, sender_style
 from pdsuite.page.sheets import Entry, row_of
 from pdsuite.programs.worker import Worker
 from pdsuite.signals import Stop
@@ -19,6 +21,7 @@ from pdsuite.signals import Stop
 _DRAWER = "pdsuite.page.drawer"
 # So many pages are worth a process more.
 _SHARE = 128
+_DRAWING = "another sender stands, and its pages are drawn"
 
 
 class Drawing:
@@ -37,6 +40,10 @@ class Drawing:
         self._drawn: dict[str, Entry] = {}
         self._waiting: Sequence[Entry] | None = None
         self._is_ending = False
+        self._follows = False  # whether it is drawn of the sender that answers
+        self._is_turning = False  # whether pages are of another sender than the one that they are to be drawn of
+        self._words = self._said = ""
+        self._programs: tuple[Path | None, Path | None] = None, None
 
     def __enter__(self) -> "Drawing":
         return self
@@ -49,6 +56,22 @@ class Drawing:
         """What can be read once a process has drawn something or has ended."""
         return [it.fileno() for it in self._workers]
 
+    def turn(self, regress: Path, record: Path | None, is_unproved: bool) -> None:
+        """Has all drawn anew by other programs."""
+        self._programs = regress, record
+        self._is_unproved = is_unproved
+        self._is_turning, self._follows = self._follows or self._is_turning, False
+        self._drawn = {}
+        self.end()
+
+    def mark(self, words: str) -> None:
+        """Has all pages say that they are of the sender before, and why, until they are drawn of one that stands."""
+        self._words = words
+        said = words or (_DRAWING if self._is_turning else "")
+        if said != self._said:
+            self._said = said
+            write(self._folder / SENDER, sender_style(said))
+
     def end(self) -> None:
         """Has what is drawn now ended, since it isn't wanted any more."""
         self._is_ending = True
@@ -57,6 +80,7 @@ class Drawing:
 
     def follow(self, entries: Sequence[Entry]) -> None:
         """Has the page drawn of these scripts, as soon as nothing else is drawn."""
+        self._follows = True
         plots = plots_of((it.outcome for it in entries), self._plots)
         self._waiting = [replace(it, plot=plot) for it, plot in zip(entries, plots)]
         self.look()
@@ -69,6 +93,9 @@ class Drawing:
             self._is_ending = False
             self._begin(self._waiting)
             self._waiting = None
+        if self._is_turning and self._follows and not self._workers and not self._words:
+            self._is_turning = False
+            self.mark("")
 
     def finish(self, stop: Stop, tell: Callable[[int, int], None]) -> None:
         """Waits until all is drawn; `tell` is told how many pages are, and of how many."""
@@ -90,7 +117,7 @@ class Drawing:
         plots = tuple(name for it in entries if it.plot is Plot.FILES for name in plot_files(it.outcome.path))
         for number in range(count):
             share = tuple(changed[number::count])
-            job = Job(self._folder, rows if number == 0 else None, plots, share, self._is_unproved)
+            job = Job(self._folder, rows if number == 0 else None, plots, share, self._is_unproved, *self._programs)
             self._workers[Worker(_DRAWER, job)] = share
 
     def _hear(self, worker: Worker, entries: Sequence[Entry]) -> None:

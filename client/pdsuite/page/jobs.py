@@ -26,7 +26,7 @@ class Job:
     """The folder, the rows of the table if that is to be written, and the scripts whose pages are.
 
     With the table the names come that files of diagrams may have, since all others are taken away. Where the
-    sender isn't proved, the entries hold all that is told.
+    sender isn't proved, and no program is named, the entries hold all that is told; else programs are looked for.
     """
 
     folder: Path
@@ -34,6 +34,8 @@ class Job:
     plots: tuple[str, ...]
     entries: tuple[Entry, ...]
     is_unproved: bool = False
+    regress: Path | None = None
+    record: Path | None = None
 
 
 def carry_out(job: Job, stop: Stop, done: Callable[[int], None]) -> None:
@@ -43,8 +45,8 @@ def carry_out(job: Job, stop: Stop, done: Callable[[int], None]) -> None:
         sweep(job.folder, (it.file for it in job.rows), job.plots)
     scripts = [Script(place, it.outcome.path, it.outcome.settings) for place, it in enumerate(job.entries)]
     # Where it tells nothing of a script, that has been said when its row was shown.
-    asker = Asker(locate(REGRESS), CAUSES, stop, lambda line: None) if _has_programs(job) else None
-    recorder = Recorder(stop, lambda line: None)
+    asker = Asker(job.regress or locate(REGRESS), CAUSES, stop, lambda line: None) if _has_programs(job) else None
+    recorder = Recorder(stop, lambda line: None, job.record)
     for run in runs_of(scripts):
         for piece in run.pieces:
             told = _known(piece, job.entries) if asker is None else asker.told(_settled(piece, job.entries))
@@ -56,7 +58,7 @@ def carry_out(job: Job, stop: Stop, done: Callable[[int], None]) -> None:
 
 def _has_programs(job: Job) -> bool:
     """Whether there are programs to ask: proved ones, or a build that is kept."""
-    return not job.is_unproved or are_taken()
+    return not job.is_unproved or job.regress is not None or are_taken()
 
 
 def _known(piece: Sequence[Script], entries: Sequence[Entry]) -> dict[int, Cause]:

@@ -23,7 +23,9 @@ _HERE = Path(__file__).parent
 GENERATOR = "pdsuite"
 # What all pages use, beside the table.
 _STYLE = "page.css"
-STATIC = (_STYLE, "page.js")
+# What says of all pages that their sender doesn't stand any more, so that no page has to be written again for it.
+SENDER = "sender.css"
+STATIC = (_STYLE, "page.js", SENDER)
 _RANKS: tuple[Verdict | Tally, ...] = (
     Tally.UNEXPECTED,
     Verdict.FAIL,
@@ -39,8 +41,19 @@ _RANKS: tuple[Verdict | Tally, ...] = (
 
 def static(name: str) -> bytes:
     """A file that all pages use."""
+    if name == SENDER:
+        return sender_style("")
     octets = (_HERE / "static" / name).read_bytes()
     return octets + f"\n/* The colours of diagrams. */\n{rules(':root')}\n".encode() if name == _STYLE else octets
+
+
+def sender_style(words: str) -> bytes:
+    """What has all pages say that they are of the sender before, and why, and dims them; nothing without words."""
+    if not words:
+        return b""
+    shown = "".join(f"\\{ord(it):x} " if it in '"\\\n' else it for it in f"OF THE SENDER BEFORE: {words}")
+    mark = "display: block; padding: 0.5em 1em; border: 2px solid; font-weight: bold"
+    return f'body::before {{ content: "{shown}"; {mark} }}\nheader, main {{ opacity: 0.5 }}\n'.encode()
 
 
 def table_page(rows: Sequence[Row], is_unproved: bool = False) -> bytes:

@@ -16,7 +16,7 @@ TOOL = TOP / "tools/try_both.py"
 # What builds them so and keeps them, for any tree.
 BUILD_TOOL = TOP / "tools/build_unproved.py"
 # What says where a tree's program is, if it is proved.
-_BUILT = "tools/built.sh"
+BUILT = "tools/built.sh"
 REGRESS = "pdregress"
 RECORD = "pdrecord"
 
@@ -50,7 +50,7 @@ def are_taken() -> bool:
 def built(name: str, top: Path) -> Path:
     """The proved program of this name in a tree."""
     said = subprocess.run(
-        [top / _BUILT, name],
+        [top / BUILT, name],
         stdin=subprocess.DEVNULL,
         capture_output=True,
         process_group=0,  # a key of the terminal ends the client alone
@@ -63,7 +63,7 @@ def built(name: str, top: Path) -> Path:
 def launched_from(folder: Path) -> Path | None:
     """The tree whose launchers a folder has, or links to them. A launcher also runs what isn't proved."""
     top = (folder / REGRESS).resolve().parent
-    return top if (top / _BUILT).is_file() and (top / "crates.txt").is_file() else None
+    return top if (top / BUILT).is_file() and (top / "crates.txt").is_file() else None
 
 
 def commit() -> str:

@@ -79,6 +79,12 @@ class Told:
                 yield kind, group
 
 
+def entry_of(it: ComparedScript) -> StyledText:
+    """A script that differs, and what is told of it."""
+    text = StyledText().append(f"{shown_path(it.path)}: ").append(it.kind, _STYLES[it.kind]).append("\n")
+    return text.append("".join(f"  {line}\n" for line in lines_of(it)), "dim")
+
+
 def plain(told: Told) -> StyledText:
     """Scripts that turned, those that are played otherwise, totals by folder, and what is affected in the tree."""
     text = StyledText()
@@ -87,8 +93,7 @@ def plain(told: Told) -> StyledText:
         if len(group.scripts) > 1:
             text.append(f"{len(group.scripts)} scripts differ first in {group.title}:\n", "bold")
         for it in group.scripts[:whole]:
-            text.append(f"{shown_path(it.path)}: ").append(kind, _STYLES[kind]).append("\n")
-            text.append("".join(f"  {line}\n" for line in lines_of(it)), "dim")
+            text.append_text(entry_of(it))
         for it in group.scripts[whole:]:
             text.append(f"{shown_path(it.path)}: ").append(kind, _STYLES[kind])
             text.append(f": {it.comment}\n" if it.comment else "\n")

@@ -1,8 +1,11 @@
 """What is shown while scripts are watched: at first as `pdsuite run` does, and then what changed."""
 
 from collections.abc import Iterable, Iterator, Mapping, Sequence
+from dataclasses import replace
 
+from pdsuite.compare.comparison import ComparedScript
 from pdsuite.programs.rows import Verdict
+from pdsuite.reports.comparison import entry_of
 from pdsuite.reports.plain import Plain
 from pdsuite.run.outcomes import Outcome, Tally, Totals
 from pdsuite.show.octets import shown_path
@@ -11,8 +14,15 @@ from pdsuite.watch.folder_moves import Move, Outcomes
 from pdsuite.watch.run_changes import WantedScript
 
 
+_LEFT = "the sender has changed: all rows above are of the sender before"
+BEFORE = " (by the sender before)"
+
+
 class ChangeReport:
     """All of what changed, as programs that read it need it."""
+
+    is_brief = False  # whether a script that another sender turned is told of once
+    is_unproved = False  # whether the sender isn't proved that runs scripts
 
     def first(self, outcomes: Outcomes, every: bool, seconds: float) -> StyledText:
         """Each script that doesn't pass, or every script; then the totals."""
@@ -42,14 +52,41 @@ class ChangeReport:
         """What is told of the rows that changed, and where something else is told of others."""
         return entries(told_anew(before, after), False)
 
+    def compared(self, scripts: Sequence[ComparedScript]) -> StyledText:
+        """The scripts that another sender turned."""
+        text = StyledText()
+        for it in scripts:
+            text.append_text(entry_of(it))
+        return text
+
     def foot(self, outcomes: Outcomes, seconds: float) -> StyledText:
         """The totals."""
-        return Plain(True).foot(totals_of(outcomes), seconds)
+        return Plain(True).foot(totals_of(outcomes, self.is_unproved), seconds)
+
+    def left(self, why: str) -> StyledText:
+        """That the sender doesn't stand any more of which all rows are, and why."""
+        return StyledText([(f"{_LEFT}\n  {why}\n", "dim")])
+
+    def turned(self, words: str) -> StyledText:
+        """What is said of another sender."""
+        return StyledText([(f"{words}\n", "bold")])
+
+    def refused(self, lines: Sequence[str]) -> StyledText:
+        """Why no sender can be built, or be proved: below the first line stands what is said of it."""
+        first, *below = lines
+        return StyledText([(f"{first}\n", "bold red"), ("".join(f"  {line}\n" for line in below), "")])
 
 
-def totals_of(outcomes: Outcomes) -> Totals:
+def totals_of(outcomes: Outcomes, is_unproved: bool = False) -> Totals:
     """The totals of a report."""
-    return Totals.of(outcomes.values())
+    return replace(Totals.of(outcomes.values()), is_unproved=is_unproved)
+
+
+def of_sender_before(text: StyledText) -> StyledText:
+    """A part of a report that is of a sender that doesn't stand any more: each of its rows says so, and all is dim."""
+    lines = text.plain.splitlines()
+    marked = [line if line.startswith("  ") else f"{line}{BEFORE}" for line in lines]
+    return StyledText([("".join(f"{line}\n" for line in marked), "dim")])
 
 
 def changed(before: Outcomes, after: Outcomes) -> list[Outcome]:

@@ -88,6 +88,11 @@ class Folders:
         """The row that a script is known to have, if one is said."""
         return self._suite.expected(self.files[path].found)
 
+    def check_settings(self) -> None:
+        """Has the settings files checked anew, as another sender may read them otherwise."""
+        self._settings_files.check_again()
+        self._suite = self._settings_files.suite()
+
     def look(self, events: Sequence[Event], now: float) -> bool:
         """Takes in what is reported and what is due; whether anything is other than it was."""
         paths = {path for path, moment in self._again.items() if moment <= now}

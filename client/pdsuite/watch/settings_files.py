@@ -7,7 +7,7 @@ from pdsuite.faults import Fault
 from pdsuite.scripts.suite import FILE, Claim, Layer, Suite
 from pdsuite.scripts.suite import claims_of, layer_of, place_of, read_octets
 from pdsuite.scripts.unused_tables import unused_tables
-from pdsuite.watch.file_stamps import StampedValue, is_as_read, read_stamped
+from pdsuite.file_stamps import StampedValue, is_as_read, read_stamped
 
 # The lines of the claims that the program refuses.
 Refused = Callable[[Iterable[Claim]], list[str]]
@@ -59,6 +59,11 @@ class SettingsFiles:
         changed = [self._look(path) for path in known]
         return any(changed), any(self._read[path].is_torn for path in known)
 
+    def check_again(self) -> None:
+        """Has each file checked anew, since another sender may take what the one before refused, and refuse others."""
+        for path, it in self._read.items():
+            self._take(path, it.value)
+
     def _look(self, path: Path) -> bool:
         """Reads a file, and takes it if it is good; whether it was taken."""
         before = self._read.get(path)
@@ -68,8 +73,12 @@ class SettingsFiles:
             if now.is_torn:
                 self._read[path] = StampedValue(before.value, now.stamp, True, True)
             return False
+        return self._take(path, now.value)
+
+    def _take(self, path: Path, octets: bytes | str | None) -> bool:
+        """Takes what a file holds if it is good; whether it was taken."""
         try:
-            layer = self._checked(path, now.value)
+            layer = self._checked(path, octets)
         except Fault as fault:
             self._refuse(path, str(fault))
             self._good.setdefault(path, None)

@@ -5,6 +5,7 @@ import time
 from collections.abc import Callable, Mapping, Sequence
 from dataclasses import replace
 
+from pdsuite.compare.comparison import ComparedScript
 from pdsuite.reports.plain import Plain, style_of
 from pdsuite.show.octets import shown_path
 from pdsuite.show.styled_text import StyledText
@@ -22,6 +23,8 @@ _LEAST = 20
 
 class TerminalReport(ChangeReport):
     """A few of what changed, and the command that shows all; `width` is that of the terminal."""
+
+    is_brief = True
 
     def __init__(self, width: Callable[[], int], command: str) -> None:
         self._width = width
@@ -62,11 +65,22 @@ class TerminalReport(ChangeReport):
         left = len(told) - _MOST
         return text.append(f"{left:,} more: {self._command}\n", "bold") if left > 0 else text
 
+    def compared(self, scripts: Sequence[ComparedScript]) -> StyledText:
+        """A few of the scripts that another sender turned, and how many more there are."""
+        text = self._fitting(super().compared(scripts[:_MOST]))
+        left = len(scripts) - _MOST
+        return text.append(f"{left:,} more turned\n", "bold") if left > 0 else text
+
     def foot(self, outcomes: Outcomes, seconds: float) -> StyledText:
         """The totals that aren't 0."""
-        totals = totals_of(outcomes)
-        line = f"{totals.brief()} in {seconds:.2f} s"
+        totals = totals_of(outcomes, self.is_unproved)
+        line = f"{totals.brief()} in {seconds:.2f} s{totals.mark}"
         return StyledText([("\n".join(textwrap.wrap(line, self._columns())) + "\n", style_of(totals))])
+
+    def left(self, why: str) -> StyledText:
+        """That the sender doesn't stand any more of which all rows are, and why, in lines that fit."""
+        lines = super().left(why).plain.splitlines()
+        return StyledText([(f"{self._wrapped(line)}\n", "dim") for line in lines])
 
     def _columns(self) -> int:
         """How long a line may be, so that no terminal begins another one after it."""
@@ -79,8 +93,10 @@ class TerminalReport(ChangeReport):
         )
 
     def _broken(self, line: str) -> str:
-        if not line.startswith(_PROSE):
-            return line
+        return f"{self._wrapped(line)}\n" if line.startswith(_PROSE) else line
+
+    def _wrapped(self, line: str) -> str:
+        """A line broken at blanks."""
         lines = textwrap.wrap(
             line,
             self._columns(),
@@ -88,7 +104,7 @@ class TerminalReport(ChangeReport):
             break_long_words=False,
             break_on_hyphens=False,
         )
-        return "\n".join(lines) + "\n"
+        return "\n".join(lines)
 
 
 def _known(before: Outcomes, moves: Sequence[Move]) -> Outcomes:

@@ -8,7 +8,7 @@ from pdsuite.run.runs import Script
 from pdsuite.run.settling import load
 from pdsuite.scripts.search import ScriptFile
 from pdsuite.scripts.text import Text
-from pdsuite.watch.file_stamps import Stamp, StampedValue, is_as_read, read_stamped
+from pdsuite.file_stamps import Stamp, StampedValue, is_as_read, read_stamped
 
 # So many seconds after it went, a path that is there again was only saved.
 GRACE = 0.05

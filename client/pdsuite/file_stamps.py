@@ -2,13 +2,16 @@
 
 import os
 import time
-from collections.abc import Callable
+from collections.abc import Callable, Mapping
 from dataclasses import dataclass
 from pathlib import Path
 from typing import Generic, TypeVar
 
 # Of what was written so many nanoseconds before it was read, a second writing may have left the same times.
 _YOUNG = 20_000_000
+# The same where a file system keeps times in whole seconds.
+_COARSE = 2_000_000_000
+_SECOND = 1_000_000_000
 # What was written so many nanoseconds ago may still be written.
 _FRESH = 500_000_000
 
@@ -51,3 +54,19 @@ def read_stamped(path: str | Path, read: Callable[[], T]) -> StampedValue[T]:
 def is_as_read(it: StampedValue[T], path: str | Path) -> bool:
     """Whether the file is surely as it was when it was read."""
     return not it.is_torn and not it.is_young and it.stamp == stamp_of(path)
+
+
+def is_sure(stamp: Stamp, moment: int) -> bool:
+    """Whether a file that had this stamp at a moment, in nanoseconds, has another one after each later writing.
+
+    A writing within the same tick of the clock may leave all times as they were.
+    """
+    if len(stamp) < 2:
+        return True
+    changed = stamp[-1]
+    return changed < moment - (_COARSE if changed % _SECOND == 0 else _YOUNG)
+
+
+def have_stamps(stamps: Mapping[str, Stamp]) -> bool:
+    """Whether all files have these stamps, by their paths."""
+    return all(stamp_of(path) == stamp for path, stamp in stamps.items())

@@ -1,0 +1,205 @@
+"""Which programs stand: the tree's tools say so once, and stamps of all that they looked at say whether it is so still.
+
+Stamps are compared by equality alone, and no process is started where nothing changed.
+"""
+
+import subprocess
+import time
+from collections.abc import Callable, Mapping, Sequence
+from dataclasses import dataclass
+from functools import partial
+from os import environ, fsdecode
+from os.path import isdir
+from pathlib import Path
+
+from pdsuite.faults import Fault, why
+from pdsuite.file_stamps import Stamp, have_stamps, is_sure, stamp_of
+from pdsuite.programs.places import BUILD_TOOL, BUILT, FOLDER, PACKED, TOP
+from pdsuite.programs.places import Unproved, built, digest, launched_from, locate
+from pdsuite.show.octets import shown_path
+
+# While files change all the time, the tools are asked so often.
+_TRIES = 5
+# What stands where a program and all that is made beside it lie.
+_MADE = "/out/"
+
+# What is said where a sender isn't the one that it was at the beginning.
+CHANGED = "the sender has changed meanwhile"
+
+Find = Callable[[str], Path]
+Files = Callable[[str], Sequence[str]]
+
+
+class SenderChanged(Exception):
+    """That another file lies where a program lay when it was found, so that what it answers counts no more."""
+
+
+@dataclass(frozen=True, slots=True)
+class Standing:
+    """A program as it stands: its path, the stamp of its file, and its SHA-256."""
+
+    path: Path
+    stamp: Stamp
+    digest: str
+
+    @property
+    def is_there(self) -> bool:
+        """Whether the file is the one that was found."""
+        return stamp_of(self.path) == self.stamp
+
+    def check(self) -> None:
+        """Raises SenderChanged where the file isn't the one that was found."""
+        if not self.is_there:
+            raise SenderChanged(f"{shown_path(self.path)} is another file")
+
+
+def standing_of(path: Path) -> Standing:
+    """A program as it stands at a path; a fault where it can't be read."""
+    try:
+        return Standing(path, stamp_of(path), digest(path))
+    except OSError as error:
+        raise Fault(f"{shown_path(path)}: {why(error)}") from error
+
+
+# A program, or why there is none.
+Found = Standing | Fault
+
+
+@dataclass(frozen=True)
+class _Seen:
+    """What stood when all files had these stamps, and whether each later writing gives one of them another stamp."""
+
+    found: Mapping[str, Found]
+    stamps: Mapping[str, Stamp]
+    folders: frozenset[str]
+    is_sure: bool
+
+    def stands(self) -> bool:
+        """Whether it is surely so still."""
+        return self.is_sure and have_stamps(self.stamps)
+
+
+class Look:
+    """Looks at programs by their names: `find` says which one stands, `files` on which files that depends."""
+
+    def __init__(self, names: Sequence[str], find: Find, files: Files) -> None:
+        self._names = names
+        self._find = find
+        self._files = files
+        self._seen: _Seen | None = None
+
+    def now(self) -> Mapping[str, Found]:
+        """What stands now, by the names of programs."""
+        return self._see().found
+
+    def need(self, name: str) -> Standing:
+        """The program of this name that stands now; a fault where none does."""
+        found = self.now()[name]
+        if isinstance(found, Fault):
+            raise found
+        return found
+
+    def sources(self) -> Mapping[str, Stamp]:
+        """The stamps of all files that aren't made beside a program. A folder is what lies in it."""
+        seen = self._see()
+        return {path: it for path, it in seen.stamps.items() if path not in seen.folders and _MADE not in path}
+
+    def folders(self) -> set[str]:
+        """The folders in which something that counts may change."""
+        seen = self._see()
+        return {*seen.folders, *(str(Path(it).parent) for it in seen.stamps)}
+
+    def _see(self) -> _Seen:
+        if self._seen is None or not self._seen.stands():
+            self._seen = self._look()
+        return self._seen
+
+    def _look(self) -> _Seen:
+        """Asks what stands, until no file changes while it is asked."""
+        for _ in range(_TRIES):
+            moment = time.time_ns()
+            paths = [path for name in self._names for path in self._files(name)]
+            stamps = {path: stamp_of(path) for path in paths}
+            found = {name: self._found(name) for name in self._names}
+            if stamps == {path: stamp_of(path) for path in paths}:
+                folders = frozenset(filter(isdir, stamps))
+                return _Seen(found, stamps, folders, bool(paths) and all(is_sure(it, moment) for it in stamps.values()))
+        changing = Unproved(f"{', '.join(self._names)}: files change all the time")
+        return _Seen(dict.fromkeys(self._names, changing), {}, frozenset(), False)
+
+    def _found(self, name: str) -> Found:
+        try:
+            return standing_of(self._find(name))
+        except Fault as fault:
+            return fault
+        except OSError as error:
+            return Fault(f"{name}: {why(error)}")
+
+
+class Steady:
+    """Sees whether senders stay as they were when this was made: proved programs, or else the sources of a tree."""
+
+    def __init__(self, *looks: Look) -> None:
+        self._looks = [(it, it.now(), it.sources()) for it in looks]
+
+    def need_same(self, consequence: str) -> None:
+        """A fault where one isn't as it was; it names the consequence."""
+        if self.has_changed():
+            raise Fault(f"{CHANGED}: {consequence}")
+
+    def has_changed(self) -> bool:
+        """Whether one isn't as it was."""
+        return any(_has_changed(*it) for it in self._looks)
+
+
+def _has_changed(look: Look, found: Mapping[str, Found], sources: Mapping[str, Stamp]) -> bool:
+    now = look.now()
+    proved = [name for name, it in found.items() if isinstance(it, Standing)]
+    return any(now[name] != found[name] for name in proved) if proved else look.sources() != sources
+
+
+def own_look(*names: str) -> Look:
+    """A look at the programs of this client: those of a folder that is named, of its package, or of its tree."""
+    if word := environ.get(FOLDER):
+        folder = Path(word)
+        if tree := launched_from(folder):
+            return tree_look(tree, *names)
+        return Look(names, locate, lambda name: [str((folder / name).absolute())])
+    if PACKED.exists():
+        return Look(names, locate, lambda name: [str(locate(name))])
+    return tree_look(TOP, *names)
+
+
+def buildable() -> Path | None:
+    """The tree whose sender is built without proofs where it isn't proved: that of this client, or of its launchers."""
+    if word := environ.get(FOLDER):
+        tree = launched_from(Path(word))
+    else:
+        tree = None if PACKED.exists() else TOP
+    return tree if BUILD_TOOL.is_file() else None
+
+
+def tree_look(top: Path, *names: str) -> Look:
+    """A look at the proved programs of a tree."""
+    return Look(names, lambda name: built(name, top), partial(_files_in, top))
+
+
+def programs_look(programs: Mapping[str, Path]) -> Look:
+    """A look at programs by their paths."""
+    return Look(list(programs), programs.__getitem__, lambda name: [str(programs[name])])
+
+
+def _files_in(top: Path, name: str) -> list[str]:
+    """All files and folders on which it depends whether a tree's program is proved; none where nobody says."""
+    try:
+        said = subprocess.run(
+            [top / BUILT, "--files", name],
+            stdin=subprocess.DEVNULL,
+            capture_output=True,
+            process_group=0,  # a key of the terminal ends the client alone
+        )
+    except OSError:
+        return []
+    if said.returncode:
+        return []
+    return [str(top / fsdecode(it)) for it in said.stdout.split(b"\0") if it]

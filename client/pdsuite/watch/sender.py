@@ -1,0 +1,169 @@
+"""The sender by which rows come while files change: the proved one, or else one that is built without proofs."""
+
+from collections.abc import Mapping, Sequence
+from dataclasses import dataclass
+from math import inf
+from pathlib import Path
+
+from pdsuite.faults import Fault
+from pdsuite.file_stamps import Stamp, have_stamps
+from pdsuite.programs.building import Building, Untried, Way
+from pdsuite.programs.places import RECORD, REGRESS
+from pdsuite.programs.standing import Look, Standing, standing_of
+
+# A build begins once no source has changed for so many seconds.
+_QUIET = 0.3
+# So often it is said how long a build takes.
+_SECOND = 1.0
+# The build that is there first serves: what is watched is few scripts.
+WAY: Way = "any"
+_BUILDING = "it is built without proofs"
+_REFUSED = "it isn't built"
+
+
+@dataclass(frozen=True)
+class LiveSender:
+    """The programs of a sender; the one that records may be missing."""
+
+    regress: Standing
+    record: Standing | None
+    is_proved: bool = True
+
+    def check(self) -> None:
+        """Raises SenderChanged where a program's file isn't the one that was found."""
+        for it in (self.regress, self.record):
+            if it is not None:
+                it.check()
+
+    @property
+    def paths(self) -> tuple[Path, Path | None]:
+        """Where the programs are."""
+        return self.regress.path, None if self.record is None else self.record.path
+
+    @property
+    def is_there(self) -> bool:
+        """Whether the programs can be started still."""
+        return all(it is None or it.is_there for it in (self.regress, self.record))
+
+
+class SenderFollower:
+    """Follows which sender stands: the one with the programs that are needed, or else one that is built of a tree.
+
+    While it is built, or can't be, the one before goes on answering as long as its programs are there.
+    """
+
+    def __init__(self, look: Look, needs: Sequence[str] = (REGRESS,), tree: Path | None = None) -> None:
+        self._look = look
+        self._needs = needs
+        self._tree = tree
+        self.sender: LiveSender | None = None
+        self.reason = ""  # why none stands, if so it is
+        self.failure: tuple[str, ...] = ()  # why none can be built: what the compiler says stands below the first line
+        self._sources: Mapping[str, Stamp] | None = None
+        self._built: LiveSender | None = None  # of these sources
+        self._building: Building | None = None
+        self._quiet_at = inf
+
+    def __enter__(self) -> "SenderFollower":
+        return self
+
+    def __exit__(self, *error: object) -> None:
+        self.close()
+
+    def close(self) -> None:
+        """Ends what is built."""
+        self._end_build()
+
+    @property
+    def is_current(self) -> bool:
+        """Whether the sender stands by which rows come."""
+        return self.sender is not None and not self.reason
+
+    @property
+    def phase(self) -> str:
+        """What is built, if something is."""
+        return "" if self._building is None else f"building without proofs: {self._building.phase or 'begun'}"
+
+    @property
+    def doing(self) -> str:
+        """What is built, and for how long."""
+        return "" if self._building is None else f"{self.phase} {self._building.seconds:.0f} s"
+
+    def look(self, now: float) -> bool:
+        """Looks at what stands; whether that is other than it was."""
+        before = self.sender, self.reason, self.failure
+        if self._building is not None and not have_stamps(self._sources or {}):
+            self._end_build()  # before anything is asked, which takes longer
+        found = self._look.now()
+        missing = [str(it) for name in self._needs if isinstance(it := found[name], Fault)]
+        regress, record = found[REGRESS], found[RECORD]
+        if isinstance(regress, Standing) and not missing:
+            self._end_build()
+            self._sources, self.failure = None, ()
+            self._stand(LiveSender(regress, record if isinstance(record, Standing) else None))
+        elif self._tree is None:
+            self._leave(missing[0])
+        else:
+            self._follow_sources(self._tree, now)
+        return before != (self.sender, self.reason, self.failure)
+
+    def folders(self) -> set[str]:
+        """The folders in which a change may make another sender stand."""
+        return self._look.folders()
+
+    def due(self, now: float) -> float:
+        """The moment at which it is to be looked again, whatever is reported."""
+        return now + _SECOND if self._building is not None else self._quiet_at
+
+    def filenos(self) -> list[int]:
+        """What can be read once a build has something to say."""
+        return [] if self._building is None else [self._building.fileno()]
+
+    def _stand(self, sender: LiveSender) -> None:
+        self.sender, self.reason = sender, ""
+
+    def _leave(self, reason: str) -> None:
+        """Goes on with the sender before, if it is there still."""
+        self.reason = reason
+        if self.sender is not None and not self.sender.is_there:
+            self.sender = None
+
+    def _follow_sources(self, tree: Path, now: float) -> None:
+        """Has a sender built of the sources as they are now; a change of these ends what is built."""
+        sources = self._look.sources()
+        if sources != self._sources:
+            self._end_build()
+            self._quiet_at = now if self._sources is None and self.sender is None else now + _QUIET
+            self._sources, self._built, self.failure = sources, None, ()
+        if self._built is None and not self.failure:
+            self._build(tree, now)
+        if self._built is not None and self._built.is_there:
+            self._stand(self._built)
+            return
+        if self._built is not None:
+            self._built, self._quiet_at = None, now  # it was taken away, and is built anew
+        self._leave(_REFUSED if self.failure else _BUILDING)
+
+    def _build(self, tree: Path, now: float) -> None:
+        """Begins a build where it is time, or hears of the one that goes on."""
+        if self._building is None and now >= self._quiet_at:
+            self._quiet_at = inf
+            self._building = Building(tree, WAY)
+        if self._building is None:
+            return
+        self._building.hear()
+        if not self._building.is_over:
+            return
+        try:
+            folder = self._building.folder()
+            self._built = LiveSender(standing_of(folder / REGRESS), standing_of(folder / RECORD), False)
+        except Untried as untried:
+            self.failure = tuple(str(untried).splitlines())
+        except Fault as fault:
+            self.failure = (str(fault),)
+        self._end_build()
+
+    def _end_build(self) -> None:
+        if self._building is not None:
+            self._building.end()
+            self._building = None

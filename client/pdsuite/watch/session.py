@@ -1,0 +1,265 @@
+"""Watching: each change of scripts and of the sender is followed, and shown once that is answered."""
+
+import select
+import time
+from collections.abc import Callable, Iterable, Mapping, Sequence
+from contextlib import ExitStack
+from dataclasses import dataclass, replace
+from typing import TYPE_CHECKING, NoReturn
+
+from pdsuite.programs.program import Program
+from pdsuite.programs.refusals import refusals
+from pdsuite.programs.rows import Row, Verdict
+from pdsuite.programs.standing import SenderChanged
+from pdsuite.run.explainer import Explainer
+from pdsuite.run.outcomes import Outcome
+from pdsuite.run.runs import RUN
+from pdsuite.run.settling import start_with
+from pdsuite.scripts.settings import Settings
+from pdsuite.scripts.suite import Claim, Layer, claims_of
+from pdsuite.scripts.text import Text
+from pdsuite.show.screen import Screen
+from pdsuite.signals import Stop
+from pdsuite.watch.fleet import Fleet
+from pdsuite.watch.folder_moves import Outcomes
+from pdsuite.watch.folders import Choice, Folders
+from pdsuite.watch.refused_proof import RefusedProof
+from pdsuite.watch.run_changes import WantedScript
+from pdsuite.watch.sender import LiveSender, SenderFollower
+from pdsuite.watch.settings_files import SettingsFiles
+from pdsuite.watch.turned import Base, Before, BuildBefore, turned
+from pdsuite.watch.view import Compare, View
+from pdsuite.watch.watcher import Event, Watcher
+
+if TYPE_CHECKING:
+    from pdsuite.page.drawing import Drawing
+    from pdsuite.page.sheets import Entry
+
+_ANOTHER = "another program stands: all scripts ran again"
+_PROVED = "the sender is proved: all scripts ran again"
+_BUILT = "the sender is built without proofs: all scripts ran again"
+_AGAIN = "the sender stands again that was before"
+_NO_BUILD = "the sender isn't built:"
+
+
+class Refused(Exception):
+    """That the first sender refuses the settings of the call; the lines say which."""
+
+    def __init__(self, lines: Sequence[str]) -> None:
+        super().__init__()
+        self.lines = lines
+
+
+@dataclass(frozen=True)
+class Watched:
+    """What is watched: which scripts, the settings before all others, by how many threads, and against which sender."""
+
+    choice: Choice
+    option: Layer
+    threads: int
+    base: Base | None
+
+
+class Session:
+    """What is watched, and the runs of the sender by which rows come. It ends with `held`."""
+
+    def __init__(
+        self,
+        watched: Watched,
+        view: View,
+        screen: Screen,
+        follower: SenderFollower,
+        drawing: "Drawing | None",
+        stop: Stop,
+        held: ExitStack,
+    ) -> None:
+        self._watched = watched
+        self._view = view
+        self._screen = screen
+        self._follower = follower
+        self._drawing = drawing
+        self._stop = stop
+        self._sender: LiveSender | None = None
+        self._fleet: Fleet | None = None
+        self._is_new = False
+        self._refused_proof = RefusedProof()
+        self._runs = held.enter_context(ExitStack())
+        self._watcher = held.enter_context(Watcher())
+        self._sources = held.enter_context(Watcher())
+        settings_files = SettingsFiles(watched.option, self._refused, screen.note)
+        self._folders = Folders(watched.choice, settings_files, self._watcher, stop, screen.note)
+
+    def follow(self) -> NoReturn:
+        """Shows what changes, on and on, until a signal comes."""
+        while True:
+            try:
+                self._look()
+                self._step()
+            except SenderChanged:
+                continue  # the next look says what stands
+            self._wait()
+            self._stop.check()
+
+    def _look(self) -> None:
+        """Looks at which sender stands, and goes over to it."""
+        follower = self._follower
+        self._sources.watch(follower.folders())
+        self._sources.read()
+        failure = follower.failure
+        if follower.look(time.monotonic()) or follower.sender != self._sender:
+            self._go_over(follower.sender)
+            if not follower.is_current:
+                self._view.leave(follower.reason)
+            if follower.failure and follower.failure != failure:
+                self._view.refuse([_NO_BUILD, *follower.failure])
+        if lines := self._refused_proof.look():
+            self._view.refuse(lines)
+        self._tell(follower.doing)
+
+    def _go_over(self, sender: LiveSender | None) -> None:
+        """Goes over to the sender that answers now."""
+        before = self._sender
+        if sender is None:
+            self._end_runs()
+        elif sender != before:
+            self._begin(sender)
+            self._view.turn(
+                self._explainer(sender), _words(before, sender), not sender.is_proved, self._compare(before)
+            )
+        elif self._follower.is_current:
+            self._view.turn(self._explainer(sender), _AGAIN, not sender.is_proved)
+            self._is_new = True
+
+    def _compare(self, before: LiveSender | None) -> Compare | None:
+        """What finds the scripts that the sender turned."""
+        base, sender = self._watched.base, self._sender
+        if sender is None or base is None and before is None:
+            return None
+        other: Before = base or BuildBefore(None if before is None else before.paths)
+        programs = sender.paths
+        return lambda shown, now: turned(other, programs, shown, now, self._stop, self._screen.note)
+
+    def _step(self) -> None:
+        events, now = self._watcher.read(), time.monotonic()
+        if self._fleet is None or self._sender is None:
+            self._folders.look(events, now)
+            return
+        step(self._folders, self._fleet, self._view, events, now, self._drawing, self._sender.check, self._is_new)
+        self._is_new = False
+
+    def _tell(self, doing: str) -> None:
+        """Says what is built, at the bottom of a terminal and on the page."""
+        if doing or not self._follower.is_current:
+            self._view.tell(doing)
+        if self._drawing is not None:
+            why = self._follower.phase or self._follower.reason
+            self._drawing.mark("" if self._follower.is_current else f"the sender has changed; {why}")
+
+    def _wait(self) -> None:
+        files = [self._stop.fileno(), self._watcher.fileno(), self._sources.fileno(), *self._follower.filenos()]
+        files += [it.program.fileno() for it in (self._fleet.runs if self._fleet else ())]
+        if self._drawing is not None:
+            self._drawing.look()
+            files += self._drawing.filenos()
+        until = min(self._folders.due(), self._follower.due(time.monotonic()))
+        _wait(until, [it for it in files if it is not None])
+
+    def _refused(self, claims: Iterable[Claim]) -> list[str]:
+        """The lines of the claims that the sender refuses; nothing while there is none."""
+        if (sender := self._sender) is None:
+            return []
+        program = sender.regress.path
+        sender.check()
+        return refusals(claims, lambda: Program([program], self._stop))
+
+    def _explainer(self, sender: LiveSender) -> Explainer:
+        return Explainer(sender.regress.path, self._stop, self._screen.note, of_ends=True)
+
+    def _begin(self, sender: LiveSender) -> None:
+        """Begins runs of a sender in place of those of the one before."""
+        is_first = self._view.status is None
+        self._end_runs()
+        start = start_with(sender.regress.path, self._watched.threads, RUN, self._stop)
+
+        def checked(settings: Settings) -> Program:
+            sender.check()
+            return start(settings)
+
+        self._sender = sender
+        if is_first and (lines := self._refused(claims_of([self._watched.option]))):
+            raise Refused(lines)
+        self._fleet = self._runs.enter_context(Fleet(checked, self._screen.note, self._view.tell))
+        self._is_new = True
+        if not is_first:
+            self._folders.check_settings()
+        if self._drawing is not None:
+            self._drawing.turn(*sender.paths, not sender.is_proved)
+
+    def _end_runs(self) -> None:
+        self._runs.close()
+        self._fleet = self._sender = None
+
+
+def _words(before: LiveSender | None, sender: LiveSender) -> str:
+    """What is said of a sender before its first report."""
+    if not sender.is_proved:
+        return _BUILT
+    return _PROVED if before is not None and not before.is_proved else _ANOTHER
+
+
+def step(
+    folders: Folders,
+    fleet: Fleet,
+    view: View,
+    events: Sequence[Event],
+    now: float,
+    drawing: "Drawing | None" = None,
+    check: Callable[[], None] = lambda: None,
+    is_new: bool = False,
+) -> None:
+    """Looks at what is reported or due, has run again what that changes, and shows what came of it.
+
+    `check` raises SenderChanged where the program has another file than its runs; `is_new` says that these are new.
+    """
+    has_changed = folders.look(events, now)
+    if fleet.mend() or has_changed or is_new:
+        if drawing is not None:
+            drawing.end()
+        wanted, unfit = folders.wanted()
+        fleet.follow(wanted)
+        check()
+        view.show(_outcomes(folders, fleet, unfit), wanted, now, folders.is_strict, check)
+        if drawing is not None:
+            drawing.follow(_entries(view.outcomes, wanted))
+
+
+def _entries(outcomes: Outcomes, wanted: Mapping[str, WantedScript]) -> "list[Entry]":
+    """What the page shows."""
+    from pdsuite.page.sheets import Entry
+
+    return [
+        Entry(replace(it, settings=wanted[path].settings), wanted[path].text) if path in wanted else Entry(it)
+        for path, it in outcomes.items()
+    ]
+
+
+def _outcomes(folders: Folders, fleet: Fleet, unfit: Mapping[str, str]) -> Outcomes:
+    """What came of each script, in the order of paths."""
+    rows = {**dict(fleet.rows()), **{path: Row(Verdict.ERROR, word=why) for path, why in unfit.items()}}
+    return {path: _outcome(path, it.file.value, rows[path], folders) for path, it in folders.files.items()}
+
+
+def _outcome(path: str, text: Text | str, row: Row, folders: Folders) -> Outcome:
+    line = text.line(row.line) if isinstance(text, Text) and row.line is not None else None
+    outcome = Outcome(path, (), row, line, expected=folders.expected(path))
+    if outcome.warnings:
+        outcome.is_strict = folders.is_strict(path)
+    return outcome
+
+
+def _wait(until: float, files: Iterable[int]) -> None:
+    """Waits until a moment, or until one of these can be read."""
+    poll = select.poll()
+    for file in files:
+        poll.register(file, select.POLLIN)
+    poll.poll(max(0.0, until - time.monotonic()) * 1_000)

@@ -1,0 +1,253 @@
+"""What was shown while scripts are watched, and what each report shows beside that."""
+
+import time
+from collections.abc import Callable, Iterator, Mapping, Sequence
+from dataclasses import replace
+
+from pdsuite.compare.comparison import ComparedScript
+from pdsuite.programs.rows import Row, Verdict
+from pdsuite.programs.standing import SenderChanged
+from pdsuite.run.explainer import Explainer
+from pdsuite.run.outcomes import Outcome
+from pdsuite.run.runs import Script, runs_of
+from pdsuite.run.settling import SettledPiece
+from pdsuite.show.screen import Screen
+from pdsuite.show.styled_text import StyledText
+from pdsuite.signals import Stopped
+from pdsuite.watch.change_report import ChangeReport, changed, of_sender_before, totals_of
+from pdsuite.watch.folder_moves import Move, Outcomes
+from pdsuite.watch.run_changes import WantedScript
+from pdsuite.watch.turned import Shown
+
+_NO_SCRIPT = 2
+_FAULT = 2
+_NOT_RUN = Row(Verdict.NOT_RUN)
+
+Wanted = Mapping[str, WantedScript]
+
+
+# The scripts that turned, by what was shown of them and by what is now.
+Compare = Callable[[Shown, Shown], Sequence[ComparedScript]]
+
+
+def _nothing() -> None:
+    """Where programs stay as they are."""
+
+
+class View:
+    """What was shown last."""
+
+    def __init__(
+        self, screen: Screen, explainer: Explainer | None, every: bool, news: ChangeReport, of_known: bool = False
+    ) -> None:
+        self.outcomes: Outcomes = {}
+        self._status: int | None = None
+        self._screen = screen
+        self._explainer = explainer
+        self._every = every
+        self._news = news
+        self._of_known = of_known
+        self._wanted: Wanted = {}
+        self._ends: dict[str, tuple[WantedScript, str]] = {}
+        self._is_current = True
+        self._marked: set[str] = set()  # the scripts whose last row was shown as one of the sender before
+        self._turn: str | None = None  # what is said of another sender before its first report
+        self._compare: Compare | None = None
+
+    @property
+    def status(self) -> int | None:
+        """The exit status of the last report, if there was one: 2 where its sender doesn't stand any more."""
+        return self._status if self._status is None or self._is_current else _FAULT
+
+    def leave(self, why: str) -> None:
+        """Says that the sender doesn't stand any more of which all rows are."""
+        if self._is_current and self._status is not None:
+            self._screen.show(self._news.head().append_text(self._news.left(why)))
+        self._is_current = False
+        self.tell("")
+
+    def refuse(self, lines: Sequence[str]) -> None:
+        """Says why no sender can be built, or be proved."""
+        self._screen.show(self._news.head().append_text(self._news.refused(lines)))
+        self.tell("")
+
+    def turn(
+        self, explainer: Explainer, words: str, is_unproved: bool = False, compare: "Compare | None" = None
+    ) -> None:
+        """Goes over to a sender that stands.
+
+        Its first report begins with these words, and ends with the scripts that turned, if `compare` finds these.
+        """
+        self._explainer = explainer
+        self._compare = compare
+        self._news.is_unproved = is_unproved
+        self._ends = {}
+        self._is_current = True
+        self._turn = words
+        self.tell("")
+
+    def show(
+        self,
+        outcomes: Outcomes,
+        wanted: Wanted,
+        begin: float,
+        is_strict: Callable[[str], bool] = lambda path: False,
+        check: Callable[[], None] = _nothing,
+    ) -> None:
+        """Shows what changed, with what is to be warned of at the ends of scripts that pass.
+
+        `check` raises SenderChanged where what was told isn't surely of the program whose rows these are.
+        """
+        stopped = None
+        try:
+            self._ask_ends(outcomes, wanted)
+        except Stopped as end:
+            stopped = end
+        check()
+        warned = {path: end for path, (_, end) in self._ends.items() if end and path in outcomes}
+        put = {path: replace(outcomes[path], at_end=end, is_strict=is_strict(path)) for path, end in warned.items()}
+        self._show({**outcomes, **put}, wanted, begin, check)
+        if stopped is not None:
+            raise stopped
+
+    def tell(self, doing: str) -> None:
+        """Keeps at the bottom of a terminal how many scripts pass, and what is running."""
+        totals = totals_of(self.outcomes)
+        passing = "" if self._status is None else f"{totals.passing:,} of {totals.scripts:,} pass"
+        if passing and not (self._is_current and self._turn is None):
+            passing += " by the sender before"
+        self._screen.bottom(", ".join(it for it in (passing, doing) if it))
+
+    def _ask_ends(self, outcomes: Outcomes, wanted: Wanted) -> None:
+        """Asks what scripts that pass leave at their ends, of those alone that aren't as they were."""
+        passing = [it for it in outcomes.values() if it.row.verdict is Verdict.PASS and it.row.number]
+        self._ends = {it.path: known for it in passing if (known := self._ends.get(it.path))}
+        asked = [it for it in passing if it.path not in self._ends or self._ends[it.path][0] != wanted[it.path]]
+        for outcome in self._explained(asked, wanted):
+            self._ends[outcome.path] = wanted[outcome.path], outcome.at_end
+
+    def _show(self, outcomes: Outcomes, wanted: Wanted, begin: float, check: Callable[[], None]) -> None:
+        """Shows what changed: the rows at once, what is told of them once it is; at first all in one."""
+        outcomes = self._placed(outcomes, wanted)
+        check()
+        before = self._before()
+        rows, moves = StyledText(), self._news.moves(before, outcomes, self._wanted, wanted)
+        if self._status is not None:
+            rows = self._news.rows(before, outcomes, moves)
+        if rows.plain:
+            self._screen.show(self._head().append_text(self._as_it_stands(rows)))
+            self._note_marked(before, outcomes)
+        after = {path: self.outcomes[path] if self._is_told(it, wanted) else it for path, it in outcomes.items()}
+        asked = [it for path, it in after.items() if self._is_asked(it) and it is outcomes[path]]
+        stopped = None
+        try:
+            for outcome in self._explained(asked, wanted):
+                after[outcome.path] = outcome
+        except Stopped as end:
+            stopped = end
+        try:
+            turned = self._turned(after, wanted) if stopped is None else ()
+            check()
+        except SenderChanged:
+            # The rows were shown; what is told of them may be another program's.
+            self.outcomes, self._wanted = outcomes, wanted
+            raise
+        self._close(before, after, bool(rows.plain), moves, begin, turned)
+        self._wanted = wanted
+        if stopped is not None:
+            raise stopped
+
+    def _placed(self, outcomes: Outcomes, wanted: Wanted) -> Outcomes:
+        """The outcomes, those of texts that are no scripts with what is told of them: it says where these break off."""
+        placed = dict(outcomes)
+        unread = [it for it in outcomes.values() if it.row.verdict is Verdict.SYNTAX and not self._is_told(it, wanted)]
+        try:
+            placed.update((it.path, it) for it in self._explained(unread, wanted))
+        except Stopped:
+            pass  # the rows are shown all the same
+        return placed
+
+    def _turned(self, after: Outcomes, wanted: Wanted) -> Sequence[ComparedScript]:
+        """The scripts that another sender turned."""
+        if self._compare is None:
+            return ()
+        found = self._compare(Shown(self.outcomes, self._wanted), Shown(after, wanted))
+        self._compare = None
+        return found
+
+    def _close(
+        self,
+        before: Outcomes,
+        after: Outcomes,
+        has_changed: bool,
+        moves: Sequence[Move],
+        begin: float,
+        turned: Sequence[ComparedScript],
+    ) -> None:
+        """Shows what stands after the rows, and notes what was shown."""
+        compared = self._news.compared(turned)
+        if self._status is None:
+            first = self._news.first(after, self._every, time.monotonic() - begin)
+            self._screen.show(self._as_it_stands(compared.append_text(first)))
+        else:
+            told = {it.path for it in turned} if self._news.is_brief else set()
+            others = {path: it for path, it in after.items() if path not in told}
+            blocks = compared.append_text(self._news.blocks(before, others, moves))
+            head = StyledText() if has_changed else self._head()
+            if has_changed or blocks.plain or self._turn is not None:
+                foot = self._news.foot(after, time.monotonic() - begin)
+                self._screen.show(head.append_text(self._as_it_stands(blocks.append_text(foot))))
+        if not after and (self.outcomes or self._status is None):
+            self._screen.note("pdsuite: no script found")
+        self.outcomes = after
+        self._turn = None
+        self._status = totals_of(after).status() if after else _NO_SCRIPT
+        self.tell("")
+
+    def _head(self) -> StyledText:
+        """What stands before a report that isn't the first; of another sender what is said of it, too."""
+        head = self._news.head()
+        return head if self._turn is None else head.append_text(self._news.turned(self._turn))
+
+    def _before(self) -> Outcomes:
+        """What was shown; where a sender stands, no row of the one before counts as shown."""
+        if not self._is_current:
+            return self.outcomes
+        return {path: replace(it, row=_NOT_RUN) if path in self._marked else it for path, it in self.outcomes.items()}
+
+    def _note_marked(self, before: Outcomes, outcomes: Outcomes) -> None:
+        """Notes whose rows were shown of which sender."""
+        if self._is_current:
+            self._marked.clear()
+        else:
+            self._marked.update(it.path for it in changed(before, outcomes))
+
+    def _as_it_stands(self, text: StyledText) -> StyledText:
+        """A part of a report, which says of which sender it is where that doesn't stand."""
+        return text if self._is_current else of_sender_before(text)
+
+    def _is_told(self, outcome: Outcome, wanted: Wanted) -> bool:
+        """Whether what was told of a script is told of this outcome."""
+        path = outcome.path
+        old = self.outcomes.get(path)
+        if old is None or self._turn is not None:
+            return False
+        if (old.row, old.passes, old.expected) != (outcome.row, outcome.passes, outcome.expected):
+            return False
+        return self._wanted.get(path) == wanted.get(path)
+
+    def _is_asked(self, outcome: Outcome) -> bool:
+        """Whether it is asked why an outcome is so; of a known one nothing is shown but on the page."""
+        return outcome.row.line is not None and not outcome.told and (self._of_known or not outcome.is_known)
+
+    def _explained(self, outcomes: Sequence[Outcome], wanted: Wanted) -> Iterator[Outcome]:
+        """Outcomes with what is told of them, piece by piece."""
+        explainer = self._explainer
+        if explainer is None:
+            return
+        scripts = [Script(index, it.path, wanted[it.path].settings) for index, it in enumerate(outcomes)]
+        for run in runs_of(scripts):
+            for piece in run.pieces:
+                texts = {it.index: wanted[it.path].text for it in piece}
+                settled = SettledPiece([(it, outcomes[it.index]) for it in piece], texts)
+                yield from (outcome for _, outcome in explainer.explain(settled))

@@ -1,0 +1,225 @@
+"""A sender that changes while scripts are watched, edited or run: no row of the one before is shown as current."""
+
+import os
+import signal
+import time
+from pathlib import Path
+
+import pytest
+
+from tests.helpers import PASSES, is_alive, write
+from tests.lsp_client import CAPABILITIES, Json, LspClient
+from tests.trees import Tree, put_program, stand_in
+from tests.watching import Watching
+
+LEFT = "the sender has changed: all rows above are of the sender before\n"
+BEFORE = " (by the sender before)\n"
+ANOTHER = "another program stands: all scripts ran again\n"
+AGAIN = "the sender stands again that was before\n"
+UNPROVED = "  pdregress isn't proved and built, or has changed since: run ./prove pdregress\n"
+SENDER = b"sender\n"
+OTHER = stand_in("fail 1 seq")
+SOURCE = "crates/pdregress/src/rule.rt"
+
+
+@pytest.fixture
+def tree(tmp_path: Path) -> Tree:
+    """A tree whose programs count as proved, and which builds none without: the row of script `a` is its sender's."""
+    made = Tree(tmp_path)
+    (made.top / SOURCE).write_text("// a rule\n")
+    made.prove(pdregress=stand_in())
+    write(made.suite, a=SENDER, b=PASSES)
+    return made
+
+
+def watched(tree: Tree, *words: str) -> Watching:
+    return Watching(tree.suite, None, *words, ".", pdsuite=tree.top / "pdsuite", environment=tree.environment)
+
+
+def folder_of(tmp_path: Path, octets: bytes) -> Path:
+    """A folder of programs."""
+    put_program(tmp_path / "programs/pdregress", octets)
+    return tmp_path / "programs"
+
+
+def test_a_replaced_program_is_started_and_all_is_asked_of_it(tmp_path: Path) -> None:
+    write(tmp_path / "suite", a=SENDER, b=PASSES)
+    programs = folder_of(tmp_path, stand_in())
+    with Watching(tmp_path, programs, "suite") as watching:
+        before = watching.programs()
+        folder_of(tmp_path, OTHER)
+        watching.await_out(f"{ANOTHER}suite/a.pkt:1: fail seq\nsuite/a.pkt: turned\n  before: pass 1\n")
+        watching.await_out("  after: line 1: fail seq: so it is\n    by fail 1 seq\n")
+        watching.await_out("total ", 2)
+        assert not any(map(is_alive, before)) and watching.err == ""
+        watching.await_truth("suite")
+        folder_of(tmp_path, stand_in())
+        watching.await_out(f"{ANOTHER}suite/a.pkt: pass 1\n")
+        watching.await_truth("suite")
+
+
+def test_a_source_that_changes_is_told_and_rows_from_then_on_say_whose_they_are(tree: Tree) -> None:
+    with watched(tree) as watching:
+        (tree.top / SOURCE).write_text("// another rule\n")
+        watching.await_out(LEFT + UNPROVED)
+        write(tree.suite, b=b"row fail 1 seq\nx\n")
+        watching.await_out(f"b.pkt:1: fail seq{BEFORE}b.pkt:1: fail seq: so it is{BEFORE}  x\n")
+        (tree.top / SOURCE).write_text("// a rule\n")
+        watching.await_out(f"{AGAIN}b.pkt:1: fail seq\n")
+        watching.await_out("total ", 3)
+        assert watching.out.count(LEFT) == 1
+        assert watching.ends(signal.SIGINT).status == 1
+
+
+def test_where_none_stands_the_status_is_2_whatever_the_last_report(tree: Tree) -> None:
+    with watched(tree) as watching:
+        (tree.top / SOURCE).write_text("// another rule\n")
+        watching.await_out(LEFT)
+        assert watching.ends(signal.SIGTERM).status == 2
+
+
+def test_a_program_that_is_proved_takes_over(tree: Tree) -> None:
+    with watched(tree) as watching:
+        (tree.top / SOURCE).write_text("// another rule\n")
+        watching.await_out(LEFT)
+        tree.prove(pdregress=OTHER)
+        watching.await_out(f"{ANOTHER}a.pkt:1: fail seq\n")
+        watching.await_out("total ", 2)
+        assert watching.out.count(LEFT) == 1
+
+
+def test_another_file_at_the_path_of_a_program_that_ends_is_not_started(tree: Tree) -> None:
+    mark = tree.notes / "mark"
+    with watched(tree) as watching:
+        (run,) = watching.programs()
+        os.kill(watching.process, signal.SIGSTOP)
+        tree.put_program("pdregress", f"#!/bin/sh\ntouch {mark}\n".encode())
+        os.kill(run, signal.SIGKILL)
+        os.kill(watching.process, signal.SIGCONT)
+        watching.await_out(LEFT + UNPROVED)
+        write(tree.suite, b=b"row fail 1 seq\n")
+        time.sleep(0.5)
+        assert not mark.exists() and watching.programs() == []
+        tree.prove(pdregress=stand_in())
+        watching.await_out(f"{ANOTHER}b.pkt:1: fail seq\n")
+
+
+def test_what_a_package_has_is_looked_at_without_a_process(tmp_path: Path) -> None:
+    tree = Tree(tmp_path / "usr/lib")
+    (tree.top / "version").write_text("0.2.0\n")
+    mark = tmp_path / "mark"
+    (tree.top / "tools/built.sh").write_text(f"#!/bin/sh\ntouch {mark}\nexit 2\n")
+    put_program(tmp_path / "usr/bin/pdregress", stand_in())
+    write(tree.suite, a=SENDER)
+    with watched(tree) as watching:
+        (tree.top / SOURCE).write_text("// a rule\n")
+        write(tree.suite, a=b"row fail 1 seq\n")
+        watching.await_out("a.pkt:1: fail seq\n")
+        assert LEFT not in watching.out and not mark.exists()
+    assert tree.call("run", "suite").status == 1 and not mark.exists()
+
+
+@pytest.mark.parametrize(
+    ("words", "said"),
+    [
+        (("run",), "run the scripts again"),
+        (("record", "--write"), "nothing is written"),
+        (("expect", "--reason", "so it is"), "nothing is written"),
+        (("compare", "--base", "base"), "compare again"),
+    ],
+    ids=["run", "record", "expect", "compare"],
+)
+def test_a_sender_that_changes_in_the_midst_is_said_and_the_status_is_2(
+    words: tuple[str, ...], said: str, tree: Tree
+) -> None:
+    tree.prove(pdregress=stand_in(), pdrecord=(tree.bin / "pdrecord").read_bytes())
+    base = tree.suite.parent / "base"
+    base.mkdir()
+    for name in ("pdregress", "pdrecord"):
+        (base / name).write_bytes((tree.bin / name).read_bytes())
+        (base / name).chmod(0o755)
+    script = f"touch {tree.top / SOURCE}\n// more\n".encode()
+    write(tree.suite, a=script, b=b"row fail 1 seq\nfor pdrecord\n")
+    called = tree.call(*words, "suite")
+    *_, last = called.err.splitlines()
+    assert (called.status, last) == (2, f"pdsuite: the sender has changed meanwhile: {said}")
+    assert not (tree.suite / "pdsuite.toml").exists() and b"row" in (tree.suite / "b.pkt").read_bytes()
+
+
+def test_an_unproved_run_sees_that_sources_changed_in_the_midst(tree: Tree) -> None:
+    (tree.top / SOURCE).write_text("// another rule\n")
+    write(tree.suite, a=f"touch {tree.top / SOURCE}\n".encode())
+    called = tree.call("run", "suite")
+    assert called.status == 2 and "the sender has changed meanwhile: run the scripts again" in called.err
+
+
+def test_a_touched_source_is_no_change(tree: Tree) -> None:
+    write(tree.suite, a=f"touch {tree.notes / 'elsewhere'}\n".encode())
+    (tree.top / SOURCE).touch()
+    assert tree.call("run", "suite").status == 0
+
+
+DIMS: Json = {
+    **CAPABILITIES,
+    "textDocument": {**CAPABILITIES["textDocument"], "publishDiagnostics": {"tagSupport": {"valueSet": [1]}}},
+}
+
+
+def served(tree: Tree) -> LspClient:
+    """A language server of a tree, in which both programs are proved."""
+    tree.prove(pdregress=stand_in(), pdrecord=(tree.bin / "pdrecord").read_bytes())
+    return LspClient(None, tree.suite, can=DIMS, pdsuite=tree.top / "pdsuite", there=tree.environment)
+
+
+def first(told: Json) -> str:
+    """The first line of a diagnostic."""
+    return str(told["message"]).partition("\n")[0]
+
+
+def lens(client: LspClient, uri: str) -> str:
+    """What stands above a script."""
+    title: str = client.request("textDocument/codeLens", {"textDocument": {"uri": uri}})[0]["command"]["title"]
+    return title
+
+
+def test_an_editor_is_told_of_a_source_that_changes_and_all_is_marked(tree: Tree) -> None:
+    with served(tree) as client:
+        uri = client.open(tree.suite / "b.pkt", "row fail 1 seq\n")
+        (told,) = client.settled(uri)
+        assert (first(told), "tags" in told) == ("fail seq: ", False)
+        assert lens(client, uri) == "fail 1 seq"
+        (tree.top / SOURCE).write_text("// another rule\n")
+        (told,) = client.told(uri, lambda it: first(it[0]) != "fail seq: ", "a mark")
+        assert (first(told), told["tags"]) == ("fail seq:  (by the sender before)", [1])
+        assert lens(client, uri) == "fail 1 seq (by the sender before)"
+        (said,) = client.shown
+        assert said.startswith("pdsuite: the sender has changed: until another one stands")
+        client.put(uri, "row fail 1 ack\n")
+        (told,) = client.settled(uri)
+        assert first(told) == "fail ack:  (by the sender before)"
+        (tree.top / SOURCE).write_text("// a rule\n")
+        (told,) = client.told(uri, lambda it: first(it[0]) == "fail ack: ", "no mark")
+        assert "tags" not in told
+
+
+def test_an_editor_gets_all_anew_of_a_program_that_takes_over(tree: Tree) -> None:
+    with served(tree) as client:
+        uri = client.open(tree.suite / "a.pkt")
+        assert client.settled(uri) == []
+        (tree.top / SOURCE).write_text("// another rule\n")
+        client.wait(lambda: bool(client.shown), "a message")
+        tree.prove(pdregress=OTHER, pdrecord=(tree.bin / "pdrecord").read_bytes())
+        (told,) = client.told(uri, bool, "a diagnostic")
+        assert first(told) == "fail seq: so it is" and lens(client, uri) == "fail 1 seq"
+
+
+def test_an_editor_has_no_program_started_that_is_not_proved(tree: Tree) -> None:
+    mark = tree.notes / "mark"
+    with served(tree) as client:
+        uri = client.open(tree.suite / "b.pkt", "row fail 1 seq\n")
+        client.settled(uri)
+        tree.put_program("pdregress", f"#!/bin/sh\ntouch {mark}\n".encode())
+        client.wait(lambda: bool(client.shown), "a message")
+        client.actions(uri, 0)
+        client.put(uri, "row fail 1 ack\n")
+        assert client.actions(uri, 0) == [] and not mark.exists()
