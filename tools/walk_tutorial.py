@@ -7,6 +7,7 @@ The gate runs the other commands, with the built programs; see tests/documents.p
 """
 
 import argparse
+import os
 import subprocess
 import sys
 import time
@@ -28,6 +29,8 @@ def main(words: list[str]) -> int:
     folder = parser.parse_args(words).folder.absolute()
     folder.mkdir(parents=True)
     tree = folder / "pdregress"
+    # What was built before doesn't count: a newcomer has nothing.
+    os.environ["XDG_CACHE_HOME"] = str(folder / "cache")
     subprocess.run(["git", "clone", "-q", TOP, tree], check=True)
     begin = time.monotonic()
     passed = failed = 0
