@@ -2,13 +2,14 @@
 
 import os
 import shutil
+import signal
 import subprocess
 from pathlib import Path
 
 import pytest
 
 from pdsuite.scripts.rewriting import as_written, hunks_of
-from tests.helpers import HANGS, TOP, Call, Called, write
+from tests.helpers import HANGS, TOP, Call, Called, ends, wait_for, write
 
 STAND_IN = Path(__file__).with_name("stand_in_record.py")
 FAILS, PASSES = b"row fail 1 seq\n", b"row pass 1\n"
@@ -145,6 +146,17 @@ def test_a_program_that_ends_on_a_script_goes_on_after_it(recorders: Path, tmp_p
     called = call(recorders, "record", "a.pkt", "b.pkt", "c.pkt")
     assert "b.pkt: isn't recorded: " in called.err
     assert called.out.splitlines()[-1] == "total 3 changed 2 lines +0 -2 not recorded 1"
+
+
+def test_a_signal_ends_it_with_what_was_written(recorders: Path, tmp_path: Path) -> None:
+    write(tmp_path / "suite", a=b"row fail 1 seq\n", b=f"stall {tmp_path}/mark\n".encode())
+    environment = {**os.environ, "PDSUITE_PROGRAMS": str(recorders)}
+    command = [TOP / "pdsuite", "record", "--write", "suite"]
+    process = subprocess.Popen(command, cwd=tmp_path, env=environment, stdout=subprocess.PIPE, stderr=subprocess.PIPE)
+    wait_for(tmp_path / "mark", process)
+    status, out, err = ends(process, signal.SIGINT)
+    assert (status, out) == (130, "")
+    assert err == "pdsuite: ended by a signal: 0 of 2 scripts were written\n"
 
 
 def of_input(folder: Path, place: Path, text: bytes, *words: str) -> Called:

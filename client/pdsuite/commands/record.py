@@ -80,6 +80,7 @@ def record(options: RecordOptions, screen: Screen) -> int:
     """Records scripts, shows or writes what changes, and answers the exit status."""
     with Stop() as stop:
         suite = Suite(option_of(options.settings))
+        scripts: list[Script] = []
         try:
             scripts = _scripts(options, suite, stop)
             steady = Steady(own_look(REGRESS, RECORD))
@@ -95,10 +96,12 @@ def record(options: RecordOptions, screen: Screen) -> int:
             each = _recorded(scripts, texts, ways, recorder, screen, stop)
             steady.need_same("nothing is written" if options.writes else "record again")
         except Stopped as stopped:
+            if options.writes:
+                say(_cut(0, len(scripts)))
             return stopped.status
         finally:
             screen.clear()
-    return _end(each, options.writes, screen)
+        return _end(each, options.writes, screen, stop)
 
 
 def _scripts(options: RecordOptions, suite: Suite, stop: Stop) -> list[Script]:
@@ -199,15 +202,25 @@ def _rewritten(script: Script, text: bytes, it: Recording) -> Recorded:
     return Recorded(script, Rewriting(script.path, text, as_written(text, recording)))
 
 
-def _end(each: Sequence[Recorded], writes: bool, screen: Screen) -> int:
+def _cut(written: int, count: int) -> str:
+    """The line that says what was written before a signal came."""
+    return f"pdsuite: ended by a signal: {written:,} of {count:,} scripts were written"
+
+
+def _end(each: Sequence[Recorded], writes: bool, screen: Screen, stop: Stop) -> int:
     """Shows or writes what changes, and says what isn't recorded."""
     changed = [it for it in each if it.is_changed]
     is_input = [it.script.path for it in each] == [str(INPUT)]
     if is_input and writes:
         _write_output(each[0])
     else:
-        for it in changed:
+        for number, it in enumerate(changed):
             if writes:
+                try:
+                    stop.check()
+                except Stopped as stopped:
+                    say(_cut(number, len(changed)))
+                    return stopped.status
                 write(Path(it.script.path), it.rewriting.new, keeps_rights=True)
             else:
                 screen.show(diff_of(it.rewriting))
