@@ -13,8 +13,8 @@ import shutil
 import signal
 import subprocess
 import sys
-from collections.abc import Callable
 from pathlib import Path
+from typing import Callable
 
 import source_sums
 from fault_places import places_of
@@ -119,8 +119,10 @@ def read(kit: Kit, top: Path, room: Path, note: Note) -> None:
     words = words_of_reader(kit, tree, PROGRAM, toolchain)
     status, said = run(words, tree / "crates" / PROGRAM, room / "temporary", lambda: note(READING))
     if not (room / "module.bc").exists():
-        if status == REFUSED:
-            raise NotCompiled(placed(said, tree, top))
+        refused = placed(said, tree, top)
+        # This tree's main file may not fit the crates of another one, an older one, say.
+        if status == REFUSED and not (is_lent(top) and os.fsencode(main_of(top)) in refused):
+            raise NotCompiled(refused)
         raise NoBuild(f"the kit's reader ended with status {status}")
     entry.mkdir(mode=0o700)
     (room / "module.bc").rename(entry / "module.bc")
@@ -128,6 +130,11 @@ def read(kit: Kit, top: Path, room: Path, note: Note) -> None:
     (entry / "places.json").write_text(json.dumps(places_of(tree)))
     shutil.copy(TOOLS / "tell_fault.py", entry)
     (entry / SUM).write_text(sum_of(entry / "module.bc"))
+
+
+def is_lent(top: Path) -> bool:
+    """Whether a tree has no main file for both programs, and so takes this tree's."""
+    return main_of(top) != top / "tools" / "either.rattle"
 
 
 def put_tree(top: Path, tree: Path) -> None:

@@ -4,10 +4,10 @@ from __future__ import annotations
 import re
 from collections.abc import Iterator
 from pathlib import Path
-from typing import Union
+from typing import Dict, List, Tuple, Union
 
-Function = tuple[int, int, dict[str, list[int]]]
-Module = dict[str, Union[str, dict[str, Function]]]
+Function = Tuple[int, int, Dict[str, List[int]]]
+Module = Dict[str, Union[str, Dict[str, Function]]]
 
 BLOCK = re.compile(r"(?:impl|trait)\b(?:<.*?>)? (?:.*? for )?(?:\w+::)*(\w+)")
 HEAD = re.compile(r"( *)(?:pub(?:\([^)]*\))? )?(?:const )?fn (\w+)")
