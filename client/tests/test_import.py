@@ -321,6 +321,13 @@ def test_names_of_any_octets_have_their_settings(programs: Path, tmp_path: Path,
     assert call(None, "list", "to").out.count("initial_window") == len(names)
 
 
+def test_one_script_is_imported_by_its_name(tmp_path: Path, call: Call) -> None:
+    write(tmp_path / "from", a=PASSES, b=PASSES)
+    called = call(None, "import", "from/a.pkt", "to")
+    assert (called.status, called.out.splitlines()[0].partition(":")[0]) == (0, "from/a.pkt")
+    assert sorted(it.name for it in (tmp_path / "to").iterdir()) == ["a.pkt", "pdsuite.toml"]
+
+
 def test_settings_that_no_run_can_be_given_are_refused(tmp_path: Path, call: Call) -> None:
     write(tmp_path / "from", a=PASSES)
     (tmp_path / "from/pdsuite.toml").write_text("mss = [1]\n")

@@ -180,8 +180,11 @@ REFUSED = [
     ("ip route change default initcwnd 5", "another initial window"),
     ("ip route change default initcwnd x", "another initial window"),
     ("ip route change default rto_min 300", "a value that isn't read"),
-    ("ip route change default rto_min 0s", "no value of min_rto_us"),
-    ("sysctl net.ipv4.tcp_rto_max_ms=59999", "no value of max_rto_us"),
+    ("ip route change default rto_min 0s", "no value of min_rto_us, which takes 1,000 to 60,000,000 microseconds"),
+    (
+        "sysctl net.ipv4.tcp_rto_max_ms=59999",
+        "no value of max_rto_us, which takes 60,000,000 to 3,600,000,000 microseconds",
+    ),
     ("sysctl net.ipv4.tcp_rmem=65536", "a value that isn't read"),
     ("sysctl net.ipv4.tcp_sack=2", "a value that isn't read"),
     ("sysctl net.ipv4.tcp_ecn=1", "ECN"),

@@ -12,7 +12,7 @@ from pdsuite.imports.conversion import Imported, Left, Source, convert
 from pdsuite.imports.findings import Reason
 from pdsuite.imports.listing import Listed, lines_of, status, summary
 from pdsuite.imports.tables import is_key, tables_of
-from pdsuite.scripts.search import ScriptFile, find
+from pdsuite.scripts.search import SUFFIX, ScriptFile, find
 from pdsuite.scripts.settings import set_words
 from pdsuite.scripts.suite import Suite, option_of
 from pdsuite.scripts.text import LONGEST_FILE, Unfit, read_file, text_of
@@ -26,9 +26,10 @@ _NO_WORD = "?"
 
 
 def import_scripts(source: Path, target: Path, keep_packets: bool, is_json: bool, screen: Screen) -> int:
-    """Imports the scripts of a folder into another one, and answers the exit status."""
+    """Imports a script, or those of a folder, into another folder, and answers the exit status."""
     with Stop() as stop:
-        if not source.is_dir():
+        is_script = source.suffix == SUFFIX and source.is_file()
+        if not source.is_dir() and not is_script:
             raise Fault(f"{shown_path(source)}: isn't a folder")
         place = new_folder(target)
         if place.is_relative_to(os.path.realpath(source)):
@@ -40,7 +41,7 @@ def import_scripts(source: Path, target: Path, keep_packets: bool, is_json: bool
         scripts = list(_imported(found, suite, keep_packets, stop))
         _refuse(suite, source)
         if any(isinstance(it.came, Imported) for it in scripts):
-            write_folder(place, _files(source, scripts, stop))
+            write_folder(place, _files(source.parent if is_script else source, scripts, stop))
     screen.show(unstyled(as_json(scripts) if is_json else _text_of(scripts)))
     return status(scripts)
 

@@ -110,6 +110,10 @@ def about(call: Call) -> str:
     match call.name, call.arguments:
         case "connect", _:
             return "connect"
+        case ("send", (_, _, _, flags)) | ("sendto", (_, _, _, flags, *_)) | ("sendmsg", (_, _, flags)) if (
+            not _NO_FLAGS.fullmatch(flags)
+        ):
+            return f"{call.name} with {flags}"
         case ("setsockopt" | "getsockopt"), (_, _, name, *_):
             return f"{call.name} {name}"
         case "fcntl", (_, name, *_):

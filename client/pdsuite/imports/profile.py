@@ -76,11 +76,15 @@ def _event(item: Item, acts: bool) -> Iterator[Reason]:
     """What isn't run of the time of an event, which either acts or is awaited."""
     time = item.time or Time(None)
     if item.is_blocking:
-        yield Reason(item.line, "a blocking call")
+        yield Reason(item.line, "a blocking call", _shown(item.what) if isinstance(item.what, Call) else "")
     elif acts and not time.is_fixed:
         yield Reason(item.line, "a packet that arrives or a call, with no fixed time")
     if max(time.first or 0, time.last or 0) > _LATEST:
         yield Reason(item.line, "a time above an hour")
+
+
+def _shown(call: Call) -> str:
+    return f"{call.name}({', '.join(call.arguments)})"
 
 
 def _packet(line: int, packet: Packet) -> Iterator[Reason]:
@@ -115,7 +119,7 @@ def _is_over_limit(packet: Packet) -> bool:
 
 def _call(line: int, call: Call) -> Iterator[Reason]:
     if not is_run(call) and not is_buffer(call):
-        yield Reason(line, about(call), f"{call.name}({', '.join(call.arguments)})")
+        yield Reason(line, about(call), _shown(call))
     if written(call) > _MOST_WRITTEN:
         yield Reason(line, "a number over its limit", f"{call.name}({', '.join(call.arguments)})")
 

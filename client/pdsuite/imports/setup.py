@@ -8,6 +8,7 @@ from enum import Enum, auto
 from pdsuite.imports.findings import Reason
 from pdsuite.imports.kernel import Meaning, Use, command_meaning, meaning
 from pdsuite.imports.shell import Command, Defaults, Metric, Other, Switch, commands_in
+from pdsuite.scripts.defaults import KEYS
 from pdsuite.scripts.settings import Value
 from pdsuite.scripts.text import Unfit
 
@@ -225,7 +226,7 @@ def _scaled(value: str, factor: int) -> int | None:
 
 def _ranged(key: str, number: int | None, what: str, line: int) -> Setting | Reason:
     if number is None or number not in _RANGES[key]:
-        return Reason(line, f"no value of {key}", what)
+        return Reason(line, f"no value of {key}, which takes {KEYS[key].takes}", what)
     return key, number
 
 

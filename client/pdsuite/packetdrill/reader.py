@@ -29,6 +29,8 @@ _KNOWN = {
     "mp_capable": "MPTCP",
 }
 _NO_SCRIPT = "no script of this language"
+# Flags with the one that Accurate ECN adds (RFC 9768).
+_ACCURATE = re.compile(r"[SFRPUEWC.]+A[SFRPUEWC.]*")
 
 
 @dataclass(frozen=True)
@@ -314,6 +316,8 @@ class _Reader:
     def _unread(self, token: Token) -> Unread:
         if token is _END:
             return Unread(max(len(self._text) - 1, 0), "the script breaks off here")
+        if _ACCURATE.fullmatch(token.text):
+            return Unread(token.start, "AccECN", token.text)
         return Unread(token.start, _KNOWN.get(token.text, _NO_SCRIPT), token.text)
 
     def _flat(self, first: int, last: int) -> str:
