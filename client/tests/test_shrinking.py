@@ -31,7 +31,7 @@ def inputs_of(*events: tuple[int, Packet | Call], is_exact: bool = False) -> Inp
 class Sender:
     """Is recorded the same on all inputs."""
 
-    def recordings(self, inputs: Sequence[Inputs]) -> list[Recording]:
+    def recordings(self, inputs: Sequence[Inputs | Asked]) -> list[Recording]:
         return [Recording("a\n")] * len(inputs)
 
     def rows(self, scripts: Sequence[Asked]) -> list[Row]:

@@ -16,9 +16,7 @@ from rows.tables import TOP
 
 # What a call may take, in seconds by the clock: long, so that a busy machine fails none.
 SECONDS = 300
-# Without proofs a call is some ten times as slow. What goes round for ever is ended by the seconds of its processor,
-# which are as many on a busy machine; what sleeps, or all calls that one process answers, by those of the clock.
-UNPROVED_PROCESSOR_SECONDS = 900
+# The same without proofs, where a call is some ten times as slow, and one process may answer all of them.
 UNPROVED_SECONDS = 3_600
 # A build takes as many processors.
 JOBS = 2
@@ -87,9 +85,8 @@ class Batch:
         for place, call in self.calls.items():
             (cases / f"{place}").write_bytes(call.given)
             (cases / f"{place}.args").write_bytes(b"".join(word + b"\n" for word in call.words))
-        limit = ["prlimit", f"--cpu={UNPROVED_PROCESSOR_SECONDS}"]
         seconds = ["--seconds", str(UNPROVED_SECONDS)]
-        return [*limit, *PYTHON, TOOLS / "try_cases.py", *seconds, self.program, cases, answers]
+        return [*PYTHON, TOOLS / "try_cases.py", *seconds, self.program, cases, answers]
 
     def answers(self) -> dict[int, Said]:
         """What was said of the calls."""
