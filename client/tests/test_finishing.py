@@ -1,6 +1,6 @@
 """How a find loses whole rounds, and is saved as a script that ends with the line that fails."""
 
-from pdsuite.packetdrill.items import TcpOption
+from pdsuite.packetdrill.items import Call, Packet, TcpOption
 from pdsuite.programs.rows import Row, Verdict
 from pdsuite.search.finds import Find
 from pdsuite.search.finishing import finished, with_head
@@ -10,7 +10,7 @@ from pdsuite.search.renumbering import without_rounds
 from pdsuite.search.states import State
 from tests.test_input_search import Toy
 
-OPENING = (call("listen", 3, 1), packet("S", 0, None, 9))
+OPENING: tuple[Packet | Call, ...] = (call("listen", 3, 1), packet("S", 0, None, 9))
 
 
 def ack(number: int, *blocks: int) -> Input:
