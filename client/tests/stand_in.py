@@ -5,8 +5,8 @@ It has each setting but those whose names begin with `no_`.
 A script whose first line is `sender` has the row SENDER, so that another sender can be made of this one; `touch PATH`
 changes a file at a settle.
 
-With --explain it takes a script's first line for its row, and what stands below that for its block. With --ends a line
-`ends WORDS` below the row of a script that passes is what is said of its end.
+With --explain it takes a script's first line for its row, and what stands below that for its block. With --ends a
+line `ends WORDS` below the row of a script that passes is what is said of its end.
 
 It is started a thousand times, so it imports no more than it needs.
 """
@@ -207,7 +207,7 @@ def told_by_keys(name: str, verdict: str, line: int, kind: list[str], text: list
 
 
 def ending(name: str, words: bytes) -> bytes:
-    """What is said of the end of a script that passes: as many packets stand untaken as the first number in the words."""
+    """What is said of the end of a script that passes: the first number in the words is that of packets left."""
     if "--json" not in sys.argv:
         return f"{name}:1: pass: ".encode() + words
     import json

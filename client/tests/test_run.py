@@ -98,7 +98,8 @@ def test_a_text_that_breaks_off_is_told_where_it_does_with_what_it_lacks(
     programs: Path, tmp_path: Path, call: Call
 ) -> None:
     write(tmp_path / "in", a=BROKEN, b=b"+0 bind(3, ..., ...) =\n")
-    end = "expected a whole number up to 4,294,967,295, a hexadecimal number up to 0xffffffff or `-` at the end of the text"
+    numbers = "a whole number up to 4,294,967,295, a hexadecimal number up to 0xffffffff or `-`"
+    end = f"expected {numbers} at the end of the text"
     told = ["in/a.pkt:2: syntax: expected `win`", f"in/b.pkt:1: syntax: {end}"]
     called = call(programs, "run", "--junit", "report.xml", "in")
     assert [it for it in called.out.splitlines() if ": syntax" in it] == told

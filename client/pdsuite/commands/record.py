@@ -154,8 +154,8 @@ def _ways(
 def way_of(script: Script, outcome: Outcome, leaving: Cause | None, asked: Sequence[str]) -> Way:
     """How a script is recorded that came to this, and leaves this where it passes.
 
-    One of inputs alone is recorded whole. One that passes stays as it is, unless it is strict and leaves packets, and so
-    does one that is known not to pass.
+    One of inputs alone is recorded whole. One that passes stays as it is, unless it is strict and leaves packets, and
+    so does one that is known not to pass.
     """
     if outcome.is_known:
         return None

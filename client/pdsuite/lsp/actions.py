@@ -171,7 +171,7 @@ def recording_all(failing: Failing, recording: str) -> Iterator[Action]:
 
 
 def recording_what_leaves(failing: Failing, mended: str, recording: str) -> Iterator[Action]:
-    """A script that passes with a line for each packet that it leaves: as it stands but for these, or as it is recorded."""
+    """A script that passes, with a line for each packet that it leaves: as it stands but for these, or recorded."""
     outputs = sum(not it.is_input for it in recorded_in(recording))
     if outputs <= sum(it.is_expected for it in failing.layout.events):
         return

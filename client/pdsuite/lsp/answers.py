@@ -117,7 +117,7 @@ class Answers:
         return _Played("", (), ())
 
     def actions(self, document: Document, result: Result, places: Extent) -> list[Offer]:
-        """What can be done about a script whose failing line, or warning, lies there; each leads past it, as a run tells."""
+        """What can be done about a script whose failing line, or warning, lies there; by a run each leads past it."""
         row = result.outcome.row
         if result.text is None or row.line is None and not result.outcome.warnings:
             return []

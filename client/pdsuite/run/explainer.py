@@ -104,8 +104,8 @@ class Asker(Generic[T]):
 class Explainer:
     """Has the program tell why scripts don't pass, in lines for people.
 
-    And of those that are known not to, by keys, and what those that pass leave at the end, where that is asked for. Of a
-    text that is no script it always tells by keys, which say where it breaks off.
+    And of those that are known not to, by keys, and what those that pass leave at the end, where that is asked for.
+    Of a text that is no script it always tells by keys, which say where it breaks off.
     """
 
     def __init__(

@@ -55,7 +55,7 @@ class Outcome:
 
     @property
     def line(self) -> int | None:
-        """The line of its text that the row is about: that of the row, or the one before at whose end a text breaks off."""
+        """The line of its text that the row is about: the row's, or the one before at whose end a text breaks off."""
         found = self.explanation.get(_TEXT_LINE) if self.explanation is not None else None
         return found if isinstance(found, int) else self.row.line
 
