@@ -184,15 +184,15 @@ many_with_a_word() { # PROGRAM
 }
 
 many_of_another_tree() { # PROGRAM
-    from=$work/other many --tree "$build" "$1" | sed -n '/^[ac].output/p'
+    from=$work/other_tree many --tree "$build" "$1" | sed -n '/^[ac].output/p'
 }
 
 test_cases() {
     expect cases "$(printf '%s\n' 'a.errors: said' 'a.output: pdrecord x y octets=2' 'a.status: 0' 'b.errors: ' 'b.output: ' 'b.status: 3' \
         'c.errors: said' 'c.output: pdrecord  octets=2' 'c.status: 0' 'd.errors: ' 'd.output: ' "d.status: TooSlow: the program didn't end within 7 seconds"; echo status 0)" many --seconds 7 pdrecord
     expect cases-with-words-before-their-own "$(printf '%s\n' 'a.output: pdrecord one x y octets=2' 'c.output: pdrecord one octets=2'; echo status 0)" many_with_a_word pdrecord
-    mkdir "$work/other"
-    cp -R "$build/tools" "$work/other"
+    mkdir "$work/other_tree"
+    cp -R "$build/tools" "$work/other_tree"
     expect cases-of-another-tree "$(printf '%s\n' 'a.output: pdrecord x y octets=2' 'c.output: pdrecord  octets=2'; echo status 0)" many_of_another_tree pdrecord
     echo wrong >>"$build/crates/low/src/lib.rt"
     expect cases-of-what-does-not-compile "$(printf '! %s\n' "pdrecord: unproved: NotCompiled: the program doesn't compile" "$build/crates/pdrecord/src/lib.rt:1:2: error[mismatched-types]: wrong"; echo status 2)" many pdrecord
