@@ -14,8 +14,8 @@ import os, signal, sys, time
 sys.path.insert(0, sys.argv[1])
 import stopping
 stopping.heed()
-print("begun", flush=True)
 try:
+    print("begun", flush=True)
     sys.stdin.read()
     print("not stopped")
 except stopping.Stopped as signal_that_came:

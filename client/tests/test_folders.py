@@ -178,15 +178,15 @@ def test_settings_that_are_refused_leave_the_good_ones_and_are_mended(site: Site
     site.wait(0)
     good = site.rows
     for text, said in (
-        ("root = true\nmss = 7\nsack = false\n", "mss: BadValue: it takes 64 to 65,495 octets"),
-        ("root = true\nmss =\n", "no TOML: Invalid value (at line 2, column 6)"),
-        ("root = 1\n", "root: BadValue: it takes true or false"),
+        ("root = true\nmss = 7\nsack = false\n", ":2: mss: BadValue: it takes 64 to 65,495 octets"),
+        ("root = true\nmss =\n", ": no TOML: Invalid value (at line 2, column 6)"),
+        ("root = 1\n", ":1: root: BadValue: it takes true or false"),
     ):
         file.write_text(text)
         site.wait(0)
         site.rest()
         assert site.rows == good
-        assert site.paper.notes == [f"{file}: {said}; its last good settings stay"]
+        assert site.paper.notes == [f"{file}{said}; its last good settings stay"]
         site.paper.notes.clear()
     (site.top / "b.pkt").write_bytes(b"one\n")
     site.wait(0)
@@ -202,7 +202,7 @@ def test_settings_that_are_refused_at_first_are_as_if_they_were_not_there(site: 
     file = site.top / "pdsuite.toml"
     file.write_text("mss = 7\n")
     site.wait(0)
-    said = f"{file}: mss: BadValue: it takes 64 to 65,495 octets; the file counts for nothing"
+    said = f"{file}:1: mss: BadValue: it takes 64 to 65,495 octets; the file counts for nothing"
     assert site.paper.notes == [said]
     file.write_text("root = true\nmss = 98\n")
     site.wait(0)

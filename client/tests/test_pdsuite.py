@@ -286,7 +286,8 @@ def test_whether_a_program_is_up_to_date_is_asked_once(tmp_path: Path, stand_in:
     (tmp_path / "suite/pdsuite.toml").write_text('["a.pkt"]\nmss = 1000\n')
     done = subprocess.run([command, "run", "suite"], cwd=tmp_path, env=without_programs(), capture_output=True)
     assert (done.returncode, done.stderr) == (1, b"")
-    assert (tmp_path / "asked").read_text() == "pdregress\n"
+    # What the answer depends on is asked for first, so that a change after that is seen.
+    assert (tmp_path / "asked").read_text() == "--files\npdregress\n"
 
 
 def test_a_key_of_the_terminal_that_ends_it_while_it_asks_has_its_status(tmp_path: Path, stand_in: Path) -> None:

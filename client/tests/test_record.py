@@ -151,7 +151,7 @@ def test_a_program_that_ends_on_a_script_goes_on_after_it(recorders: Path, tmp_p
 def test_a_signal_ends_it_with_what_was_written(recorders: Path, tmp_path: Path) -> None:
     write(tmp_path / "suite", a=b"row fail 1 seq\n", b=f"stall {tmp_path}/mark\n".encode())
     environment = {**os.environ, "PDSUITE_PROGRAMS": str(recorders)}
-    command = [TOP / "pdsuite", "record", "--write", "suite"]
+    command: list[str | Path] = [TOP / "pdsuite", "record", "--write", "suite"]
     process = subprocess.Popen(command, cwd=tmp_path, env=environment, stdout=subprocess.PIPE, stderr=subprocess.PIPE)
     wait_for(tmp_path / "mark", process)
     status, out, err = ends(process, signal.SIGINT)
