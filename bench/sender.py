@@ -53,7 +53,7 @@ class Watching:
 
 def put_rule(tree: Path, value: int) -> float:
     """Gives the sender a rule; the moment of the save."""
-    text = (TOP / RULE).read_text().replace(WRITTEN, WRITTEN.replace("3", str(value)))
+    text = (TOP / RULE).read_text().replace(WRITTEN, f"{WRITTEN[:-1]}{value}")
     (tree / RULE).write_text(text)
     return time.monotonic()
 
@@ -70,13 +70,13 @@ def measure(tree: Path, watching: Watching, script: Path) -> None:
         saved = put_rule(tree, value)
         watching.until(BUILT)
         moment = watching.until("total ", "examples/")
-        print(f"DupThresh {value}: the first new row {moment - saved:.1f} s after the save")
+        print(f"DupThresh {value}: the first new row {moment - saved:.1f} s after the save", flush=True)
         watching.until("total ")
         text = script.read_bytes()
         script.write_bytes(text + b"+0 bind(3, ..., ...) = 1\n")
         saved = time.monotonic()
         moment = watching.until("examples/")
-        print(f"a script: its row {(moment - saved) * 1_000:.0f} ms after the save")
+        print(f"a script: its row {(moment - saved) * 1_000:.0f} ms after the save", flush=True)
         script.write_bytes(text)
         watching.until("total ")
         watching.until("total ")
