@@ -224,7 +224,7 @@ def folders_for(tree: Path, crate: str, uses: dict[str, list[str]]) -> list[Path
 
 
 def say_errors(crate: str, uses: dict[str, list[str]]) -> None:
-    """Says why a crate isn't proved, and which definitions have changed since it was; what follows the sender reads it."""
+    """Says why a crate isn't proved, and which definitions have changed since it was; `watch` reads it, too."""
     folder = TOP / "crates" / crate
     log = folder / "out" / "build.log"
     text = log.read_text(errors="replace")
