@@ -5,6 +5,10 @@ class Fault(Exception):
     """Something without which a command can't go on; its text is one line for people."""
 
 
+class FileFault(Fault):
+    """A fault of what a file says: its text begins with the file's place, which editors read there."""
+
+
 class Cut(Fault):
     """Something that ends a run early; what is settled until then is shown."""
 

@@ -10,14 +10,14 @@ from typing import TYPE_CHECKING, Any
 import click
 
 from pdsuite.commands.list import list_scripts
-from pdsuite.commands.options import MOST_SECONDS, PlaceWord, ReasonWord
+from pdsuite.commands.options import MOST_RUNS, MOST_SECONDS, PlaceWord, ReasonWord
 from pdsuite.commands.options import choice_options, free_choice_options, html_option, no_color_option, part_options
 from pdsuite.commands.options import plot_options, search_options, strict_option, workers_option
 from pdsuite.commands.renamed import with_new_name
 from pdsuite.commands.report_files import FileWord, FormOption, ReportCommand
 from pdsuite.commands.run import RunOptions, run
 from pdsuite.commands.version import version
-from pdsuite.faults import Fault, why
+from pdsuite.faults import Fault, FileFault, why
 from pdsuite.packages import need
 from pdsuite.scripts.shards import Shard
 from pdsuite.show.octets import shown, shown_text
@@ -258,6 +258,41 @@ def _refuse_search(options: "CompareOptions") -> None:
         )
 
 
+@pdsuite.command(name="measure")
+@click.option("--base", metavar="SENDER", help="The sender before: a folder of programs, a tree or a commit.")
+@click.option("--with", "other", metavar="SENDER", help="The sender after, if not the tree as it stands.")
+@click.option("--settings", default="", metavar="TEXT", help="Settings of both senders.")
+@click.option("--base-settings", default="", metavar="TEXT", help="Settings of the sender before, before all others.")
+@click.option("--with-settings", default="", metavar="TEXT", help="Settings of the sender after, before all others.")
+@click.option("--paths", metavar="FILE", type=PlaceWord(), help="Paths of your own, in TOML.")
+@click.option("--only", metavar="PATTERN", multiple=True, help="Only paths whose name fits; again for more.")
+@click.option(
+    "--runs",
+    metavar="N",
+    type=click.IntRange(1, MOST_RUNS),
+    default=100,
+    help="Play each transfer so often, not 100 times.",
+)
+@click.option("--seed", metavar="N", type=click.IntRange(0), default=1, help="Draw what chance decides by this number.")
+@html_option
+@click.option("--json", "is_json", is_flag=True, help="Print JSON.")
+@click.option("--save", metavar="FOLDER", type=PlaceWord(), help="Save all transfers as scripts in a new folder.")
+@no_color_option
+def measure_command(no_color: bool, **words: Any) -> int:
+    """Measures what a change of the sender is worth: how soon transfers over modelled paths are delivered, and how.
+
+    The paths are a LAN, a DSL line, a mobile link, a long fat pipe, a datacentre's and a satellite, or those of a
+    file. Both senders are programs, which answer each segment; equal seeds lose equal packets. Without --base the
+    sender before is the one that ./prove has proved last in this tree.
+    """
+    need("numpy")
+    from pdsuite.commands.measure import MeasureOptions, measure
+
+    gc.enable()  # transfers are many values
+    with Screen(wants_color() and not no_color, progress=True) as screen:
+        return measure(MeasureOptions(**words), screen)
+
+
 @pdsuite.command(name="search")
 @click.option("--for", "pattern", metavar="PATTERN", required=True, help="Facts of a state, NAME:VALUE each.")
 @click.option(
@@ -329,6 +364,8 @@ def main() -> int:
         error.show()
     except Stopped as stopped:
         return stopped.status
+    except FileFault as fault:
+        say(str(fault))
     except Fault as fault:
         say(f"pdsuite: {fault}")
     except Unwritten as unwritten:

@@ -119,6 +119,15 @@ def ends(process: "subprocess.Popen[bytes]", number: signal.Signals) -> tuple[in
     return process.returncode, out.decode(), err.decode()
 
 
+# What a stand-in tells all of that the program has of a packet that differs, and the lines of that.
+PACKET = b"+0 > . 1:2(1) ack 1\n"
+TOLD = [
+    "script packet: +0 > . 1:2(1) ack 1",
+    "actual packet: +0 > . 1:3(2) ack 1 win 5, sent by line 1",
+    "state: ESTABLISHED",
+]
+
+
 def wrapped(folder: Path, stand_in: Path, runs: str = ":", explains: str = ":") -> Path:
     """A folder with a stand-in that is begun by these commands of the shell, where it runs scripts and explains."""
     folder.mkdir()

@@ -7,10 +7,9 @@ from dataclasses import replace
 from pdsuite.programs.program import Ended
 from pdsuite.programs.rows import Row, Verdict
 from pdsuite.run.outcomes import Outcome
-from pdsuite.run.runs import Script
-from pdsuite.run.settling import SettledPiece
 from pdsuite.scripts.defaults import DEFAULTS
 from pdsuite.scripts.settings import Settings, set_words
+from pdsuite.watch.run_changes import WantedScript
 
 MOST = 1_024
 
@@ -33,15 +32,11 @@ def meaning_of(text: bytes, settings: Settings) -> str:
 
 
 class Teller:
-    """Stands in for what asks the program that explains."""
+    """Stands in for who knows what was told of scripts."""
 
-    def explain(self, step: SettledPiece) -> list[tuple[Script, Outcome]]:
-        """Tells of each script, in pieces with equal settings."""
-        assert len({script.settings for script, _ in step.outcomes}) == 1
-        return [
-            (script, replace(outcome, why=meaning_of(step.texts[script.index].octets, script.settings)))
-            for script, outcome in step.outcomes
-        ]
+    def explain(self, outcome: Outcome, wanted: WantedScript) -> Outcome:
+        """Tells of a script."""
+        return replace(outcome, why=meaning_of(wanted.text.octets, wanted.settings))
 
 
 class Model:
@@ -70,11 +65,13 @@ class Model:
         assert len(answer) <= longest
         return answer
 
-    def said(self) -> bytes:
-        """It says nothing on standard error but how many steps each script took: one a line."""
+    def ask_and_hear(self, commands: bytes, longest: int, longest_said: int) -> tuple[bytes, bytes]:
+        """The same, and on standard error nothing but how many steps each script took: one a line."""
+        answer = self.ask(commands, longest)
         told = [(number, name) for number, name in self._told if name in self.texts]
         self._told = []
-        return b"".join(b"job %d %s steps %d\n" % (number, name, len(self.texts[name])) for number, name in told)
+        said = (b"job %d %s steps %d\n" % (number, name, len(self.texts[name])) for number, name in told)
+        return answer, b"".join(said)
 
     def check(self) -> None:
         """It never ends by itself."""

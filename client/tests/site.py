@@ -6,7 +6,6 @@ from pathlib import Path
 from typing import cast
 
 from pdsuite.programs.program import Program
-from pdsuite.run.explainer import Explainer
 from pdsuite.run.runs import Script
 from pdsuite.run.settling import load
 from pdsuite.scripts.search import find
@@ -66,7 +65,7 @@ class Site:
         self.settings_files = SettingsFiles(option_of(""), refused, self.paper.note)
         self.folders = Folders(Choice([self.top], ()), self.settings_files, self.watcher, self.stop, self.paper.note)
         self.fleet = Fleet(self._start, self.paper.note, lambda doing: None)
-        self.view = View(cast(Screen, self.paper), cast(Explainer, Teller()), True, ChangeReport())
+        self.view = View(cast(Screen, self.paper), Teller(), True, ChangeReport())
 
     def _start(self, settings: Settings) -> Program:
         self.models.append(Model(settings, self.most_acts))

@@ -1,12 +1,12 @@
 #!/usr/bin/python3 -IS
 """Stands in for pdregress: it passes each script, unless the script's first line says what it is to do in its place.
 
-It has each setting but those whose names begin with `no_`.
-A script whose first line is `sender` has the row SENDER, so that another sender can be made of this one; `touch PATH`
-changes a file at a settle.
+It has each setting but those whose names begin with `no_`, and old names.
+A script whose first line is `sender` has the row SENDER, so that another sender can be made of this one. At a settle
+`touch PATH` changes a file, and `yield PATH` has another program, if one is there, take this one's place.
 
-With --explain it takes a script's first line for its row, and what stands below that for its block. With --ends a
-line `ends WORDS` below the row of a script that passes is what is said of its end.
+With --explain it takes a script's first line for its row, and what stands below that for what is told of it. With
+--leftovers a line `ends WORDS` below the row of a script that passes is what is said of its end.
 
 It is started a thousand times, so it imports no more than it needs.
 """
@@ -16,6 +16,9 @@ import sys
 import time
 
 KILL, SEGV = 9, 11
+# Settings that have another name now, and words for which there is another.
+OLD_KEYS = ("byte_counting", "restart_after_idle", "recovery_rate")
+OLD_WORDS = ("pipe", "prr", "prr_crb")
 SENDER = "pass 1"
 
 # What is told by keys of a script that doesn't pass, by its verdict and, where it fails, its kind.
@@ -42,8 +45,17 @@ KEYS: dict[str, dict[str, object]] = {
     "result": {"call": "0 close(3) = 0", "expected_result": "0", "actual_result": "-1 EBADF"},
     "backwards": {"event": "0 close(3) = 0", "moment_us": 1, "before_us": 2},
 }
+# The words of lines whose keys are others.
+LABELS = {
+    **{
+        it: it.replace(" ", "_")
+        for it in ("script packet", "actual packet", "call", "expected result", "actual result")
+    },
+    **{"event": "event", "early by": "early_us", "reason": "reason_words", "rule": "rule_words", "state": "state"},
+}
 texts: dict[str, list[bytes]] = {}
 settings: dict[str, str] = {}
+owed: dict[str, None] = {}  # the scripts that run at the next settle
 
 
 def say(line: str) -> None:
@@ -96,6 +108,8 @@ def act(words: list[str]) -> None:
                 say("x" * 80)
         case ["touch", path]:
             write(path, "// changed meanwhile\n")
+        case ["yield", path] if os.path.exists(path):
+            os.replace(path, sys.argv[0])
         case ["noise"]:
             sys.stderr.write("y" * 3_000_000 + "\n")
         case ["refuse", *refusal]:
@@ -140,18 +154,24 @@ def take(words: list[str]) -> None:
     match words:
         case ["add", name, count]:
             texts[name] = lines(count)
+            owed[name] = None
         case ["edit", name, first, removed, count]:
             begin = int(first) - 1
             texts[name][begin : begin + int(removed)] = lines(count)
+            owed[name] = None
         case ["remove", name]:
             del texts[name]
-        case ["set", key, _] if key.startswith("no_"):
+        case ["set", key, _] if key.startswith("no_") or key in OLD_KEYS:
             say("refused 3 UnknownKey")
+        case ["set", "recovery_algorithm", word] if word in OLD_WORDS:
+            say("refused 4 BadValue")
         case ["set", key, word]:
             settings[key] = word
+            owed.update(dict.fromkeys(texts))
         case ["settle"]:
             for name in texts:
                 act(wants(name))
+            explain()
             report()
         case ["show"]:
             report()
@@ -173,7 +193,7 @@ def block(name: str, row: list[str], text: list[bytes]) -> bytes:
         case [b"silent\n"]:
             return b""
         case [b"flood\n"]:
-            return b"  x\n" * 1_000_000
+            return b"  x\n" * 2_000_000
         case [b"stall\n"]:
             with open("mark", "w") as file:
                 file.write(str(os.getpid()))
@@ -188,21 +208,30 @@ def block(name: str, row: list[str], text: list[bytes]) -> bytes:
 
 
 def told_by_keys(name: str, verdict: str, line: int, kind: list[str], text: list[bytes]) -> bytes:
-    """What is said of a script that doesn't pass as JSON: a line `KEY: VALUE` of its text is told by its key."""
+    """What is said of a script that doesn't pass as JSON.
+
+    A line `WORDS: VALUE` of its text is told by its key, and any other as what is found. Where all lines are empty, or
+    a packet comes first, all is told that the program has of such a row.
+    """
     import json
 
     said = "so it is" if text else ""
     told: dict[str, object] = {"name": name, "line": line, "verdict": verdict, "what": said}
-    told |= KEYS[verdict]
-    if "text_line" in told:
-        told["text_line"] = line
     if kind:
         told["kind"] = kind[0]
-        told |= KEYS.get(kind[0], KEYS["packet"])
-    for each in text:
-        key, colon, value = each.decode("latin-1").rstrip("\n").partition(": ")
-        if colon and key.replace(" ", "_") in told:
-            told[key.replace(" ", "_")] = value
+    lines = [it.decode("utf-8", "surrogateescape").rstrip("\n") for it in text if it.strip()]
+    if not text:
+        return b""
+    if not lines or lines[0].startswith("+"):
+        told |= KEYS[verdict] | (KEYS.get(kind[0], KEYS["packet"]) if kind else {})
+        if "text_line" in told:
+            told["text_line"] = line
+    for each in lines:
+        words, colon, value = each.partition(": ")
+        if colon and words in LABELS:
+            told[LABELS[words]] = {"name": value} if words == "state" else value
+        elif not each.startswith(("+", "//")):
+            told["found"] = each
     return json.dumps(told).encode() + b"\n"
 
 
@@ -219,30 +248,30 @@ def ending(name: str, words: bytes) -> bytes:
     return json.dumps({**told, "more_untaken_packets": 0, "untaken_sent_by": []}).encode() + b"\n"
 
 
-def explain() -> int:
-    """Takes commands that add scripts, and tells of all of them."""
-    said = b""
-    count = 0
-    while words := sys.stdin.buffer.readline().decode().split():
-        first, *text = [sys.stdin.buffer.readline() for _ in range(int(words[2]))]
-        match first.decode("latin-1").split():
-            case ["row", verdict, *row] if verdict != "pass":
-                said += block(words[1], [verdict, *row], text)
-            case ["sender"] if not SENDER.startswith("pass"):
-                said += block(words[1], SENDER.split(" "), [f"by {SENDER}\n".encode()])
-            case ["row", "pass", _] if "--ends" in sys.argv:
-                ends = [it.removeprefix(b"ends ") for it in text[:1] if it.startswith(b"ends ")]
-                said += b"".join(ending(words[1], it) for it in ends)
-        count += 1
-    sys.stderr.buffer.write(said)
-    print(f"total {count} pass 0 fail {count} syntax 0 unsupported 0 limit 0 pending 0")
-    return 1
+def explained(name: str) -> bytes:
+    """What is said of a script that has run."""
+    first, *text = texts[name] or [b""]
+    match first.decode("latin-1").split():
+        case ["row", verdict, *row] if verdict != "pass":
+            return block(name, [verdict, *row], text)
+        case ["sender"] if not SENDER.startswith("pass"):
+            return block(name, SENDER.split(" "), [f"by {SENDER}\n".encode()])
+        case ["row", "pass", _] if "--leftovers" in sys.argv:
+            ends = [it.removeprefix(b"ends ") for it in text[:1] if it.startswith(b"ends ")]
+            return b"".join(ending(name, it) for it in ends)
+    return b""
+
+
+def explain() -> None:
+    """Says why scripts don't pass that ran at this settle."""
+    if "--explain" in sys.argv:
+        sys.stderr.buffer.write(b"".join(explained(name) for name in owed if name in texts))
+        sys.stderr.flush()
+    owed.clear()
 
 
 def main() -> None:
     """Takes commands to the end of the input."""
-    if "--explain" in sys.argv:
-        sys.exit(explain())
     if os.path.exists(os.path.join(os.path.dirname(sys.argv[0]), "dead")):
         end("pdregress: 19 OutOfMemory")
     if "--settings" in sys.argv:

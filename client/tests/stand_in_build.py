@@ -49,9 +49,9 @@ def main() -> int:
         beside = folder.with_suffix(".new")
         beside.mkdir(parents=True)
         row = text.removeprefix("// ").strip()
-        regress = (HERE / "stand_in.py").read_bytes().replace(b'SENDER = "pass 1"', f'SENDER = "{row}"'.encode())
-        put(beside / "pdregress", regress)
-        put(beside / "pdrecord", (HERE / "stand_in_record.py").read_bytes())
+        for name, file in (("pdregress", "stand_in.py"), ("pdrecord", "stand_in_record.py")):
+            octets = (HERE / file).read_bytes()
+            put(beside / name, octets.replace(b'SENDER = "pass 1"', f'SENDER = "{row}"'.encode()))
         beside.rename(folder)
         note("built", text.strip())
     print(f"built {folder}", flush=True)

@@ -2,7 +2,8 @@
 """Stands in for pdrecord: it takes what stands below a script's first line for the recording, if anything does.
 
 Of files it does so one after the other, and ends itself on one whose first line says `crash`. In a recording SETTINGS
-stands for what it was given as such, and WAY for the words that say how to record.
+stands for what it was given as such, WAY for the words that say how to record, and RULE for SENDER, so that another
+sender can be made of this one.
 """
 
 import os
@@ -10,12 +11,17 @@ import signal
 import sys
 
 REFUSED = b"pdrecord: nothing to record\n"
-WAYS = ("--trace", "--least", "--drop")
+WAYS = ("--trace", "--minimal", "--drop-missing")
+SENDER = "pass 1"
 
 
 def recorded(text: bytes, settings: str, way: str) -> bytes:
     """The recording of a script; empty where there is none."""
-    return text.partition(b"\n")[2].replace(b"SETTINGS", settings.encode()).replace(b"WAY", way.encode())
+    stands_for = {b"SETTINGS": settings, b"WAY": way, b"RULE": SENDER}
+    recording = text.partition(b"\n")[2]
+    for word, value in stands_for.items():
+        recording = recording.replace(word, value.encode())
+    return recording
 
 
 def put(word: str, octets: bytes, name: str) -> None:

@@ -31,19 +31,9 @@ def changed(given: bytes) -> bytes:
 
 def explained(words: list[str], given: bytes) -> tuple[bytes, bytes, int]:
     """The report of pdregress, with what it tells beside that."""
-    report = said_by("pdregress", [], given + b"settle\n")
-    told = said_by("pdregress", words, without_settings(given))
-    rows = [line.split(b" ")[1] for line in report.stdout.splitlines() if line.startswith(b"s")]
-    status = min(report.returncode, told.returncode) or (report.returncode or int(any(it != b"pass" for it in rows)))
-    return report.stdout, told.stderr, status
-
-
-def without_settings(given: bytes) -> bytes:
-    """The commands without those that ask or set something at the start."""
-    lines = given.splitlines(keepends=True)
-    while lines and lines[0].startswith((b"set ", b"show")):
-        lines.pop(0)
-    return b"".join(lines)
+    done = said_by("pdregress", words, given + b"settle\n")
+    rows = [line.split(b" ")[1] for line in done.stdout.splitlines() if line.startswith(b"s")]
+    return done.stdout, done.stderr, done.returncode or int(any(it != b"pass" for it in rows))
 
 
 def recorded(words: list[str], given: bytes) -> tuple[bytes, bytes, int]:

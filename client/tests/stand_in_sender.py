@@ -184,13 +184,20 @@ def settle(change: str, words: list[str]) -> int:
             row = row_of(text, change, is_set)
             rows.append(f"{command[1].decode()} {row}")
             if explains and not row.startswith("pass"):
-                print(f"{command[1].decode()}:{row.split()[1]}: fail seq: so it is", file=sys.stderr)
+                print(told(command[1].decode(), row.split()[1], "--json" in words), file=sys.stderr)
         elif command[:1] in ([b"settle"], [b"show"]):
             report(rows)
         is_told = command[:1] == [b"settle"]
     if not is_told:
         report(rows)
     return 0
+
+
+def told(name: str, line: str, by_keys: bool) -> str:
+    """What is told of a script that fails."""
+    if not by_keys:
+        return f"{name}:{line}: fail seq: so it is"
+    return f'{{"name": "{name}", "line": {line}, "verdict": "fail", "kind": "seq", "what": "so it is"}}'
 
 
 def report(rows: list[str]) -> None:

@@ -32,7 +32,6 @@ fail 1 seq: row pass 9
 = 0
 """
 CHANGE = "s/^row pass 9/row fail 2 seq/\n"
-COUNTS = "suite: 1 turned 0 played otherwise 0 as before 1 not compared 0"
 
 
 @pytest.fixture

@@ -74,6 +74,15 @@ def test_a_run_takes_the_build_that_is_kept(tree: Tree) -> None:
         assert it.out.startswith("suite/two.pkt:2: fail seq\n") and it.out.endswith(" UNPROVED\n")
 
 
+def test_a_cluster_is_given_the_build_that_is_kept(tree: Tree) -> None:
+    pytest.importorskip("distributed", reason="python3-distributed isn't installed")
+    call(tree, "run", "suite")
+    called = call(tree, "run", "--scheduler", "nowhere", "suite")
+    assert (called.status, called.out) == (2, "")
+    assert called.err.startswith(first(tree, "running without proofs") + "pdsuite: nowhere: no address of a scheduler")
+    assert "isn't proved and built" in call(tree, "run", "--proved", "--scheduler", "nowhere", "suite").err
+
+
 def test_only_a_proved_program_runs_where_that_is_asked_for(tree: Tree) -> None:
     call(tree, "run", "suite")
     called = call(tree, "run", "--proved", "suite")

@@ -131,7 +131,7 @@ def test_programs_that_end_are_told_of_as_on_one_machine(
 
 
 def test_explanations_are_those_of_one_machine(started: Add, stand_in: Path, tmp_path: Path, call: Call) -> None:
-    write(tmp_path, a=b"row fail 2 seq\n+0 > . 1:2(1) ack 1\n", b=PASSES, c=b"row limit 1\nwhy\n")
+    write(tmp_path, a=b"row fail 2 seq\n+0 > . 1:2(1) ack 1\n", b=PASSES, c=b"row limit 1\n+\n")
     here = call(stand_in, "run", "--json", ".")
     there = call(stand_in, "run", "--json", "--scheduler", started(stand_in).address, ".")
     assert there.out.count('"explanation": ') == 2 and (there.status, there.err) == (1, "")

@@ -8,7 +8,10 @@ from pathlib import Path
 
 import pytest
 
-from tests.helpers import TOP, Called, ends, is_alive, wait_for, write
+from pdsuite.commands import compare as comparing
+from pdsuite.show.screen import Screen
+from pdsuite.signals import Stopped
+from tests.helpers import TOLD, TOP, Called, ends, is_alive, wait_for, write
 from tests.trees import Tree
 
 STATE = "//= at 0.100000 ESTABLISHED cwnd:4000 DupAcks:{}\n"
@@ -48,8 +51,8 @@ def test_where_nothing_differs_the_status_is_0(tree: Tree) -> None:
     called = compare(tree)
     assert (called.status, untimed(called.out)) == (
         0,
-        "suite/low: 2 turned 0 played otherwise 0 as before 1 not compared 1\n"
-        "suite: 1 turned 0 played otherwise 0 as before 1\n"
+        "suite/low: 2 scripts, 0 turned, 0 played otherwise, 1 as before, 1 not compared\n"
+        "suite: 1 script, 0 turned, 0 played otherwise, 1 as before\n"
         "total 3 turned 0 played otherwise 0 as before 2 not compared 1",
     )
     assert called.out.endswith(" s UNPROVED\n") and tree.builds() == 1
@@ -62,18 +65,16 @@ def test_where_nothing_differs_the_status_is_0(tree: Tree) -> None:
 def test_a_script_that_turns_is_told_with_both_blocks_and_where_its_recordings_part(tree: Tree) -> None:
     tree.change("s/^row pass 9/row fail 2 seq/\ns/1:1001(1000)/5001:6001(1000)/\n")
     called = compare(tree)
-    state = STATE.format(2).strip()
-    assert called.status == 1 and called.out.splitlines()[:10] == [
+    assert called.status == 1 and called.out.splitlines()[:11] == [
         "suite/quick.pkt: turned",
         "  before: pass 9",
         "  after: line 2: fail seq: so it is",
-        "    +0 > . 5001:6001(1000) ack 1",
-        f"    {state}",
+        *(f"    {line}" for line in TOLD),
         "  the first event that differs:",
         "    before: +0 > . 1:1001(1000) ack 1 // 0.100000",
         "    after:  +0 > . 5001:6001(1000) ack 1 // 0.100000",
         "    state:  none",
-        "suite/low: 2 turned 0 played otherwise 0 as before 1 not compared 1",
+        "suite/low: 2 scripts, 0 turned, 0 played otherwise, 1 as before, 1 not compared",
     ]
 
 
@@ -125,6 +126,36 @@ def test_two_folders_of_programs_are_compared_without_a_build(tree: Tree) -> Non
     assert called.status == 1 and called.out.startswith("suite/quick.pkt: turned\n  before: pass 9\n  after: line 2: ")
     assert tree.builds() == 0 and "UNPROVED" not in called.out
     assert called.err == f"pdsuite: before: {tree.bin}; after: {other}\n"
+
+
+# Has a stand-in run scripts once the other sender's does so too, or note that it never does.
+TOGETHER = """
+def meet():
+    open("{notes}/{own}", "w").close()
+    for _ in range(200):
+        if os.path.exists("{notes}/{other}"):
+            return time.sleep({seconds})
+        time.sleep(0.05)
+    open("{notes}/alone", "w").close()
+
+
+if "--workers" in sys.argv:
+    meet()
+KILL,"""
+
+
+def test_two_folders_of_programs_run_side_by_side_and_are_told_of_in_their_order(tree: Tree) -> None:
+    write(tree.suite, one=b"fault one\n", two=b"fault two\n")
+    for own, other, fault, seconds in (("before", "after", "one", 0.5), ("after", "before", "two", 0)):
+        shutil.copytree(tree.bin, folder := tree.suite.parent / own)
+        meet = TOGETHER.format(own=own, other=other, notes=tree.notes, seconds=seconds)
+        text = (folder / "pdregress").read_text().replace("KILL,", meet, 1)
+        text = text.replace('case ["fault", *fault]', f'case ["fault", *fault] if fault == ["{fault}"]', 1)
+        (folder / "pdregress").write_text(text)
+    called = tree.call("compare", "--base", "before", "--with", "after", "suite")
+    assert not (tree.notes / "alone").exists()
+    told = [line.partition(";")[0] for line in called.err.splitlines() if "; a new run begins at " in line]
+    assert told == ["pdsuite: pdregress: one", "pdsuite: pdregress: two"]
 
 
 ON = b"told early\n+0 > . 1:1001(1000) ack 1 SETTINGS\n//= at 0.100000 ESTABLISHED cwnd:4000 DupAcks:2\n"
@@ -193,6 +224,20 @@ def test_a_key_that_a_sender_lacks_counts_as_its_default_there_and_is_told_once(
     assert tree.builds() == (2 if is_built else 0)
 
 
+def test_a_key_counts_by_its_old_name_with_a_sender_from_before(tree: Tree) -> None:
+    write(tree.suite, on=b"told byte_counting\n")
+    (tree.suite / "pdsuite.toml").write_text("abc_limit = 2\n")
+    other = tree.suite.parent / "other"
+    shutil.copytree(tree.bin, other)
+    # It is asked on standard input, and called with the settings of a run.
+    names = "s/^set abc_limit /set no_abc_limit /; s/^set byte_counting /set abc_limit /"
+    for name in ("pdregress", "pdrecord"):
+        (other / name).write_text(f'#!/bin/sh\nexec sed -u "{names}" | "{tree.bin}/{name}" "$@"\n')
+    called = compare(tree, "--base", other, "--with", tree.bin, "--only", "on.pkt")
+    assert called.err.splitlines()[1:] == [f"pdsuite: {other}: the setting abc_limit is byte_counting there"]
+    assert called.out.splitlines()[1:3] == ["  before: pass 2", "  after: pass 1"]
+
+
 @pytest.mark.parametrize(
     ("words", "said"),
     [
@@ -256,7 +301,11 @@ def git(folder: Path, *words: str) -> None:
     subprocess.run(["git", "-C", folder, *name, *words], check=True, capture_output=True)
 
 
-def test_a_commit_is_checked_out_and_built_beside(tree: Tree) -> None:
+@pytest.mark.parametrize("has_tar", [True, False])
+def test_a_commit_is_checked_out_and_built_beside(tree: Tree, has_tar: bool) -> None:
+    if not has_tar:
+        (tree.bin / "tar").write_text("#!/bin/sh\nexit 2\n")
+        (tree.bin / "tar").chmod(0o755)
     git(tree.top, "init", "-q")
     (tree.top / "crates/pdrecord/src/x").touch()
     (tree.top / "crates/pdregress/src/x").touch()
@@ -330,3 +379,18 @@ def test_a_signal_while_both_programs_are_built_ends_all(tree: Tree, words: list
     status, out, _ = ends(process, signal.SIGTERM)
     assert (status, out) == (128 + signal.SIGTERM, "")
     assert not is_alive(int((tree.notes / "mark").read_text()))
+
+
+def test_a_build_that_is_kept_serves_however_it_was_made(monkeypatch: pytest.MonkeyPatch) -> None:
+    ways = []
+
+    def with_programs(senders: object, way: str, *more: object) -> None:
+        ways.append(way)
+        raise Stopped(signal.SIGINT)
+
+    monkeypatch.setattr(comparing, "with_programs", with_programs)
+    paths = [TOP / "examples/suite/close"]
+    options = comparing.CompareOptions(paths, [], "", "", "", str(TOP), str(TOP), False, False, None)
+    with Screen(False, False) as screen:
+        assert comparing.compare_senders(options, screen) == 130
+    assert ways == ["any"]

@@ -60,6 +60,12 @@ def test_a_new_script_is_worse_where_it_does_not_pass() -> None:
     assert told(None, FAILS) == ("new", True)
 
 
+@pytest.mark.parametrize(("is_known", "is_worse"), [(True, False), (False, True)])
+def test_a_new_script_that_fails_is_worse_where_that_is_not_expected_of_it(is_known: bool, is_worse: bool) -> None:
+    (it,) = differences({}, {"a": SavedRow(FAILS, is_known=is_known)})
+    assert (it.kind, it.is_worse) == (Kind.NEW, is_worse)
+
+
 def test_a_script_that_went_is_not_worse() -> None:
     assert told(PASSES, None) == told(FAILS, None) == ("gone", False)
 

@@ -227,7 +227,7 @@ def test_settings_that_are_refused_end_it(stand_in: Path, tmp_path: Path, call: 
     write(tmp_path, a=FAILS)
     (tmp_path / "pdsuite.toml").write_text('["a.pkt"]\nexpect = "fail"\n')
     called = call(stand_in, "expect", "--reason", "so", ".")
-    said = 'pdsuite: pdsuite.toml:2: expect: needs a reason beside it (["a.pkt"])\n'
+    said = 'pdsuite.toml:2: expect: needs a reason beside it (["a.pkt"])\n'
     assert (called.status, called.out, called.err) == (2, "", said)
 
 

@@ -14,7 +14,7 @@ from pdsuite.programs.rows import Row, Verdict
 from pdsuite.run.outcomes import Outcome, Tally, Totals
 from pdsuite.scripts.expectation import Expectation, is_row
 from pdsuite.scripts.suite import layer_of
-from tests.helpers import FAILS, PASSES, Call, write
+from tests.helpers import FAILS, PACKET, PASSES, TOLD, Call, write
 from tests.test_reports import NAMES, parse_tap
 from tests.watching import Watching
 
@@ -124,7 +124,7 @@ def test_known_rows_are_counted_apart_and_make_no_run_fail() -> None:
 # A script's first line, the row that is expected, and what is said of it with -v.
 SCRIPTS: Mapping[str, tuple[bytes, str | None, str]] = {
     "a other": (b"row fail 2 ack\n\n", "fail 1 seq", ':2: fail ack, though "fail 1 seq" is expected (so #1)'),
-    "b known": (b"row fail 1 seq\nbelow\n", "fail 1 seq", ":1: known: fail seq (so #1)"),
+    "b known": (b"row fail 1 seq\n" + PACKET, "fail 1 seq", ":1: known: fail seq (so #1)"),
     "c syntax": (b"row syntax 1\n", "syntax", ":1: known: syntax (so #1)"),
     "d unsupported": (b"row unsupported 1\n", "unsupported 1", ":1: known: unsupported (so #1)"),
     "e limit": (b"row limit 1\n", "fail", ':1: limit, though "fail" is expected (so #1)'),
@@ -190,14 +190,12 @@ def test_what_is_known_ends_no_run_that_is_to_fail_fast(stand_in: Path, tmp_path
     assert call(stand_in, "run", "--fail-fast", ".").totals == {"pass": 62, "known": 1, "unexpected": 1, "not run": 136}
 
 
-def test_why_a_script_fails_is_asked_where_it_is_shown(stand_in: Path, tmp_path: Path, call: Call) -> None:
-    write(tmp_path, a=b"row fail 1 seq\ncrash\n")
+def test_of_a_known_failure_people_read_a_line(stand_in: Path, tmp_path: Path, call: Call) -> None:
+    write(tmp_path, a=b"row fail 1 seq\n" + PACKET)
     (tmp_path / "pdsuite.toml").write_text('root = true\n["a.pkt"]\nexpect = "fail"\nreason = "x"\n')
-    told = "pdsuite: pdregress was ended by SIGSEGV; nothing is told of a.pkt\n"
-    for words in (["-v"], ["--new-only"]):
-        assert told not in call(stand_in, "run", *words, ".").err
-    for words in (["--tap"], ["--json"], ["--github"], ["--junit", "out.xml"], ["--html", "page"]):
-        assert told in call(stand_in, "run", *words, ".").err
+    assert call(stand_in, "run", "-v", ".").out.splitlines()[:-1] == ["a.pkt:1: known: fail seq (x)"]
+    for words in (["--tap"], ["--github"], ["--json"]):
+        assert TOLD[2] in call(stand_in, "run", *words, ".").out
 
 
 def test_tap_has_known_rows_still_to_do(stand_in: Path, tmp_path: Path, call: Call) -> None:
@@ -209,7 +207,8 @@ def test_tap_has_known_rows_still_to_do(stand_in: Path, tmp_path: Path, call: Ca
     assert last == "13 9 0"
     lines = called.out.splitlines()
     place = lines.index("not ok 2 b known.pkt # TODO so #1")
-    assert lines[place - 2 : place] == ["# b known.pkt:1: known: fail seq (so #1): so it is", "#   below"]
+    told = [f"#   {line}" for line in TOLD]
+    assert lines[place - 4 : place] == ["# b known.pkt:1: known: fail seq (so #1): so it is", *told]
     place = lines.index("not ok 7 g mended.pkt")
     assert lines[place - 1] == f"# {LINES[6]}"
 
@@ -224,7 +223,9 @@ def test_junit_skips_known_rows_with_the_reason(stand_in: Path, tmp_path: Path, 
     assert {name: type(it) for name, it in results.items()} == {**dict.fromkeys(KNOWN, Skipped), **kinds}
     for name in KNOWN:
         assert (results[name].message, results[name].type) == ("so #1", "known")
-    assert results["b known"].text == "b known.pkt:1: known: fail seq (so #1): so it is\n  below"
+    assert results["b known"].text == "b known.pkt:1: known: fail seq (so #1): so it is" + "".join(
+        f"\n  {it}" for it in TOLD
+    )
     assert (results["g mended"].message, results["g mended"].type) == (LINES[6], "unexpected")
     assert results["a other"].message.startswith(LINES[0])
 
@@ -259,7 +260,8 @@ def test_github_has_a_notice_of_known_rows(stand_in: Path, tmp_path: Path, call:
         "f error.pkt",
     ]
     first = "::notice file=b known.pkt,line=1,title=known%3A fail seq::"
-    assert notices[0] == f"{first}b known.pkt:1: known: fail seq (so #1): so it is%0A  below"
+    told = "".join(f"%0A  {line}" for line in TOLD)
+    assert notices[0] == f"{first}b known.pkt:1: known: fail seq (so #1): so it is{told}"
     assert errors[2] == f"::error file=g mended.pkt,title=passes%2C though it is expected not to::{LINES[6]}"
     assert [it.split("::")[2].split(".pkt")[0] for it in errors] == ["a other", "e limit", "g mended", "i fails"]
     summary = (tmp_path / "summary.md").read_text().splitlines()

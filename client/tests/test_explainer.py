@@ -4,52 +4,60 @@ import json
 import os
 import signal
 import subprocess
+import time
 from pathlib import Path
 
 import pytest
 
-from tests.helpers import PASSES, TOP, Call, ends, is_alive, wait_for, wrapped, write
+from pdsuite.programs.protocol import add, blocks_in, causes_in, name_of
+from pdsuite.programs.told import lines_of
+from pdsuite.run.manner import in_manner
+from pdsuite.scripts.text import text_of
+from tests.helpers import OPENED, PACKET, PASSES, TOLD, TOP, Call, ends, is_alive, wait_for, wrapped, write
+from tests.lsp_scripts import HEAD, failing_cases, failing_scripts
 
 BLOCK = b"script packet: x\nactual packet: y\n"
 BELOW = ["  script packet: x", "  actual packet: y"]
 
 
 def test_a_block_stands_below_its_row(stand_in: Path, tmp_path: Path, call: Call) -> None:
-    write(tmp_path, a=PASSES, b=b"row fail 2 seq\n" + BLOCK, c=b"row limit 1\nwhy\n")
+    write(tmp_path, a=PASSES, b=b"row fail 2 seq\n" + BLOCK, c=b"row limit 1\nrule: why\n")
     called = call(stand_in, "run", ".")
-    assert called.out.splitlines()[:-1] == ["b.pkt:2: fail seq: so it is", *BELOW, "c.pkt:1: limit: so it is", "  why"]
+    limit = ["c.pkt:1: limit: so it is", "  rule: why"]
+    assert called.out.splitlines()[:-1] == ["b.pkt:2: fail seq: so it is", *BELOW, *limit]
     assert (called.status, called.err) == (1, "")
 
 
 def test_each_script_has_its_own_block(stand_in: Path, tmp_path: Path, call: Call) -> None:
     for number in range(150):
-        text = PASSES if number % 3 == 0 else b"row fail 1 seq\nit is %d\n" % number
+        text = PASSES if number % 3 == 0 else b"row fail 1 seq\nreason: it is %d\n" % number
         write(tmp_path, **{f"s{number:03}": text})
     called = call(stand_in, "run", ".")
     below = [line for line in called.out.splitlines() if line.startswith("  ")]
-    assert below == [f"  it is {number}" for number in range(150) if number % 3]
+    assert below == [f"  reason: it is {number}" for number in range(150) if number % 3]
 
 
 def test_every_form_has_the_block(stand_in: Path, tmp_path: Path, call: Call) -> None:
-    write(tmp_path, b=b"row fail 2 seq\n" + BLOCK)
-    told = ["b.pkt:2: fail seq: so it is", *BELOW]
-    assert call(stand_in, "run", "--tap", ".").out.splitlines()[2:5] == [f"# {line}" for line in told]
+    write(tmp_path, b=b"row fail 2 seq\n" + PACKET)
+    told = ["b.pkt:2: fail seq: so it is", *(f"  {line}" for line in TOLD)]
+    assert call(stand_in, "run", "--tap", ".").out.splitlines()[2:6] == [f"# {line}" for line in told]
     (script,) = json.loads(call(stand_in, "run", "--json", ".").out)["scripts"]
-    assert (script["what"], script["below"]) == ("so it is", [line[2:] for line in BELOW])
+    assert (script["what"], script["below"]) == ("so it is", TOLD)
     assert "%0A".join(told) in call(stand_in, "run", "--github", ".").out
     call(stand_in, "run", "--junit", "out.xml", ".")
-    assert "\n".join(told) in (tmp_path / "out.xml").read_text()
+    assert "\n".join(told).replace(">", "&gt;") in (tmp_path / "out.xml").read_text()
 
 
 def test_the_script_s_settings_are_given(tmp_path: Path, stand_in: Path, call: Call) -> None:
     folder = wrapped(tmp_path / "programs", stand_in, explains='printf "%s\\n" "$@" >words')
-    write(tmp_path / "suite", b=b"row fail 1 seq\nwhy\n")
+    write(tmp_path / "suite", b=b"row fail 1 seq\nreason: why\n")
     called = call(folder, "run", "--settings", "mss = 1000", "suite")
-    assert "\n  why\n" in called.out
-    assert (tmp_path / "words").read_text().splitlines() == ["--explain", "--cache", "1", "--settings", "mss = 1000"]
+    assert "\n  reason: why\n" in called.out
+    words = (tmp_path / "words").read_text().splitlines()
+    assert words == ["--explain", "--leftovers", "--json", "--cache", "1", "--settings", "mss = 1000"]
 
 
-@pytest.mark.parametrize("text", [b"silent\n", b"other line\nwhy\n", b""])
+@pytest.mark.parametrize("text", [b"silent\n", b"other line\nwhy\n"])
 def test_a_row_without_a_block_has_the_script_s_line(text: bytes, stand_in: Path, tmp_path: Path, call: Call) -> None:
     write(tmp_path, b=b"row fail 1 seq\n" + text)
     called = call(stand_in, "run", ".")
@@ -83,12 +91,14 @@ def test_a_script_on_which_it_ends_costs_no_other_its_block(
         *("b.pkt:1: fail ack", "  row fail 1 ack"),
         *("c.pkt:2: fail win: so it is", *BELOW),
     ]
-    assert (called.status, called.err) == (1, f"pdsuite: {REASONS[text]}; nothing is told of b.pkt\n")
+    again, untold = "a new run begins at a.pkt", "nothing is told of b.pkt"
+    said = [f"pdsuite: {REASONS[text]}; {it}" for it in (again, untold)]
+    assert (called.status, called.err.splitlines()) == (1, said)
 
 
 def test_what_is_told_is_safe_to_print(stand_in: Path, tmp_path: Path, call: Call) -> None:
-    write(tmp_path, b=b"row fail 1 seq\na \\x1b b\n\x1b[2J\n")
-    assert call(stand_in, "run", ".").out.splitlines()[1:3] == [r"  a \x1b b", r"  \x1b[2J"]
+    write(tmp_path, b=b"row fail 1 seq\nreason: a \\x1b b\nrule: \x1b[2J\n")
+    assert call(stand_in, "run", ".").out.splitlines()[1:3] == [r"  reason: a \x1b b", r"  rule: \x1b[2J"]
 
 
 @pytest.mark.parametrize("command", ["run", "watch"])
@@ -101,7 +111,35 @@ def test_it_has_to_be_built(command: str, tmp_path: Path, call: Call) -> None:
     assert (called.status, called.out, called.err) == (2, "", said)
 
 
-def test_a_signal_ends_it_too_and_the_rows_are_shown(stand_in: Path, tmp_path: Path) -> None:
+SENT = "+0 > .  1:1001(1000)    ack 1 win 511 // 0.200000"
+MANNERS = {
+    "+0 > P. 1001:2001(1000) ack 1": "+0 > . 1:1001(1000) ack 1 // 0.200000",
+    "+0 > P. 1001:2001(1000) ack 1 // > P. 1:2(1) ack 1 win 5": "+0 > . 1:1001(1000) ack 1 // 0.200000",
+    "+0 < . 1:1(0) ack 1 win 257": "+0 > . 1:1001(1000) ack 1 // 0.200000",
+    "+0 > P. 1001:2001(1000) ack 1 win 511": "+0 > . 1:1001(1000) ack 1 win 511 // 0.200000",
+    "+0 > S. 0:0(0)  win 65535 <...>": "+0 > . 1:1001(1000) ack 1 win 511 // 0.200000",
+}
+
+
+@pytest.mark.parametrize(("line", "mend"), MANNERS.items(), ids=range(len(MANNERS)))
+def test_a_packet_to_be_inserted_is_written_as_the_script_writes_its_own(line: str, mend: str) -> None:
+    told = (f"mend by inserting: {SENT}", f"actual packet: {SENT}, sent by line 2")
+    assert in_manner(told, f"// Why.\n{line}\n".encode()) == (f"mend by inserting: {mend}", told[1])
+
+
+def test_what_a_run_has_inserted_is_the_scripts_own(programs: Path, tmp_path: Path, call: Call) -> None:
+    lacking = OPENED + b"+0 write(4, ..., 3000) = 3000\n+0 > P. 2001:3001(1000) ack 1\n"
+    for number in (1, 1001):
+        write(tmp_path, a=lacking)
+        mends = [it for it in call(programs, "run", "a.pkt").out.splitlines() if "inserting" in it]
+        line = f"+0 > . {number}:{number + 1000}(1000) ack 1 // 0.200000"
+        assert mends[0] == f"  mend by inserting: {line}"
+        lacking = lacking.replace(b"+0 > P. 2001", f"{line}\n+0 > P. 2001".encode())
+    write(tmp_path, a=lacking)
+    assert call(programs, "run", "a.pkt").totals == {"pass": 1}
+
+
+def test_a_signal_ends_it_too(stand_in: Path, tmp_path: Path) -> None:
     write(tmp_path, a=b"row fail 1 seq\nstall\n", b=PASSES)
     environment = {**os.environ, "PDSUITE_PROGRAMS": str(stand_in)}
     process = subprocess.Popen(
@@ -110,8 +148,22 @@ def test_a_signal_ends_it_too_and_the_rows_are_shown(stand_in: Path, tmp_path: P
     wait_for(tmp_path / "mark", process)
     status, out, err = ends(process, signal.SIGTERM)
     assert (status, err) == (143, "")
-    assert out.startswith("a.pkt:1: fail seq\n  row fail 1 seq\ntotal 2 pass 1 fail 1 ")
+    assert out.startswith("total 2 pass 0 fail 0 ") and " not run 2 " in out
     assert not is_alive(int((tmp_path / "mark").read_text()))
+
+
+def test_a_signal_loses_nothing_that_was_settled(stand_in: Path, tmp_path: Path) -> None:
+    write(tmp_path / "a", a=b"row fail 1 seq\nstall\n")
+    (tmp_path / "a/pdsuite.toml").write_text("mss = 1000\n")
+    write(tmp_path / "b", b=PASSES)
+    environment = {**os.environ, "PDSUITE_PROGRAMS": str(stand_in)}
+    command: list[str | Path] = [TOP / "pdsuite", "run", "-v", "--workers", "2", "."]
+    process = subprocess.Popen(command, cwd=tmp_path, env=environment, stdout=subprocess.PIPE, stderr=subprocess.PIPE)
+    wait_for(tmp_path / "mark", process)
+    time.sleep(1)
+    status, out, err = ends(process, signal.SIGTERM)
+    assert (status, err) == (143, "")
+    assert "b/b.pkt: pass 1\n" in out and "total 2 pass 1 fail 0 " in out
 
 
 def test_each_row_of_the_examples_is_explained_by_the_built_program(programs: Path, call: Call) -> None:
@@ -123,11 +175,28 @@ def test_each_row_of_the_examples_is_explained_by_the_built_program(programs: Pa
     assert (called.status, called.err) == (1, "")
 
 
-def test_only_scripts_that_do_not_pass_are_given_to_it(tmp_path: Path, stand_in: Path, call: Call) -> None:
-    teed = 'case "$*" in *--ends*) ;; *)\ntee -a asked | "$0.py" "$@"\nexit ;;\nesac'
-    folder = wrapped(tmp_path / "programs", stand_in, explains=teed)
+def test_each_script_runs_once(tmp_path: Path, stand_in: Path, call: Call) -> None:
+    """Whoever gives its row says why, too, and what it leaves at its end."""
+    teed = 'tee -a asked | "$0.py" "$@"\nexit'
+    folder = wrapped(tmp_path / "programs", stand_in, runs="echo >>others", explains=teed)
     for number in range(130):
-        write(tmp_path / "suite", **{f"s{number:03}": b"row limit 1\nwhy\n" if number in (70, 90) else PASSES})
+        text = b"row limit 1\nrule: why\n" if number in (70, 90) else b"row pass 1\nends it awaits no packet\n"
+        write(tmp_path / "suite", **{f"s{number:03}": text})
     called = call(folder, "run", "suite")
-    assert (called.totals, called.err) == ({"pass": 128, "limit": 2}, "")
-    assert (tmp_path / "asked").read_bytes() == b"add s0 2\nrow limit 1\nwhy\nadd s1 2\nrow limit 1\nwhy\n"
+    assert (called.totals, called.err) == ({"pass": 128, "limit": 2}, "") and " warnings 128 " in called.out
+    asked = (tmp_path / "asked").read_bytes()
+    assert (asked.count(b"add "), asked.count(b"settle\n")) == (130, 3)
+    assert (tmp_path / "others").read_text() == "\n"  # it is asked whether it answers
+
+
+def test_what_is_told_by_keys_has_the_lines_of_blocks(programs: Path) -> None:
+    texts = [text_of(it.encode()) for _, it in failing_scripts()] + [text_of(it.encode()) for it in failing_cases()]
+    far = b"+0 write(4, /* " + b"\xc3\xa9" * 60 + b" */ ..., 300000) = 1\n"
+    texts += [text_of(HEAD.encode() + it) for it in (far, far.replace(b"300000", b"9)"), b"x" * 300 + b"\n", b"")]
+    commands = b"".join(add(name_of(number), it) for number, it in enumerate(texts))
+    begin: list[str | Path] = [programs / "pdregress", "--explain", "--leftovers"]
+    said = [subprocess.run([*begin, *words], input=commands, capture_output=True) for words in ((), ("--json",))]
+    blocks, causes = blocks_in(said[0].stderr), causes_in(said[1].stderr)
+    assert len(blocks) > 500 and blocks.keys() == causes.keys()
+    for key, (_, *lines) in blocks.items():
+        assert list(lines_of(causes[key])) == [it.decode() for it in lines]

@@ -1,6 +1,7 @@
 """Explanations as objects: what the program says by keys, the place in the text, and the packets by field."""
 
 import json
+import re
 from collections.abc import Mapping
 from pathlib import Path
 from typing import Any
@@ -20,6 +21,8 @@ SCRIPT = b"""0 write(4, ..., 1000) = 1000 // \xc3\xbc \xff
 +.1 close(4) = 1
 """
 SENT = "+0 > P. 1:1001(1000) ack 1 win 511 <...> // 0.200000"
+# So many times a text, as rows write it.
+_REPEATED = re.compile(r"\\<(\d+) (.*?)\\>")
 PACKETS = {"script_packet": r"+0 > P. 1:501(500) ack 1 win 9 <mss 1000,\x0a    nop>", "actual_packet": SENT}
 
 
@@ -113,9 +116,10 @@ def test_a_report_has_whole_explanations_and_what_the_last_run_left_has_none(
 
 
 def test_a_program_that_ends_on_a_script_is_told_of_once(stand_in: Path, tmp_path: Path, call: Call) -> None:
-    write(tmp_path, a=b"row fail 1 seq\ncrash\n", b=b"row fail 1 seq\nwhy\n")
+    write(tmp_path, a=b"row fail 1 seq\ncrash\n", b=b"row fail 1 seq\n+0 > . 1:2(1) ack 1\n")
     called = call(stand_in, "run", "--json", ".")
-    assert called.err == "pdsuite: pdregress was ended by SIGSEGV; nothing is told of a.pkt\n"
+    ended = "pdsuite: pdregress was ended by SIGSEGV; {} a.pkt\n"
+    assert called.err == ended.format("a new run begins at") + ended.format("nothing is told of")
     assert ["explanation" in it for it in held("run", called.out)["scripts"]] == [False, True]
 
 
@@ -123,7 +127,8 @@ def rows_of_the_programs() -> list[str]:
     """What rows of the programs want of `--json`, an object each."""
     files = sorted((TOP / "tests/cases/runs").glob("*.cases"))
     lines = [line for file in files for line in file.read_text().splitlines()]
-    return [line.removeprefix("! ").replace("\\\\", "\\") for line in lines if line.startswith('! {"')]
+    told = (line.removeprefix("! ") for line in lines if line.startswith('! {"'))
+    return [_REPEATED.sub(lambda it: it[2] * int(it[1]), line).replace("\\\\", "\\") for line in told]
 
 
 def test_what_the_program_tells_has_the_schema() -> None:
@@ -153,7 +158,8 @@ def test_what_the_program_tells_has_the_schema() -> None:
 def test_other_objects_do_not_have_the_schema(change: dict[str, object]) -> None:
     script: dict[str, object] = {"path": "a", "verdict": "fail", "line": 1, "kind": "seq", "below": [], "settings": {}}
     counts = {it: 0 for it in ("pass", "syntax", "unsupported", "limit", "error", "not run")}
-    report: dict[str, object] = {"scripts": [script], "total": {"scripts": 1, "fail": 1, **counts}, "seconds": 0.5}
+    total = {"scripts": 1, "fail": 1, **counts}
+    report: dict[str, object] = {"version": 2, "scripts": [script], "total": total, "seconds": 0.5}
     validator("run").validate(report)
     report["scripts"] = [{**script, **change}]
     assert not validator("run").is_valid(report)

@@ -179,7 +179,7 @@ def test_settings_that_are_refused_leave_the_good_ones_and_are_mended(site: Site
     good = site.rows
     for text, said in (
         ("root = true\nmss = 7\nsack = false\n", ":2: mss: BadValue: it takes 64 to 65,495 octets"),
-        ("root = true\nmss =\n", ": no TOML: Invalid value (at line 2, column 6)"),
+        ("root = true\nmss =\n", ":2: no TOML: Invalid value (at line 2, column 6)"),
         ("root = 1\n", ":1: root: BadValue: it takes true or false"),
     ):
         file.write_text(text)

@@ -97,7 +97,7 @@ def test_as_markdown_no_comment_is_markup() -> None:
         "",
         "- before: `` one `x` ``",
         "- after: `y`",
-        "- scripts: 3 turned 3 played otherwise 0 as before 0",
+        "- 3 scripts, 3 turned, 0 played otherwise, 0 as before",
     ]
     assert "### turned: 2 scripts, first in cwnd, at the ACK that establishes" in lines
     assert "`b.pkt`: RFC 1, section 2: \\*b\\*." in lines and "- `c.pkt`: RFC 1, section 3: c." in lines

@@ -82,12 +82,12 @@ def test_a_folder_is_imported_with_settings_and_a_list(programs: Path, tmp_path:
         "assertions for pdsuite run:",
         "      2 tcpi_snd_cwnd",
         "settings, scripts:",
-        "      2 byte_counting = 8",
+        "      2 abc_limit = 8",
         '      2 initial_window = "rfc6928"',
         "      2 min_rto_us = 200000",
-        '      2 recovery_rate = "prr"',
-        "      1 restart_after_idle = false",
-        "      1 restart_after_idle = true",
+        '      2 recovery_algorithm = "rfc9937"',
+        "      1 slow_start_after_idle = false",
+        "      1 slow_start_after_idle = true",
         "      1 wscale = 7",
         "      1 wscale = 8",
         "  of a kernel, min_rto_us: RFC 6298 puts this floor under the whole RTO, Linux under 4 RTTVAR alone",
@@ -96,11 +96,24 @@ def test_a_folder_is_imported_with_settings_and_a_list(programs: Path, tmp_path:
     files = sorted(str(it.relative_to(tmp_path / "to")) for it in (tmp_path / "to").rglob("*") if it.is_file())
     assert files == ["net/idle.pkt", "net/pdsuite.toml", "net/slow.pkt", "pdsuite.toml"]
     assert (tmp_path / "to/net/idle.pkt").read_text() == OPEN
-    assert (tmp_path / "to/net/slow.pkt").read_text().startswith("// SPDX-License-Identifier: GPL-2.0\n")
-    before = 'byte_counting = 8, initial_window = "rfc6928", min_rto_us = 200000, recovery_rate = "prr"'
+    assert (tmp_path / "to/net/slow.pkt").read_text().splitlines()[:6] == [
+        "// SPDX-License-Identifier: GPL-2.0",
+        "// dropped: `./defaults.sh",
+        "// dropped: sysctl -q net.ipv4.tcp_min_tso_segs=10`",
+        "// why: set-up, which is read and never run",
+        "// why: what the file says stands in pdsuite.toml",
+        "// why: this sender hasn't: offload",
+    ]
+    assert (tmp_path / "to/net/pdsuite.toml").read_text().splitlines()[:4] == [
+        "# The settings of the scripts in this folder, as pdsuite import read them.",
+        "# Of what defaults.sh says, this sender hasn't: metrics of earlier connections, queues of the device",
+        "# As defaults.sh says, this sender has: no ECN",
+        "",
+    ]
+    before = 'abc_limit = 8, initial_window = "rfc6928", min_rto_us = 200000, recovery_algorithm = "rfc9937"'
     listed = [
-        f"to/net/idle.pkt: {before}, restart_after_idle = true, wscale = 7",
-        f"to/net/slow.pkt: {before}, restart_after_idle = false, wscale = 8",
+        f"to/net/idle.pkt: {before}, slow_start_after_idle = true, wscale = 7",
+        f"to/net/slow.pkt: {before}, slow_start_after_idle = false, wscale = 8",
     ]
     assert call(None, "list", "to").out.splitlines() == listed
     assert call(programs, "run", "-v", "to").rows == ["to/net/idle.pkt: pass 7", "to/net/slow.pkt: pass 21"]
@@ -132,6 +145,7 @@ def test_the_object_tells_what_the_text_tells(tmp_path: Path, call: Call) -> Non
     called = call(None, "import", "--json", "from", "to")
     assert (called.status, called.err) == (2, "")
     assert held("import", called.out) == {
+        "version": 2,
         "scripts": [
             {
                 "path": "from/net/connects.pkt",
@@ -144,11 +158,11 @@ def test_the_object_tells_what_the_text_tells(tmp_path: Path, call: Call) -> Non
                 "came": "imported",
                 "changed": 0,
                 "settings": {
-                    "byte_counting": 8,
+                    "abc_limit": 8,
                     "initial_window": "rfc6928",
                     "min_rto_us": 200_000,
-                    "recovery_rate": "prr",
-                    "restart_after_idle": True,
+                    "recovery_algorithm": "rfc9937",
+                    "slow_start_after_idle": True,
                     "wscale": 7,
                 },
             },
@@ -157,11 +171,11 @@ def test_the_object_tells_what_the_text_tells(tmp_path: Path, call: Call) -> Non
                 "came": "imported",
                 "changed": 2,
                 "settings": {
-                    "byte_counting": 8,
+                    "abc_limit": 8,
                     "initial_window": "rfc6928",
                     "min_rto_us": 200_000,
-                    "recovery_rate": "prr",
-                    "restart_after_idle": False,
+                    "recovery_algorithm": "rfc9937",
+                    "slow_start_after_idle": False,
                     "wscale": 8,
                 },
             },
@@ -192,7 +206,7 @@ def test_with_keep_packets_no_packet_is_changed(programs: Path, tmp_path: Path, 
     called = call(None, "import", "--keep-packets", "from", "to")
     assert called.out.splitlines()[-1].startswith("total 3 imported 2 packets kept 2 changed to this profile 0 ")
     assert "+0 > P. 1:10001(10000) ack 1\n" in (tmp_path / "to/net/slow.pkt").read_text()
-    assert call(programs, "run", "to").rows == ["to/net/slow.pkt:17: fail flags"]
+    assert call(programs, "run", "to").rows == ["to/net/slow.pkt:16: fail flags"]
 
 
 def test_the_suite_imports_to_itself(tmp_path: Path, call: Call) -> None:
@@ -255,8 +269,8 @@ REFUSALS = [
     (["import", "from", "from/to"], "from/to: lies in the folder that is imported"),
     (["import", ".", "to"], "to: lies in the folder that is imported"),
     (["import", "from", "."], ".: isn't empty"),
-    (["import", "nowhere", "to"], "nowhere: isn't a folder"),
-    (["import", "file", "to"], "file: isn't a folder"),
+    (["import", "nowhere", "to"], "nowhere: No such file or directory"),
+    (["import", "file", "to"], "file: neither a folder nor a file *.pkt"),
     (["import", "empty", "to"], "no script found"),
     (["import", "from", "dangling"], None),
 ]
@@ -332,5 +346,5 @@ def test_settings_that_no_run_can_be_given_are_refused(tmp_path: Path, call: Cal
     write(tmp_path / "from", a=PASSES)
     (tmp_path / "from/pdsuite.toml").write_text("mss = [1]\n")
     called = call(None, "import", "from", "to")
-    said = "pdsuite: from/pdsuite.toml:1: mss: BadValue: it takes 64 to 65,495 octets\n"
+    said = "from/pdsuite.toml:1: mss: BadValue: it takes 64 to 65,495 octets\n"
     assert (called.status, called.err) == (2, said)

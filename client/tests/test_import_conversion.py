@@ -52,11 +52,11 @@ WITHOUT = ["", "\n", "// SPDX-License-Identifier: GPL-2.0\r\n\r\n", "/* a\n*/ --
 def test_a_script_of_this_language_stays_as_it_is(text: str) -> None:
     assert imported(text).text == text
     assert imported(text).settings == (
-        ("byte_counting", 8),
+        ("abc_limit", 8),
         ("initial_window", "rfc6928"),
         ("min_rto_us", 200_000),
-        ("recovery_rate", "prr"),
-        ("restart_after_idle", True),
+        ("recovery_algorithm", "rfc9937"),
+        ("slow_start_after_idle", True),
         ("wscale", 7),
     )
     assert imported(text, {"mss": 1000}).settings == (("mss", 1000),)
@@ -77,6 +77,7 @@ REPLACED = [
         "--local_ip=10.0.0.1 --tolerance_usecs=10 // a\n",
         "// dropped: --local_ip=10.0.0.1\n// why: where packets are sent\n --tolerance_usecs=10 // a\n",
     ),
+    ("--mss=1000 // a\n", "// dropped: --mss=1000\n// why: settings in pdsuite.toml: mss\n // a\n"),
     # Commands and code in the midst; their time goes to the event after them.
     (
         "\t+0 `ss -t` // a\n+.2 close(4) = 0",
@@ -211,6 +212,15 @@ def test_a_script_with_settings_of_its_own_may_be_offered_timestamps() -> None:
     assert imported("`sysctl net.ipv4.tcp_timestamps=0`\n" + text).text.endswith(text)
 
 
+def test_the_mss_of_the_header_is_a_setting() -> None:
+    text = "--mss=64 --mss=0900\n" + OPEN
+    assert dict(imported(text).settings)["mss"] == 900
+    assert imported(text, {"mss": 800}).settings == (("mss", 800),)
+    # No segment is longer.
+    script = imported(text + "+0 write(4, ..., 1000) = 1000\n+0 > P. 1:1001(1000) ack 1\n").text
+    assert "+0 > . 1:901(900) ack 1\n+0 > P. 901:1001(100) ack 1\n" in script
+
+
 LEFT = [
     ("`sysctl -q net.ipv4.tcp_ecn=1`", 1, "ECN"),
     ("`sysctl -q net.ipv4.tcp_slow_start_after_idle=2`", 1, "a value that isn't read"),
@@ -221,6 +231,9 @@ LEFT = [
     ("--ip_version=ipv6", 1, "IPv6"),
     ("--tolerance_usecs=1000001", 1, "an option of the header"),
     ("--send_omit_free", 1, "an option of the header"),
+    ("--mss=63", 1, "no value of mss, which takes 64 to 65,495 octets"),
+    ("--mss=65496", 1, "no value of mss, which takes 64 to 65,495 octets"),
+    ("--mss", 1, "no value of mss, which takes 64 to 65,495 octets"),
     ("0 close(3) = 0\n--tolerance_usecs=1", 2, "no script of this language"),
     (OPEN + "+0 `iptables -A INPUT -j DROP`", 8, "filters"),
     (OPEN + "+0 `sysctl -q net.ipv4.tcp_sack=1`", 8, "a setting in the midst"),

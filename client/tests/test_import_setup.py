@@ -55,8 +55,8 @@ MEANINGS = [
     ("net.ipv4.tcp_sack", "0", Use.SETTING, "sack"),
     ("net.ipv4.tcp_congestion_control", "cubic", Use.FEATURE, "congestion control by name"),
     ("net.ipv4.tcp_early_retrans", "3", Use.FEATURE, "TLP"),
-    ("net.ipv4.tcp_slow_start_after_idle", "0", Use.SETTING, "restart_after_idle"),
-    ("net.ipv4.tcp_slow_start_after_idle", "1", Use.SETTING, "restart_after_idle"),
+    ("net.ipv4.tcp_slow_start_after_idle", "0", Use.SETTING, "slow_start_after_idle"),
+    ("net.ipv4.tcp_slow_start_after_idle", "1", Use.SETTING, "slow_start_after_idle"),
     ("net.ipv4.tcp_ecn", "1", Use.REFUSED, "ECN"),
     ("net.ipv4.tcp_reordering", "5", Use.REFUSED, "another number of duplicates"),
     ("net.ipv4.tcp_base_mss", "512", Use.REFUSED, "MTU"),
@@ -101,14 +101,14 @@ def looked(text: str, place: Place = Place.SETUP, file: str | None = None) -> Lo
 
 def came_of(text: str, own: dict[str, Value] | None = None, smss: int = 1000, file: str | None = None) -> Setup:
     """What a set-up comes to."""
-    return setup_of(looked(text, file=file).told, smss, own)
+    return setup_of(looked(text, file=file).told, smss, {}, own)
 
 
 KERNEL = {
     "initial_window": "rfc6928",
-    "byte_counting": 8,
-    "recovery_rate": "prr",
-    "restart_after_idle": True,
+    "abc_limit": 8,
+    "recovery_algorithm": "rfc9937",
+    "slow_start_after_idle": True,
     "min_rto_us": 200_000,
     "wscale": 7,
 }
@@ -154,8 +154,11 @@ SETUPS: list[tuple[str, dict[str, Value]]] = [
     ("ip route change default rto_min 2sec", {"min_rto_us": 2_000_000}),
     ("ip route change default initcwnd 10", {"initial_window": "rfc6928"}),
     ("ip route change default initcwnd 4", {"initial_window": "rfc5681"}),
-    ("sysctl net.ipv4.tcp_slow_start_after_idle=0", {"restart_after_idle": False}),
-    ("sysctl net.ipv4.tcp_slow_start_after_idle=0 net.ipv4.tcp_slow_start_after_idle=1", {"restart_after_idle": True}),
+    ("sysctl net.ipv4.tcp_slow_start_after_idle=0", {"slow_start_after_idle": False}),
+    (
+        "sysctl net.ipv4.tcp_slow_start_after_idle=0 net.ipv4.tcp_slow_start_after_idle=1",
+        {"slow_start_after_idle": True},
+    ),
 ]
 
 
@@ -201,15 +204,22 @@ def test_a_defaults_sh_is_read_in_the_place_of_its_name() -> None:
     file = "#!/bin/bash\n# sysctl a=1\nsysctl -q net.ipv4.tcp_sack=0\n\nip tcp_metrics flush all > /dev/null 2>&1\n"
     assert came_of("./defaults.sh", file=file).settings["sack"] is False
     assert came_of("./defaults.sh\nsysctl net.ipv4.tcp_sack=1", file=file).settings["sack"] is True
-    assert looked("./defaults.sh", file=file).features == ("metrics of earlier connections",)
+    found = looked("./defaults.sh", file=file)
+    assert found.dropped == found.shared.features == ("metrics of earlier connections",)
     assert [it.what for it in looked("./defaults.sh").reasons] == ["./defaults.sh (No such file or directory)"]
     assert [it.what for it in looked("./defaults.sh", file="./defaults.sh").reasons] == ["./defaults.sh"]
+
+
+def test_a_comment_of_a_defaults_sh_does_not_go_on_in_the_next_line() -> None:
+    for indent in ("", " \t"):
+        found = came_of("./defaults.sh", file=f"{indent}# all \\\nsysctl net.ipv4.tcp_sack=0\n")
+        assert found.settings["sack"] is False
 
 
 def test_a_command_that_is_not_known_counts_in_set_up_and_is_dropped_in_the_midst() -> None:
     assert [it.words for it in looked("modprobe x").reasons] == ["a command of set-up"]
     assert looked("modprobe x", Place.MIDST).reasons == ()
-    assert looked("modprobe x", Place.MIDST).features == ("commands, which are never run",)
+    assert looked("modprobe x", Place.MIDST).dropped == ("commands, which are never run",)
 
 
 @pytest.mark.parametrize(

@@ -13,11 +13,12 @@ from pdsuite.packetdrill.items import Packet, TcpOption
 from pdsuite.programs.building import Untried
 from pdsuite.programs.recorder import Recording
 from pdsuite.programs.rows import Row, Verdict
+from pdsuite.scripts.defaults import DEFAULTS
 from pdsuite.search.asking import Asked, askers_of
 from pdsuite.search.drawing import Drawing
 from pdsuite.search.finds import Differs, Fails, Reaches, without_trace
 from pdsuite.search.inputs import Input, Inputs, call, packet
-from pdsuite.search.making import plans
+from pdsuite.search.making import KEYS, plans
 from pdsuite.search.peer import Peer
 from pdsuite.search.playing import play
 from pdsuite.search.plans import Act, Ending, Handshake, Network, Odd, Oddity, Plan, Receiver
@@ -69,6 +70,16 @@ def test_a_sender_that_is_the_same_gives_no_find() -> None:
     assert (came.find, came.unshown, came.reached.inputs >= 40) == (None, None, True)
 
 
+def test_a_count_of_inputs_bounds_a_search_in_place_of_time() -> None:
+    lists = Drawing(1, repeat(8))
+    came = Search(Toy(), Fails(Toy()), Differs(Toy()), lists, 0.0, 30).run(lambda inputs: None)
+    assert came.find is None and 30 <= came.reached.inputs < 38
+
+
+def test_each_setting_that_the_sender_consults_is_drawn() -> None:
+    assert set(KEYS) == set(DEFAULTS) - {"tolerance_us"}
+
+
 def test_a_find_is_shrunk_to_the_inputs_that_it_needs() -> None:
     find = searched("late").find
     assert find is not None and find.row is not None and find.row.verdict is Verdict.FAIL
@@ -106,17 +117,17 @@ def test_inputs_come_under_each_rule_of_the_sender_that_settings_turn_on_or_off(
     made = [it for plan in plans(5, [400]) for it in plan]
     chosen = {it for plan in made for it in plan.settings}
     rules: dict[str, set[object]] = {
-        "byte_counting": {2, 3, 8},
+        "abc_limit": {2, 3, 8},
         "initial_window": {"rfc6928"},
         "limited_transmit": {False},
         "nagle": {False},
-        "recovery_rate": {"prr", "prr_crb"},
-        "restart_after_idle": {True},
+        "recovery_algorithm": {"rfc9937"},
+        "slow_start_after_idle": {True},
         "sack": {False},
     }
     assert {key: {value for other, value in chosen if other == key} for key in rules} == rules
     # After an idle time more is written.
-    idle = [plan for plan in made if "restart_after_idle" in dict(plan.settings)]
+    idle = [plan for plan in made if "slow_start_after_idle" in dict(plan.settings)]
     assert idle and all(any(act.after >= 2_000_000 and act.call.name == "write" for act in it.acts) for it in idle)
 
 
@@ -147,6 +158,8 @@ def test_the_peer_acknowledges_in_order_and_tells_holes_by_blocks_the_newest_fir
     assert str(peer.acknowledge()) == "< . 1:1(0) ack 4001 win 0 <sack 5001:6001>"
     assert str(peer.odd(Odd(0, Oddity.FIN))) == "< F. 1:1(0) ack 4001 win 0"
     assert str(peer.odd(Odd(0, Oddity.EARLY_ACK))) == "< . 2:2(0) ack 6002 win 0"
+    blocks = "<sack 5501:5601 5001:5101 4501:4601>"
+    assert str(peer.odd(Odd(0, Oddity.SMALL_BLOCKS, 99))) == f"< . 2:2(0) ack 4001 win 0 {blocks}"
 
 
 def test_a_peer_may_tell_each_segment_as_a_block_of_its_own() -> None:
@@ -162,6 +175,14 @@ def test_packets_that_are_lost_come_to_no_peer_and_late_ones_later() -> None:
     (played,) = play_all([play(acts)], Toy())
     acks = [(it.at, it.what.ack) for it in played.inputs.events if isinstance(it.what, Packet)][2:]
     assert acks == [(330_000, 1), (1_300_000, 2_001)]
+
+
+def test_a_peer_that_goes_on_counts_from_what_it_acknowledged_before() -> None:
+    peer = peer_of(Receiver())
+    peer.resume(3_001, 4_001, 2)
+    assert str(peer.odd(Odd(0, Oddity.SAME_ACK))) == "< . 2:2(0) ack 3001 win 65535"
+    assert str(peer.odd(Odd(9, Oddity.OLD_ACK))) == "< . 2:2(0) ack 3000 win 65535"
+    assert str(peer.odd(Odd(0, Oddity.EARLY_ACK))) == "< . 2:2(0) ack 4002 win 65535"
 
 
 STATE = (
@@ -284,7 +305,7 @@ def test_a_state_is_searched_for_with_one_sender(tree: Tree) -> None:
     called = tree.call("search", "--for", "state:ESTABLISHED una:1001", "--with", tree.bin, "--seed", "1")
     assert called.status == 0 and called.out.startswith("an input reaches state:ESTABLISHED una:1001\n")
     missed = tree.call("search", "--for", "cwnd:1", "--with", tree.bin, "--seed", "1", "--seconds", "1")
-    assert missed.status == 1 and missed.out.startswith("states: ")
+    assert missed.status == 1 and missed.out.startswith("no input reaches cwnd:1\nstates: ")
 
 
 @pytest.mark.parametrize(

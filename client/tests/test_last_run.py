@@ -13,7 +13,7 @@ import pytest
 
 from pdsuite.programs.rows import Row, Verdict
 from pdsuite.reports import report_cache
-from pdsuite.reports.report_cache import LastReport, cache_folder
+from pdsuite.reports.report_cache import LastReport, cache_folder, newest
 from pdsuite.run.outcomes import Outcome
 from pdsuite.show.octets import absolute_paths
 from tests.helpers import TOP, Call, Called, open_to_others, wait_for, write
@@ -141,6 +141,15 @@ def test_a_part_of_the_scripts_leaves_what_is_known_of_the_others(run: Run, kept
     assert rows(kept, suite) == {"a.pkt": "pass", "b.pkt": "fail", "c.pkt": "pass", "gone.pkt": "pass"}
     run("suite")
     assert rows(kept, suite) == {"a.pkt": "pass", "b.pkt": "fail", "c.pkt": "fail"}
+
+
+def test_a_run_of_what_failed_leaves_what_passed(run: Run, kept: Path, tmp_path: Path) -> None:
+    suite = tmp_path / "suite"
+    write(suite, a=b"\n", b=FAILS)
+    run("suite")
+    write(suite, b=b"\n")
+    run("--last-failed", "suite")
+    assert rows(kept, suite) == {"a.pkt": "pass", "b.pkt": "pass"}
 
 
 def test_a_script_that_was_not_run_keeps_the_row_that_it_had(run: Run, kept: Path, tmp_path: Path) -> None:
@@ -375,6 +384,18 @@ def test_only_so_many_reports_are_kept(kept: Path, tmp_path: Path, monkeypatch: 
             os.utime(file, (age, age))
     left = [it["of"] for it in reports(kept)]
     assert left == [[f"{tmp_path}/{number}"] for number in (3, 4, 5)]
+
+
+def test_the_last_report_is_one_of_all_these_scripts(
+    kept: Path, tmp_path: Path, monkeypatch: pytest.MonkeyPatch
+) -> None:
+    monkeypatch.setenv("XDG_CACHE_HOME", str(kept))
+    one, two = tmp_path / "suite/a.pkt", tmp_path / "suite2/a.pkt"
+    LastReport([tmp_path / "suite"]).leave([Outcome(str(one), (), Row(Verdict.PASS, 1))], False)
+    found = newest([str(one)])
+    assert found is not None and list(found.rows) == [str(one)]
+    # Another folder may have a longer name that begins so.
+    assert newest([str(two)]) is newest([str(one), str(two)]) is None
 
 
 def test_the_cache_is_where_the_xdg_rules_have_it(monkeypatch: pytest.MonkeyPatch) -> None:

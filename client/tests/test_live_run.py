@@ -7,6 +7,7 @@ from typing import Any
 import pytest
 
 from pdsuite.lsp import tools
+from pdsuite.programs import program as programs
 from pdsuite.programs.program import Ended
 from pdsuite.programs.program import Program as StartedProgram
 from pdsuite.programs.protocol import SETTLE, add, name_of
@@ -47,8 +48,12 @@ class Program:
         count = len(self.names)
         return rows + f"total {count} pass {count} fail 0 syntax 0 unsupported 0 limit 0 pending 0\n".encode()
 
-    def said(self) -> bytes:
-        return b""
+    def ask_and_hear(self, commands: bytes, most: int, most_said: int) -> tuple[bytes, bytes]:
+        before = list(self.names)
+        answer = self.ask(commands, most)
+        ran = self.names if b"\nset " in b"\n" + commands else [it for it in self.names if it not in before]
+        told = (b'job 1 %b steps 3\n{"name": "%b", "line": 1, "verdict": "pass"}\n' % (it, it) for it in ran)
+        return answer, b"".join(told)
 
 
 def started(settings: Settings) -> Any:
@@ -69,6 +74,25 @@ def test_an_act_is_recorded_with_the_start_and_the_end_of_each_job_that_it_leads
     assert carried_out(run, Set("mss", "100")) == 1 + 4 * 3
     assert carried_out(run, Remove("b"), Set("mss", "200")) == 5 + 1 + 4 * 2
     assert list(run.rows) == ["a", "c"]
+
+
+@pytest.mark.parametrize("octets", range(1, 9))
+def test_an_answer_is_found_however_reads_cut_it(octets: int, monkeypatch: pytest.MonkeyPatch) -> None:
+    monkeypatch.setattr(programs, "_READ", octets)
+    with Stop() as stop, StartedProgram(["sh", "-c", "read line; printf 'a total 1\ntotal 1\n'"], stop) as program:
+        assert program.ask(b"settle\n", 1_000) == b"a total 1\ntotal 1\n"
+
+
+def test_what_is_told_stays_until_its_script_runs_again_or_goes() -> None:
+    run = LiveRun((), started)
+    run.carry_out([Add("a", ONE), Add("b", ONE)], RunContents((), {}))
+    first = run.causes["a"]
+    assert (list(run.causes), run.steps) == (["a", "b"], {"a": 3, "b": 3})
+    run.carry_out([Remove("b"), Add("c", ONE)], RunContents((), {}))
+    assert run.causes.keys() == {"a", "c"} and run.causes["a"] is first
+    assert run.steps == {"c": 3}
+    run.carry_out([Set("mss", "100")], RunContents((), {}))
+    assert run.causes["a"] is not first and run.steps == {"a": 3, "c": 3}
 
 
 def test_a_program_that_says_what_nobody_asked_is_at_an_end() -> None:

@@ -65,6 +65,28 @@ def test_what_was_sent_stands_in_the_diagnostic(client: LspClient, workspace: Pa
     ]
 
 
+def test_a_change_starts_no_program(recording_programs: Path, tmp_path: Path, workspace: Path) -> None:
+    folder, starts = tmp_path / "counted", tmp_path / "starts"
+    folder.mkdir()
+    for name in ("pdregress", "pdrecord"):
+        (folder / name).write_text(f'#!/bin/sh\necho "$@" >>{starts}\nexec {recording_programs / name} "$@"\n')
+        (folder / name).chmod(0o755)
+    with LspClient(folder, workspace) as client:
+        uri = client.open(workspace / "a.pkt", PASSES)
+        assert client.settled(uri) == []
+        before = starts.read_text()
+        for text, words in [
+            (WRITES + "+0 > P. 1:501(500) ack 1\n", "fail seq: "),
+            (WRITES + "+0 close(4) = 1\n", "untaken packets: 2"),
+            (WRITES, "passes, but 1 packet stands untaken at its end"),
+            (WRITES + "+0 > P\n", "syntax: "),
+        ]:
+            client.change(uri, {"text": text})
+            (found,) = client.settled(uri)
+            assert words in found["message"]
+        assert starts.read_text() == before and "--explain --leftovers --json" in before
+
+
 def test_untaken_packets_stand_where_they_left(client: LspClient, workspace: Path) -> None:
     text = HEAD + "+0 write(4, ..., 2500) = 2500\n+0.1 < . 1:1(0) ack 2001 win 257\n+0 close(4) = 1\n"
     (found,) = client.settled(client.open(workspace / "a.pkt", text))

@@ -157,6 +157,13 @@ def test_lenses_say_the_verdict_and_the_steps(client: LspClient, workspace: Path
     first, draw = client.request("textDocument/codeLens", params)
     assert first["command"]["title"].startswith("fail 9 seq; the last change ran ")
     assert draw["command"] == {"title": "draw", "command": "pdsuite.draw", "arguments": [uri]}
+    # What another script, or the same text in another version, has run is no change of this one.
+    other = client.open(workspace / "b.pkt", PASSES)
+    client.settled(other)
+    assert client.request("textDocument/codeLens", params)[0] == first
+    client.put(uri, client.documents[uri].text)
+    client.settled(uri)
+    assert client.request("textDocument/codeLens", params)[0] == first
 
 
 def test_draw_opens_a_page_with_the_diagram(client: LspClient, workspace: Path) -> None:

@@ -5,9 +5,15 @@ from pathlib import Path
 
 import pytest
 
-from tests.helpers import HANGS, write
+from pdsuite.lsp.answers import lenses
+from pdsuite.lsp.workspace import Result
+from pdsuite.programs.rows import Row, Verdict
+from pdsuite.run.outcomes import Outcome
+from pdsuite.scripts.search import ScriptFile
+from pdsuite.watch.change_report import BEFORE
+from tests.helpers import HANGS
 from tests.lsp_client import CAPABILITIES, Json, LspClient
-from tests.test_watch_builds import SENDER, SOURCE, put_rule
+from tests.test_watch_builds import SOURCE, put_rule, refuse_proof, tree_of_one_script
 from tests.trees import Tree, stand_in
 
 PROGRESS: Json = {**CAPABILITIES, "window": {"workDoneProgress": True}}
@@ -15,13 +21,7 @@ PROGRESS: Json = {**CAPABILITIES, "window": {"workDoneProgress": True}}
 
 @pytest.fixture
 def tree(tmp_path: Path) -> Tree:
-    """A tree in which nothing is proved, with a script whose row depends on the sender."""
-    made = Tree(tmp_path)
-    made.build_stand_ins()
-    put_rule(made, "pass 1")
-    write(made.suite, a=SENDER)
-    (made.suite / "pdsuite.toml").write_text("root = true\n")
-    return made
+    return tree_of_one_script(tmp_path)
 
 
 def served(tree: Tree) -> LspClient:
@@ -51,7 +51,7 @@ def test_an_editor_follows_a_sender_that_is_built_and_then_proved(tree: Tree) ->
     with served(tree) as client:
         uri = client.open(tree.suite / "a.pkt")
         await_lens(client, uri, "pass: 1 event UNPROVED")
-        assert client.shown[0].startswith("pdsuite: unproved: the sender is built without proofs")
+        assert client.shown[0] == "pdsuite: unproved: the sender is being built"
         kinds = [it["value"]["kind"] for it in client.progress]
         assert (kinds[0], kinds[-1]) == ("begin", "end")
         put_rule(tree, "fail 1 seq")
@@ -72,8 +72,53 @@ def test_what_does_not_compile_is_a_diagnostic_of_its_source(tree: Tree) -> None
         (told,) = client.told(source, bool, "what the compiler says")
         assert (told["message"], told["range"]["start"]) == ("error[mismatch]: wrong", {"line": 0, "character": 3})
         (told,) = client.told(uri, lambda it: "before" in first(it[0]), "a mark")
-        assert first(told).endswith(" (by the sender before)")
+        assert first(told).startswith("(by the sender before) ")
         assert lens(client, uri) == "fail 1 ack (by the sender before)"
         put_rule(tree, "pass 2")
         client.told(source, lambda it: not it, "no error")
         client.told(uri, lambda it: "before" not in first(it[0]), "no mark")
+
+
+def test_a_refused_proof_is_a_message_and_a_diagnostic_of_its_source_until_that_changes(tree: Tree) -> None:
+    with served(tree) as client:
+        uri = client.open(tree.suite / "a.pkt")
+        await_lens(client, uri, "pass: 1 event UNPROVED")
+        refuse_proof(tree)
+        source = (tree.top / SOURCE).as_uri()
+        (told,) = client.told(source, bool, "what the prover says")
+        assert (told["message"], told["range"]["start"]) == ("error: the contract", {"line": 0, "character": 1})
+        said = f"pd_board isn't proved, or wasn't built:\n{tree.top / SOURCE}:1:2: error: the contract"
+        client.wait(lambda: f"pdsuite: {said}" in client.shown, "a message")
+        client.wait(lambda: said in client.logged, "all of it in the log")
+        put_rule(tree, "wrong")
+        (told,) = client.told(source, lambda it: bool(it) and "contract" not in it[0]["message"], "the compiler's")
+        assert told["message"] == "error[mismatch]: wrong"
+        put_rule(tree, "pass 1")
+        client.told(source, lambda it: not it, "nothing")
+        assert sum("isn't proved, or" in it for it in client.shown) == 1
+
+
+def test_where_the_first_sender_does_not_compile_that_is_told_once_and_the_next_one_serves(tree: Tree) -> None:
+    put_rule(tree, "wrong")
+    with served(tree) as client:
+        uri = client.open(tree.suite / "a.pkt", "+0 wrong\n")
+        source = (tree.top / SOURCE).as_uri()
+        client.told(source, bool, "what the compiler says")
+        (told,) = client.told(uri, lambda it: bool(it) and "isn't built" in it[0]["message"], "that nothing was run")
+        assert first(told).endswith("; nothing was run: the sender isn't built")
+        place = f"{tree.top / SOURCE}:1:4: error[mismatch]: wrong"
+        said = [f"pdsuite: unproved: NotCompiled: the program doesn't compile\n{place}"]
+        shown = ["pdsuite: unproved: the sender is being built", *said]
+        client.wait(lambda: client.shown == shown, "what the compiler says, once")
+        client.put(uri, "row fail 1 ack\n")
+        client.notify("textDocument/didSave", {"textDocument": {"uri": uri}})
+        put_rule(tree, "pass 1")
+        await_lens(client, uri, "fail 1 ack UNPROVED")
+        assert client.shown[2:] == []
+
+
+def test_whose_a_row_is_stands_before_how_much_ran_for_it() -> None:
+    outcome = Outcome("a.pkt", (), Row(Verdict.FAIL, 2, "seq"), None)
+    result = Result(ScriptFile("a.pkt", "/", "a.pkt"), outcome, None, None, 1, 3)
+    title = lenses("file:///a.pkt", result, BEFORE)[0]["command"]["title"]
+    assert title == "fail 2 seq (by the sender before); the last change ran 3 steps"

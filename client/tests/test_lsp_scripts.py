@@ -6,12 +6,12 @@ import pytest
 
 from pdsuite.lsp.actions import Action, Failing, edits_to, leads_past
 from pdsuite.lsp.actions import recording_all, recording_from_here, switching_off, taking
-from pdsuite.lsp.diagnostics import diagnostics_of
+from pdsuite.lsp.diagnostics import Diagnostic, diagnostics_of, with_related
 from pdsuite.lsp.documents import Document
 from pdsuite.lsp.hover import hover_of, plain
 from pdsuite.lsp.packets_sent import as_lines, sent_in, sent_of
 from pdsuite.lsp.positions import Lines
-from pdsuite.packetdrill.recorded import lines_of_untaken, met_by, recorded_in, tolerance_of, without_trace
+from pdsuite.packetdrill.recorded import last_input_before, met_by, recorded_in, tolerance_of, without_trace
 from pdsuite.packetdrill.layout import layout_of
 from pdsuite.programs.rows import Row, Verdict
 from pdsuite.run.outcomes import Outcome
@@ -110,6 +110,13 @@ def test_packets_before_the_awaited_one_are_inserted() -> None:
     assert (last.title, last.shift) == ("Insert 3 packets that were sent before it", 3)
 
 
+def test_before_an_event_that_follows_another_in_its_line_packets_are_inserted_without_an_indent() -> None:
+    event = "+0 > P. 1001:2001(1000) ack 1"
+    told = {"script_packet": event, "actual_packet": SENT, "untaken_packets": [], "unasked_packets": 1}
+    first, _ = taking(failing(f"  0 a() = 1 {event}\n", Row(Verdict.FAIL, 1, "seq"), **told))
+    assert first.text == f"  0 a() = 1 +0 > P. 1:1001(1000) ack 1 win 511\n{event}\n"
+
+
 def test_a_result_is_taken() -> None:
     text = "0 a() = 1 (note)\n"
     (action,) = taking(failing(text, Row(Verdict.FAIL, 1, "result"), call=text[:-1], actual_result="-1 EINVAL"))
@@ -174,10 +181,20 @@ def test_the_tolerance_is_the_last_of_the_header() -> None:
     assert tolerance_of(layout_of("--other=5\n0 a() = 1").items, 9) == 9
 
 
-def test_untaken_packets_left_after_inputs() -> None:
-    events, recorded = layout_of(SCRIPT).events, recorded_in(RECORDING)
-    assert [it.item.line for it in lines_of_untaken(events, recorded, 1, 9)] == [1, 3, 6]
-    assert [it.item.line for it in lines_of_untaken(events, recorded, 4, 9)] == [6]
+def test_an_untaken_packet_left_after_the_input_that_sent_it_or_the_last_one_before_the_timer_did() -> None:
+    layout = layout_of(SCRIPT)
+    sent = [{"line": 3}, {"timer_us": 150_000}, {"timer_us": 200_000}, {"timer_us": 200_001}, {"timer_us": 0}, None]
+    cause = {"untaken_packets": [*"abcdef"], "untaken_sent_by": sent}
+    found = with_related(Diagnostic(layout.events[0].extent, 1, "", ""), layout, cause).related
+    lines = Lines(SCRIPT)
+    places = [(lines.line_of(it.extent.start) + 1, it.message) for it in found]
+    assert places == [
+        (3, "untaken packet: a"),
+        (3, "untaken packet: b"),
+        (3, "untaken packet: c"),
+        (6, "untaken packet: d"),
+    ]
+    assert last_input_before(layout.events, 1) is layout.events[0]
 
 
 def test_hover_says_what_the_timer_sent() -> None:
@@ -266,6 +283,24 @@ def test_a_diagnostic_says_what_sent_a_packet_and_what_was_dropped() -> None:
     missing = Outcome("a", (), Row(Verdict.FAIL, 1, "missing"))
     (found,) = diagnostics_of(missing, {"dropped_segments": dropped}, layout_of(text), Lines(text))
     assert found.message == "fail missing\ndropped: line 5: its ACK lies below una"
+
+
+@pytest.mark.parametrize(
+    ("expected", "column", "said"),
+    [
+        (["`=`"], None, "expected `=` at the end of the text"),
+        (["letters of flags", "`.`", "`-`"], 5, "expected letters of flags, `.` or `-`"),
+        ([], 0, "the text is no script"),
+    ],
+)
+def test_a_text_that_is_no_script_says_what_it_lacks_as_run_does(
+    expected: list[str], column: int | None, said: str
+) -> None:
+    text = "0 a()\n"
+    outcome = Outcome("a", (), Row(Verdict.SYNTAX, 1))
+    cause = {"what": "the text is no script", "expected": expected, "column": column, "text_line": 1, "found": "x"}
+    (found,) = diagnostics_of(outcome, cause, layout_of(text), Lines(text))
+    assert found.message == f"syntax: {said}\nfound: x"
 
 
 def test_a_known_failure_is_a_hint_and_an_unexpected_pass_an_error() -> None:

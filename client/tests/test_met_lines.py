@@ -4,6 +4,8 @@ from pathlib import Path
 
 import pytest
 
+from pdsuite.packetdrill import alignment
+from pdsuite.packetdrill.alignment import Fields, aligned
 from pdsuite.packetdrill.columns import Mark
 from pdsuite.programs.recorder import Recording
 from pdsuite.programs.rows import Row, Verdict
@@ -40,6 +42,15 @@ def test_all_that_is_met_as_it_is_written_is_one_line_each() -> None:
     )
     assert [it.differs for it in found.lines] == [False] * 9
     assert shown(found) == [f"    8   {WRITE}", "    9   +0 > P. 1:1001(1000) ack 1"]
+
+
+@pytest.mark.parametrize("most", [alignment._MOST, 3])
+def test_packets_that_cannot_meet_stand_apart_however_many_there_are(
+    most: int, monkeypatch: pytest.MonkeyPatch
+) -> None:
+    monkeypatch.setattr(alignment, "_MOST", most)
+    each = [Fields(frozenset("."), (number, number + 1), 1, None, None) for number in range(3)]
+    assert aligned(each, each[:2], lambda one, other: one > 0) == {1: 1}
 
 
 def test_where_another_came_it_stands_below_and_the_fields_that_differ_are_marked() -> None:

@@ -14,7 +14,7 @@ from tests.helpers import HANGS, PASSES, TOP, Called, write
 from tests.test_run import expected_rows
 
 PROVED = (TOP / "packaging/programs.txt").read_text().split()
-COMMANDS = ("compare", "diff", "expect", "import", "list", "lsp", "record", "run", "search", "watch")
+COMMANDS = ("compare", "diff", "expect", "import", "list", "lsp", "measure", "record", "run", "search", "watch")
 # A root with apt alone that keeps the lists of packages, so that these are fetched once and without their translations.
 LEAN = ("--variant=apt", "--skip=cleanup/apt/lists", '--aptopt=Acquire::Languages "none"', "--dpkgopt=force-unsafe-io")
 # Where pages and texts for terminals differ: the ends of lines, blanks, and the prompt of an example.
@@ -139,6 +139,12 @@ def test_the_programs_are_packed_octet_for_octet(package: Path, tmp_path: Path) 
         built = Path(output(TOP / "tools/built.sh", name).strip())
         assert (tmp_path / "usr/bin" / name).read_bytes() == built.read_bytes()
     assert not list(tmp_path.rglob("__pycache__"))
+
+
+def test_what_is_large_is_suggested_and_the_rest_of_what_some_need_recommended(package: Path) -> None:
+    fields = {it: output("dpkg-deb", "-f", package, it).strip().split(", ") for it in ("Recommends", "Suggests")}
+    assert fields["Suggests"] == ["python3-distributed", "python3-matplotlib"]
+    assert sorted(sum(fields.values(), [])) == (TOP / "client/packages-more.txt").read_text().split()
 
 
 def test_lintian_finds_no_error(package: Path) -> None:

@@ -12,7 +12,7 @@ CLIENT = TOP / "client/pdsuite"
 # The lowest first. What stands beside the packages knows none but the first, and main.py all.
 ORDER = (
     *("show", "scripts", "packetdrill", "programs", "imports", "run", "compare", "search", "diagram", "reports"),
-    *("page", "watch", "lsp", "commands"),
+    *("page", "measure", "watch", "lsp", "commands"),
 )
 
 

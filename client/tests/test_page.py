@@ -179,10 +179,15 @@ def test_settings_stand_on_the_page() -> None:
     )
 
 
-@pytest.mark.parametrize("said", [b"[1]\n", b"{}\n", b"\xff\n", b'{"name": 1, "line": 2}\n', b"[" * 100_000 + b"\n"])
+@pytest.mark.parametrize("said", [b"{}\n", b"{\xff\n", b'{"name": 1, "line": 2}\n', b'{"a":' + b"[" * 100_000 + b"\n"])
 def test_what_is_no_object_of_a_script_is_not_taken(said: bytes) -> None:
     with pytest.raises(Unexpected):
-        causes_in(said)
+        causes_in(b"[1]\njob 1 s1 steps 2\n" + said)
+
+
+def test_what_is_no_object_tells_something_else() -> None:
+    said = b'job 1 s1 steps 2\n{"name": "s1", "line": 2}\n[1]\n\xff'
+    assert causes_in(said) == {(b"s1", 2): {"name": "s1", "line": 2}}
 
 
 PATHS = [

@@ -103,11 +103,12 @@ def test_a_script_that_stays_is_as_before_or_not_compared() -> None:
 def test_each_folder_is_counted_and_all_last() -> None:
     before = Results({0: outcome("a.pkt", PASS), 1: outcome("b/c.pkt", PASS), 2: outcome("b/d.pkt", PASS)})
     after = Results({0: outcome("a.pkt", PASS), 1: outcome("b/c.pkt", FAIL), 2: outcome("b/d.pkt", PASS)})
-    assert [f"{it.name}: {it}" for it in counts_of(compare(before, after))] == [
-        ".: 1 turned 0 played otherwise 0 as before 0 not compared 1",
-        "b: 2 turned 1 played otherwise 0 as before 0 not compared 1",
-        "total: 3 turned 1 played otherwise 0 as before 0 not compared 2",
+    *folders, total = counts_of(compare(before, after))
+    assert [f"{it.name}: {it.words}" for it in folders] == [
+        ".: 1 script, 0 turned, 0 played otherwise, 0 as before, 1 not compared",
+        "b: 2 scripts, 1 turned, 0 played otherwise, 0 as before, 1 not compared",
     ]
+    assert f"{total.name} {total}" == "total 3 turned 1 played otherwise 0 as before 0 not compared 2"
 
 
 def test_each_script_is_recorded_under_its_settings_by_one_build() -> None:

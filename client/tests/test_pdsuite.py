@@ -184,6 +184,20 @@ def test_a_long_line_is_not_broken_on_a_terminal(stand_in: Path, tmp_path: Path)
     assert f"folder/{'x' * 150}/{'y' * 150}.pkt:1: fail seq\r\n".encode() in shown
 
 
+def test_a_terminal_has_facts_and_totals_in_lines_that_fit(stand_in: Path, tmp_path: Path) -> None:
+    facts = "state: " + " ".join(f"fact{number}:{number}" for number in range(20))
+    packet = f"actual packet: +0 > . 1:1001(1000) ack 1 <{'nop,' * 20}nop>"
+    write(tmp_path, a=f"row fail 1 seq\n{packet}\n{facts}\n".encode())
+    _, shown = on_terminal(tmp_path, stand_in, "run", "--no-color", ".", COLUMNS="60")
+    lines = re.sub(r"\x1b\[[?0-9;]*[A-Za-z]", "", shown.decode()).replace("\r", "\n").split("\n")
+    broken = [it for it in lines if "fact" in it or "total" in it or it.endswith(" s")]
+    assert len(broken) == 6 and max(map(len, broken)) < 60
+    assert broken[0].startswith("  state: fact0") and all(it.startswith("    fact") for it in broken[1:4])
+    assert broken[4].startswith("total 1 pass 0 fail 1 ") and f"  {packet}" in lines
+    _, shown = on_terminal(tmp_path, stand_in, "run", "--no-color", "--github", ".", COLUMNS="60")
+    assert f"  {facts}".encode() in shown
+
+
 def test_standard_output_may_be_closed(stand_in: Path, tmp_path: Path) -> None:
     write(tmp_path, a=PASSES)
     environment = {**os.environ, "PDSUITE_PROGRAMS": str(stand_in)}
@@ -352,9 +366,7 @@ print(*sorted({"matplotlib", "distributed", "watchdog", "junitparser", "jinja2"}
 """
 
 
-@pytest.mark.parametrize(
-    ("words", "modules"), [([], ""), (["--junit", "out.xml"], "junitparser"), (["--html", "page"], "jinja2")]
-)
+@pytest.mark.parametrize(("words", "modules"), [([], ""), (["--junit", "out.xml"], ""), (["--html", "page"], "jinja2")])
 def test_a_package_is_imported_only_where_it_is_used(
     words: list[str], modules: str, stand_in: Path, tmp_path: Path
 ) -> None:

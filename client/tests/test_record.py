@@ -76,7 +76,7 @@ def test_a_script_of_inputs_alone_is_recorded_whole(recorders: Path, tmp_path: P
     called = call(recorders, "record", "--write", ".")
     assert (called.status, called.out) == (0, "total 3 changed 2 lines +2 -4 not recorded 0\n")
     assert (tmp_path / "a.pkt").read_bytes() == OF_INPUTS.partition(b"\n")[2] + b".\n"
-    assert (tmp_path / "c.pkt").read_bytes() == b"--least.\n"
+    assert (tmp_path / "c.pkt").read_bytes() == b"--minimal.\n"
     (tmp_path / "a.pkt").write_bytes(OF_INPUTS + b"d\n")
     assert call(recorders, "record", "--whole", "a.pkt").out.endswith("total 1 changed 1 lines +0 -1 not recorded 0\n")
 
@@ -108,7 +108,7 @@ def test_each_script_has_its_settings(recorders: Path, tmp_path: Path, call: Cal
 
 @pytest.mark.parametrize(
     ("words", "way"),
-    [((), "--least"), (("--drop-missing",), "--least --drop"), (("--whole",), "")],
+    [((), "--minimal"), (("--drop-missing",), "--minimal --drop-missing"), (("--whole",), "")],
     ids=["least", "drop", "whole"],
 )
 def test_the_least_change_is_asked_for(

@@ -23,7 +23,7 @@ TRACE = (
 
 def test_what_the_changed_lines_name_comes_first_or_else_what_all_that_changed_names() -> None:
     found = emphasis_of([CHANGED], frozenset({"mss"}))
-    assert "restart_after_idle" in found.keys and found.themes == {Theme.IDLE} and found.fixed == {"mss"}
+    assert "slow_start_after_idle" in found.keys and found.themes == {Theme.IDLE} and found.fixed == {"mss"}
     assert emphasis_of([OTHER], frozenset()).themes == {Theme.WINDOW, Theme.SMALL}
     assert emphasis_of([], frozenset({"mss"})) == Emphasis(fixed=frozenset({"mss"}))
 
@@ -38,9 +38,9 @@ def test_a_script_is_offered_by_the_name_and_the_sections_of_what_changed() -> N
 
 
 def test_settings_that_come_first_are_drawn_in_most_plans_and_fixed_ones_in_none() -> None:
-    (made,) = plans(3, [200], Emphasis(frozenset({"recovery_rate"}), frozenset(), frozenset({"mss"})))
+    (made,) = plans(3, [200], Emphasis(frozenset({"recovery_algorithm"}), frozenset(), frozenset({"mss"})))
     keys = [[key for key, _ in it.settings] for it in made]
-    assert sum("recovery_rate" in it for it in keys) > 100 and not any("mss" in it for it in keys)
+    assert sum("recovery_algorithm" in it for it in keys) > 100 and not any("mss" in it for it in keys)
 
 
 def drawn(seed: int) -> list[object]:

@@ -9,10 +9,10 @@ from pathlib import Path
 import pytest
 
 from pdsuite.commands.report_files import parted
-from tests.helpers import TOP, Call, ends, wait_for, write
+from tests.helpers import PACKET, TOP, Call, ends, wait_for, write
 from tests.schemas import held
 
-FAILS = b"row fail 1 seq\nwhy\n"
+FAILS = b"row fail 1 seq\n" + PACKET
 _SECONDS = re.compile(r' in [0-9.]+ s$|"seconds": [0-9.]+', re.MULTILINE)
 
 

@@ -4,6 +4,7 @@ import json
 import os
 import re
 import subprocess
+import time
 from datetime import UTC, datetime
 from pathlib import Path
 from xml.etree import ElementTree
@@ -11,9 +12,15 @@ from xml.etree import ElementTree
 import pytest
 from junitparser import Error, Failure, JUnitXml, Skipped
 
+from pdsuite.programs.rows import Row, Verdict
+from pdsuite.reports.junit import junit
+from pdsuite.reports.last_run import leave
+from pdsuite.run.outcomes import Outcome
 from tests.helpers import TOP, Call, write
 
 EXAMPLES = TOP / "examples/scripts"
+PATH = 'a"<b>/c&d.pkt'
+COUNTS = {"errors": "0", "skipped": "0"}
 # Of each line that Perl's parser takes for a test: whether it passed, its number, its name and its directive.
 PARSE_TAP = """
 use TAP::Parser;
@@ -129,7 +136,6 @@ def test_json_is_one_object(stand_in: Path, tmp_path: Path, call: Call) -> None:
     scripts = {it["path"]: it for it in report["scripts"]}
     assert [it["verdict"] for it in report["scripts"]] == [name[2:] for name in ROWS]
     assert scripts["a pass.pkt"]["events"] == 9
-    assert scripts["b fail.pkt"].pop("explanation")["kind"] == "seq"
     assert scripts["b fail.pkt"] == {
         "path": "b fail.pkt",
         "verdict": "fail",
@@ -208,6 +214,46 @@ def test_junit_says_where_and_why_of_each_case(stand_in: Path, tmp_path: Path, c
     ]
 
 
+def test_junit_is_escaped_as_xml_asks() -> None:
+    outcomes = [
+        Outcome('a"<b>/c&d.pkt', (), Row(Verdict.FAIL, 2, "seq"), None, 'is "so" & <so>', ("reason: a\rb\t> c",)),
+        Outcome("e.pkt", (), Row(Verdict.PASS, 0)),
+        Outcome("f.pkt", (), Row(Verdict.PASS, 0), is_strict=True),
+    ]
+    root = ElementTree.fromstring(junit(outcomes, 1.5, is_unproved=True))
+    assert root.attrib == {"name": "pdsuite", **COUNTS, "tests": "3", "failures": "2", "time": "1.5"}
+    first, second = root
+    (case, mark), (failure,) = first, first[0]
+    assert case.attrib == {"name": PATH, "classname": 'a"<b>', "time": "0.0", "file": PATH, "line": "2"}
+    assert failure.attrib == {"message": f"{PATH}:2: fail seq: a\rb\t> c", "type": "fail"}
+    assert failure.text == f'{PATH}:2: fail seq: is "so" & <so>\n  reason: a\rb\t> c'
+    assert [it.attrib for it in mark] == [{"name": "UNPROVED", "value": "true"}]
+    assert second.attrib["name"] == "." and [it.tag for it in second.iter()][2:5] == [
+        "system-err",
+        "testcase",
+        "failure",
+    ]
+
+
+def test_junit_names_the_line_before_where_that_one_lacks_something() -> None:
+    broken = Outcome("a.pkt", (), Row(Verdict.SYNTAX, 3), explanation={"text_line": 2})
+    root = ElementTree.fromstring(junit([broken, Outcome("b.pkt", (), Row(Verdict.PASS, 1))], 1.0))
+    assert [it.get("line") for it in root.iter("testcase")] == ["2", "1"]
+
+
+def test_junit_of_many_scripts_costs_little_when_a_signal_ends_the_run() -> None:
+    told = ("script packet: x", "reason: y", "state: " + "z" * 200)
+    rows = [(Row(Verdict.FAIL, 10, "missing"), told), (Row(Verdict.PASS, 9), ()), (Row(Verdict.NOT_RUN), ())]
+    outcomes = [Outcome(f"d{number // 500}/s{number}.pkt", (), *_at(rows[number % 3])) for number in range(20_000)]
+    begin = time.process_time()
+    octets = junit(outcomes, 1.0)
+    assert time.process_time() - begin < 0.6 and octets.count(b"<testcase ") == 20_000
+
+
+def _at(row: tuple[Row, tuple[str, ...]]) -> tuple[Row, None, str, tuple[str, ...]]:
+    return row[0], None, "", row[1]
+
+
 def test_the_suites_of_junit_share_the_time_of_the_run(stand_in: Path, tmp_path: Path, call: Call) -> None:
     write(tmp_path / "a", **{f"s{number}": b"\n" for number in range(30)})
     write(tmp_path / "b", a=b"\n")
@@ -283,16 +329,34 @@ def test_github_gets_a_summary_after_those_of_others(stand_in: Path, tmp_path: P
 
 
 def test_a_summary_is_cut_where_github_takes_no_more(stand_in: Path, tmp_path: Path, call: Call) -> None:
-    write(tmp_path, **{f"s{number:04}": b"row fail 1 seq\nreason: " + b"x" * 1_000 + b"\n" for number in range(1_000)})
+    folder = tmp_path / ("x" * 250) / ("y" * 250) / ("z" * 250)
+    write(folder, **{f"s{number:04}": b"row fail 1 seq\nreason: " + b"x" * 180 + b"\n" for number in range(1_200)})
     summary = tmp_path / "summary.md"
     call(stand_in, "run", "--github", ".", GITHUB_STEP_SUMMARY=str(summary))
     text = summary.read_text()
     assert 998_000 < len(text) < 1 << 20
     rows = text.count("| fail seq |")
-    assert text.endswith(f"\n\nand {1_000 - rows} more\n")
+    assert text.endswith(f"\n\nand {1_200 - rows} more\n")
 
 
 def test_a_summary_that_cannot_be_written_is_a_fault(stand_in: Path, tmp_path: Path, call: Call) -> None:
     write(tmp_path, a=b"\n")
     called = call(stand_in, "run", "--github", ".", GITHUB_STEP_SUMMARY=str(tmp_path / "no/such"))
     assert (called.status, called.err) == (2, f"pdsuite: {tmp_path}/no/such: No such file or directory\n")
+
+
+def test_what_a_signal_leaves_of_20000_scripts_is_written_within_a_second(
+    tmp_path: Path, monkeypatch: pytest.MonkeyPatch
+) -> None:
+    """The report of the run, which the next one reads, and JUnit's; in seconds of the processor."""
+    monkeypatch.setenv("XDG_CACHE_HOME", str(tmp_path))
+    paths = [f"suite/{number % 10}/script{number:05}.pkt" for number in range(20_000)]
+    leave([Path("suite")], [Outcome(it, (), Row(Verdict.PASS, 9)) for it in paths], False, pytest.fail)
+    left = [Outcome(it, (), Row(Verdict.NOT_RUN)) for it in paths]
+    begin = time.process_time()
+    leave([Path("suite")], left, False, pytest.fail)
+    told = junit(left, 1.0)
+    assert time.process_time() - begin < 1
+    case = ElementTree.fromstring(told).find("testsuite/testcase/error")
+    assert case is not None and case.attrib == {"message": f"{paths[0]}: not run", "type": "not run"}
+    assert case.text == f"{paths[0]}: not run"

@@ -1,12 +1,16 @@
 """How scripts are cut into runs, what is written to the program, and how its answers are read."""
 
+from collections.abc import Generator
+from typing import Any
 
 import pytest
 
+from pdsuite.programs.program import Ended
 from pdsuite.programs.protocol import Unexpected, add, before_total, name_of, refusal_in, rows_in, set_and_show
 from pdsuite.programs.rows import Row, Verdict
 from pdsuite.run.outcomes import Outcome, Totals, Warned
-from pdsuite.run.runs import Script, cut, runs_of
+from pdsuite.run.runs import RUN, Script, cut, runs_of
+from pdsuite.run.settling import SettledPiece, settle
 from pdsuite.scripts.settings import Settings
 from pdsuite.scripts.text import text_of
 
@@ -74,6 +78,38 @@ def test_an_answer_begins_with_the_rows_of_the_one_before() -> None:
     assert rows_in(answer("s0 pass 9", "s1 pass 1"), before, [b"s1"], 2) == [Row(Verdict.PASS, 1)]
     with pytest.raises(Unexpected, match="s0 pass 8"):
         rows_in(answer("s0 pass 8", "s1 pass 1"), before, [b"s1"], 2)
+
+
+class Program:
+    """Says a row as long as a row can be of each script that it was told so far, where as much is asked for."""
+
+    def __init__(self) -> None:
+        self.count = 0
+
+    def __enter__(self) -> "Program":
+        return self
+
+    def __exit__(self, *why: object) -> None:
+        ...
+
+    def hearing(self, commands: bytes, longest: int, most_said: int) -> Generator[None, None, tuple[bytes, bytes]]:
+        yield from ()  # it never waits
+        self.count += commands.count(b"add ")
+        told = answer(*(f"s{number} fail 999999 {'a' * 200}" for number in range(self.count)))
+        if len(told) > longest:
+            raise Ended("more than was asked")
+        return told, b""
+
+
+def test_an_answer_may_have_the_rows_of_all_pieces_before() -> None:
+    program = Program()
+
+    def start(settings: Settings) -> Any:
+        return program
+
+    (run,) = runs_of(scripts(RUN))
+    steps = list(settle(run, start, lambda script: text_of(b"a\n")))
+    assert all(isinstance(it, SettledPiece) for it in steps) and len(steps) == len(run.pieces) > 1
 
 
 @pytest.mark.parametrize(

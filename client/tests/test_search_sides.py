@@ -1,10 +1,13 @@
 """A search for what tells two senders apart, where one of them lacks a key that is set for both."""
 
+from dataclasses import replace
 from typing import Any
 
 from pdsuite.commands.search import _asking
 from pdsuite.compare.sides import Side, side_of
-from pdsuite.programs.refusals import UNKNOWN_KEY, Refusal
+from pdsuite.programs.refusals import Refusal
+from pdsuite.scripts.renamed import UNKNOWN_KEY
+from pdsuite.scripts.settings import settings_of
 from pdsuite.scripts.suite import Claim, option_of
 
 
@@ -55,3 +58,25 @@ def test_each_side_is_asked_without_the_keys_that_its_sender_lacks() -> None:
         (("early", 2),),
     )
     assert screen.noted == ["pdsuite: old: there is no setting early, which counts as its default"]
+
+
+def test_a_key_that_a_sender_has_by_its_old_name_has_its_value_there() -> None:
+    askers: Any = (Asker("abc_limit", "recovery_algorithm", "slow_start_after_idle", "restart_after_idle"), Asker())
+    screen: Any = Screen()
+    common = option_of('abc_limit = 2\nrecovery_algorithm = "rfc9937"\nslow_start_after_idle = true')
+    old, new = _asking(askers, (side("old"), side("new")), common, screen)
+    given = settings_of(common.keys)
+    assert old.side.settings(given) == (("byte_counting", 2), ("recovery_rate", "prr"))
+    assert new.side.settings(given) == given and not new.side.renamed
+    words = '"pipe" for "rfc6675", with "prr" for "rfc9937"'
+    assert screen.noted == [
+        "pdsuite: old: the setting abc_limit is byte_counting there",
+        f"pdsuite: old: the setting recovery_algorithm is recovery_rate, with {words} there",
+        "pdsuite: old: there is no setting slow_start_after_idle, which counts as its default",
+    ]
+
+
+def test_what_its_own_option_sets_comes_before_a_key_by_its_old_name() -> None:
+    layer = option_of("byte_counting = 3", "--base-settings")
+    renamed = replace(side("old"), option=layer, renamed=frozenset(["abc_limit"]))
+    assert renamed.settings((("abc_limit", 2),)) == (("byte_counting", 3),)

@@ -2,6 +2,7 @@
 
 import os
 import signal
+import subprocess
 import time
 from pathlib import Path
 
@@ -9,7 +10,7 @@ import pytest
 
 from tests.helpers import PASSES, is_alive, write
 from tests.lsp_client import CAPABILITIES, Json, LspClient
-from tests.trees import Tree, put_program, stand_in
+from tests.trees import HERE, Tree, put_program, stand_in
 from tests.watching import Watching
 
 LEFT = "the sender has changed: all rows above are of the sender before\n"
@@ -49,7 +50,7 @@ def test_a_replaced_program_is_started_and_all_is_asked_of_it(tmp_path: Path) ->
         before = watching.programs()
         folder_of(tmp_path, OTHER)
         watching.await_out(f"{ANOTHER}suite/a.pkt:1: fail seq\nsuite/a.pkt: turned\n  before: pass 1\n")
-        watching.await_out("  after: line 1: fail seq: so it is\n    by fail 1 seq\n")
+        watching.await_out("  after: line 1: fail seq: so it is\n    found: by fail 1 seq\n")
         watching.await_out("total ", 2)
         assert not any(map(is_alive, before)) and watching.err == ""
         watching.await_truth("suite")
@@ -63,7 +64,7 @@ def test_a_source_that_changes_is_told_and_rows_from_then_on_say_whose_they_are(
         (tree.top / SOURCE).write_text("// another rule\n")
         watching.await_out(LEFT + UNPROVED)
         write(tree.suite, b=b"row fail 1 seq\nx\n")
-        watching.await_out(f"b.pkt:1: fail seq{BEFORE}b.pkt:1: fail seq: so it is{BEFORE}  x\n")
+        watching.await_out(f"b.pkt:1: fail seq{BEFORE}b.pkt:1: fail seq: so it is{BEFORE}  found: x\n")
         (tree.top / SOURCE).write_text("// a rule\n")
         watching.await_out(f"{AGAIN}b.pkt:1: fail seq\n")
         watching.await_out("total ", 3)
@@ -102,6 +103,99 @@ def test_another_file_at_the_path_of_a_program_that_ends_is_not_started(tree: Tr
         assert not mark.exists() and watching.programs() == []
         tree.prove(pdregress=stand_in())
         watching.await_out(f"{ANOTHER}b.pkt:1: fail seq\n")
+
+
+# What is done in a tree whose programs are proved, while its scripts are watched.
+LEAVES = {
+    "a file goes": "rm crates/pdregress/src/rule.rt",
+    "a file comes": ": >crates/pdregress/src/more.rt",
+    "a folder comes with a file": "mkdir -p crates/pdregress/proofs/f && : >crates/pdregress/proofs/f/Answers.antt",
+    "a file has another name": "mv crates/pdregress/src/rule.rt crates/pdregress/src/other.rt",
+    "a file has a name of another case": "mv crates/pdregress/src/rule.rt crates/pdregress/src/Rule.rt",
+    "a file is a link": "mv crates/pdregress/src/rule.rt rule && ln -s ../../../rule crates/pdregress/src/rule.rt",
+    "a folder is a link": "mv crates/pdregress/src sources && ln -s ../../sources crates/pdregress/src",
+    "a folder goes elsewhere": "mv crates/pdregress/src crates/pdregress/sources",
+    "a crate goes elsewhere": "mv crates/pdregress crates/elsewhere",
+    "a crate has another line": "sed -i 's/^pdregress:.*/pdregress: toml/' crates.txt",
+    "no table of crates": "rm crates.txt",
+    "handles come": "echo 'Handles allowed: none.' >HANDLES",
+    "an older file of the same size": (
+        "printf '// a ruse\\n' >x && touch -d 2001-01-01 x && mv x crates/pdregress/src/rule.rt"
+    ),
+    "an edit in place with its date": (
+        "printf '// a ruse\\n' >x && touch -r crates/pdregress/src/rule.rt x && cat x >crates/pdregress/src/rule.rt "
+        "&& touch -r x crates/pdregress/src/rule.rt && rm x"
+    ),
+    "another kit": "echo 'kit 2' >../KIT-ID",
+    "no checksums": "rm crates/pdregress/out/pdregress.sums",
+    "no program": "rm crates/pdregress/out/pdregress",
+}
+STAYS = {
+    "all sources are touched": "find crates crates.txt -name out -prune -o -exec touch {} +",
+    "all their dates are set back": "find crates crates.txt -name out -prune -o -exec touch -d 2001-01-01 {} +",
+    "a file of an editor comes": "cd crates/pdregress/src && echo >rule.rt~ && ln -s me@here.1 .#rule.rt",
+    "a crate comes on which nothing stands": "mkdir -p crates/other/src && : >crates/other/src/lib.rt",
+}
+
+
+def do(tree: Tree, command: str) -> None:
+    """Does a command of the shell in a tree."""
+    subprocess.run(["sh", "-euc", command], cwd=tree.top, check=True)
+
+
+@pytest.mark.parametrize("done", LEAVES.values(), ids=LEAVES)
+def test_whatever_changes_of_what_was_proved_no_row_is_current(done: str, tree: Tree) -> None:
+    with watched(tree) as watching:
+        do(tree, done)
+        watching.await_out(LEFT)
+        write(tree.suite, c=PASSES)
+        time.sleep(0.3)
+        assert "c.pkt: pass 1\n" not in watching.out
+        assert watching.ends(signal.SIGINT).status == 2
+
+
+@pytest.mark.parametrize("done", STAYS.values(), ids=STAYS)
+def test_where_it_is_the_same_rows_stay_current(done: str, tree: Tree) -> None:
+    with watched(tree) as watching:
+        do(tree, done)
+        write(tree.suite, c=PASSES)
+        watching.await_out("c.pkt: pass 1\n")
+        time.sleep(0.3)
+        assert LEFT not in watching.out and ANOTHER not in watching.out
+        assert watching.ends(signal.SIGINT).status == 0
+
+
+def test_a_row_and_what_explains_it_are_of_one_program(tmp_path: Path) -> None:
+    programs = folder_of(tmp_path, stand_in("fail 1 ack"))
+    other = put_program(tmp_path / "programs/other", stand_in("fail 1 seq"))
+    write(tmp_path / "suite", a=SENDER, b=PASSES)
+    with Watching(tmp_path, programs, "suite") as watching:
+        # Once its scripts are run, and before it tells of them, the program's file is another one.
+        write(tmp_path / "suite", b=f"yield {other}\n".encode(), c=SENDER)
+        watching.await_out(f"{ANOTHER}suite/a.pkt:1: fail seq\n")
+        watching.await_out("total ", 2)
+        first, second = watching.out.split(ANOTHER)
+        assert "by fail 1 seq" not in first and "suite/c.pkt" not in first
+        assert "by fail 1 ack" not in second.replace(
+            "before: line 1: fail ack: so it is\n    found: by fail 1 ack\n", ""
+        )
+        assert second.count("    found: by fail 1 seq\n") == 1 and second.count("\n  found: by fail 1 seq\n") == 2
+
+
+def test_where_nothing_changed_no_process_looks(tree: Tree) -> None:
+    tool, looks = tree.top / "tools/built.sh", tree.notes / "looks"
+    real = tool.rename(tool.with_name("built_so.sh"))
+    put_program(tool, f'#!/bin/sh\necho "$@" >>{looks}\nexec {real} "$@"\n'.encode())
+    with watched(tree) as watching:
+        time.sleep(0.5)
+        before = looks.read_text()
+        for number in range(3):
+            write(tree.suite, b=b"row fail %d seq\n" % (number + 2))
+            watching.await_out(f"b.pkt:{number + 2}: fail seq\n")
+        assert looks.read_text() == before
+        (tree.top / SOURCE).write_text("// another rule\n")
+        watching.await_out(LEFT)
+        assert looks.read_text() != before
 
 
 def test_what_a_package_has_is_looked_at_without_a_process(tmp_path: Path) -> None:
@@ -146,6 +240,31 @@ def test_a_sender_that_changes_in_the_midst_is_said_and_the_status_is_2(
     assert not (tree.suite / "pdsuite.toml").exists() and b"row" in (tree.suite / "b.pkt").read_bytes()
 
 
+@pytest.mark.parametrize(
+    "words",
+    [
+        ("compare", "--base", "bin", "--with", "changing", "--search", "1"),
+        ("search", "--for", "state:ESTABLISHED", "--with", "changing"),
+    ],
+    ids=["compare --search", "search"],
+)
+def test_a_search_whose_sender_changes_in_the_midst_says_so_and_saves_nothing(
+    words: tuple[str, ...], tree: Tree
+) -> None:
+    changing, small = tree.suite.parent / "changing", (HERE / "stand_in_sender.py").read_bytes()
+    for name in ("pdregress", "pdrecord"):
+        put_program(tree.bin / name, small)
+        put_program(changing / "real" / name, small)
+    (changing / "real/change").write_text("late")
+    put_program(changing / "pdregress", f'#!/bin/sh\nexec {changing}/real/pdregress "$@"\n'.encode())
+    script = f'#!/bin/sh\necho >>{changing}/pdregress\nexec {changing}/real/pdrecord "$@"\n'
+    put_program(changing / "pdrecord", script.encode())
+    called = tree.call(*words, "--seed", "1", "--save", "suite/found.pkt")
+    *_, last = called.err.splitlines()
+    assert (called.status, last) == (2, "pdsuite: the sender has changed meanwhile: search again")
+    assert called.out == "" and not (tree.suite / "found.pkt").exists()
+
+
 def test_an_unproved_run_sees_that_sources_changed_in_the_midst(tree: Tree) -> None:
     (tree.top / SOURCE).write_text("// another rule\n")
     write(tree.suite, a=f"touch {tree.top / SOURCE}\n".encode())
@@ -186,19 +305,19 @@ def test_an_editor_is_told_of_a_source_that_changes_and_all_is_marked(tree: Tree
     with served(tree) as client:
         uri = client.open(tree.suite / "b.pkt", "row fail 1 seq\n")
         (told,) = client.settled(uri)
-        assert (first(told), "tags" in told) == ("fail seq: ", False)
+        assert (first(told), "tags" in told) == ("fail seq", False)
         assert lens(client, uri) == "fail 1 seq"
         (tree.top / SOURCE).write_text("// another rule\n")
-        (told,) = client.told(uri, lambda it: first(it[0]) != "fail seq: ", "a mark")
-        assert (first(told), told["tags"]) == ("fail seq:  (by the sender before)", [1])
+        (told,) = client.told(uri, lambda it: first(it[0]) != "fail seq", "a mark")
+        assert (first(told), told["tags"]) == ("(by the sender before) fail seq", [1])
         assert lens(client, uri) == "fail 1 seq (by the sender before)"
         (said,) = client.shown
-        assert said.startswith("pdsuite: the sender has changed: until another one stands")
+        assert said == "pdsuite: the sender has changed: rows are old"
         client.put(uri, "row fail 1 ack\n")
         (told,) = client.settled(uri)
-        assert first(told) == "fail ack:  (by the sender before)"
+        assert first(told) == "(by the sender before) fail ack"
         (tree.top / SOURCE).write_text("// a rule\n")
-        (told,) = client.told(uri, lambda it: first(it[0]) == "fail ack: ", "no mark")
+        (told,) = client.told(uri, lambda it: first(it[0]) == "fail ack", "no mark")
         assert "tags" not in told
 
 
@@ -223,3 +342,20 @@ def test_an_editor_has_no_program_started_that_is_not_proved(tree: Tree) -> None
         client.actions(uri, 0)
         client.put(uri, "row fail 1 ack\n")
         assert client.actions(uri, 0) == [] and not mark.exists()
+
+
+def test_an_editor_has_rows_and_reasons_of_the_program_that_took_a_place(tmp_path: Path) -> None:
+    programs = folder_of(tmp_path, stand_in("fail 1 ack"))
+    put_program(programs / "pdrecord", (HERE / "stand_in_record.py").read_bytes())
+    other = put_program(tmp_path / "other", stand_in("fail 1 seq"))
+    write(tmp_path / "suite", a=SENDER, b=PASSES)
+    (tmp_path / "suite/pdsuite.toml").write_text("root = true\n")
+    with LspClient(programs, tmp_path / "suite", can=DIMS) as client:
+        uri = client.open(tmp_path / "suite/a.pkt")
+        (told,) = client.settled(uri)
+        assert first(told) == "fail ack: so it is"
+        # Once its scripts are run, and before it tells of them, the program's file is another one.
+        seen = client.open(tmp_path / "suite/b.pkt", f"yield {other}\n")
+        (told,) = client.told(uri, lambda it: first(it[0]) != "fail ack: so it is", "a row of the other program")
+        assert first(told) == "fail seq: so it is" and lens(client, uri) == "fail 1 seq"
+        assert client.settled(seen) == [] and not other.exists()

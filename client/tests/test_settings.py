@@ -109,11 +109,14 @@ def test_a_root_ends_the_search(tmp_path: Path) -> None:
 
 
 BROKEN = [
-    (b"mss", "a/pdsuite.toml: no TOML: Expected '=' after a key"),
-    (b"mss = 1\nmss = 2", "a/pdsuite.toml: no TOML: Cannot overwrite a value"),
-    (b"\xff = 1", "a/pdsuite.toml: no TOML: 'utf-8' codec"),
-    (b"a = " + b"[" * 100_000, "a/pdsuite.toml: no TOML: "),
-    (b"a = " + b"9" * 5_000, "a/pdsuite.toml: no TOML: "),
+    (b"mss", "a/pdsuite.toml:1: no TOML: Expected '=' after a key"),
+    (b"mss = 1\nmss = 2", "a/pdsuite.toml:2: no TOML: Cannot overwrite a value"),
+    (b"# a\n\nmss = 1\nwscale = ]\n", "a/pdsuite.toml:4: no TOML: Invalid value (at line 4, column 10)"),
+    (b"mss = 1\n\xff = 1", "a/pdsuite.toml:2: no TOML: octet 0xff is no UTF-8"),
+    (b"\xef\xbb\xbfmss = 1", "a/pdsuite.toml:1: no TOML: a byte order mark; a file of settings begins without one"),
+    (b"a = 1\nb = rfc6928", "a/pdsuite.toml:2: no TOML: Invalid value (at line 2, column 5): a word stands in quotes"),
+    (b"a = " + b"[" * 100_000, "a/pdsuite.toml:1: no TOML: "),
+    (b"a = " + b"9" * 5_000, "a/pdsuite.toml:1: no TOML: "),
     (b"root = 1", "a/pdsuite.toml:1: root: BadValue: it takes true or false"),
     (b'mss = 1\n\nstrict = "yes"', "a/pdsuite.toml:3: strict: BadValue: it takes true or false"),
     (b'["a.pkt"]\nstrict = 1', 'a/pdsuite.toml:2: strict: BadValue (["a.pkt"]): it takes true or false'),

@@ -87,6 +87,18 @@ def test_an_event_gets_simpler(what: Packet | Call, is_good: Callable[[Any], boo
     assert found == inputs_of((0, wanted))
 
 
+def test_a_whole_round_goes_with_the_numbers_that_it_moved() -> None:
+    """Of four ACKs none goes by itself, since the last one has to acknowledge a segment more than the one before."""
+    acks = [packet(".", 1, number, 257) for number in (1, 1_001, 2_001, 3_001)]
+    states = [(1, 1_001), (1_001, 2_001), (2_001, 3_001), (3_001, 4_001)]
+    recording = "".join(
+        f"+0 {it}\n//= at 0.000000 ESTABLISHED una:{una} top:{top} cwnd:4000\n" for it, (una, top) in zip(acks, states)
+    )
+    test = Finds(lambda it: [str(one.what) for one in it.events] == [str(one) for one in acks[:2]])
+    found = shrunk(Find(inputs_of(*((0, it) for it in acks)), recording), test, Sender(), 60)
+    assert [str(it.what) for it in found.inputs.events] == [str(it) for it in acks[:2]]
+
+
 def test_settings_and_exact_times_go_where_nothing_needs_them() -> None:
     inputs = replace(inputs_of((0, ACK), is_exact=True), settings=(("mss", 100), ("sack", False)))
     found = least(inputs, lambda it: len(it.events) == 1 and dict(it.settings).get("sack") is False)

@@ -184,20 +184,34 @@ def test_programs_end_where_the_client_is_killed(tmp_path: Path, stand_in: Path)
 def test_each_group_of_settings_is_one_run_with_its_words(
     words: tuple[str, ...], tmp_path: Path, stand_in: Path, call: Call
 ) -> None:
-    folder = wrapped(tmp_path / "programs", stand_in, runs='echo "$*" >>words')
+    folder = wrapped(tmp_path / "programs", stand_in, runs='echo "$*" >>words', explains='echo "$*" >>words')
     write(tmp_path / "suite", a=PASSES, c=PASSES)
     write(tmp_path / "suite/in", b=PASSES)
     (tmp_path / "suite/pdsuite.toml").write_text("root = true\n")
     (tmp_path / "suite/in/pdsuite.toml").write_text("mss = 1000\n")
     assert call(folder, "run", *words, "suite").totals == {"pass": 3}
-    workers = words[1] if words else str(min(len(os.sched_getaffinity(0)), 64))
-    run = f"--workers {workers} --cache 1"
-    assert (tmp_path / "words").read_text().splitlines() == ["", run, f"{run} --settings mss = 1000"]
+    run = "--explain --leftovers --json --cache 1"
+    assert sorted((tmp_path / "words").read_text().splitlines()) == ["", run, f"{run} --settings mss = 1000"]
+
+
+@pytest.mark.parametrize(("workers", "most"), [(0, 1), (1, 1), (3, 3)])
+def test_so_many_programs_run_side_by_side(workers: int, most: int, tmp_path: Path, stand_in: Path, call: Call) -> None:
+    """Each notes how many there are when it ends: after it has waited for as many as may be there."""
+    waits = f'touch "on.$$"; for it in $(seq 100); do [ "$(ls on.* | wc -l)" -ge {most} ] && break; sleep 0.05; done'
+    notes = f'{waits}; ls on.* | wc -l >>counts; "$0.py" "$@"; status=$?; rm "on.$$"; exit $status'
+    folder = wrapped(tmp_path / "programs", stand_in, explains=notes)
+    for number in range(most):
+        write(tmp_path / f"suite/in{number}", a=PASSES, b=b"row fail 1 seq\n")
+        (tmp_path / f"suite/in{number}/pdsuite.toml").write_text(f"mss = {1_000 + number}\n")
+    called = call(folder, "run", "--workers", str(workers), "suite")
+    assert called.totals == {"pass": most, "fail": most}
+    assert called.rows == [f"suite/in{number}/b.pkt:1: fail seq" for number in range(most)]
+    assert max(map(int, (tmp_path / "counts").read_text().split())) == most
 
 
 def test_it_reads_while_it_writes(tmp_path: Path, stand_in: Path, call: Call) -> None:
     loud = "head -c 3000000 /dev/zero | tr '\\0' y >&2; echo >&2"
-    folder = wrapped(tmp_path / "programs", stand_in, runs=loud)
+    folder = wrapped(tmp_path / "programs", stand_in, runs=loud, explains=loud)
     for number in range(64):
         write(tmp_path / "suite", **{f"s{number}": PASSES + b"x" * 60_000})
     called = call(folder, "run", "suite")

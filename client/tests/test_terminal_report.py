@@ -15,6 +15,8 @@ from pathlib import Path
 
 import pytest
 
+from pdsuite.compare.comparison import ComparedScript, Kind
+from pdsuite.compare.parting import Parting, PlayedEvent
 from pdsuite.programs.rows import Row, Verdict
 from pdsuite.run.outcomes import Outcome
 from pdsuite.scripts.text import text_of
@@ -83,6 +85,21 @@ def test_a_reason_is_broken_at_blanks_and_a_short_line_stays() -> None:
         "    oldest again (RFC 6298)",
         "  rule: a command",
         f"  {'x' * 100} y",
+    ]
+
+
+def test_the_states_of_two_senders_are_broken_at_blanks_and_packets_are_not() -> None:
+    state = "ESTABLISHED una:1 next:6001 top:6001 end:20001 cwnd:4000 ssthresh:2000 DupAcks:2"
+    event = PlayedEvent(f"+0 > . 1:1001(1000) ack 1 <nop,nop,{'sack 1:2,' * 6}eol>", "0.310000", state)
+    parting = Parting(event, None, state, f"{state} recovery:none")
+    outcome = Outcome("a.pkt", (), PASS, None, "", ())
+    lines = live().compared([ComparedScript(0, Kind.OTHERWISE, outcome, outcome, parting)]).plain.splitlines()
+    assert f"    before: {event}" in lines
+    assert lines[-4:] == [
+        "    state of the sender before: ESTABLISHED una:1 next:6001 top:6001 end:20001",
+        "      cwnd:4000 ssthresh:2000 DupAcks:2",
+        "    state of the sender after:  ESTABLISHED una:1 next:6001 top:6001 end:20001",
+        "      cwnd:4000 ssthresh:2000 DupAcks:2 recovery:none",
     ]
 
 

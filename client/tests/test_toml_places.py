@@ -47,5 +47,5 @@ def test_the_line_of_a_key(table: str, key: str, line: int | None) -> None:
 
 
 def test_a_table_in_a_line_is_where_its_name_stands() -> None:
-    places = places_in("p", '"a.pkt" = {mss = 1}\n"b.pkt".mss = 2\n')
-    assert (places.at("a.pkt", "mss"), places.at("b.pkt", "mss")) == ("p:1", "p")
+    places = places_in("p", '"a.pkt" = {mss = 1}\n"b.pkt".mss = 2\n[[c]]\n')
+    assert (places.at("a.pkt", "mss"), places.at("b.pkt", "mss"), places.at("", "c")) == ("p:1", "p:2", "p:3")

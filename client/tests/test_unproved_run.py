@@ -14,7 +14,7 @@ from pdsuite.programs.refusals import questions, refused_at_once
 from pdsuite.programs.rows import Row, Verdict
 from pdsuite.programs.starts import Answer, Case, answer_of, answers_in, input_of, parted, parts_in
 from pdsuite.run.runs import Script
-from pdsuite.run.unproved_run import _causes, Batch, batches_of, causes_of, outcomes_of, read_answers
+from pdsuite.run.unproved_run import Batch, batches_of, read_answers, told_of
 from pdsuite.scripts.suite import Claim
 from pdsuite.scripts.text import Text, text_of
 from tests.helpers import TOP, ends, is_alive, wait_for, write
@@ -60,20 +60,25 @@ def test_scripts_of_which_much_may_be_told_are_in_several_batches() -> None:
     assert [len(it.scripts) for it in batches_of(loaded(*[b"x\n"] * 64))] == [64]
 
 
-def test_rows_and_blocks_come_to_their_scripts() -> None:
+def test_rows_and_what_is_told_come_to_their_scripts() -> None:
     rows = b"s0 pass 3\ns1 fail 2 seq\n" + TOTAL % 2
-    told = b"s1:2: fail seq: other octets\n  script packet: a\n  state: b\n"
-    outcomes = outcomes_of(batch(b"one\n", b"one\ntwo\n"), Answer(rows, told))
-    assert [(it.row, it.text, it.why, it.told) for it in outcomes.values()] == [
-        (Row(Verdict.PASS, 3), None, "", ()),
-        (Row(Verdict.FAIL, 2, "seq"), b"two", "other octets", ("script packet: a", "state: b")),
-    ]
+    told = b'{"name": "s1", "line": 2, "what": "other octets"}\n'
+    found = told_of(batch(b"one\n", b"one\ntwo\n"), Answer(rows, told))
+    cause = {"name": "s1", "line": 2, "what": "other octets"}
+    assert found == {0: (Row(Verdict.PASS, 3), None), 1: (Row(Verdict.FAIL, 2, "seq"), cause)}
+
+
+def test_what_is_told_of_another_line_or_script_is_of_none() -> None:
+    rows = b"s0 fail 2 seq\n" + TOTAL % 1
+    for name, line in ((b"s0", 3), (b"s1", 2)):
+        told = b'{"name": "%b", "line": %d}\n' % (name, line)
+        assert told_of(batch(b"one\n"), Answer(rows, told)) == {0: (Row(Verdict.FAIL, 2, "seq"), None)}
 
 
 @pytest.mark.parametrize("rows", [b"", b"s0 pass 1\n", b"s0 pending\n" + TOTAL % 1, b"s0 pass 1\n" + TOTAL % 2])
 def test_an_answer_that_is_not_the_report_of_the_batch_is_none(rows: bytes) -> None:
     with pytest.raises(Unexpected):
-        outcomes_of(batch(b"x\n"), Answer(rows, b""))
+        told_of(batch(b"x\n"), Answer(rows, b""))
     assert read_answers([batch(b"x\n")], [Answer(rows, b"")])[0] == {}
 
 
@@ -81,21 +86,6 @@ def test_a_batch_without_an_answer_is_kept_with_the_reason() -> None:
     one = batch(b"x\n")
     _, unheard = read_answers([one], [Answer(b"", b"", "TooSlow: it took long")])
     assert unheard == [(one, "pdregress: TooSlow: it took long")]
-
-
-def test_what_is_told_by_keys_comes_to_its_script() -> None:
-    told = b'{"name": "s1", "line": 4, "kind": "seq"}\n'
-    (cause,) = causes_of(batch(b"x\n", b"y\n"), Answer(b"", told)).items()
-    assert cause[0] == 1 and cause[1]["kind"] == "seq"
-    assert causes_of(batch(b"x\n"), Answer(b"", b"no JSON\n")) == {}
-    assert causes_of(batch(b"x\n"), Answer(b"", told)) == {}
-
-
-def test_what_is_told_by_keys_stands_after_the_answers_of_the_batches_themselves() -> None:
-    batches = [batch(b"x\n"), batch(b"y\n")]
-    told = [Answer(b"", b'{"name": "s0", "line": %d}\n' % line) for line in (1, 2, 3)]
-    assert _causes(batches[:1], told[:2]) == {0: {"name": "s0", "line": 2}}
-    assert _causes(batches[:1], told[:1]) == {}
 
 
 def test_each_setting_is_asked_once_and_each_claim_of_a_refused_one_is_told() -> None:
@@ -158,7 +148,7 @@ def test_a_suite_runs_in_one_build_with_its_explanations_and_says_that_nothing_i
     (tree.suite / "c/pdsuite.toml").write_text("mss = 1000\nsack = false\n")
     called = tree.call("run", "suite")
     assert (called.status, called.err) == (1, "pdsuite: " + FIRST.format(tree.top / "prove"))
-    assert called.out.splitlines()[:2] == ["suite/b.pkt:1: fail seq: so it is", "  told"]
+    assert called.out.splitlines()[:2] == ["suite/b.pkt:1: fail seq: so it is", "  found: told"]
     assert called.totals == {"pass": 2, "fail": 1}
     assert called.out.endswith(" s UNPROVED\n")
     assert tree.builds() == 1
@@ -186,7 +176,7 @@ def test_a_proved_sender_is_marked_nowhere(tree: Tree) -> None:
     write(tree.suite, a=b"row pass 9\n")
     words = ("--json", "--junit", "out.xml", "--html", "page", "suite")
     called = tree.call("run", *words, PDSUITE_PROGRAMS=str(tree.bin))
-    assert called.status == 0 and set(json.loads(called.out)) == {"scripts", "total", "seconds"}
+    assert called.status == 0 and set(json.loads(called.out)) == {"version", "scripts", "total", "seconds"}
     for file in ("out.xml", "page/index.html"):
         assert "UNPROVED" not in (tree.suite.parent / file).read_text()
 

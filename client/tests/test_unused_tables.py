@@ -107,7 +107,7 @@ def test_an_import_refuses_such_a_table(tmp_path: Path, call: Call) -> None:
     (tmp_path / "from/pdsuite.toml").write_bytes(lines_of(["b.pkt"]))
     called = call(None, "import", "from", "to")
     assert (called.status, called.out) == (2, "")
-    assert called.err == f'pdsuite: from/pdsuite.toml:1: ["b.pkt"]: {LOST}{PRUNE}\n'
+    assert called.err == f'from/pdsuite.toml:1: ["b.pkt"]: {LOST}{PRUNE}\n'
     assert not (tmp_path / "to").exists()
 
 

@@ -351,7 +351,7 @@ def test_a_terminal_has_a_last_line_that_tells_what_passes_and_what_is_running(s
     await_shown(b"fail seq")
     await_shown(b"1 of 2 pass")
     (tmp_path / "pdsuite.toml").write_text("mss\n")
-    await_shown(b"pdsuite.toml: no TOML")
+    await_shown(b"pdsuite.toml:1: no TOML")
     await_shown(b"1 of 2 pass")
     process.send_signal(signal.SIGINT)
     await_shown(b"\x1b[?25h")
@@ -374,6 +374,13 @@ def test_a_folder_without_scripts_is_watched_for_the_first(programs: Path, tmp_p
         write(tmp_path / "in/er", a=FAILS)
         watching.await_out("in/er/a.pkt:1: fail result\n")
         assert watching.ends(signal.SIGINT).status == 1
+
+
+def test_standard_input_is_not_watched() -> None:
+    words = [str(TOP / "pdsuite"), "watch", "-"]
+    called = subprocess.run(words, stdin=subprocess.DEVNULL, capture_output=True, timeout=30)
+    said = b"pdsuite: -: standard input is read once, and nothing of it is watched\n"
+    assert (called.returncode, called.stdout, called.stderr) == (2, b"", said)
 
 
 def test_settings_on_the_line_that_are_refused_end_it(programs: Path, tmp_path: Path, call: Call) -> None:

@@ -1,5 +1,6 @@
 """`pdsuite watch` without a proof: it follows the sender as it stands, and says of each row whose it is."""
 
+import html
 import random
 import signal
 import time
@@ -8,7 +9,7 @@ from pathlib import Path
 import pytest
 
 from tests.helpers import HANGS, PASSES, Replay, is_alive, write
-from tests.trees import Tree, stand_in
+from tests.trees import Tree, put_program, stand_in
 from tests.watching import Watching
 
 LEFT = "the sender has changed: all rows above are of the sender before\n"
@@ -17,7 +18,8 @@ PROVED = "the sender is proved: all scripts ran again\n"
 BUILDING = "  it is built without proofs\n"
 SOURCE = "crates/pdregress/src/rule.rt"
 SENDER = b"sender\n"
-OTHER_INPUT = b"sender\n+0 > . 1:2(1) ack 1\n//= at 0.000001 ESTABLISHED\n"
+# A script whose row depends on the sender, and so does what is recorded of it.
+RECORDED = b"sender\n+0 rule() = RULE\n//= at 0.000001 ESTABLISHED\n"
 
 
 @pytest.fixture
@@ -30,6 +32,16 @@ def tree(tmp_path: Path) -> Tree:
     return made
 
 
+def tree_of_one_script(folder: Path) -> Tree:
+    """A tree in which nothing is proved, with a script whose row depends on the sender."""
+    made = Tree(folder)
+    made.build_stand_ins()
+    put_rule(made, "pass 1")
+    write(made.suite, a=SENDER)
+    (made.suite / "pdsuite.toml").write_text("root = true\n")
+    return made
+
+
 def put_rule(tree: Tree, row: str) -> None:
     """Gives the sender a rule: the row of scripts that depend on it."""
     (tree.top / SOURCE).write_text(f"// {row}\n")
@@ -37,6 +49,14 @@ def put_rule(tree: Tree, row: str) -> None:
 
 def watched(tree: Tree, *words: str) -> Watching:
     return Watching(tree.suite, None, *words, ".", pdsuite=tree.top / "pdsuite", environment=tree.environment)
+
+
+def refuse_proof(tree: Tree) -> None:
+    """Leaves what ./prove leaves where it refuses the rule."""
+    put_program(
+        tree.top / "crates/pdregress/out/refused",
+        f"pd_board isn't proved, or wasn't built:\n{tree.top / SOURCE}:1:2: error: the contract\n".encode(),
+    )
 
 
 def noted(tree: Tree, name: str) -> list[str]:
@@ -51,7 +71,7 @@ def test_an_unproved_sender_is_built_and_followed(tree: Tree) -> None:
         assert watching.out.endswith(" UNPROVED\n")
         put_rule(tree, "fail 1 seq")
         watching.await_out(f"{LEFT}{BUILDING}{BUILT}a.pkt:1: fail seq\na.pkt: turned\n  before: pass 1\n")
-        watching.await_out("  after: line 1: fail seq: so it is\n    by fail 1 seq\n")
+        watching.await_out("  after: line 1: fail seq: so it is\n    found: by fail 1 seq\n")
         watching.await_out(" UNPROVED\n", 2)
         assert noted(tree, "built") == ["// pass 1", "// fail 1 seq"]
         assert watching.ends(signal.SIGINT).status == 1
@@ -125,15 +145,20 @@ def test_a_proof_takes_over_and_its_label_goes(tree: Tree) -> None:
 
 def test_a_refused_proof_is_told_once(tree: Tree) -> None:
     with watched(tree) as watching:
-        out = tree.top / "crates/pdregress/out"
-        out.mkdir()
-        beside = out / "beside"
-        beside.write_text("pd_board isn't proved, or wasn't built:\nsrc/a.rt:1:2: error: the contract\n")
-        beside.rename(out / "refused")
-        watching.await_out("pd_board isn't proved, or wasn't built:\n  src/a.rt:1:2: error: the contract\n")
+        refuse_proof(tree)
+        watching.await_out(f"pd_board isn't proved, or wasn't built:\n  {tree.top / SOURCE}:1:2: error: the contract\n")
         write(tree.suite, b=b"row fail 1 ack\n")
         watching.await_out("b.pkt:1: fail ack\n")
         assert watching.out.count("isn't proved, or") == 1
+
+
+def test_the_page_tells_of_a_refused_proof_until_its_source_changes(tree: Tree) -> None:
+    page = tree.notes / "page/index.html"
+    with watched(tree, "--html", str(page.parent)):
+        refuse_proof(tree)
+        await_page(page, "pd_board isn't proved, or wasn't built:", f"{tree.top / SOURCE}:1:2: error: the contract\n")
+        put_rule(tree, "pass 2")
+        await_page(page, without="pd_board")
 
 
 def test_turned_scripts_are_told_against_a_base(tree: Tree) -> None:
@@ -165,6 +190,49 @@ def test_a_terminal_says_what_is_built_and_the_page_is_marked(tree: Tree) -> Non
             assert time.monotonic() < until, style.read_bytes()
             time.sleep(0.01)
         assert "UNPROVED" in (tree.notes / "page/index.html").read_text()
+
+
+def await_page(page: Path, *words: str, without: str = "") -> None:
+    """Waits until a page has all these words, and these others not."""
+    until = time.monotonic() + HANGS
+    while True:
+        shown = html.unescape(page.read_text()) if page.exists() else ""
+        if all(it in shown for it in words) and not (without and without in shown):
+            return
+        assert time.monotonic() < until, (words, without, shown)
+        time.sleep(0.01)
+
+
+def test_the_page_says_why_the_sender_is_not_built_and_how_it_turned_scripts(tree: Tree) -> None:
+    page = tree.notes / "page/index.html"
+    write(tree.suite, a=RECORDED)
+    with watched(tree, "--html", str(page.parent)) as watching:
+        await_page(page, "2 pass")
+        put_rule(tree, "wrong")
+        await_page(page, "the sender isn't built:", f"{tree.top / SOURCE}:1:4: error[mismatch]: wrong\n")
+        put_rule(tree, "fail 1 seq")
+        watching.await_out("a.pkt:1: fail seq\n")
+        told = ["1 script that the sender turned", "before: pass 1\n", "after: line 1: fail seq: so it is\n"]
+        told += ["the first event that differs:\n  before: +0 rule() = pass 1", "  after:  +0 rule() = fail 1 seq"]
+        await_page(page, *told, without="isn't built")
+        write(tree.suite, b=b"row fail 1 ack\n")
+        await_page(page, "ack", *told)
+        write(tree.suite, a=PASSES)
+        await_page(page, without="the sender turned")
+        assert watching.err.count("\n") == 1
+
+
+def test_where_the_first_sender_is_not_built_the_page_says_why(tree: Tree) -> None:
+    page = tree.notes / "page/index.html"
+    put_rule(tree, "wrong")
+    watching = watched(tree, "--html", str(page.parent))
+    try:
+        await_page(page, "the sender isn't built:", f"{tree.top / SOURCE}:1:4: error[mismatch]: wrong\n")
+        assert (page.parent / "sender.css").read_bytes() == b""
+        put_rule(tree, "pass 1")
+        await_page(page, "2 pass", without="isn't built")
+    finally:
+        watching.__exit__()
 
 
 @pytest.mark.parametrize("seed", range(4))

@@ -106,7 +106,7 @@ class Tree:
         """Gives it tests: rows, and what tells them."""
         for name in ("changed_rules.py", "owed.py", "owed_defaults.py", "owed_sections.py"):
             shutil.copy(TOP / "tools" / name, self.top / "tools")
-        for name in ("model", "rows"):
+        for name in ("drawn", "model", "rows"):
             shutil.copytree(
                 TOP / "tests" / name, self.top / "tests" / name, ignore=shutil.ignore_patterns("__pycache__")
             )

@@ -12,11 +12,15 @@
 
 ;;; Code:
 
+(require 'cl-lib)
 (require 'conf-mode)
+(require 'flymake)
 (require 'seq)
 
 (declare-function eglot-code-actions "eglot")
 (declare-function eglot--apply-workspace-edit "eglot")
+(declare-function eglot--uri-to-path "eglot")
+(declare-function eglot-managed-p "eglot")
 (defvar eglot-server-programs)
 
 (defgroup packetdrill nil
@@ -93,6 +97,39 @@
         (message "Nothing was sent here that the line could take")
       (eglot--apply-workspace-edit (plist-get action :edit))
       (plist-get action :title))))
+
+;; What the compiler and the prover say of the sender is told of its sources, which eglot doesn't manage, and so leaves out.
+
+(defvar-local packetdrill--faults nil
+  "What is said of the source in this buffer, as the protocol has it.")
+
+(defun packetdrill--fault (fault)
+  "FAULT as Flymake has it."
+  (let* ((start (plist-get (plist-get fault :range) :start))
+         (line (1+ (plist-get start :line)))
+         (place (flymake-diag-region (current-buffer) line (1+ (plist-get start :character)))))
+    (flymake-make-diagnostic (current-buffer) (car place) (cdr place) :error (plist-get fault :message))))
+
+(defun packetdrill--report (report &rest _)
+  "Tell Flymake by REPORT what is said of this source."
+  (funcall report (mapcar #'packetdrill--fault packetdrill--faults) :region (cons (point-min) (point-max))))
+
+(defun packetdrill--take-faults (faults)
+  "Show FAULTS in this buffer in place of those before."
+  (setq packetdrill--faults faults)
+  (setq-local flymake-diagnostic-functions (list #'packetdrill--report))
+  (flymake-mode 1)
+  (flymake-start))
+
+(with-eval-after-load 'eglot
+  (cl-defmethod eglot-handle-notification :after
+    (_server (_method (eql textDocument/publishDiagnostics)) &key uri diagnostics &allow-other-keys)
+    "Show what pdsuite says of a source that is open, and that eglot doesn't manage."
+    (when-let ((buffer (find-buffer-visiting (eglot--uri-to-path uri))))
+      (with-current-buffer buffer
+        (when (and (not (eglot-managed-p))
+                   (or packetdrill--faults (seq-some (lambda (it) (equal (plist-get it :source) "pdsuite")) diagnostics)))
+          (packetdrill--take-faults (append diagnostics nil)))))))
 
 (provide 'packetdrill-mode)
 ;;; packetdrill-mode.el ends here

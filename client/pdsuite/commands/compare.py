@@ -22,7 +22,9 @@ from pdsuite.reports.comparison_markdown import as_markdown
 from pdsuite.run.choice import found_of, scripts_of
 from pdsuite.scripts.suite import BASE_OPTION, WITH_OPTION, Suite, option_of
 from pdsuite.scripts.unused_tables import unused_in
+from pdsuite.show.fitting import columns_of, fitting
 from pdsuite.show.screen import Screen, say
+from pdsuite.show.styled_text import StyledText
 from pdsuite.signals import Stop, Stopped
 
 if TYPE_CHECKING:
@@ -69,9 +71,9 @@ def compare_senders(options: CompareOptions, screen: Screen) -> int:
             _say_senders(senders, screen)
             records = all(it.records for it in senders)
             telling = telling_of(senders[1], Path(room)) if options.affected else None
-            task = Task(scripts, list(suite.claims()), records, page is not None, telling)
+            task = Task(scripts, list(suite.claims()), records, telling)
             steady = Steady(*(it.look for it in senders))
-            built = zip(sides, with_programs(senders, "plain", stop, screen))
+            built = zip(sides, with_programs(senders, "any", stop, screen))
             results = run_both(
                 [replace(side, sender=it) for side, it in built], task, threads_of(None), stop, screen.note
             )
@@ -150,8 +152,13 @@ def _tell(
     if options.is_markdown:
         screen.show(as_markdown(told, names))
     else:
-        screen.show(as_json(told, names) if options.is_json else plain(told))
+        screen.show(as_json(told, names) if options.is_json else _fitting(plain(told), screen))
     return _status(compared, affected)
+
+
+def _fitting(text: StyledText, screen: Screen) -> StyledText:
+    """A text in lines that fit, where there is a terminal."""
+    return text if screen.width is None else fitting(text, columns_of(screen.width))
 
 
 def _status(compared: Sequence[ComparedScript], affected: Affected | None) -> int:

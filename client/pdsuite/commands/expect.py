@@ -17,7 +17,7 @@ from pdsuite.programs.unproved import program_of
 from pdsuite.run.choice import found_of, scripts_of
 from pdsuite.run.outcomes import Outcome
 from pdsuite.run.runs import Script, runs_of
-from pdsuite.run.settling import Restart, Start, settle, start_with
+from pdsuite.run.settling import SettledPiece, Start, settle, start_with
 from pdsuite.scripts.expectation import Expectation
 from pdsuite.scripts.search import SUFFIX, ScriptFile
 from pdsuite.scripts.suite import FILE, LONGEST, Suite, option_of, place_of, read_octets
@@ -82,7 +82,7 @@ def _outcomes(scripts: Sequence[Script], start: Start, screen: Screen) -> list[O
     outcomes: dict[int, Outcome] = {}
     for run in runs_of(scripts):
         for step in settle(run, start):
-            if isinstance(step, Restart):
+            if not isinstance(step, SettledPiece):
                 screen.note(str(step))
                 continue
             outcomes.update((script.index, outcome) for script, outcome in step.outcomes)

@@ -5,7 +5,7 @@ from collections.abc import Iterator, Sequence
 from pathlib import Path
 
 
-from pdsuite.faults import Fault
+from pdsuite.faults import Fault, FileFault
 from pdsuite.files import new_folder, write_folder
 from pdsuite.imports.as_json import as_json
 from pdsuite.imports.conversion import Imported, Left, Source, convert
@@ -14,7 +14,7 @@ from pdsuite.imports.listing import Listed, lines_of, status, summary
 from pdsuite.imports.tables import is_key, tables_of
 from pdsuite.scripts.search import SUFFIX, ScriptFile, find
 from pdsuite.scripts.settings import set_words
-from pdsuite.scripts.suite import Suite, option_of
+from pdsuite.scripts.suite import Suite, old_names, option_of
 from pdsuite.scripts.text import LONGEST_FILE, Unfit, read_file, text_of
 from pdsuite.scripts.unused_tables import unused_in
 from pdsuite.show.octets import shown_path
@@ -30,7 +30,8 @@ def import_scripts(source: Path, target: Path, keep_packets: bool, is_json: bool
     with Stop() as stop:
         is_script = source.suffix == SUFFIX and source.is_file()
         if not source.is_dir() and not is_script:
-            raise Fault(f"{shown_path(source)}: isn't a folder")
+            what = f"neither a folder nor a file *{SUFFIX}" if os.path.lexists(source) else "No such file or directory"
+            raise Fault(f"{shown_path(source)}: {what}")
         place = new_folder(target)
         if place.is_relative_to(os.path.realpath(source)):
             raise Fault(f"{shown_path(target)}: lies in the folder that is imported")
@@ -88,11 +89,11 @@ def _text(octets: bytes) -> str:
 
 def _refuse(suite: Suite, source: Path) -> None:
     """Refuses settings of a pdsuite.toml that no run could be given, or no script has."""
-    for line in unused_in(suite, [source]):
-        raise Fault(line)
+    for line in [*unused_in(suite, [source]), *old_names(suite.claims())]:
+        raise FileFault(line)
     for claim in suite.claims():
         if _NO_WORD in set_words(claim.key, claim.value):
-            raise Fault(claim.refused("BadValue"))
+            raise FileFault(claim.refused("BadValue"))
 
 
 def _files(source: Path, scripts: Sequence[Listed], stop: Stop) -> Iterator[tuple[str, bytes]]:
@@ -101,4 +102,4 @@ def _files(source: Path, scripts: Sequence[Listed], stop: Stop) -> Iterator[tupl
     for path, script in imported.items():
         stop.check()
         yield path, script.text.encode("utf-8", "surrogateescape")
-    yield from tables_of({path: it.settings for path, it in imported.items()})
+    yield from tables_of({path: (it.settings, it.shared) for path, it in imported.items()})

@@ -9,7 +9,7 @@ from pdsuite.run.choice import Part, found_of, scripts_of
 from pdsuite.run.runs import Script
 from pdsuite.scripts.settings import Settings, shown_value
 from pdsuite.scripts.shards import Shard
-from pdsuite.scripts.suite import Suite, option_of
+from pdsuite.scripts.suite import Suite, old_names, option_of
 from pdsuite.scripts.unused_tables import unused_in
 from pdsuite.show.octets import shown_path, shown_text
 from pdsuite.show.screen import Screen, say
@@ -30,7 +30,7 @@ def list_scripts(
         part = Part(shard, failed_last(paths) if last_failed else None)
         suite = Suite(option_of(settings))
         scripts = scripts_of(found_of(paths, only, suite, stop, part), suite)
-        if lines := unused_in(suite, paths):
+        if lines := [*unused_in(suite, paths), *old_names(suite.claims())]:
             for line in lines:
                 say(line)
             return 2

@@ -13,6 +13,7 @@ from pdsuite.show.octets import shown_text
 
 MOST_WORKERS = 64
 MOST_SECONDS = 86_400
+MOST_RUNS = 5_000
 
 Command = TypeVar("Command", bound=Callable[..., int])
 
@@ -104,7 +105,7 @@ def part_options(command: Command) -> Command:
 workers_option = click.option(
     "--workers",
     type=click.IntRange(0, MOST_WORKERS),
-    help="How many threads run scripts; one a processor if nothing is said.",
+    help="How many scripts run at once; one a processor if nothing is said.",
 )
 strict_option = click.option("--strict", is_flag=True, help="A warning makes a script fail.")
 html_option = click.option(

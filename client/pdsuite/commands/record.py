@@ -12,16 +12,17 @@ from pdsuite.files import write
 from pdsuite.programs.places import RECORD, REGRESS, locate
 from pdsuite.programs.program import Program
 from pdsuite.programs.protocol import Cause
-from pdsuite.programs.recorder import DROP, LEAST, Recording, record_all
+from pdsuite.programs.recorder import DROP_MISSING, MINIMAL, Recording, record_all
 from pdsuite.programs.refusals import refusals
 from pdsuite.programs.rows import Verdict
 from pdsuite.programs.standing import Steady, own_look
 from pdsuite.programs.unproved import program_of
 from pdsuite.run.choice import INPUT, found_of, input_of, scripts_of
-from pdsuite.run.explainer import LEAVINGS, Asker, awaits_none, leaves_packets
+from pdsuite.run.explainer import TELLS
+from pdsuite.run.local_mapper import local_mapper
 from pdsuite.run.outcomes import Outcome
 from pdsuite.run.runs import Script, runs_of
-from pdsuite.run.settling import Restart, settle, start_with
+from pdsuite.run.settling import SettledPiece
 from pdsuite.scripts.rewriting import Rewriting, as_written, hunks_of
 from pdsuite.scripts.settings import Settings
 from pdsuite.scripts.suite import Suite, option_of
@@ -59,7 +60,7 @@ class RecordOptions:
         """What the program is told of how to record."""
         if self.whole:
             return ()
-        return (LEAST, DROP) if self.drops_missing else (LEAST,)
+        return (MINIMAL, DROP_MISSING) if self.drops_missing else (MINIMAL,)
 
 
 @dataclass(frozen=True, slots=True)
@@ -133,21 +134,17 @@ def _ways(
 ) -> dict[int, Way]:
     """How each script is recorded, by its place."""
     ways: dict[int, Way] = {}
-    start = start_with(program, threads_of(options.workers), 1, stop)
-    asker = Asker(program, LEAVINGS, stop, screen.note)
 
     def load(script: Script) -> Text | str:
         held = texts[script.index]
         return held if isinstance(held, str) else text_of(held)
 
-    for run in runs_of(scripts):
-        for step in settle(run, start, load):
-            if isinstance(step, Restart):
-                screen.note(str(step))
-                continue
-            leavings = asker.told(step)
-            ways |= {it.index: way_of(it, told, leavings.get(it.index), options.words) for it, told in step.outcomes}
-            screen.advance(len(ways), len(scripts), "scripts run")
+    for step in local_mapper(program, TELLS, threads_of(options.workers), stop, load)(runs_of(scripts)):
+        if not isinstance(step, SettledPiece):
+            screen.note(str(step))
+            continue
+        ways |= {it.index: way_of(it, told, step.causes.get(it.index), options.words) for it, told in step.outcomes}
+        screen.advance(len(ways), len(scripts), "scripts run")
     return ways
 
 
@@ -161,9 +158,9 @@ def way_of(script: Script, outcome: Outcome, leaving: Cause | None, asked: Seque
         return None
     if outcome.row.verdict is not Verdict.PASS:
         return asked
-    if not leaves_packets(leaving):
+    if leaving is None or not leaving.get("untaken_packets"):
         return None
-    if awaits_none(leaving):
+    if leaving.get("awaits_packet") is False:
         return ()
     return asked if script.is_strict else None
 

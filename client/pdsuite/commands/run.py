@@ -4,7 +4,7 @@ import os
 import time
 from collections.abc import Callable, Iterable, Iterator, Mapping, Sequence
 from contextlib import AbstractContextManager, closing, nullcontext
-from dataclasses import dataclass
+from dataclasses import dataclass, replace
 from functools import partial
 from pathlib import Path
 from typing import TYPE_CHECKING
@@ -21,6 +21,7 @@ from pdsuite.programs.protocol import Cause
 from pdsuite.programs.refusals import refusals
 from pdsuite.programs.standing import CHANGED, Look, Steady, own_look
 from pdsuite.reports.as_json import Json
+from pdsuite.reports.fitting_form import Fitting
 from pdsuite.reports.form import Form
 from pdsuite.reports.github import SUMMARY, Github, summary_of
 from pdsuite.reports.last_run import failed_last, leave, only_new
@@ -29,10 +30,11 @@ from pdsuite.reports.report import Report
 from pdsuite.reports.tap import Tap
 from pdsuite.run.assertion_check import AssertionCheck
 from pdsuite.run.choice import INPUT, Part, found_of, input_of, scripts_of
-from pdsuite.run.explainer import Explainer
+from pdsuite.run.explainer import TELLS
+from pdsuite.run.import_check import lacking_steps
 from pdsuite.run.local_mapper import local_mapper
 from pdsuite.run.runs import Script, runs_of
-from pdsuite.run.settling import Mapper, Restart, SettledPiece, Step, start_with
+from pdsuite.run.settling import Mapper, SettledPiece, Step
 from pdsuite.scripts.shards import Shard
 from pdsuite.scripts.suite import Suite, option_of
 from pdsuite.scripts.text import Text
@@ -90,6 +92,11 @@ class RunOptions:
         return ReportFiles(self.junit, self.json, self.tap)
 
     @property
+    def is_for_people(self) -> bool:
+        """Whether people alone read what it reports."""
+        return self.form is None and not self.files.named and self.html is None
+
+    @property
     def by_keys(self) -> bool:
         """Whether a report has what is told of scripts by keys."""
         return self.form == "json" or self.json is not None
@@ -113,8 +120,6 @@ def run(options: RunOptions, screen: Screen) -> int:
             if not scripts:
                 screen.note(f"pdsuite: {part.nothing()}")
             options.files.check(it.path for it in scripts)
-            # For people a known row is one line, and so nothing is asked about it.
-            of_known = not isinstance(form, Plain) or bool(options.files.named) or options.html is not None
             if options.new_only:
                 form = only_new(form, Plain(True) if isinstance(form, Plain) else form, options.paths, screen.note)
             look = own_look(*options.programs)
@@ -126,13 +131,15 @@ def run(options: RunOptions, screen: Screen) -> int:
                     return _refuse(lines)
                 drawing = _drawing(options, screen, is_unproved)
                 program = _built(len(scripts), stop, screen)
+            if program is None and options.scheduler is not None:
+                look.need(REGRESS)  # workers run programs that stand somewhere
             if program is None:
                 return _run_unproved(suite, scripts, options, form, screen, begin, stop, steady, drawing)
             asked = refusals(suite.claims(), partial(Program, [program], stop))
             if lines := [*unused_in(suite, options.paths), *asked]:
                 return _refuse(lines)
             drawing = drawing or _drawing(options, screen, is_unproved)
-            with _mapper(options, program, of_known, stop, screen.note) as mapper:
+            with _mapper(options, program, stop, screen.note) as mapper:
                 return _run(mapper, scripts, options, form, screen, begin, stop, steady, drawing, is_unproved)
         except Stopped as stopped:
             return stopped.status
@@ -169,7 +176,7 @@ def _proved(options: RunOptions, look: Look) -> Path | None:
     try:
         return look.need(REGRESS).path
     except Unproved:
-        if options.proved or options.scheduler is not None or not TOOL.is_file():
+        if options.proved or not TOOL.is_file():
             raise
     return None
 
@@ -196,7 +203,7 @@ def _run_unproved(
     """Runs the scripts by `rt try` on the sender as it stands, reports what came of them, and answers the status."""
     from pdsuite.run.unproved_run import plan_of, run_unproved
 
-    plan = plan_of(runs_of(scripts), suite.claims(), True, options.full_diff, of_ends=True)
+    plan = plan_of(runs_of(scripts), suite.claims(), TELLS, options.full_diff)
     tried = run_unproved(plan, TOP, stop, screen.note)
     if tried.refused:
         return _refuse([it.line for it in tried.refused])
@@ -213,26 +220,36 @@ def _drawing(options: RunOptions, screen: Screen, is_unproved: bool) -> "Drawing
     return Drawing(options.html, plots_asked(options.plot, options.plots), screen.note, is_unproved)
 
 
-def _kept(steps: Iterable[Step], texts: dict[int, Text]) -> Iterator[Step]:
-    """The steps, whose texts are kept."""
+def _kept(steps: Iterable[Step], texts: dict[int, Text], causes: dict[int, Cause]) -> Iterator[Step]:
+    """The steps, whose texts are kept, and what is told by keys of scripts that don't pass."""
     for step in steps:
         if isinstance(step, SettledPiece):
             texts.update(step.texts)
+            rows = {script.index: outcome.row for script, outcome in step.outcomes}
+            causes.update((index, it) for index, it in step.causes.items() if rows[index].line is not None)
+        yield step
+
+
+def _brief(steps: Iterable[Step]) -> Iterator[Step]:
+    """The steps for people, for whom a known row is one line."""
+    for step in steps:
+        if isinstance(step, SettledPiece):
+            outcomes = [(script, replace(it, why="", told=()) if it.is_known else it) for script, it in step.outcomes]
+            step = replace(step, outcomes=outcomes)
         yield step
 
 
 def _mapper(
-    options: RunOptions, program: Path, of_known: bool, stop: Stop, note: Callable[[str], None]
+    options: RunOptions, program: Path, stop: Stop, note: Callable[[str], None]
 ) -> AbstractContextManager[Mapper]:
     """The cluster that was asked for, else the processors of this machine."""
     if options.scheduler is None:
-        start = start_with(program, threads_of(options.workers), 1, stop)
-        return nullcontext(local_mapper(start, Explainer(program, stop, note, of_known, options.by_keys, of_ends=True)))
+        return nullcontext(local_mapper(program, TELLS, threads_of(options.workers), stop))
     # Only who has a cluster needs what speaks with it.
     need("distributed")
     from pdsuite.run.cluster import cluster
 
-    return cluster(options.scheduler, (str(program), digest(program)), options.by_keys, stop, note)
+    return cluster(options.scheduler, (str(program), digest(program)), stop, note)
 
 
 def _run(
@@ -249,14 +266,17 @@ def _run(
     tried: "UnprovedResults | None" = None,
 ) -> int:
     """Runs the scripts by whoever is given, reports what came of them, and answers the exit status."""
-    report = Report(scripts, form, screen, is_unproved)
+    # Other forms are for programs, which break no lines.
+    report = Report(scripts, Fitting(form, lambda: screen.width) if options.form is None else form, screen, is_unproved)
     checking = AssertionCheck(stop, screen.note)
     texts: dict[int, Text] = {}
+    causes: dict[int, Cause] = {}
     ended: Stopped | Cut | None = None
     try:
         report.open()
         with closing(mapper(runs_of(scripts))) as steps:
-            heard = steps if drawing is None else _kept(steps, texts)
+            heard = steps if drawing is None else _kept(steps, texts, causes)
+            heard = lacking_steps(_brief(heard) if options.is_for_people else heard)
             told = _whole(heard) if options.by_keys else heard
             if options.full_diff:
                 told = _differing(told, tried, stop, screen.note)
@@ -273,7 +293,6 @@ def _run(
             leave(options.paths, [*report.outcomes, *report.left()], options.is_part, screen.note)
         faults = _write_files(options, report, time.monotonic() - begin)
         if drawing is not None and ended is None:
-            causes = {} if tried is None else tried.causes
             ended = _draw(drawing, report, texts, causes, screen, stop)
     if isinstance(ended, Cut):
         raise ended
@@ -313,7 +332,7 @@ def _take(
     """Reports each step, up to the last one or the one where it is to end; what ended it early, if anything did."""
     try:
         for step in steps:
-            if isinstance(step, Restart):
+            if not isinstance(step, SettledPiece):
                 screen.note(str(step))
                 continue
             report.take(step.outcomes)

@@ -30,6 +30,7 @@ from pdsuite.search.saving import check_place, save
 from pdsuite.search.searching import Search
 from pdsuite.show.octets import shown_text
 from pdsuite.show.screen import Screen
+from pdsuite.show.styled_text import unstyled
 from pdsuite.signals import Stop, Stopped
 
 _SEEDS = 1_000_000
@@ -70,6 +71,8 @@ def search_state(text: str, word: str | None, options: SearchOptions, screen: Sc
                 if options.save is not None:
                     head = [f"Reaches {shown_text(text)}.", f"Recorded by {sender}."]
                     save(options.save, below(head, script_of(searched.find).octets), settings)
+            else:
+                screen.show(unstyled(f"no input reaches {shown_text(text)}\n"))
             screen.show(totals(searched, seed, not sender.is_proved))
             return 1 if searched.find is None else 0
     except Stopped as stopped:
@@ -116,12 +119,12 @@ def _asking(
 ) -> tuple[SideAsker, SideAsker]:
     """What asks each sender under the settings of its side, without keys that it lacks."""
     claims = list(claims_of([common]))
-    found = [side.without(asker.refused(side.claims(claims))) for asker, side in zip(askers, sides)]
+    found = [side.asked(claims, asker.refused) for asker, side in zip(askers, sides)]
     refuse_common(found, claims)
     tell_lacks(found, screen.note)
     # An input sets no key that either of them lacks.
     drawn = list(claims_of([replace(common, keys={key: values[0] for key, values in KEYS.items()})]))
-    known = [side.without(asker.refused(drawn)) for asker, side in zip(askers, found)]
+    known = [side.asked(drawn, asker.refused) for asker, side in zip(askers, found)]
     before, after = (SideAsker(asker, side, settings_of(common.keys)) for asker, side in zip(askers, known))
     return before, after
 

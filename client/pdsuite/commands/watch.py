@@ -16,6 +16,7 @@ from pdsuite.programs.building import built, kept
 from pdsuite.programs.places import RECORD, REGRESS
 from pdsuite.programs.standing import buildable, own_look
 from pdsuite.programs.unproved import first_line, progress
+from pdsuite.run.choice import INPUT
 from pdsuite.scripts.suite import option_of
 from pdsuite.show.octets import shown_text
 from pdsuite.show.screen import Screen, say
@@ -51,6 +52,8 @@ class WatchOptions:
 
 def watch(options: WatchOptions, screen: Screen) -> int:
     """Watches until a signal comes, and answers the exit status of the last report."""
+    if INPUT in options.paths:
+        raise Fault(f"{INPUT}: standard input is read once, and nothing of it is watched")
     option = option_of(options.settings)
     choice = Choice(options.paths, options.only, options.strict)
     with Stop() as stop, ExitStack() as held:
@@ -63,7 +66,7 @@ def watch(options: WatchOptions, screen: Screen) -> int:
                 _say_unproved(follower, tree, screen)
             drawing = held.enter_context(_drawing(options, screen))
             base = _base(options, Path(held.enter_context(TemporaryDirectory(prefix="pdsuite-"))), screen, stop)
-            watched = Watched(choice, option, threads_of(options.workers), base)
+            watched = Watched(choice, option, base)
             Session(watched, view, screen, follower, drawing, stop, held).follow()
         except Refused as refused:
             lines = refused.lines

@@ -83,7 +83,7 @@ def telling_of(sender: Sender, room: Path) -> Telling:
     tree = sender.sources(room)
     if tree is None or not (tree / _TOOL).is_file() or not (tree / _ROWS).is_dir():
         raise Fault(f"--affected: {sender} is no tree with {_ROWS} and {_TOOL}")
-    return Telling(tree, list(_starts(_said(tree, "starts"))))
+    return Telling(tree, list(_starts(_output_of(tree, "starts"))))
 
 
 def _starts(told: bytes) -> Iterator[tuple[str, Case]]:
@@ -94,7 +94,7 @@ def _starts(told: bytes) -> Iterator[tuple[str, Case]]:
         yield program, Case(tuple(words), given, int(room))
 
 
-def _said(tree: Path, *words: str | Path) -> bytes:
+def _output_of(tree: Path, *words: str | Path) -> bytes:
     """What a tree's tool says."""
     done = subprocess.run(
         [sys.executable, "-B", tree / _TOOL, *words],
@@ -112,14 +112,14 @@ def names_changed(before: Path | None, after: Path | None) -> list[dict[str, Any
     """What changed between the sources of two senders, with the names in it; nothing where one isn't known."""
     if before is None or after is None or not (TOP / _TOOL).is_file():
         return []
-    changed: list[dict[str, Any]] = json.loads(_said(TOP, "changed", "--before", before, "--after", after))
+    changed: list[dict[str, Any]] = json.loads(_output_of(TOP, "changed", "--before", before, "--after", after))
     return changed
 
 
 def heard_of_programs(programs: dict[str, Path], telling: Telling, stop: Stop) -> list[Said]:
     """What proved programs say, several at a time."""
 
-    def heard(each: tuple[str, Case]) -> Said:
+    def answer_of(each: tuple[str, Case]) -> Said:
         name, case = each
         try:
             with Program([programs[name], *case.words], stop) as program:
@@ -130,7 +130,7 @@ def heard_of_programs(programs: dict[str, Path], telling: Telling, stop: Stop) -
     # One that isn't there has said nothing.
     there = [each if each[0] in programs else None for each in telling.starts]
     with ThreadPoolExecutor(len(os.sched_getaffinity(0))) as pool:
-        return list(pool.map(lambda each: heard(each) if each else Said(), there))
+        return list(pool.map(lambda each: answer_of(each) if each else Said(), there))
 
 
 def heard_of_builds(
@@ -161,7 +161,7 @@ def affected_by(telling: Telling, heard: Sequence[Sequence[Said]], before: Path 
             for it in each:
                 answers.writelines(map(part, (it.output, it.errors, it.status.encode())))
     words: list[str | Path] = [] if before is None else ["--before", before]
-    told = json.loads(_said(telling.tree, "list", *words, file))
+    told = json.loads(_output_of(telling.tree, "list", *words, file))
     paragraphs = told["sections"]
     return Affected(
         tuple(Row(**it) for it in told["rows"]),

@@ -16,7 +16,8 @@ from pdsuite.signals import Stop
 def with_programs(senders: Sequence[Sender], way: Way, stop: Stop, screen: Screen) -> list[Sender]:
     """The senders, each with programs; where none can be built and kept, one stays a tree."""
     trees = list(dict.fromkeys(it.top for it in senders if not it.has_programs))
-    folders = {it: kept(it, way) for it in trees}
+    with ThreadPoolExecutor() as pool:
+        folders = dict(zip(trees, pool.map(lambda tree: kept(tree, way), trees)))
     if lacking := [it for it, folder in folders.items() if folder is None]:
         what = "the sender" if len(lacking) == 1 else "both senders"
         screen.note(f"pdsuite: building {what} first")

@@ -97,8 +97,22 @@ class Count:
     counts: Mapping[Kind, int]
 
     def __str__(self) -> str:
-        each = " ".join(f"{it} {self.counts[it]}" for it in Kind if it is not Kind.UNKNOWN or self.counts[it])
-        return f"{sum(self.counts.values())} {each}"
+        """The counts as the last line of a report has them."""
+        return " ".join([str(self._scripts), *(f"{it} {self.counts[it]}" for it in self._kinds)])
+
+    @property
+    def words(self) -> str:
+        """The counts in words."""
+        scripts = f"{self._scripts} {'script' if self._scripts == 1 else 'scripts'}"
+        return ", ".join([scripts, *(f"{self.counts[it]} {it}" for it in self._kinds)])
+
+    @property
+    def _scripts(self) -> int:
+        return sum(self.counts.values())
+
+    @property
+    def _kinds(self) -> list[Kind]:
+        return [it for it in Kind if it is not Kind.UNKNOWN or self.counts[it]]
 
 
 def counts_of(compared: Sequence[ComparedScript]) -> Iterator[Count]:

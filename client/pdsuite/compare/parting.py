@@ -47,6 +47,8 @@ def played_events(recording: str) -> Iterator[PlayedEvent]:
 def parting_of(before: str, after: str) -> Parting | None:
     """Where two recordings part, if they do: by an event or its moment. A state alone makes no difference."""
     states = ("", "")
+    if before == after:
+        return None
     for one, other in zip_longest(played_events(before), played_events(after)):
         if one is None or other is None or (one.line, one.moment) != (other.line, other.moment):
             return Parting(one, other, *states)

@@ -148,10 +148,22 @@ def _checked_out(word: str, option: str, place: Path) -> str:
     archive = place / "archive.tar"
     if _git("archive", "--format=tar", f"--output={archive}", number, "--", *parts) is None:
         raise Fault(f"{option}: {shown_text(word)}: git can't archive this commit")
-    with tarfile.open(archive) as file:
-        file.extractall(place)
+    _unpack(archive, place)
     archive.unlink()
     return f"commit {number[:12]}"
+
+
+def _unpack(archive: Path, place: Path) -> None:
+    """Puts the files of an archive into a folder."""
+    # This program takes a fifth of the time of Python's module, which serves where it isn't there.
+    try:
+        done = subprocess.run(["tar", "-x", "-C", place, "-f", archive], stdin=subprocess.DEVNULL, capture_output=True)
+        status = done.returncode
+    except OSError:
+        status = 1
+    if status:
+        with tarfile.open(archive) as file:
+            file.extractall(place)
 
 
 def _git(*words: str) -> bytes | None:

@@ -1,12 +1,13 @@
-"""The two sides of a comparison: the settings of each, and the keys that its sender doesn't have."""
+"""The two sides of a comparison: the settings of each, and the keys that its sender lacks or has by another name."""
 
 from collections.abc import Callable, Iterable, Sequence
 from dataclasses import dataclass, replace
 
 from pdsuite.compare.senders import Sender
-from pdsuite.programs.refusals import UNKNOWN_KEY, Refusal
+from pdsuite.programs.refusals import Refusal
 from pdsuite.run.runs import Script
-from pdsuite.scripts.settings import Settings, settings_of, settings_text
+from pdsuite.scripts.renamed import KEYS, OLD_KEYS, UNKNOWN_KEY, old_setting, old_word
+from pdsuite.scripts.settings import Settings, Value, settings_of, settings_text
 from pdsuite.scripts.suite import Claim, Layer, claims_of, option_of
 
 
@@ -25,6 +26,7 @@ class Side:
     sender: Sender
     option: Layer
     lacks: frozenset[str] = frozenset()
+    renamed: frozenset[str] = frozenset()  # keys that have their old names here
 
     @property
     def own(self) -> Settings:
@@ -33,23 +35,46 @@ class Side:
 
     def claims(self, common: Iterable[Claim]) -> list[Claim]:
         """What the sender is asked about: claims that hold for both sides, but for what it lacks, and its own."""
-        return [*(it for it in common if it.key not in self.lacks), *claims_of([self.option])]
+        asked = [it for it in common if it.key not in self.lacks]
+        named = [replace(it, key=self._name(it.key), value=self._word(it.key, it.value)) for it in asked]
+        return [*named, *claims_of([self.option])]
 
     def settings(self, given: Settings) -> Settings:
         """The settings that hold here, where these are given."""
-        return settings_of(
-            {key: value for key, value in {**dict(given), **self.option.keys}.items() if key not in self.lacks}
-        )
+        here = {key: value for key, value in given if key not in self.lacks}
+        named = {self._name(key): self._word(key, value) for key, value in here.items()}
+        return settings_of({**named, **self.option.keys})
 
     def scripts(self, scripts: Iterable[Script]) -> list[Script]:
         """Scripts under the settings that hold here."""
         return [it if it.fault else replace(it, settings=self.settings(it.settings)) for it in scripts]
 
-    def without(self, refused: Sequence[Refusal]) -> "Side":
-        """The side without keys that its sender is found to lack; a fault where it refuses more than such a key."""
+    def asked(self, common: Sequence[Claim], ask: Callable[[list[Claim]], list[Refusal]]) -> "Side":
+        """The side as its sender takes it, which is asked until it refuses nothing, by the old names of keys too."""
+        side = self
+        while refused := ask(side.claims(common)):
+            side = side.without(refused, asks_again=True)
+        return side
+
+    def without(self, refused: Sequence[Refusal], asks_again: bool = False) -> "Side":
+        """The side without keys that its sender is found to lack; a fault where it refuses more than such a key.
+
+        Who asks again gets a key by its old name, if it has one, before it counts as lacking.
+        """
         if wrong := [it for it in refused if it.reason != UNKNOWN_KEY or it.claim.place == self.option.place]:
             raise SettingsRefused(self.sender, wrong)
-        return replace(self, lacks=self.lacks | {it.claim.key for it in refused})
+        told = {it.claim.key for it in refused}
+        keys = {KEYS[it] if KEYS.get(it) in self.renamed else it for it in told}
+        old = {it for it in keys - self.renamed if asks_again and it in OLD_KEYS}
+        return replace(self, lacks=self.lacks | (keys - old), renamed=(self.renamed - keys) | old)
+
+    def _name(self, key: str) -> str:
+        """The name of a key here."""
+        return OLD_KEYS[key] if key in self.renamed else key
+
+    def _word(self, key: str, value: Value) -> Value:
+        """The word for a value of a key here."""
+        return old_word(key, value) if key in self.renamed else value
 
 
 def side_of(sender: Sender, text: str, option: str) -> Side:
@@ -67,7 +92,9 @@ def refuse_common(sides: Sequence[Side], claims: Iterable[Claim]) -> None:
 
 
 def tell_lacks(sides: Sequence[Side], note: Callable[[str], None]) -> None:
-    """Says once of each key that a sender lacks that it has no effect there."""
+    """Says once of each key that a sender has by its old name, and of each that it lacks, where it has no effect."""
     for side in sides:
+        for key in sorted(side.renamed):
+            note(f"pdsuite: {side.sender}: the setting {key} is {old_setting(key)} there")
         for key in sorted(side.lacks):
             note(f"pdsuite: {side.sender}: there is no setting {key}, which counts as its default")

@@ -1,10 +1,10 @@
 """Runs two senders on the same scripts: programs at once, and trees that `rt try` has to build side by side."""
 
 import os
-from collections import ChainMap
 from collections.abc import Callable, Iterable, Mapping, Sequence
 from concurrent.futures import ThreadPoolExecutor
 from dataclasses import dataclass
+from itertools import chain
 from pathlib import Path
 
 from pdsuite.compare.affected import Telling, heard_of_builds, heard_of_programs
@@ -17,11 +17,11 @@ from pdsuite.programs.recorder import Recorder, Recording
 from pdsuite.programs.refusals import refused_of
 from pdsuite.programs.starts import Answer, Said
 from pdsuite.programs.tree import Build, try_all
-from pdsuite.run.explainer import CAUSES, Asker, Explainer
+from pdsuite.run.explainer import TELLS_WHY
 from pdsuite.run.local_mapper import local_mapper
 from pdsuite.run.outcomes import Outcome
 from pdsuite.run.runs import Script, runs_of
-from pdsuite.run.settling import SettledPiece, start_with
+from pdsuite.run.settling import SettledPiece
 from pdsuite.run.unproved_run import Plan, UnprovedResults, plan_of, results_of
 from pdsuite.scripts.suite import Claim
 from pdsuite.scripts.text import Text
@@ -33,7 +33,7 @@ _OF_SCRIPTS = 2
 
 @dataclass(frozen=True)
 class Task:
-    """What both senders are to do, whether they record, and tell by keys, and which rows they are told.
+    """What both senders are to do, whether they record, and which rows they are told.
 
     The claims are those of both sides.
     """
@@ -41,13 +41,12 @@ class Task:
     scripts: Sequence[Script]
     claims: Sequence[Claim]
     records: bool
-    wants_causes: bool
     telling: Telling | None = None
 
     def plan(self, side: Side) -> Plan:
         """What a sender is started on that has to be built."""
         runs = runs_of(side.scripts(self.scripts))
-        return plan_of(runs, side.claims(self.claims), self.wants_causes, self.records)
+        return plan_of(runs, side.claims(self.claims), TELLS_WHY, self.records)
 
 
 def run_both(sides: Sequence[Side], task: Task, workers: int, stop: Stop, note: Callable[[str], None]) -> list[Results]:
@@ -55,7 +54,7 @@ def run_both(sides: Sequence[Side], task: Task, workers: int, stop: Stop, note: 
     found = [_asked(it, task, stop) if it.sender.has_programs else it for it in sides]
     if all(it.sender.has_programs for it in sides):
         refuse_common(found, task.claims)
-    proved = [_run_proved(it, task, workers, stop, note) if it.sender.has_programs else None for it in found]
+    proved = _run_side_by_side(found, task, workers, stop, note)
     tried = _Tried([it for it in found if not it.sender.has_programs], task, stop, note)
     unproved = iter(tried.sides)
     found = [it if it.sender.has_programs else next(unproved) for it in found]
@@ -63,6 +62,22 @@ def run_both(sides: Sequence[Side], task: Task, workers: int, stop: Stop, note: 
     tell_lacks(found, note)
     results = iter(tried.results())
     return [next(results) if it is None else it for it in proved]
+
+
+def _run_side_by_side(
+    sides: Sequence[Side], task: Task, workers: int, stop: Stop, note: Callable[[str], None]
+) -> list[Results | None]:
+    """The results of each sender that has programs; what is told of one comes after what is told of those before it."""
+    told: list[list[str]] = [[] for _ in sides]
+
+    def results(side: Side, lines: list[str]) -> Results | None:
+        return _run_proved(side, task, workers, stop, lines.append) if side.sender.has_programs else None
+
+    with ThreadPoolExecutor(len(sides)) as pool:
+        found = list(pool.map(results, sides, told))
+    for line in chain.from_iterable(told):
+        note(line)
+    return found
 
 
 class _Tried:
@@ -87,7 +102,7 @@ class _Tried:
             plan = self._task.plan(side)
             tried = self._read(side, plan, try_all(plan.builds(tree), self._stop))
         said = heard_of_builds(telling, heard[_OF_SCRIPTS:], tree, self._stop, self._note) if telling else []
-        return _results(tried.settled, tried.recordings, tried.causes, said)
+        return _results(tried.settled, tried.recordings, said)
 
     def _builds(self, side: Side, plan: Plan) -> list[Build]:
         """What a tree's programs are started on: the scripts, and then the rows."""
@@ -101,24 +116,21 @@ class _Tried:
 def _asked(side: Side, task: Task, stop: Stop) -> Side:
     """A side of programs, without the keys that they lack."""
     program = _programs(side)[REGRESS]
-    return side.without(refused_of(side.claims(task.claims), lambda: Program([program], stop)))
+    return side.asked(task.claims, lambda claims: refused_of(claims, lambda: Program([program], stop)))
 
 
 def _programs(side: Side) -> dict[str, Path]:
     return side.sender.programs or {}
 
 
-def _results(
-    settled: Iterable[SettledPiece],
-    recordings: Mapping[int, Recording],
-    causes: Mapping[int, Cause],
-    said: Sequence[Said],
-) -> Results:
+def _results(settled: Iterable[SettledPiece], recordings: Mapping[int, Recording], said: Sequence[Said]) -> Results:
     outcomes: dict[int, Outcome] = {}
     texts: dict[int, Text] = {}
+    causes: dict[int, Cause] = {}
     for it in settled:
         outcomes |= {script.index: outcome for script, outcome in it.outcomes}
         texts |= it.texts
+        causes |= it.causes
     return Results(outcomes, texts, recordings, causes, said)
 
 
@@ -126,18 +138,16 @@ def _run_proved(side: Side, task: Task, workers: int, stop: Stop, note: Callable
     """The results of programs."""
     programs = _programs(side)
     program = programs[REGRESS]
-    mapper = local_mapper(start_with(program, workers, 1, stop), Explainer(program, stop, note))
+    mapper = local_mapper(program, TELLS_WHY, workers, stop)
     settled: list[SettledPiece] = []
     for step in mapper(runs_of(side.scripts(task.scripts))):
         if isinstance(step, SettledPiece):
             settled.append(step)
         else:
             note(str(step))
-    asker = Asker(program, CAUSES, stop, lambda line: None)
-    causes = [asker.told(it) for it in settled] if task.wants_causes else []
     recordings = _record(programs[RECORD], settled, stop, note) if task.records else {}
     said = heard_of_programs(programs, task.telling, stop) if task.telling else []
-    return _results(settled, recordings, dict(ChainMap(*causes)), said)
+    return _results(settled, recordings, said)
 
 
 def _record(

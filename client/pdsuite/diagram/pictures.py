@@ -51,8 +51,13 @@ def png_file(strokes: Strokes, title: str) -> bytes:
 
 def _svg(strokes: Strokes, size: Size, name: str, title: str = "") -> str:
     """A picture as SVG that stands in another text: with classes, and colours by variables."""
-    text = _HEAD.sub("", _saved(strokes, size, title, "svg", metadata={"Date": None}).decode())
-    text = _SIZE.sub(rf'<svg class="{name}" role="img" aria-label="{_WORDS}" viewBox="\1">', text)
+    return in_page(_saved(strokes, size, title, "svg", metadata={"Date": None}).decode(), name, _WORDS)
+
+
+def in_page(text: str, name: str, words: str) -> str:
+    """A picture that matplotlib wrote, as it stands in a page: of a class, with words for who can't see it."""
+    text = _HEAD.sub("", text)
+    text = _SIZE.sub(rf'<svg class="{name}" role="img" aria-label="{words}" viewBox="\1">', text)
     text = _CLASS.sub(r'class="\1"', _NUMBERED.sub("", text))
     text = _COLOR.sub(lambda it: f"var(--diagram-{_NAMES[it[0]]})", text)
     return _FONT.sub(r"font-size: \1px", text)

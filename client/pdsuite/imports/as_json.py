@@ -9,6 +9,8 @@ from pdsuite.imports.findings import Heading
 from pdsuite.imports.listing import Listed, alone_in
 from pdsuite.show.octets import shown_path, shown_text
 
+# Of the object, as docs/import.schema.json has it.
+VERSION = 2
 _encoded = json.JSONEncoder(ensure_ascii=False).encode
 
 
@@ -30,7 +32,7 @@ def as_json(scripts: Sequence[Listed]) -> str:
             "error": len(scripts) - len(imported) - len(left),
         },
     }
-    return f'{{"scripts": [{lines}\n], {_encoded(rest)[1:]}\n'
+    return f'{{"version": {VERSION}, "scripts": [{lines}\n], {_encoded(rest)[1:]}\n'
 
 
 def _script(listed: Listed) -> dict[str, object]:

@@ -8,18 +8,23 @@ from pdsuite.imports.assertions import asserted, comment
 from pdsuite.imports.calls import Spelling, is_buffer, spelled, spelling_of, written
 from pdsuite.imports.findings import Finding, Heading, Reason
 from pdsuite.imports.packets import Sending, as_sent, count_of_pieces, moments_of, smss_of, writes_of
-from pdsuite.imports.profile import is_place, tolerance_of, unrun
+from pdsuite.imports.profile import MSS, header_settings, is_place, tolerance_of, unrun
 from pdsuite.imports.rewrite import Rewrite, kept, rewritten
-from pdsuite.imports.setup import RUN, Load, Looked, Place, look_at, setup_of
+from pdsuite.imports.setup import ABC_LIMIT, RUN
+from pdsuite.imports.setup import Load, Looked, Place, Setup, Words, joined, look_at, setup_of
+from pdsuite.imports.slow_start import initial_window, limit_of
 from pdsuite.packetdrill.items import Call, Code, Command, HeaderOption, Item, Packet, Time
-from pdsuite.packetdrill.reader import read
+from pdsuite.packetdrill.reader import Reading, read
 from pdsuite.packetdrill.tokens import line_of
 from pdsuite.scripts.defaults import DEFAULTS
 from pdsuite.scripts.settings import Settings, Value, settings_of
 from pdsuite.scripts.text import LINES, Unfit, text_of
 
 MOST_EVENTS = 4_096
+# Why the commands of an imported script's set-up are comments.
+SETUP = "set-up, which is read and never run"
 _NOW = Time(0)
+_SETTINGS = "settings in pdsuite.toml: "
 
 
 @dataclass(frozen=True)
@@ -40,6 +45,7 @@ class Imported:
     findings: tuple[Finding, ...]
     changed: int  # how many of its packets were
     is_own: bool  # a pdsuite.toml has its settings, and none are a kernel's
+    shared: Words  # what files of set-up say that scripts share
 
 
 @dataclass(frozen=True)
@@ -55,17 +61,12 @@ def convert(source: Source, keep_packets: bool) -> Imported | Left:
     spellings = _spellings(reading.items)
     items = [replace(it, what=spellings[n].call) if n in spellings else it for n, it in enumerate(reading.items)]
     looked = _looked(items, source.load)
-    mss = _number({**DEFAULTS, **(source.own or {})}, "mss")
-    smss = smss_of(items, mss)
+    header = header_settings(items)
+    smss = smss_of(items, _number({**DEFAULTS, **header, **(source.own or {})}, MSS))
     first = _first_act(items)
     told = [told for number in range(first) if number in looked for told in looked[number].told]
-    setup = setup_of(told, max(smss, 1), source.own)
-    reasons = [*setup.reasons, *unrun(items, setup.has_timestamps), *_unshifted(items)]
-    reasons.extend(reason for it in looked.values() for reason in it.reasons)
-    reasons.extend(_buffer(items, _number({**DEFAULTS, **setup.settings}, "sndbuf")))
-    if reading.fault is not None:
-        line = line_of(source.text, reading.fault.place)
-        reasons.append(Reason(line, reading.fault.words, reading.fault.what))
+    setup = setup_of(told, max(smss, 1), header, source.own)
+    reasons = [*_reasons(items, setup, looked), *_unread(reading, source.text)]
     keeps = keep_packets or source.own is not None
     if not keeps:
         reasons.extend(_long(items, smss))
@@ -79,8 +80,29 @@ def convert(source: Source, keep_packets: bool) -> Imported | Left:
     text = rewritten(source.text, [it for it, _ in rewrites])
     findings = tuple(finding for _, them in rewrites for finding in them)
     changed = sum(any(it.heading is Heading.CHANGED for it in them) for _, them in rewrites)
-    settings = settings_of(setup.settings)
-    return _within_limits(text) or Imported(text, settings, findings, changed, source.own is not None)
+    shared = joined(it.shared for it in looked.values())
+    settings = settings_of(setup.settings if source.own is not None else _limited(setup.settings, items, smss))
+    return _within_limits(text) or Imported(text, settings, findings, changed, source.own is not None, shared)
+
+
+def _limited(settings: Mapping[str, Value], items: Sequence[Item], smss: int) -> dict[str, Value]:
+    """A kernel's settings, with the limit of cwnd's growth that a script needs."""
+    return {**settings, ABC_LIMIT: limit_of(items, smss, initial_window(settings["initial_window"], smss))}
+
+
+def _reasons(items: Sequence[Item], setup: Setup, looked: Mapping[int, Looked]) -> Iterator[Reason]:
+    """Why a script isn't imported, as its items and its set-up tell."""
+    yield from setup.reasons
+    yield from unrun(items, setup.has_timestamps)
+    yield from _unshifted(items)
+    yield from (reason for it in looked.values() for reason in it.reasons)
+    yield from _buffer(items, _number({**DEFAULTS, **setup.settings}, "sndbuf"))
+
+
+def _unread(reading: Reading, text: str) -> Iterator[Reason]:
+    """Where the text is no script's, if it isn't."""
+    if reading.fault is not None:
+        yield Reason(line_of(text, reading.fault.place), reading.fault.words, reading.fault.what)
 
 
 def _number(settings: Mapping[str, Value], key: str) -> int:
@@ -211,6 +233,8 @@ def _rewrites(text: str, items: Sequence[Item], known: _Known) -> Iterator[Rewri
                 if is_place(item.what):
                     words = "where packets are sent"
                     yield _dropped(item, old, [words], [Finding(Heading.DROPPED, words)])
+                elif item.what.name == MSS:
+                    yield _dropped(item, old, [f"{_SETTINGS}{MSS}"], [])
             case Command():
                 yield _command(item, old, known.looked[number], number < first)
             case Code():
@@ -235,16 +259,18 @@ def _dropped(item: Item, old: str, reasons: Sequence[str], findings: Sequence[Fi
 
 
 def _command(item: Item, old: str, looked: Looked, is_setup: bool) -> Rewritten:
-    reasons = ["set-up, which is read and never run"] if is_setup else []
+    reasons = [SETUP] if is_setup else []
+    if looked.shared != Words():
+        reasons.append("what the file says stands in pdsuite.toml")
     for begin, words in (
-        ("settings in pdsuite.toml: ", looked.settings),
-        ("" if looked.features == (RUN,) else "this sender hasn't: ", looked.features),
-        ("as this sender has it: ", looked.alike),
+        (_SETTINGS, looked.own.settings),
+        ("" if looked.own.features == (RUN,) else "this sender hasn't: ", looked.own.features),
+        ("as this sender has it: ", looked.own.alike),
     ):
         if words:
             reasons.append(begin + ", ".join(words))
     heading = Heading.SETUP if is_setup else Heading.DROPPED
-    findings = [Finding(heading, it) for it in (*looked.features, *looked.alike)]
+    findings = [Finding(heading, it) for it in looked.dropped]
     return _dropped(item, old, reasons or [RUN], findings or ([] if is_setup else [Finding(heading, RUN)]))
 
 

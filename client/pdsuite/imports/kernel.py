@@ -49,7 +49,7 @@ SETTINGS: Mapping[str, str] = {
     "net.ipv4.tcp_rmem": "wscale",
     "net.core.rmem_max": "wscale",
     "net.ipv4.tcp_sack": "sack",
-    "net.ipv4.tcp_slow_start_after_idle": "restart_after_idle",
+    "net.ipv4.tcp_slow_start_after_idle": "slow_start_after_idle",
     "net.ipv4.tcp_rto_min_us": "min_rto_us",
     "net.ipv4.tcp_rto_max_ms": "max_rto_us",
 }

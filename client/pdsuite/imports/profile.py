@@ -7,6 +7,7 @@ from pdsuite.imports.calls import about, is_buffer, is_run, written
 from pdsuite.imports.findings import Reason
 from pdsuite.imports.packets import LEAST_SMSS, peer_mss
 from pdsuite.packetdrill.items import SECOND, Call, HeaderOption, Item, Packet, Time
+from pdsuite.scripts.defaults import KEYS, Number
 
 MOST_TOLERANCE = 1_000_000
 _LATEST = 3_600 * SECOND
@@ -20,6 +21,7 @@ _MOST_WRITTEN = 262_144
 # Options of the header that say where packets are sent, or what is printed.
 PLACES = ("local_ip", "remote_ip", "gateway_ip", "netmask_ip", "bind_port", "connect_port", "tun_dev", "verbose")
 TOLERANCE = "tolerance_usecs"
+MSS = "mss"
 _DIGITS = re.compile(r"[0-9]+")
 
 
@@ -48,8 +50,20 @@ def is_place(option: HeaderOption) -> bool:
 
 def tolerance_of(items: Iterable[Item]) -> int | None:
     """The tolerance in microseconds that a header says."""
-    told = [it.what.value for it in items if isinstance(it.what, HeaderOption) and it.what.name == TOLERANCE]
+    told = _values_of(TOLERANCE, items)
     return _tolerance(told[-1]) if told else None
+
+
+def header_settings(items: Iterable[Item]) -> dict[str, int]:
+    """The settings that a header says."""
+    told = _values_of(MSS, items)
+    octets = _mss(told[-1]) if told else None
+    return {} if octets is None else {MSS: octets}
+
+
+def _values_of(name: str, items: Iterable[Item]) -> list[str | None]:
+    """The values of an option of the header."""
+    return [it.what.value for it in items if isinstance(it.what, HeaderOption) and it.what.name == name]
 
 
 def _option(item: Item, option: HeaderOption, is_header: bool) -> Iterator[Reason]:
@@ -58,6 +72,9 @@ def _option(item: Item, option: HeaderOption, is_header: bool) -> Iterator[Reaso
         yield Reason(item.line, "no script of this language", what)
     elif option.name == "mtu":
         yield Reason(item.line, "MTU", what)
+    elif option.name == MSS:
+        if _mss(option.value) is None:
+            yield Reason(item.line, f"no value of {MSS}, which takes {KEYS[MSS].takes}", what)
     elif option.name == "ip_version" and not is_place(option):
         yield Reason(item.line, "IPv6", what)
     elif not is_place(option) and not (option.name == TOLERANCE and _tolerance(option.value) is not None):
@@ -70,6 +87,13 @@ def _tolerance(value: str | None) -> int | None:
         return None
     microseconds = int(value.lstrip("0")[:8] or "0")
     return microseconds if microseconds <= MOST_TOLERANCE else None
+
+
+def _mss(value: str | None) -> int | None:
+    """The octets that digits write, where the setting takes them."""
+    octets = int(value.lstrip("0")[:8] or "0") if value is not None and _DIGITS.fullmatch(value) else 0
+    takes = KEYS[MSS]
+    return octets if isinstance(takes, Number) and takes.least <= octets <= takes.most else None
 
 
 def _event(item: Item, acts: bool) -> Iterator[Reason]:

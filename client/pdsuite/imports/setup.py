@@ -1,7 +1,7 @@
 """What the set-up of a script says, as settings. It is read and never run."""
 
 import re
-from collections.abc import Callable, Iterable, Iterator, Mapping
+from collections.abc import Callable, Iterable, Iterator, Mapping, Sequence
 from dataclasses import dataclass
 from enum import Enum, auto
 
@@ -18,12 +18,13 @@ Load = Callable[[str], str]
 # The third number of tcp_rmem where none is written: Linux's usual default.
 USUAL_RMEM = 6_291_456
 MOST_WSCALE = 14
+ABC_LIMIT = "abc_limit"
 # What holds on a kernel where no command says anything else.
 KERNEL: Mapping[str, Value] = {
     "initial_window": "rfc6928",
-    "byte_counting": 8,
-    "recovery_rate": "prr",
-    "restart_after_idle": True,
+    ABC_LIMIT: 8,
+    "recovery_algorithm": "rfc9937",
+    "slow_start_after_idle": True,
     "min_rto_us": 200_000,
 }
 
@@ -48,11 +49,12 @@ class Place(Enum):
 
 
 @dataclass(frozen=True, slots=True)
-class Told:
-    """A command with the line of the script that it belongs to."""
+class SetupLine:
+    """A command with the line of the script that it belongs to, and whether it stands in a file that scripts share."""
 
     line: int
     command: Command
+    is_shared: bool = False
 
 
 @dataclass(frozen=True)
@@ -65,30 +67,59 @@ class Setup:
 
 
 @dataclass(frozen=True)
-class Looked:
-    """A command that was looked at: what it says, in words, and why the script isn't imported."""
+class Words:
+    """What commands say, each once: settings, features that this sender hasn't, and what it does anyway."""
 
-    told: tuple[Told, ...]
-    settings: tuple[str, ...]
-    features: tuple[str, ...]
-    alike: tuple[str, ...]
+    settings: tuple[str, ...] = ()
+    features: tuple[str, ...] = ()
+    alike: tuple[str, ...] = ()
+
+
+@dataclass(frozen=True)
+class Looked:
+    """A command that was looked at: what it says, itself and by a file that scripts share, and why none is imported."""
+
+    told: tuple[SetupLine, ...]
+    own: Words
+    shared: Words
     reasons: tuple[Reason, ...]
+
+    @property
+    def dropped(self) -> tuple[str, ...]:
+        """What it says of all that no setting stands for."""
+        own, shared = self.own, self.shared
+        return tuple(dict.fromkeys((*own.features, *shared.features, *own.alike, *shared.alike)))
 
 
 def look_at(text: str, line: int, place: Place, load: Load) -> Looked:
     """What the commands of a text mean, each by itself."""
-    told = tuple(_told(text, line, load))
-    words: dict[Use, dict[str, None]] = {use: {} for use in Use}
+    told = tuple(_lines_of(text, line, load))
+    found = [(it, _meaning(it.command, place)) for it in told]
     reasons: list[Reason] = []
-    for it in told:
-        found = _meaning(it.command, place)
-        words[found.use][found.words] = None
-        if found.use is Use.SETTING and place is Place.MIDST:
+    for it, meant in found:
+        if meant.use is Use.SETTING and place is Place.MIDST:
             reasons.append(Reason(line, "a setting in the midst", _shown(it.command)))
-        elif found.use is Use.REFUSED and (place is Place.MIDST or not isinstance(it.command, Switch)):
-            reasons.append(Reason(line, found.words, _shown(it.command)))
-    settings, features, alike = (tuple(words[use]) for use in (Use.SETTING, Use.FEATURE, Use.ALIKE))
-    return Looked(told, settings, features, alike, tuple(reasons))
+        elif meant.use is Use.REFUSED and (place is Place.MIDST or not isinstance(it.command, Switch)):
+            reasons.append(Reason(line, meant.words, _shown(it.command)))
+    own = [meant for it, meant in found if not it.is_shared]
+    shared = [meant for it, meant in found if it.is_shared]
+    return Looked(told, _words(own), _words(shared), tuple(reasons))
+
+
+def _words(meanings: Sequence[Meaning]) -> Words:
+    """What meanings say in words."""
+    said = {use: tuple(dict.fromkeys(it.words for it in meanings if it.use is use)) for use in Use}
+    return Words(said[Use.SETTING], said[Use.FEATURE], said[Use.ALIKE])
+
+
+def joined(each: Iterable[Words]) -> Words:
+    """What several say together."""
+    words = list(each)
+    return Words(
+        tuple(dict.fromkeys(word for it in words for word in it.settings)),
+        tuple(dict.fromkeys(word for it in words for word in it.features)),
+        tuple(dict.fromkeys(word for it in words for word in it.alike)),
+    )
 
 
 def _meaning(command: Command, place: Place) -> Meaning:
@@ -117,8 +148,10 @@ def _shown(command: Command) -> str:
             return " ".join(words)
 
 
-def setup_of(told: Iterable[Told], smss: int, own: Mapping[str, Value] | None) -> Setup:
-    """The settings that commands lead to, one after another.
+def setup_of(
+    told: Iterable[SetupLine], smss: int, header: Mapping[str, Value], own: Mapping[str, Value] | None
+) -> Setup:
+    """The settings that commands lead to, one after another, after those of the header.
 
     Without settings of its own, which then come last, a script has those of a kernel first.
     """
@@ -129,7 +162,7 @@ def setup_of(told: Iterable[Told], smss: int, own: Mapping[str, Value] | None) -
             switches[it.command.name] = it.command.value, it.line
         elif isinstance(it.command, Metric):
             metrics[it.command.name] = it.command.value, it.line
-    settings: dict[str, Value] = {} if own is not None else dict(KERNEL)
+    settings: dict[str, Value] = {**({} if own is not None else KERNEL), **header}
     reasons: list[Reason] = []
     for said in (*_of_switches(switches, own is None), *_of_metrics(metrics, smss)):
         if isinstance(said, Reason):
@@ -140,19 +173,19 @@ def setup_of(told: Iterable[Told], smss: int, own: Mapping[str, Value] | None) -
     return Setup({**settings, **(own or {})}, has_timestamps, tuple(reasons))
 
 
-def _told(text: str, line: int, load: Load) -> Iterator[Told]:
+def _lines_of(text: str, line: int, load: Load) -> Iterator[SetupLine]:
     """The commands of a text, those of a `defaults.sh` in the place of its name."""
     for command in commands_in(text):
         if not isinstance(command, Defaults):
-            yield Told(line, command)
+            yield SetupLine(line, command)
             continue
         try:
             inside = load(command.path)
         except Unfit as unfit:
-            yield Told(line, Other((command.path, f"({unfit})")))
+            yield SetupLine(line, Other((command.path, f"({unfit})")))
             continue
         for other in commands_in(_without_comments(inside)):
-            yield Told(line, other)
+            yield SetupLine(line, other, is_shared=True)
 
 
 def _without_comments(text: str) -> str:

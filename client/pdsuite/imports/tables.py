@@ -2,25 +2,46 @@
 
 import json
 import os
-from collections.abc import Iterator, Mapping
+import textwrap
+from collections.abc import Iterator, Mapping, Sequence
 
+from pdsuite.imports.setup import Words, joined
 from pdsuite.scripts.settings import Settings, settings_text
 from pdsuite.scripts.suite import FILE
 
 _HEAD = "# The settings of the scripts in this folder, as pdsuite import read them.\n"
 _ROOT = "root = true\n"
+_WIDTH = 100
 
 
-def tables_of(scripts: Mapping[str, Settings]) -> Iterator[tuple[str, bytes]]:
-    """The files, by their paths from the top, for scripts by theirs. The one in the top lets no other in above it."""
-    folders: dict[str, list[tuple[str, Settings]]] = {"": []}
-    for path, settings in scripts.items():
+def tables_of(scripts: Mapping[str, tuple[Settings, Words]]) -> Iterator[tuple[str, bytes]]:
+    """The files, by their paths from the top, for scripts by theirs. The one in the top lets no other in above it.
+
+    What the set-up says that scripts of a folder share stands once, in the head.
+    """
+    folders: dict[str, list[tuple[str, Settings, Words]]] = {"": []}
+    for path, (settings, shared) in scripts.items():
         folder, name = os.path.split(path)
         if settings:
-            folders.setdefault(folder, []).append((name, settings))
+            folders.setdefault(folder, []).append((name, settings, shared))
     for folder, tables in folders.items():
-        text = _HEAD + ("" if folder else _ROOT) + "".join(table(*it) for it in tables)
+        head = _HEAD + _said(joined(it for _, _, it in tables)) + ("" if folder else _ROOT)
+        text = head + "".join(table(name, settings) for name, settings, _ in tables)
         yield os.path.join(folder, FILE), text.encode()
+
+
+def _said(shared: Words) -> str:
+    """What a set-up says of all that no setting stands for, as comments."""
+    return _comment("Of what defaults.sh says, this sender hasn't: ", shared.features) + _comment(
+        "As defaults.sh says, this sender has: ", shared.alike
+    )
+
+
+def _comment(begin: str, words: Sequence[str]) -> str:
+    if not words:
+        return ""
+    lines = textwrap.wrap(begin + ", ".join(words), _WIDTH, initial_indent="# ", subsequent_indent="#   ")
+    return "".join(f"{line}\n" for line in lines)
 
 
 def is_key(name: str) -> bool:

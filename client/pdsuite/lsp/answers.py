@@ -9,12 +9,12 @@ from pdsuite.lsp.actions import Action, Failing, edits_to, leads_past
 from pdsuite.lsp.actions import mending_all, recording_all, recording_from_here, recording_what_leaves
 from pdsuite.lsp.actions import switching_off, taking
 from pdsuite.lsp.completion import items_of, keys_proposed, proposals, typed_before
-from pdsuite.lsp.diagnostics import Diagnostic, diagnostics_of, untaken, with_related
+from pdsuite.lsp.diagnostics import Diagnostic, diagnostics_of, with_related
 from pdsuite.lsp.documents import Document
 from pdsuite.lsp.hover import hover_of
 from pdsuite.lsp.json_values import Json
 from pdsuite.lsp.positions import Position
-from pdsuite.packetdrill.recorded import Met, Recorded, lines_of_untaken, met_by, recorded_in, tolerance_of
+from pdsuite.packetdrill.recorded import Met, Recorded, met_by, recorded_in, tolerance_of
 from pdsuite.lsp.settings_places import key_at
 from pdsuite.lsp.tools import Tools
 from pdsuite.lsp.workspace import Result, Workspace, settings_path
@@ -72,18 +72,9 @@ class Answers:
         """The diagnostics of an open script, with its untaken packets where they left."""
         if not result.is_told:
             return []
-        row = result.outcome.row
-        layout = NOTHING if row.line is None else self.layout(document)
+        layout = NOTHING if result.outcome.row.line is None else self.layout(document)
         found = list(diagnostics_of(result.outcome, result.cause, layout, document.lines))
-        packets = untaken(result.cause)
-        if not found or not packets:
-            return found
-        played = self._played(document, result)
-        skipped = 1 if "actual_packet" in (result.cause or {}) else 0
-        events = lines_of_untaken(
-            played.events, played.recorded, _passed(layout, row, result.cause), len(packets) + skipped
-        )
-        return [with_related(found[0], events[skipped:], packets), *found[1:]]
+        return [with_related(it, layout, result.cause or _NO_CAUSE) for it in found]
 
     def hover(self, document: Document, result: Result | None, position: Position) -> tuple[str, Extent] | None:
         """What is shown of a place, and what it is about."""
@@ -184,21 +175,22 @@ def lenses(uri: str, result: Result | None, mark: str) -> list[Json]:
     """What stands above a script: what came of it, whose that is where that has to be said, and what can be done."""
     start = {"line": 0, "character": 0}
     place = {"start": start, "end": start}
-    titles = [] if result is None else [(f"{_verdict(result)}{mark}", "")]
+    titles = [] if result is None else [(_verdict(result, mark), "")]
     return [
         {"range": place, "command": {"title": title, "command": command, "arguments": [uri]}}
         for title, command in [*titles, ("draw", DRAW)]
     ]
 
 
-def _verdict(result: Result) -> str:
+def _verdict(result: Result, mark: str) -> str:
+    """The row, at once whose it is, since a narrow window has no room for more, and how much ran for it."""
     row = result.outcome.row
     words = row.whole
     if row.verdict is Verdict.PASS:
         words = ", but ".join([f"pass: {_counted(row.number, 'event')}", *result.outcome.warnings])
     if result.steps is None:
-        return words
-    return f"{words}; the last change ran {_counted(result.steps, 'step')}"
+        return f"{words}{mark}"
+    return f"{words}{mark}; the last change ran {_counted(result.steps, 'step')}"
 
 
 def _counted(number: int, noun: str) -> str:

@@ -1,16 +1,17 @@
 """What came of a script as diagnostics: where in its text, how grave, and why in a few lines."""
 
 import re
-from collections.abc import Iterator, Mapping, Sequence
+from collections.abc import Iterator, Mapping
 from dataclasses import dataclass, replace
 
 from pdsuite.lsp.json_values import Json
 from pdsuite.lsp.positions import Lines
 from pdsuite.packetdrill.layout import Event, Layout
 from pdsuite.packetdrill.lines import Extent
+from pdsuite.packetdrill.recorded import last_input_before
 from pdsuite.programs.protocol import Cause
 from pdsuite.programs.rows import Verdict
-from pdsuite.programs.told import dropped_segments, sender_of
+from pdsuite.programs.told import WORDS, dropped_segments, sent, untaken, value_of
 from pdsuite.reports.outcome_text import said, warnings
 from pdsuite.run.outcomes import Outcome
 from pdsuite.run.row_place import place_of
@@ -24,30 +25,9 @@ _SEVERITY = {
     Verdict.UNSUPPORTED: WARNING,
     Verdict.LIMIT: WARNING,
 }
-_SECOND = 1_000_000
-# What the lines below the first tell, in this order: a key of the program's, and its words.
-_FACTS = {
-    "actual_packet": "actual packet",
-    "actual_result": "actual result",
-    "awaited_from_us": "awaited from",
-    "awaited_until_us": "awaited until",
-    "early_us": "early by",
-    "moment_us": "its moment",
-    "before_us": "lies before",
-    "timer_us": "timer expires",
-    "rto_words": "RTO",
-    "reason_words": "reason",
-    "recovery_words": "recovery",
-    "sacked_words": "SACKed",
-    "rule_words": "rule",
-    "limit": "limit",
-    "found": "found",
-    "runs": "runs",
-    "mend": "mend",
-    "expected": "expected",
-}
-_NULLS = {"awaited_until_us": "any time", "timer_us": "never, it doesn't run"}
-_MICROSECONDS = "_us"
+# What the lines below the first leave out, since the text has it, or the range that it is about.
+_LEFT_OUT = ("script_packet", "call", "expected_result", "event", "tolerance_us")
+_MORE = {it: it for it in ("found", "runs", "mend")}
 _HIDDEN = re.compile(r"\s+")
 
 
@@ -102,18 +82,21 @@ def diagnostics_of(outcome: Outcome, cause: Cause | None, layout: Layout, lines:
         yield Diagnostic(lines.whole_line(0), ERROR if outcome.is_strict else WARNING, "warning", words)
 
 
-def with_related(diagnostic: Diagnostic, events: Sequence[Event], packets: Sequence[str]) -> Diagnostic:
-    """The diagnostic with the packets that stand untaken, each after the event after which it left."""
-    pairs = zip(events, packets)
-    return replace(
-        diagnostic, related=tuple(Related(event.extent, f"untaken packet: {packet}") for event, packet in pairs)
-    )
+def with_related(diagnostic: Diagnostic, layout: Layout, cause: Cause) -> Diagnostic:
+    """The diagnostic with the packets that stand untaken, each at the event after which it left."""
+    found = [(_sending(it, layout), packet) for packet, it in untaken(cause)]
+    related = [Related(event.extent, f"untaken packet: {packet}") for event, packet in found if event is not None]
+    return replace(diagnostic, related=tuple(related))
 
 
-def untaken(cause: Cause | None) -> list[str]:
-    """The packets that stand untaken, as they are shown."""
-    found = cause.get("untaken_packets") if cause is not None else None
-    return [it for it in found if isinstance(it, str)] if isinstance(found, list) else []
+def _sending(origin: object, layout: Layout) -> Event | None:
+    """The event that sent a packet; of one that the timer sent, the last input before that, as far as times tell."""
+    match origin:
+        case {"line": int(line)}:
+            return next((it for it in layout.events if it.item.line == line and it.is_input), None)
+        case {"timer_us": int(moment)}:
+            return last_input_before(layout.events, moment)
+    return None
 
 
 def _severity(outcome: Outcome) -> int:
@@ -124,19 +107,28 @@ def _message(outcome: Outcome, cause: Cause | None) -> str:
     words = said(outcome)
     if outcome.row.verdict is Verdict.ERROR:
         words = outcome.row.word if outcome.expected is None else words
-    first = f"{words}: {cause['what']}" if cause is not None and "what" in cause else words
+    first = f"{words}: {_what(cause)}" if cause is not None and "what" in cause else words
     return "\n".join([first, *_facts(cause or {})])
 
 
+def _what(cause: Mapping[str, object]) -> str:
+    """What a row means, or of a text that is no script, what it lacks, as `run` says it."""
+    match cause.get("expected"):
+        case [*before, last]:
+            end = " at the end of the text" if cause.get("column") is None else ""
+            listed = ", ".join(map(str, before))
+            return f"expected {listed} or {last}{end}" if before else f"expected {last}{end}"
+    return str(cause["what"])
+
+
 def _facts(cause: Mapping[str, object]) -> Iterator[str]:
-    sender = sender_of(cause.get("sent_by"))
-    for key, words in _FACTS.items():
-        if key in cause:
-            by = f", sent by {sender}" if sender and key == "actual_packet" else ""
-            yield f"{words}: {_shown(key, cause[key])}{by}"
+    for key, words in {**WORDS, **_MORE}.items():
+        if key in cause and key not in _LEFT_OUT:
+            value = _shown(key, cause[key])
+            yield f"{words}: {sent(value, cause.get('sent_by')) if key == 'actual_packet' else value}"
     for it in dropped_segments(cause):
         yield f"dropped: {it}"
-    count = len(untaken(cause))
+    count = len(list(untaken(cause)))
     more = cause.get("more_untaken_packets")
     count += more if isinstance(more, int) else 0
     if count:
@@ -144,10 +136,6 @@ def _facts(cause: Mapping[str, object]) -> Iterator[str]:
 
 
 def _shown(key: str, value: object) -> str:
-    if value is None:
-        return _NULLS.get(key, "none")
     if isinstance(value, list):
         return ", ".join(map(str, value))
-    if key.endswith(_MICROSECONDS) and isinstance(value, int):
-        return f"{value // _SECOND}.{value % _SECOND:06}"
-    return _HIDDEN.sub(" ", str(value))
+    return _HIDDEN.sub(" ", value_of(key, value))

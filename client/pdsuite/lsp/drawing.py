@@ -29,7 +29,7 @@ class Drawn:
         prepare(folder)
         self.page = folder / FOLDER / file_of(path)
         self.fault = missing("matplotlib")
-        entry = Entry(result.outcome, result.text, Plot.NONE if self.fault else Plot.FILES)
+        entry = Entry(result.outcome, result.text, Plot.NONE if self.fault else Plot.FILES, result.cause)
         regress, record = sender.paths
         rows = (row_of(result.outcome),)
         job = Job(folder, rows, plot_files(path), (entry,), not sender.is_proved, regress, record)

@@ -95,11 +95,10 @@ class Publisher:
         self._say(uri, [self._marked(self._json(uri, lines, it)) for it in found], None)
 
     def _marked(self, told: Json) -> Json:
-        """A diagnostic that says whose it is where its sender doesn't stand; it is dimmed where the client can."""
+        """A diagnostic that says first whose it is, where its sender doesn't stand; dimmed where the client can."""
         if not self._mark:
             return told
-        first, *below = str(told["message"]).split("\n")
-        marked = {**told, "message": "\n".join([f"{first}{self._mark}", *below])}
+        marked = {**told, "message": f"{self._mark.strip()} {told['message']}"}
         return {**marked, "tags": [_UNNECESSARY]} if self.has_tags else marked
 
     def _publish_settings(self, faults: Mapping[Path, Sequence[str]], places: Mapping[Path, str]) -> None:

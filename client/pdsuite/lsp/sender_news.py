@@ -1,13 +1,11 @@
-"""What a client is told of the sender: that it changed, what is built, why it isn't, and which scripts it turned."""
+"""What a client is told of the sender: that it changed, what is built, what is refused, and which scripts it turned."""
 
-import re
-from collections.abc import Callable, Mapping, Sequence
-from pathlib import Path
+from collections.abc import Callable, Sequence
+from pathlib import PurePath
 
 from pdsuite.compare.comparison import ComparedScript
-from pdsuite.lsp.diagnostics import ERROR, SOURCE
-from pdsuite.lsp.documents import uri_of
 from pdsuite.lsp.json_values import Json
+from pdsuite.lsp.source_faults import SourceFaults
 from pdsuite.reports.comparison import lines_of
 from pdsuite.run.outcomes import UNPROVED
 from pdsuite.show.octets import shown_path
@@ -19,11 +17,12 @@ Notify = Callable[[str, object], None]
 _WARNING, _INFO = 2, 3
 _TOKEN = "pdsuite-build"
 _PROGRESS = "$/progress"
-# What a compiler says of a place; columns count from 1.
-_PLACED = re.compile(r"(?P<path>/[^:]+\.(?:rt|antt)):(?P<line>\d+):(?P<column>\d+): (?P<said>.*)")
-_FIRST = "unproved: the sender is built without proofs, and runs so until ./prove has proved it"
-_LEFT = "the sender has changed: until another one stands, all is of the one before"
+# With what an editor puts before and after them they fit into a line of 80 columns.
+_FIRST = "unproved: the sender is being built"
+_LEFT = "the sender has changed: rows are old"
 _MOST = 3
+# Of a refusal so many lines are shown: what is refused, and the first place.
+_FIRST_LINES = 2
 
 
 class SenderNews:
@@ -36,8 +35,8 @@ class SenderNews:
         self._mark = ""
         self._is_anew = False
         self._phase = ""
-        self._failure: tuple[str, ...] = ()
-        self._faulty: list[str] = []
+        self._refusals: tuple[tuple[str, ...], ...] = ()
+        self._faults = SourceFaults(notify)
         self._was_first_said = False
 
     @property
@@ -55,8 +54,8 @@ class SenderNews:
         was, self._is_anew = self._is_anew, False
         return was
 
-    def look(self, follower: SenderFollower, is_running: bool) -> None:
-        """Tells what is other than it was told last."""
+    def look(self, follower: SenderFollower, proof: Sequence[str], is_running: bool) -> None:
+        """Tells what is other than it was told last; `proof` is what is said of one that is refused."""
         mark = ""
         if follower.sender is not None:
             mark = BEFORE if follower.reason else "" if follower.sender.is_proved else f" {UNPROVED}"
@@ -68,15 +67,13 @@ class SenderNews:
             self._was_first_said = True
             self._show(_INFO, _FIRST)
         self._tell_build(follower.phase)
-        if follower.failure != self._failure:
-            self._failure = follower.failure
-            self._tell_failure()
+        self._tell_refusals((follower.failure, tuple(proof)))
 
     def tell_turned(self, scripts: Sequence[ComparedScript]) -> None:
         """Tells which scripts another sender turned: their names at once, and in the log all of it."""
         if not scripts:
             return
-        names = ", ".join(shown_path(it.path) for it in scripts[:_MOST])
+        names = ", ".join(shown_path(PurePath(it.path).name) for it in scripts[:_MOST])
         more = f" and {len(scripts) - _MOST} more" if len(scripts) > _MOST else ""
         self._show(_INFO, f"the sender turned {names}{more}")
         for it in scripts:
@@ -100,32 +97,16 @@ class SenderNews:
             value |= {"message": phase}
         self._notify(_PROGRESS, {"token": _TOKEN, "value": value})
 
-    def _tell_failure(self) -> None:
-        """Tells what the compiler says, as a message and at the places that it names, or takes that back."""
-        found = places_of(self._failure)
-        for uri in [*found, *(it for it in self._faulty if it not in found)]:
-            self._notify("textDocument/publishDiagnostics", {"uri": uri, "diagnostics": found.get(uri, [])})
-        self._faulty = list(found)
-        if self._failure:
-            self._show(_WARNING, "\n".join(self._failure[:_MOST]))
-            self._notify("window/logMessage", {"type": _WARNING, "message": "\n".join(self._failure)})
+    def _tell_refusals(self, refusals: tuple[tuple[str, ...], ...]) -> None:
+        """Tells why the sender isn't built or proved, as messages and at the places named; or takes that back."""
+        if refusals == self._refusals:
+            return
+        before, self._refusals = self._refusals, refusals
+        self._faults.tell([line for each in refusals for line in each])
+        for it in refusals:
+            if it and it not in before:
+                self._show(_WARNING, "\n".join(it[:_FIRST_LINES]))
+                self._notify("window/logMessage", {"type": _WARNING, "message": "\n".join(it)})
 
     def _show(self, kind: int, words: str) -> None:
         self._notify("window/showMessage", {"type": kind, "message": f"pdsuite: {words}"})
-
-
-def places_of(said: Sequence[str]) -> Mapping[str, list[Json]]:
-    """The diagnostics of what a compiler says, by the URIs of sources; a line without a place is of the one above."""
-    found: dict[str, list[Json]] = {}
-    last: Json | None = None
-    for line in said:
-        if placed := _PLACED.fullmatch(line.strip()):
-            row, column = int(placed["line"]) - 1, int(placed["column"]) - 1
-            place = {"line": max(0, row), "character": max(0, column)}
-            end = {"line": max(0, row) + 1, "character": 0}
-            last = {"range": {"start": place, "end": end}, "severity": ERROR, "source": SOURCE}
-            last["message"] = placed["said"]
-            found.setdefault(uri_of(str(Path(placed["path"]))), []).append(last)
-        elif last is not None:
-            last["message"] += f"\n{line}"
-    return found

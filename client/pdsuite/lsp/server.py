@@ -60,6 +60,7 @@ class Server:
         self._is_shut_down = False
         self._pending: list[Request] = []
         self._told = ""
+        self._is_awaiting = False
         self._turned: Callable[[], Sequence[ComparedScript]] | None = None
         self._streams: Streams | None = None
         self._publisher: Publisher | None = None
@@ -112,6 +113,7 @@ class Server:
     def begin(self) -> None:
         """Looks for the programs, and begins with what is open; where they aren't there, says so once."""
         before, self.running = self.running, None
+        self._is_awaiting = False
         try:
             self.running = self._run(self)
         except Fault as fault:
@@ -125,7 +127,8 @@ class Server:
         self._turned = None if before is None else partial(turned_between, before, self.running)
 
     def await_sender(self, reason: str) -> None:
-        """Tells what is known without a sender, while one is built."""
+        """Tells what is known without a sender, while one is built or can't be."""
+        self.running, self._is_awaiting = None, True
         if self._told != reason:
             self._told = reason
             self.publish_unproved()
@@ -227,7 +230,7 @@ class Server:
             self.publish_unproved()
 
     def _save(self, params: object) -> None:
-        if self.running is None and self._is_initialized:
+        if self.running is None and self._is_initialized and not self._is_awaiting:
             self.begin()
 
     def _close(self, params: object) -> None:

@@ -16,13 +16,14 @@ from pdsuite.lsp.server import FAILED, Server, home_of
 from pdsuite.lsp.settings_open import OpenSettings
 from pdsuite.lsp.streams import Streams
 from pdsuite.lsp.tools import Tools
-from pdsuite.lsp.workspace import Askers, Workspace
+from pdsuite.lsp.workspace import Workspace
 from pdsuite.programs.places import RECORD, REGRESS
 from pdsuite.programs.standing import SenderChanged, buildable, own_look
 from pdsuite.scripts.suite import claims_of, option_of
 from pdsuite.signals import Stop, Stopped
 from pdsuite.watch.fleet import Fleet
 from pdsuite.watch.folders import Choice, Folders
+from pdsuite.watch.refused_proof import RefusedProof
 from pdsuite.watch.sender import SenderFollower
 from pdsuite.watch.watcher import Watcher
 
@@ -33,6 +34,8 @@ _PATIENCE = 2.0
 _AGAIN = 10.0
 # So often it is looked at whether another sender stands, whatever is reported: that takes longer than an answer may.
 _LOOK = 1.0
+# Why nothing was run, where a sender can be built.
+_NOT_BUILT, _BUILT_NOW = "the sender isn't built", "the sender is being built"
 # Garbage is looked for at rest, where so many objects came since, as a look takes longer than an answer may.
 _MANY = 10_000
 
@@ -48,6 +51,7 @@ class Serving:
         self._server = Server(self._run)
         self._follower = SenderFollower(own_look(REGRESS, RECORD), (REGRESS, RECORD), buildable())
         self._sources = Watcher()
+        self._proof = RefusedProof(self._follower.tree)
         self._looked_at = -inf
 
     def serve(self, source: BinaryIO, target: BinaryIO) -> int:
@@ -84,14 +88,23 @@ class Serving:
         self._looked_at = now
         has_changed = follower.look(now)
         self._sources.watch(follower.folders())
-        is_other = server.running is not None and follower.sender != server.running.sender
-        if server.running is None and not follower.filenos() or has_changed and is_other:
-            server.begin()
-        elif server.running is None and has_changed and follower.sender is not None:
-            server.begin()
-        if server.running is None and follower.filenos():
-            server.await_sender("the sender is being built")
-        server.news.look(follower, server.running is not None)
+        if server.running is None or has_changed and follower.sender != server.running.sender:
+            self._go_over()
+        self._proof.look()
+        server.news.look(follower, self._proof.lines, server.running is not None)
+
+    def _go_over(self) -> None:
+        """Begins with the sender that answers now; where none does and one can be built, waits for that."""
+        if self._follower.sender is None and self._follower.tree is not None:
+            self._server.await_sender(self._why_none())
+        else:
+            self._server.begin()
+
+    def _why_none(self) -> str:
+        """Why no sender answers."""
+        if self._follower.tree is None:
+            return self._follower.reason
+        return _NOT_BUILT if self._follower.failure else _BUILT_NOW
 
     def _look_due(self, now: float) -> float:
         """The moment of the next look, whatever is reported."""
@@ -151,7 +164,7 @@ class Serving:
         self._held.close()
         self._follower.look(time.monotonic())
         if (sender := self._follower.sender) is None:
-            raise Fault(self._follower.reason)
+            raise Fault(self._why_none())
         tools = Tools(sender, self._stop, server.log)
         option = option_of(self._settings)
         if lines := tools.refused(list(claims_of([option]))):
@@ -160,9 +173,8 @@ class Serving:
         settings = OpenSettings(option, lambda claims: tools.refused(list(claims)))
         fleet = self._held.enter_context(Fleet(tools.start, server.log, lambda doing: None))
         folders = Folders(Choice(server.client.roots, ()), settings, self._watcher, self._stop, server.log)
-        askers = Askers(tools.causes, tools.endings)
         home = home_of(server.client)
-        return Running(Workspace(folders, settings, fleet, askers, home, sender.check), Answers(tools), sender)
+        return Running(Workspace(folders, settings, fleet, home, sender.check), Answers(tools), sender)
 
 
 class _Unwatched(Watcher):

@@ -3,12 +3,12 @@
 from collections.abc import Callable, Sequence
 
 from pdsuite.lsp.completion import PROBE
-from pdsuite.run.explainer import CAUSES, ENDINGS, EXPLAIN, JSON, Asker
+from pdsuite.run.explainer import EXPLAIN, JSON, LEFTOVERS
 from pdsuite.programs.places import REGRESS
 from pdsuite.programs.program import Ended, Program
 from pdsuite.programs.protocol import LONGEST_CAUSE, LONGEST_LINE, SETTLE, Cause, Unexpected
 from pdsuite.programs.protocol import add, causes_in, name_of, rows_in
-from pdsuite.programs.recorder import LEAST, Recorder, Recording
+from pdsuite.programs.recorder import MINIMAL, Recorder, Recording
 from pdsuite.programs.refusals import refusals
 from pdsuite.programs.rows import Row
 from pdsuite.run.runs import RUN
@@ -34,12 +34,10 @@ class Tools:
         self.note = note
         self._recorder = Recorder(stop, note, record)
         self._recordings: dict[tuple[bytes, Settings], Recording] = {}
-        self.causes: Asker[Cause] = Asker(self._regress, CAUSES, stop, note)
-        self.endings: Asker[list[bytes]] = Asker(self._regress, ENDINGS, stop, note)
 
     def start(self, settings: Settings) -> Program:
-        """Starts a run that stays up; SenderChanged where another file lies at the program's path."""
-        return self._started(settings, STEPS, "--cache", str(RUN))
+        """Starts a run that stays up and tells why; SenderChanged where another file lies at the program's path."""
+        return self._started(settings, STEPS, EXPLAIN, LEFTOVERS, JSON, "--cache", str(RUN))
 
     def refused(self, claims: Sequence[Claim]) -> list[str]:
         """The lines of the settings that are refused."""
@@ -59,7 +57,7 @@ class Tools:
     def mended(self, text: str, settings: Settings) -> str:
         """A script with the least change with which it passes; empty where there is none."""
         self.sender.check()
-        return self._recorder.record("the script", text.encode("utf-8", "surrogatepass"), settings, LEAST).text
+        return self._recorder.record("the script", text.encode("utf-8", "surrogatepass"), settings, MINIMAL).text
 
     def rows(self, texts: Sequence[str], settings: Settings) -> list[Row | None]:
         """The rows of these texts; None of one that can't be a script."""

@@ -1,19 +1,15 @@
 """The scripts of a workspace, those in files and those that are open, and what came of them."""
 
 import os
-from collections.abc import Callable, Iterator, Mapping, Sequence
+from collections.abc import Callable, Mapping, Sequence
 from dataclasses import dataclass, replace
 from pathlib import Path
-from typing import TypeVar
 
 from pdsuite.lsp.documents import Document, path_of
 from pdsuite.lsp.settings_open import OpenSettings
-from pdsuite.run.explainer import Asker, with_end
 from pdsuite.programs.protocol import Cause
 from pdsuite.programs.rows import Row, Verdict
-from pdsuite.run.outcomes import Outcome
-from pdsuite.run.runs import Script, runs_of
-from pdsuite.run.settling import SettledPiece
+from pdsuite.run.outcomes import Outcome, at_end
 from pdsuite.scripts.search import ScriptFile
 from pdsuite.scripts.suite import FILE, ScriptRules
 from pdsuite.scripts.text import Text
@@ -27,15 +23,10 @@ from pdsuite.watch.watcher import Event, Kind
 WORN = 40_000
 SPENT = 60_000
 
-T = TypeVar("T")
-
 
 @dataclass(frozen=True)
 class Result:
-    """What came of a script, what is told of it, and of which text that is; `version` is that of an open text.
-
-    `is_asked` says whether the program was asked what it tells of it.
-    """
+    """What came of a script, what is told of it, and of which text that is; `version` is that of an open text."""
 
     file: ScriptFile
     outcome: Outcome
@@ -43,7 +34,6 @@ class Result:
     cause: Cause | None = None
     version: int | None = None
     steps: int | None = None
-    is_asked: bool = False
 
     @property
     def is_told(self) -> bool:
@@ -60,14 +50,6 @@ class OpenScript:
     text: Text | str
 
 
-@dataclass(frozen=True)
-class Askers:
-    """Who says why scripts don't pass, and what those that pass leave at their ends."""
-
-    causes: Asker[Cause]
-    endings: Asker[list[bytes]]
-
-
 class Workspace:
     """What is seen in folders and what is open, and the results. Results are by paths, as `pdsuite run` has these."""
 
@@ -76,7 +58,6 @@ class Workspace:
         folders: Folders,
         settings: OpenSettings,
         fleet: Fleet,
-        askers: Askers,
         home: Path,
         check: Callable[[], None] = lambda: None,
     ) -> None:
@@ -84,7 +65,6 @@ class Workspace:
         self._folders = folders
         self._settings = settings
         self._fleet = fleet
-        self._askers = askers
         self._home = home
         self._check = check  # raises SenderChanged where what was told isn't surely of the program that ran
         self._documents: dict[str, Document] = {}
@@ -225,52 +205,31 @@ class Workspace:
         unfit: Mapping[str, str],
         versions: Mapping[str, int],
     ) -> list[str]:
-        rows = dict(self._fleet.rows())
-        steps = {path: count for run in self._fleet.runs for path, count in run.steps.items()}
+        rows, causes, steps = dict(self._fleet.rows()), self._fleet.causes(), self._fleet.steps()
         before, results, changed = self.results, {}, []
         for path, file in files.items():
             row = rows.get(path) if path in wanted else Row(Verdict.ERROR, word=unfit.get(path, ""))
             if row is None:
                 continue
-            result = self._result(file, row, wanted.get(path), versions.get(path), steps.get(path))
+            told = self._result(file, row, wanted.get(path), causes.get(path))
+            result = replace(told, version=versions.get(path), steps=steps.get(path))
             old = before.get(path)
             results[path] = kept = _merged(old, result)
             if kept is not old:
                 changed.append(path)
-        self._ask(results, [path for path in changed if not results[path].is_asked])
         self._check()
         self.results = results
         return [*changed, *(path for path in before if path not in results)]
 
-    def _result(
-        self, file: ScriptFile, row: Row, wanted: WantedScript | None, version: int | None, steps: int | None
-    ) -> Result:
+    def _result(self, file: ScriptFile, row: Row, wanted: WantedScript | None, cause: Cause | None) -> Result:
         rules = self._rules(file)
         text = None if wanted is None else wanted.text
         line = None if text is None or row.line is None else text.line(row.line)
         settings = () if wanted is None else wanted.settings
         outcome = Outcome(file.path, settings, row, line, is_strict=rules.is_strict, expected=rules.expected)
-        return Result(file, outcome, text, None, version, steps)
-
-    def _ask(self, results: dict[str, Result], paths: Sequence[str]) -> None:
-        """Puts into the results of scripts what the program tells of them: why they don't pass, or what they leave."""
-        for path in paths:
-            results[path] = replace(results[path], is_asked=True)
-        each = [results[path] for path in paths]
-        for path, cause in _told(self._askers.causes, each):
-            results[path] = replace(results[path], cause=cause)
-        for path, block in _told(self._askers.endings, each):
-            results[path] = replace(results[path], outcome=with_end(results[path].outcome, block))
-
-
-def _told(asker: Asker[T], results: Sequence[Result]) -> Iterator[tuple[str, T]]:
-    """What the program tells of scripts, piece by piece."""
-    scripts = [Script(index, it.file.path, it.outcome.settings) for index, it in enumerate(results)]
-    for run in runs_of(scripts):
-        for piece in run.pieces:
-            texts = {it.index: text for it in piece if (text := results[it.index].text) is not None}
-            told = asker.told(SettledPiece([(it, results[it.index].outcome) for it in piece], texts))
-            yield from ((results[index].file.path, it) for index, it in told.items())
+        if row.line is None:
+            outcome.at_end = at_end(row, cause)
+        return Result(file, outcome, text, cause if row.line is not None else None)
 
 
 def settings_path(uri: str) -> Path | None:
@@ -282,12 +241,12 @@ def settings_path(uri: str) -> Path | None:
 
 
 def _merged(old: Result | None, new: Result) -> Result:
-    """The old result where the new one says the same; what was told of it stays where its text and row do."""
+    """The old result where the new one says the same."""
     if old is None or old.text is not new.text and old.text != new.text:
         return new
-    if old.outcome != replace(new.outcome, at_end=old.outcome.at_end):
+    if old.outcome != new.outcome or old.cause is not new.cause and old.cause != new.cause:
         return new
     steps = old.steps if new.steps is None else new.steps
     if (old.version, old.steps) == (new.version, steps):
         return old
-    return replace(old, file=new.file, text=new.text, version=new.version, steps=steps)
+    return replace(new, steps=steps)

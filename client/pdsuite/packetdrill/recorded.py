@@ -195,13 +195,13 @@ def _base_after(time: Time | None, base: int, moment: int | None) -> int:
     return base if moment is None else max(base, moment)
 
 
-def lines_of_untaken(events: Sequence[Event], recorded: Sequence[Recorded], passed: int, count: int) -> list[Event]:
-    """The events after which untaken packets left, the oldest first: `count` packets after those that passed took one.
-
-    Each left after the last call or packet that arrived before it.
-    """
-    inputs = [it for it in events if it.is_input]
-    taken = sum(not it.is_input for it in events[:passed])
-    places = [place for place, it in enumerate(recorded) if not it.is_input][taken : taken + count]
-    before = [sum(it.is_input for it in recorded[:place]) for place in places]
-    return [inputs[it - 1] for it in before if 0 < it <= len(inputs)]
+def last_input_before(events: Sequence[Event], moment: int) -> Event | None:
+    """The last call or packet that arrives before a moment in microseconds, where times that aren't fixed take none."""
+    base, found = 0, None
+    for it in events:
+        base = _base_after(it.item.time, base, None)
+        if base >= moment:
+            break
+        if it.is_input:
+            found = it
+    return found

@@ -6,12 +6,14 @@ from collections.abc import Callable, Sequence
 from dataclasses import replace
 from pathlib import Path
 
+from pdsuite.compare.comparison import ComparedScript
 from pdsuite.packages import need
 from pdsuite.page.drawer import FAILED, FAULT
 from pdsuite.files import write
 from pdsuite.page.folder import prepare
 from pdsuite.page.jobs import Job
 from pdsuite.page.links import plot_files
+from pdsuite.page.notes import Notes, turned_of
 from pdsuite.page.plots import Plot, Plots, plots_of
 from pdsuite.page.render import SENDER, sender_style
 from pdsuite.page.sheets import Entry, row_of
@@ -39,6 +41,9 @@ class Drawing:
         self._workers: dict[Worker, tuple[Entry, ...]] = {}
         self._drawn: dict[str, Entry] = {}
         self._waiting: Sequence[Entry] | None = None
+        self._entries: Sequence[Entry] = ()
+        self._turned: Sequence[ComparedScript] = ()
+        self._notes = Notes()
         self._is_ending = False
         self._follows = False  # whether it is drawn of the sender that answers
         self._is_turning = False  # whether pages are of another sender than the one that they are to be drawn of
@@ -72,17 +77,29 @@ class Drawing:
             self._said = said
             write(self._folder / SENDER, sender_style(said))
 
+    def say(self, refusals: Sequence[Sequence[str]]) -> None:
+        """Has the table say why the sender isn't built or proved."""
+        said = tuple(tuple(it) for it in refusals)
+        if said == self._notes.refusals:
+            return
+        self._notes = replace(self._notes, refusals=said)
+        if self._follows or not self._entries:
+            self._waiting = self._entries
+            self.look()
+
     def end(self) -> None:
         """Has what is drawn now ended, since it isn't wanted any more."""
         self._is_ending = True
         for worker in self._workers:
             worker.end()
 
-    def follow(self, entries: Sequence[Entry]) -> None:
-        """Has the page drawn of these scripts, as soon as nothing else is drawn."""
+    def follow(self, entries: Sequence[Entry], turned: Sequence[ComparedScript] = ()) -> None:
+        """Has the page drawn of these scripts, as soon as nothing else is drawn; the sender turned some."""
         self._follows = True
         plots = plots_of((it.outcome for it in entries), self._plots)
-        self._waiting = [replace(it, plot=plot) for it, plot in zip(entries, plots)]
+        self._waiting = self._entries = [replace(it, plot=plot) for it, plot in zip(entries, plots)]
+        if turned is not self._turned:
+            self._turned, self._notes = turned, replace(self._notes, turned=turned_of(turned))
         self.look()
 
     def look(self) -> None:
@@ -117,7 +134,8 @@ class Drawing:
         plots = tuple(name for it in entries if it.plot is Plot.FILES for name in plot_files(it.outcome.path))
         for number in range(count):
             share = tuple(changed[number::count])
-            job = Job(self._folder, rows if number == 0 else None, plots, share, self._is_unproved, *self._programs)
+            table = rows if number == 0 else None
+            job = Job(self._folder, table, plots, share, self._is_unproved, *self._programs, self._notes)
             self._workers[Worker(_DRAWER, job)] = share
 
     def _hear(self, worker: Worker, entries: Sequence[Entry]) -> None:

@@ -1,6 +1,6 @@
 """What a process that draws is to do, and how it is done: the table, and a page for each script."""
 
-from collections.abc import Callable, Sequence
+from collections.abc import Callable
 from dataclasses import dataclass
 from pathlib import Path
 
@@ -8,16 +8,13 @@ from pdsuite.files import write
 from pdsuite.page.diagrams import diagram_of
 from pdsuite.page.folder import TABLE, sweep
 from pdsuite.page.links import FOLDER
+from pdsuite.page.notes import Notes
 from pdsuite.page.render import script_page, table_page
 from pdsuite.page.sheets import Entry, Row, sheet_of
-from pdsuite.programs.places import REGRESS, are_taken, locate
-from pdsuite.programs.protocol import Cause
+from pdsuite.programs.places import are_taken
 from pdsuite.programs.recorder import Recorder
 from pdsuite.programs.rows import Verdict
-from pdsuite.run.explainer import CAUSES, Asker
 from pdsuite.run.met_lines import Differences, differences_of
-from pdsuite.run.runs import Script, runs_of
-from pdsuite.run.settling import SettledPiece
 from pdsuite.signals import Stop
 
 
@@ -25,8 +22,8 @@ from pdsuite.signals import Stop
 class Job:
     """The folder, the rows of the table if that is to be written, and the scripts whose pages are.
 
-    With the table the names come that files of diagrams may have, since all others are taken away. Where the
-    sender isn't proved, and no program is named, the entries hold all that is told; else programs are looked for.
+    With the table come what it says of the sender, and the names that files of diagrams may have, since all others are
+    taken away. Where the sender isn't proved, and no program is named, nothing is recorded for it.
     """
 
     folder: Path
@@ -36,24 +33,19 @@ class Job:
     is_unproved: bool = False
     regress: Path | None = None
     record: Path | None = None
+    notes: Notes = Notes()
 
 
 def carry_out(job: Job, stop: Stop, done: Callable[[int], None]) -> None:
     """Does a job. `done` is told the place of each script whose page stands."""
     if job.rows is not None:
-        write(job.folder / TABLE, table_page(job.rows, job.is_unproved))
+        write(job.folder / TABLE, table_page(job.rows, job.is_unproved, job.notes))
         sweep(job.folder, (it.file for it in job.rows), job.plots)
-    scripts = [Script(place, it.outcome.path, it.outcome.settings) for place, it in enumerate(job.entries)]
-    # Where it tells nothing of a script, that has been said when its row was shown.
-    asker = Asker(job.regress or locate(REGRESS), CAUSES, stop, lambda line: None) if _has_programs(job) else None
     recorder = Recorder(stop, lambda line: None, job.record)
-    for run in runs_of(scripts):
-        for piece in run.pieces:
-            told = _known(piece, job.entries) if asker is None else asker.told(_settled(piece, job.entries))
-            for script in piece:
-                stop.check()
-                _write_page(job, script.index, told.get(script.index), recorder)
-                done(script.index)
+    for place, entry in enumerate(job.entries):
+        stop.check()
+        _write_page(job, entry, recorder)
+        done(place)
 
 
 def _has_programs(job: Job) -> bool:
@@ -61,20 +53,9 @@ def _has_programs(job: Job) -> bool:
     return not job.is_unproved or job.regress is not None or are_taken()
 
 
-def _known(piece: Sequence[Script], entries: Sequence[Entry]) -> dict[int, Cause]:
-    """What the entries tell of scripts."""
-    return {it.index: cause for it in piece if (cause := entries[it.index].cause) is not None}
-
-
-def _settled(piece: Sequence[Script], entries: Sequence[Entry]) -> SettledPiece:
-    texts = {it.index: text for it in piece if (text := entries[it.index].text) is not None}
-    return SettledPiece([(it, entries[it.index].outcome) for it in piece], texts)
-
-
-def _write_page(job: Job, place: int, cause: Cause | None, recorder: Recorder) -> None:
-    entry = job.entries[place]
-    diagram = diagram_of(entry.outcome, entry.text, entry.plot, cause, recorder, job.folder)
-    sheet = sheet_of(entry, cause, diagram, _met(entry, recorder if _has_programs(job) else None))
+def _write_page(job: Job, entry: Entry, recorder: Recorder) -> None:
+    diagram = diagram_of(entry.outcome, entry.text, entry.plot, entry.cause, recorder, job.folder)
+    sheet = sheet_of(entry, entry.cause, diagram, _met(entry, recorder if _has_programs(job) else None))
     write(job.folder / FOLDER / sheet.row.file, script_page(sheet, job.is_unproved))
 
 

@@ -11,12 +11,14 @@ from jinja2 import Environment, FileSystemLoader, StrictUndefined
 from pdsuite.compare.comparison import Count
 from pdsuite.diagram.palette import rules
 from pdsuite.page.links import FOLDER, PLOTS
+from pdsuite.page.notes import Notes
 from pdsuite.page.sheets import Row, Sheet
 from pdsuite.programs.rows import Verdict
 from pdsuite.run.outcomes import Tally
 
 if TYPE_CHECKING:
     from pdsuite.page.comparison import Section
+    from pdsuite.page.measured import MeasureSection
 
 _HERE = Path(__file__).parent
 # Stands in each page, and tells whose it is.
@@ -56,12 +58,13 @@ def sender_style(words: str) -> bytes:
     return f'body::before {{ content: "{shown}"; {mark} }}\nheader, main {{ opacity: 0.5 }}\n'.encode()
 
 
-def table_page(rows: Sequence[Row], is_unproved: bool = False) -> bytes:
+def table_page(rows: Sequence[Row], is_unproved: bool = False, notes: Notes = Notes()) -> bytes:
     """The page with the table: what fails stands first, and what is counted alike in the order of paths."""
     counts = Counter(it.tally for it in rows)
     tallies = [(it, counts[it]) for it in (*Verdict, *Tally) if counts[it]]
     ranked = sorted(rows, key=_rank)
-    return _filled("table.html", rows=ranked, tallies=tallies, folder=FOLDER, is_unproved=is_unproved)
+    values = {"rows": ranked, "tallies": tallies, "folder": FOLDER, "is_unproved": is_unproved}
+    return _filled("table.html", notes=notes, **values)
 
 
 def _rank(row: Row) -> tuple[int, bool]:
@@ -79,6 +82,13 @@ def compare_page(
 ) -> bytes:
     """The page of a comparison."""
     return _filled("compare.html", sections=sections, counts=counts, names=names, is_unproved=is_unproved)
+
+
+def measure_page(
+    sections: "Sequence[MeasureSection]", totals: Sequence[str], names: tuple[str, str], is_unproved: bool
+) -> bytes:
+    """The page of what was measured."""
+    return _filled("measure.html", sections=sections, totals=totals, names=names, is_unproved=is_unproved)
 
 
 def _filled(name: str, **values: object) -> bytes:

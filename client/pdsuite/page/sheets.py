@@ -2,7 +2,6 @@
 
 from collections.abc import Iterator, Mapping
 from dataclasses import dataclass
-from itertools import chain, repeat
 
 from pdsuite.page.diagrams import Diagram
 from pdsuite.page.links import file_of
@@ -10,57 +9,36 @@ from pdsuite.packetdrill.columns import Mark, Packet, Part, columns
 from pdsuite.page.plots import Plot
 from pdsuite.programs.protocol import Cause
 from pdsuite.programs.rows import Verdict
-from pdsuite.programs.told import dropped_segments, sender_of, senders_of
+from pdsuite.programs.told import STATE, WORDS, dropped_segments, safe, sender_of, sent, untaken, value_of
 from pdsuite.reports.outcome_text import block, reason, warnings
 from pdsuite.run.met_lines import Differences, MetLine
 from pdsuite.run.outcomes import Outcome, Tally
 from pdsuite.scripts.settings import shown_value
 from pdsuite.scripts.text import Text
-from pdsuite.show.octets import shown, shown_path, shown_text
+from pdsuite.show.octets import shown, shown_path
 
 _LONGEST_LINE = 160
-_MICROSECONDS = 1_000_000
 
-# What stands below the packets, in this order: a key of the program's, and its words.
-_FACTS = {
-    "call": "call",
-    "expected_result": "expected result",
-    "actual_result": "actual result",
-    "event": "event",
-    "moment_us": "its moment",
-    "before_us": "lies before",
-    "awaited_from_us": "awaited from",
-    "awaited_until_us": "awaited until",
-    "tolerance_us": "tolerance",
-    "early_us": "early by",
-    "timer_us": "timer expires",
-    "rto_words": "RTO",
-    "recovery_words": "recovery",
-    "sacked_words": "SACKed",
-    "rule_words": "rule",
-    "limit": "limit",
-}
-_NULLS = {"awaited_until_us": "any time", "timer_us": "never, it doesn't run", "expiry_us": "none"}
-
-# The sender's state: a key of the program's, its word, and what it is.
-_STATE = {
-    "name": ("state", "as RFC 9293 names it"),
-    "connection": ("connection", ""),
-    "una": ("una", "the oldest octet that isn't acknowledged"),
-    "next": ("next", "where sending goes on"),
-    "top": ("top", "the number after all that was sent"),
-    "end": ("end", "the number after all that is queued"),
-    "cwnd": ("cwnd", "the congestion window, in octets"),
-    "ssthresh": ("ssthresh", "the slow start threshold, in octets"),
-    "rwnd": ("rwnd", "the peer's window, in octets"),
-    "flight_size": ("FlightSize", "top less una, in octets"),
-    "pipe": ("pipe", "octets that count as on the way"),
-    "prr_delivered": ("prr_delivered", "octets that reached the peer in this recovery"),
-    "prr_out": ("prr_out", "octets that were sent in it"),
-    "dup_acks": ("DupAcks", "duplicates counted; 4 stands for more too"),
-    "rto_us": ("RTO", "the retransmission timeout"),
-    "expiry_us": ("expiry", "when the timer expires next"),
-    "recovery": ("recovery", "from losses, and by which RFC"),
+# What stands elsewhere than below the packets.
+_ELSEWHERE = ("script_packet", "actual_packet", "reason_words")
+# What is said of the sender's state and its numbers.
+_GLOSSES = {
+    "name": "as RFC 9293 names it",
+    "una": "the oldest octet that isn't acknowledged",
+    "next": "where sending goes on",
+    "top": "the number after all that was sent",
+    "end": "the number after all that is queued",
+    "cwnd": "the congestion window, in octets",
+    "ssthresh": "the slow start threshold, in octets",
+    "rwnd": "the peer's window, in octets",
+    "flight_size": "top less una, in octets",
+    "pipe": "octets that count as on the way",
+    "prr_delivered": "octets that reached the peer in this recovery",
+    "prr_out": "octets that were sent in it",
+    "dup_acks": "duplicates counted; 4 stands for more too",
+    "rto_us": "the retransmission timeout",
+    "expiry_us": "when the timer expires next",
+    "recovery": "from losses, and by which RFC",
 }
 
 
@@ -175,7 +153,7 @@ def sheet_of(entry: Entry, cause: Cause | None, diagram: Diagram, met: Differenc
         row=row_of(outcome),
         events=outcome.row.number if outcome.row.verdict is Verdict.PASS else None,
         lines=tuple(_lines(entry.text, outcome.line)) if entry.text else (),
-        settings=tuple(Fact(key, _safe(shown_value(value))) for key, value in outcome.settings),
+        settings=tuple(Fact(key, safe(shown_value(value))) for key, value in outcome.settings),
         packets=_packets(told),
         reason=_said(told, "reason_words"),
         refused=_refused(told),
@@ -192,17 +170,15 @@ def sheet_of(entry: Entry, cause: Cause | None, diagram: Diagram, met: Differenc
 def _facts(told: Cause) -> Iterator[Fact]:
     if sender := sender_of(told.get("sent_by")):
         yield Fact("sent by", sender)
-    for key, words in _FACTS.items():
-        if key in told:
+    for key, words in WORDS.items():
+        if key in told and key not in _ELSEWHERE:
             yield Fact(words, _value(key, told[key]))
     for it in dropped_segments(told):
-        yield Fact("dropped", _safe(it))
+        yield Fact("dropped", safe(it))
 
 
 def _untaken(told: Cause) -> Iterator[str]:
-    """The untaken packets, each with what sent it, where that is told."""
-    for packet, sender in zip(_texts(told, "untaken_packets"), chain(senders_of(told), repeat(""))):
-        yield f"{packet}, sent by {sender}" if sender else packet
+    return (safe(sent(packet, origin)) for packet, origin in untaken(told))
 
 
 def _expected(outcome: Outcome) -> str:
@@ -247,35 +223,27 @@ def _refused(told: Cause) -> Refused | None:
 def _state(told: Cause) -> Iterator[Fact]:
     state = told.get("state")
     if isinstance(state, Mapping):
-        for key, (word, gloss) in _STATE.items():
+        for key, word in {"name": "state", **STATE}.items():
             if key in state:
-                yield Fact(word, _value(key, state[key]), gloss)
+                yield Fact(word, _value(key, state[key]), _GLOSSES.get(key, ""))
 
 
 def _value(key: str, value: object) -> str:
-    """A value as people see it: of moments and spans seconds."""
-    if value is None:
-        return _NULLS.get(key, "none")
-    if key.endswith("_us") and isinstance(value, int):
-        return f"{value // _MICROSECONDS}.{value % _MICROSECONDS:06} s"
-    return _safe(str(value))
+    """A value as people see it, with the unit of moments and spans."""
+    unit = " s" if key.endswith("_us") and value is not None else ""
+    return f"{safe(value_of(key, value))}{unit}"
 
 
 def _said(told: Cause, key: str) -> str:
     value = told.get(key)
-    return _safe(value) if isinstance(value, str) else ""
+    return safe(value) if isinstance(value, str) else ""
 
 
 def _texts(told: Cause, key: str) -> tuple[str, ...]:
     values = told.get(key)
-    return tuple(_safe(it) for it in values if isinstance(it, str)) if isinstance(values, list) else ()
+    return tuple(safe(it) for it in values if isinstance(it, str)) if isinstance(values, list) else ()
 
 
 def _number(told: Cause, key: str) -> int:
     value = told.get(key)
     return value if isinstance(value, int) else 0
-
-
-def _safe(text: str) -> str:
-    """What the program has made safe to print, and anything else as it is shown."""
-    return text if text.isprintable() else shown_text(text)

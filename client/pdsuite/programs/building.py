@@ -139,7 +139,8 @@ class Building:
 
 
 def _command(tree: Path, way: Way, *words: str) -> list[str | Path]:
-    return [sys.executable, "-B", BUILD_TOOL, "--way", way, "--tree", tree, *words]
+    # As the tools start each other: what isn't asked for isn't looked for either.
+    return [sys.executable, "-EsSB", BUILD_TOOL, "--way", way, "--tree", tree, *words]
 
 
 def _folder(said: bytes) -> Path:

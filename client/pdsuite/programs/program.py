@@ -8,8 +8,10 @@ import selectors
 import signal
 import subprocess
 import time
-from collections.abc import Iterator, Sequence
+from collections.abc import Generator, Iterator, Sequence
+from math import inf
 from pathlib import Path
+from typing import TypeVar
 
 from pdsuite.faults import why
 from pdsuite.programs.starts import Said
@@ -21,10 +23,12 @@ _READ = 1 << 18
 _KEPT = 4_096
 _SHOWN = 200
 _GRACE = 1.0
-# Begins what a program that counts steps says of a job.
-_JOB = b"job "
+# Begins what a program says of a job: its steps, or by keys why it came to its row.
+_OF_JOBS = (b"job ", b"{")
 # The statuses of a program that has read all commands.
 _REGULAR = (0, 1)
+
+T = TypeVar("T")
 
 
 class Ended(Exception):
@@ -59,6 +63,7 @@ class Program:
         self._got = bytearray(b"\n")
         self._said = b""
         self._kept = _KEPT
+        self._most: float = inf  # more than so many octets on standard error are too much
         self._is_last = False
         for descriptor in (stop.fileno(), self._out, self._err):
             self._selector.register(descriptor, selectors.EVENT_READ)
@@ -71,6 +76,32 @@ class Program:
 
     def ask(self, commands: bytes, longest: int) -> bytes:
         """What the program answers, up to the line `total`. It is read while the commands are written."""
+        return self._waited(self._answer(commands, longest))
+
+    def ask_and_hear(self, commands: bytes, longest: int, longest_said: int | None = None) -> tuple[bytes, bytes]:
+        """What the program answers, and all that it has said on standard error when the answer is there.
+
+        Neither is longer than `longest`, or what is said than `longest_said`, in octets.
+        """
+        return self._waited(self.hearing(commands, longest, longest if longest_said is None else longest_said))
+
+    def hearing(
+        self, commands: bytes, longest: int, longest_said: int
+    ) -> Generator["Program", None, tuple[bytes, bytes]]:
+        """The same, which gives way where it has to wait until the program can be read or written (`fileno`)."""
+        self._most, self._kept, self._said = longest_said, longest_said + 1, b""
+        answer = yield from self._answer(commands, longest)
+        # What was said before the line that ends an answer is in the pipe by then.
+        while self._work(0):
+            self._check_said()
+        said, self._said = self._said, b""
+        return answer, said
+
+    def wait(self) -> None:
+        """Waits until the program can be read or written, or a signal comes."""
+        self._selector.select()
+
+    def _answer(self, commands: bytes, longest: int) -> Generator["Program", None, bytes]:
         self._send(commands)
         seen = 0
         while True:
@@ -81,9 +112,24 @@ class Program:
             seen = max(0, start if start >= 0 else len(self._got) - len(b"\ntotal "))
             if len(self._got) > longest:
                 raise Ended(f"{self._name} answered more than was asked")
+            self._check_said()
             if not self._is_open(self._out):
                 raise Ended(self._last_words())
-            self._work(None)
+            yield self
+            self._work(0)
+
+    def _waited(self, asking: Generator["Program", None, T]) -> T:
+        while True:
+            try:
+                next(asking)
+            except StopIteration as end:
+                answer: T = end.value
+                return answer
+            self.wait()
+
+    def _check_said(self) -> None:
+        if len(self._said) > self._most:
+            raise Ended(f"{self._name} said more than was asked")
 
     def finish(self, commands: bytes, longest: int) -> bytes:
         """What the program says on standard error of these commands. It is asked nothing after them, and ends."""
@@ -145,12 +191,6 @@ class Program:
         if not self._has_ended():
             raise Ended(f"{self._name} closed its output")
         return self._kill()
-
-    def said(self) -> bytes:
-        """What a program that answered has said on standard error since this was asked last, the last octets of it."""
-        self._work(0)
-        said, self._said = self._said, b""
-        return said
 
     def fileno(self) -> int:
         """What can be read once a program that nobody asks has something to say, or has ended."""
@@ -239,7 +279,7 @@ class Program:
 
     def _last_line(self) -> str:
         """The last line that the program said, if it said one."""
-        lines = [line for line in self._said.split(b"\n") if line.strip() and not line.startswith(_JOB)]
+        lines = [line for line in self._said.split(b"\n") if line.strip() and not line.startswith(_OF_JOBS)]
         return shown(lines[-1], _SHOWN) if lines else ""
 
     def _end(self) -> str:

@@ -25,6 +25,8 @@ _TOTAL = re.compile(rb"total (\d+) pass \d+ fail \d+ syntax \d+ unsupported \d+ 
 
 # What is told of a script as JSON, by its keys.
 Cause = Mapping[str, object]
+# What a program that counts steps says of a job: the script's name, and how many steps it took.
+_STEPS = re.compile(rb"^job \d+ (\S+) steps (\d+)$", re.MULTILINE)
 
 _WORDS = (Verdict.PASS, Verdict.SYNTAX, Verdict.UNSUPPORTED, Verdict.LIMIT)
 _VERDICTS = {it.value.encode(): it for it in _WORDS}
@@ -99,9 +101,11 @@ def blocks_in(said: bytes) -> dict[tuple[bytes, int], list[bytes]]:
 
 
 def causes_in(said: bytes) -> dict[tuple[bytes, int], Cause]:
-    """What was said as JSON, an object a line, by the names of scripts and their lines."""
+    """What was said as JSON, an object a line, by the names of scripts and their lines; other lines tell else."""
     causes: dict[tuple[bytes, int], Cause] = {}
-    for line in said.split(b"\n")[:-1]:
+    for line in said.split(b"\n"):
+        if not line.startswith(b"{"):
+            continue
         cause = _object(line)
         match cause:
             case {"name": str(name), "line": int(number)}:
@@ -109,6 +113,11 @@ def causes_in(said: bytes) -> dict[tuple[bytes, int], Cause]:
             case _:
                 raise Unexpected(f'said "{shown(line, _SHOWN)}", which tells of no script')
     return causes
+
+
+def steps_in(said: bytes) -> dict[bytes, int]:
+    """How many steps jobs took, by the names of their scripts, as a program says that counts them."""
+    return {name: int(steps) for name, steps in _STEPS.findall(said)}
 
 
 def _object(line: bytes) -> Cause:

@@ -18,8 +18,8 @@ from pdsuite.signals import Stop
 _LONGEST = 8 << 20
 TRACE = "--trace"
 # Has it change as little of a script as makes it pass, and leave no comment of packets that aren't sent.
-LEAST = "--least"
-DROP = "--drop"
+MINIMAL = "--minimal"
+DROP_MISSING = "--drop-missing"
 # A recording is expected to have so many octets at most, and so many for each octet of its script.
 _ROOM = 2_048
 _WRITTEN = 6

@@ -9,12 +9,12 @@ from pdsuite.faults import Fault
 from pdsuite.programs.program import Ended, Program
 from pdsuite.programs.protocol import LONGEST_LINE, SHOW, Unexpected
 from pdsuite.programs.protocol import refusal_in, rows_in, set_and_show
+from pdsuite.scripts.renamed import BAD_VALUE, UNKNOWN_KEY
 from pdsuite.scripts.settings import set_words
 from pdsuite.scripts.suite import Claim
 
 # Why the program refuses a key or its value; any other refusal ends the run.
-UNKNOWN_KEY = "UnknownKey"
-_REFUSALS = (UNKNOWN_KEY, "BadValue")
+_REFUSALS = (UNKNOWN_KEY, BAD_VALUE)
 # Where the answer to a question ends.
 _AFTER_TOTAL = re.compile(rb"(?<=pending 0\n)")
 

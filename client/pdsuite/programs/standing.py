@@ -11,6 +11,7 @@ from functools import partial
 from os import environ, fsdecode
 from os.path import isdir
 from pathlib import Path
+from typing import TypeVar
 
 from pdsuite.faults import Fault, why
 from pdsuite.file_stamps import Stamp, have_stamps, is_sure, stamp_of
@@ -26,6 +27,8 @@ _MADE = "/out/"
 # What is said where a sender isn't the one that it was at the beginning.
 CHANGED = "the sender has changed meanwhile"
 
+T = TypeVar("T")
+U = TypeVar("U")
 Find = Callable[[str], Path]
 Files = Callable[[str], Sequence[str]]
 
@@ -140,7 +143,7 @@ class Steady:
     """Sees whether senders stay as they were when this was made: proved programs, or else the sources of a tree."""
 
     def __init__(self, *looks: Look) -> None:
-        self._looks = [(it, it.now(), it.sources()) for it in looks]
+        self._looks = _side_by_side(lambda it: (it, it.now(), it.sources()), looks)
 
     def need_same(self, consequence: str) -> None:
         """A fault where one isn't as it was; it names the consequence."""
@@ -149,7 +152,18 @@ class Steady:
 
     def has_changed(self) -> bool:
         """Whether one isn't as it was."""
-        return any(_has_changed(*it) for it in self._looks)
+        return any(_side_by_side(lambda it: _has_changed(*it), self._looks))
+
+
+def _side_by_side(work: Callable[[T], U], each: Sequence[T]) -> list[U]:
+    """What a function answers to each: looks wait for the tools of their trees."""
+    if len(each) < 2:
+        return [work(it) for it in each]
+    # Only who looks at several senders pays for what makes threads.
+    from concurrent.futures import ThreadPoolExecutor
+
+    with ThreadPoolExecutor(len(each)) as pool:
+        return list(pool.map(work, each))
 
 
 def _has_changed(look: Look, found: Mapping[str, Found], sources: Mapping[str, Stamp]) -> bool:

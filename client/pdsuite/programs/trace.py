@@ -1,13 +1,11 @@
 """A recording as `pdrecord --trace` writes it: its events, each with its moment and the sender's state after it."""
 
-import re
 from collections.abc import Mapping
 from dataclasses import dataclass
 
-from pdsuite.packetdrill.items import SECOND, Call, Packet
+from pdsuite.packetdrill.items import Call, Packet
 from pdsuite.packetdrill.reader import read
-
-_STATE = re.compile(r"^//= at ([0-9]+)\.([0-9]{6}) ([A-Z0-9-]+)((?: [A-Za-z_]+:[A-Za-z0-9.]+)+)$", re.MULTILINE)
+from pdsuite.packetdrill.recorded import recorded_in
 
 
 @dataclass(frozen=True, slots=True)
@@ -34,12 +32,8 @@ class Event:
 def events_in(recording: str) -> tuple[Event, ...]:
     """The events of a recording, or none where one of them has no state."""
     items = [(it.what, it.end) for it in read(recording).items if isinstance(it.what, Packet | Call)]
-    states = list(_STATE.finditer(recording))
-    if len(items) != len(states):
+    recorded = recorded_in(recording)
+    if len(items) != len(recorded):
         return ()
-    return tuple(_event(what, end, found) for (what, end), found in zip(items, states))
-
-
-def _event(what: Packet | Call, end: int, found: "re.Match[str]") -> Event:
-    facts = dict(it.split(":", 1) for it in found[4].split())
-    return Event(what, end, int(found[1]) * SECOND + int(found[2]), found[3], facts)
+    each = zip(items, recorded)
+    return tuple(Event(what, end, it.moment, it.state.name, it.state.facts) for (what, end), it in each)

@@ -13,6 +13,8 @@ from pdsuite.scripts.shards import Shard
 from pdsuite.show.octets import shown_path
 from pdsuite.show.styled_text import StyledText, unstyled
 
+# Of the object, as docs/run.schema.json has it.
+VERSION = 2
 _PASS = Verdict.PASS
 _encoded = json.JSONEncoder(ensure_ascii=False).encode
 
@@ -24,7 +26,7 @@ class Json:
     shard: Shard | None = None
 
     def head(self, count: int) -> StyledText:
-        return unstyled('{"scripts": [')
+        return unstyled(f'{{"version": {VERSION}, "scripts": [')
 
     def entry(self, number: int, outcome: Outcome) -> StyledText:
         begin = "\n" if number == 1 else ",\n"

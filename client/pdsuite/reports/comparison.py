@@ -100,7 +100,7 @@ def plain(told: Told) -> StyledText:
     text.append("".join(f"{line}\n" for line in quantity_lines(told.compared, told.sort, told.is_every)))
     *folders, total = counts_of(told.compared)
     for count in folders:
-        text.append(f"{shown_path(count.name)}: {count}\n")
+        text.append(f"{shown_path(count.name)}: {count.words}\n")
     if told.affected is not None:
         text.append("".join(f"{line}\n" for line in affected_lines(told.affected)))
     mark = f" {UNPROVED}" if told.is_unproved else ""

@@ -26,7 +26,7 @@ def _lines(told: Told, names: tuple[str, str]) -> Iterator[str]:
     yield ""
     yield f"- before: {_code(names[0])}"
     yield f"- after: {_code(names[1])}"
-    yield f"- scripts: {total}{f' ({UNPROVED})' if told.is_unproved else ''}"
+    yield f"- {total.words}{f' ({UNPROVED})' if told.is_unproved else ''}"
     for kind, group in told.groups():
         yield from _group(kind, group, told.is_every)
     more = list(quantity_lines(told.compared, told.sort, told.is_every))

@@ -1,11 +1,9 @@
 """The report as JUnit's XML, for build servers."""
 
 import os
-from collections.abc import Sequence
+from collections.abc import Iterable, Mapping, Sequence
+from dataclasses import dataclass
 from datetime import UTC, datetime, timedelta
-from io import BytesIO
-
-from junitparser import Attr, Error, Failure, JUnitXml, Skipped, TestCase, TestSuite
 
 from pdsuite.programs.rows import Verdict
 from pdsuite.reports.outcome_text import block, heading, summary, warned
@@ -14,10 +12,32 @@ from pdsuite.show.octets import shown_path
 
 # The line of a script that none is named of.
 _FIRST = 1
+_HEAD = "<?xml version='1.0' encoding='UTF-8'?>\n"
+_FAILURE, _ERROR, _SKIPPED = "failure", "error", "skipped"
+# Of an element, by their names.
+Attributes = Mapping[str, str | int | float]
 
 
-# Where a case's script is, as GitLab and CircleCI read it.
-TestCase.file, TestCase.line = Attr("file"), Attr("line")
+@dataclass(frozen=True, slots=True)
+class _Result:
+    """Why a case doesn't count as passed: its kind, a message, the type of that, and a text."""
+
+    kind: str
+    message: str
+    type: str
+    text: str = ""
+
+
+@dataclass(frozen=True, slots=True)
+class _Suite:
+    """The scripts of a folder, each with its results."""
+
+    folder: str
+    cases: Sequence[tuple[Outcome, Sequence[_Result]]]
+
+    def count(self, kind: str) -> int:
+        """How many results of a kind its cases have."""
+        return sum(it.kind == kind for _, results in self.cases for it in results)
 
 
 def junit(outcomes: Sequence[Outcome], seconds: float, is_unproved: bool = False) -> bytes:
@@ -25,53 +45,76 @@ def junit(outcomes: Sequence[Outcome], seconds: float, is_unproved: bool = False
 
     One that is known not to pass is skipped, and one that passes though another row is expected is a failure.
     The suites share the seconds of the run, by the numbers of their scripts. Each says where the sender isn't proved.
+    It is put together by hand, since a run that a signal ends has little time.
     """
     begin = (datetime.now(UTC) - timedelta(seconds=seconds)).strftime("%Y-%m-%dT%H:%M:%S")
-    folders: dict[str, list[Outcome]] = {}
+    folders: dict[str, list[tuple[Outcome, Sequence[_Result]]]] = {}
     for outcome in outcomes:
-        folders.setdefault(shown_path(os.path.dirname(outcome.path)), []).append(outcome)
-    report = JUnitXml("pdsuite")
-    for folder, scripts in folders.items():
-        report.append(_suite(folder, scripts, begin))
-    report.update_statistics()
-    for suite in report:
-        if is_unproved:
-            suite.add_property(UNPROVED, "true")
-        suite.time = round(seconds * suite.tests / len(outcomes), 3)
-    report.time = round(seconds, 3)
-    octets = BytesIO()
-    report.write(octets)
-    return octets.getvalue()
+        folders.setdefault(shown_path(os.path.dirname(outcome.path)), []).append((outcome, _results(outcome)))
+    suites = [_Suite(*it) for it in folders.items()]
+    told = "".join(_suite(it, begin, seconds * len(it.cases) / len(outcomes), is_unproved) for it in suites)
+    counts = {f"{kind}s": sum(it.count(kind) for it in suites) for kind in (_FAILURE, _ERROR)}
+    skipped = sum(it.count(_SKIPPED) for it in suites)
+    whole: Attributes = {
+        "name": "pdsuite",
+        "tests": len(outcomes),
+        **counts,
+        "skipped": skipped,
+        "time": _rounded(seconds),
+    }
+    return (_HEAD + _element("testsuites", whole, told)).encode()
 
 
-def _suite(folder: str, scripts: Sequence[Outcome], begin: str) -> TestSuite:
-    suite = TestSuite(folder or os.curdir)
-    suite.timestamp = begin
-    for outcome in scripts:
-        suite.append(_case(folder, outcome))
-    return suite
+def _suite(suite: _Suite, begin: str, seconds: float, is_unproved: bool) -> str:
+    counts = {f"{kind}s": suite.count(kind) for kind in (_ERROR, _FAILURE)}
+    named: Attributes = {"name": suite.folder or os.curdir, "timestamp": begin, "tests": len(suite.cases), **counts}
+    folder = _quoted(suite.folder)
+    cases = "".join(_case(folder, *it) for it in suite.cases)
+    mark = _element("property", {"name": UNPROVED, "value": "true"})
+    more = _element("properties", {}, mark) if is_unproved else ""
+    return _element("testsuite", {**named, "skipped": suite.count(_SKIPPED), "time": _rounded(seconds)}, cases + more)
 
 
-def _case(folder: str, outcome: Outcome) -> TestCase:
-    path = shown_path(outcome.path)
-    case = TestCase(path, classname=folder, time=0)
-    case.file = path
-    case.line = outcome.line or _FIRST
-    if outcome.tally is not Verdict.PASS:
-        result = _result(outcome)
-        below = (f"  {it}" for it in block(outcome))
-        result.text = "\n".join([heading(outcome), *below, *warned(outcome)])
-        case.result = [result]
-    elif lines := warned(outcome):
-        if outcome.passes:
-            case.system_err = "\n".join(lines)
-        else:
-            case.result = [Failure(line, "warning") for line in lines]
-    return case
+def _case(folder: str, outcome: Outcome, results: Iterable[_Result]) -> str:
+    """The case of a script in a folder, whose name is quoted already."""
+    path = _quoted(shown_path(outcome.path))
+    below = "".join(_element(it.kind, {"message": it.message, "type": it.type}, _text(it.text)) for it in results)
+    if outcome.tally is Verdict.PASS and outcome.passes and (lines := warned(outcome)):
+        below += _element("system-err", {}, _text("\n".join(lines)))
+    # Where a case's script is, as GitLab and CircleCI read it.
+    place = f'file="{path}" line="{outcome.line or _FIRST}"'
+    begin = f'<testcase name="{path}" classname="{folder}" time="0.0" {place}'
+    return f"{begin}>{below}</testcase>" if below else f"{begin}/>"
 
 
-def _result(outcome: Outcome) -> Skipped | Failure | Error:
+def _results(outcome: Outcome) -> Sequence[_Result]:
+    """Why a script's case doesn't count as passed, if it doesn't."""
+    if outcome.tally is Verdict.PASS:
+        return () if outcome.passes else [_Result(_FAILURE, it, "warning") for it in warned(outcome)]
+    told = summary(outcome)
+    # Of a script that wasn't run nothing more is told.
+    if outcome.row.verdict is Verdict.NOT_RUN:
+        return (_Result(_ERROR, told, outcome.tally.value, told),)
+    text = "\n".join([heading(outcome), *(f"  {it}" for it in block(outcome)), *warned(outcome)])
     if outcome.is_known and outcome.expected is not None:
-        return Skipped(outcome.expected.reason, outcome.tally.value)
-    kind = Failure if outcome.row.verdict in (Verdict.FAIL, Verdict.PASS) else Error
-    return kind(summary(outcome), outcome.tally.value)
+        return (_Result(_SKIPPED, outcome.expected.reason, outcome.tally.value, text),)
+    kind = _FAILURE if outcome.row.verdict in (Verdict.FAIL, Verdict.PASS) else _ERROR
+    return (_Result(kind, told, outcome.tally.value, text),)
+
+
+def _element(tag: str, attributes: Attributes, inside: str = "") -> str:
+    """An element with what stands inside it, which is XML already."""
+    told = "".join(f' {name}="{_quoted(str(value))}"' for name, value in attributes.items())
+    return f"<{tag}{told}>{inside}</{tag}>" if inside else f"<{tag}{told}/>"
+
+
+def _text(text: str) -> str:
+    return text.replace("&", "&amp;").replace("<", "&lt;").replace(">", "&gt;").replace("\r", "&#13;")
+
+
+def _quoted(text: str) -> str:
+    return _text(text).replace('"', "&quot;").replace("\t", "&#9;").replace("\n", "&#10;")
+
+
+def _rounded(seconds: float) -> float:
+    return round(seconds, 3)

@@ -54,14 +54,12 @@ class _Task:
 
 
 @contextmanager
-def cluster(
-    address: str, wanted: WantedProgram, by_keys: bool, stop: Stop, note: Callable[[str], None]
-) -> Iterator[Mapper]:
-    """Has runs settled, and told by keys if need be, by the workers of a scheduler that have this machine's program."""
+def cluster(address: str, wanted: WantedProgram, stop: Stop, note: Callable[[str], None]) -> Iterator[Mapper]:
+    """Has runs settled by the workers of a scheduler that have this machine's program."""
     client = _connected(address)
     stop.check()
     try:
-        workers = _Cluster(client, address, wanted, by_keys, stop, note)
+        workers = _Cluster(client, address, wanted, stop, note)
         workers.wait_for_one()
         yield workers.settle
     finally:
@@ -105,14 +103,12 @@ class _Cluster:
         client: Client,
         address: str,
         wanted: WantedProgram,
-        by_keys: bool,
         stop: Stop,
         note: Callable[[str], None],
     ) -> None:
         self._client = client
         self._address = _shown(address)
         self._wanted = wanted
-        self._by_keys = by_keys
         self._stop = stop
         self._note = note
         self._near, self._far = socket.socketpair()
@@ -182,7 +178,7 @@ class _Cluster:
         if task.workers and task.sendings < _SENDINGS:
             task.sendings += 1
             task.future = self._client.submit(
-                parcels.work, task.parcel, self._wanted, self._by_keys, workers=list(task.workers), pure=False
+                parcels.work, task.parcel, self._wanted, workers=list(task.workers), pure=False
             )
             task.future.add_done_callback(self._ring)
 

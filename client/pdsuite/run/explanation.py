@@ -10,11 +10,11 @@ from pdsuite.packetdrill.reader import flat
 from pdsuite.packetdrill.tokens import tokens_of
 from pdsuite.programs.protocol import Cause
 from pdsuite.programs.rows import Row
+from pdsuite.programs.told import safe
 from pdsuite.run.outcomes import Outcome
 from pdsuite.run.row_place import Place, failing_event, place_of
 from pdsuite.run.settling import SettledPiece, Step
 from pdsuite.scripts.text import Text
-from pdsuite.show.octets import shown_text
 
 # The name of a script in a run, which nobody else knows.
 _NAME = "name"
@@ -26,15 +26,17 @@ def whole_steps(steps: Iterable[Step]) -> Iterator[Step]:
     """The steps, in which each explanation has the place of its row and its packets by field."""
     for step in steps:
         if isinstance(step, SettledPiece):
-            outcomes = [(it, _whole(outcome, step.texts.get(it.index))) for it, outcome in step.outcomes]
-            step = replace(step, outcomes=outcomes)
+            whole = [
+                _whole(it, step.causes.get(script.index), step.texts.get(script.index)) for script, it in step.outcomes
+            ]
+            step = replace(step, outcomes=[(script, it) for (script, _), it in zip(step.outcomes, whole)])
         yield step
 
 
-def _whole(outcome: Outcome, text: Text | None) -> Outcome:
-    if outcome.explanation is None or text is None:
+def _whole(outcome: Outcome, cause: Cause | None, text: Text | None) -> Outcome:
+    if cause is None or text is None or outcome.row.line is None:
         return outcome
-    return replace(outcome, explanation=explanation_of(outcome.row, outcome.explanation, text))
+    return replace(outcome, explanation=explanation_of(outcome.row, cause, text))
 
 
 def explanation_of(row: Row, cause: Cause, text: Text) -> Mapping[str, object]:
@@ -93,9 +95,9 @@ def _safe(value: object) -> object:
     """What the program has made safe to print, and anything else as it is shown."""
     match value:
         case str():
-            return value if value.isprintable() else shown_text(value)
+            return safe(value)
         case list():
             return [_safe(it) for it in value]
         case dict():
-            return {str(_safe(key)): _safe(it) for key, it in value.items()}
+            return {safe(str(key)): _safe(it) for key, it in value.items()}
     return value

@@ -51,7 +51,7 @@ def met_lines(row: Row, told: Sequence[str], text: str, recording: str, settings
     """What each event of a script that fails was met by, in a recording with its trace."""
     layout, recorded = layout_of(text), recorded_in(recording)
     allowed = tolerance_of(layout.items, tolerance(settings))
-    met = list(met_by(layout.events, recorded, passed_before(layout, row, _cause(told)), allowed))
+    met = list(met_by(layout.events, recorded, passed_before(layout, row, event_in(told)), allowed))
     return tuple(_lines(met, recorded, recording, allowed))
 
 
@@ -69,7 +69,7 @@ def passed_before(layout: Layout, row: Row, cause: Mapping[str, object] | None) 
     return sum(it.item.line < (row.line or 0) for it in layout.events)
 
 
-def _cause(told: Sequence[str]) -> dict[str, object]:
+def event_in(told: Sequence[str]) -> dict[str, object]:
     """The event that lines below a row have."""
     return {key: line.removeprefix(begin) for line in told for begin, key in _TOLD.items() if line.startswith(begin)}
 

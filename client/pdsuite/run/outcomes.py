@@ -6,6 +6,7 @@ from enum import StrEnum
 from typing import TYPE_CHECKING
 
 from pdsuite.programs.rows import Row, Verdict
+from pdsuite.programs.told import safe
 from pdsuite.scripts.expectation import Expectation
 from pdsuite.scripts.settings import Settings
 
@@ -16,6 +17,8 @@ if TYPE_CHECKING:
 UNPROVED = "UNPROVED"
 # The line that the program marks, in what it tells by keys.
 _TEXT_LINE = "text_line"
+# What the words on the end of a script that passes may begin with.
+_IT = "it "
 
 
 class Tally(StrEnum):
@@ -92,6 +95,13 @@ class Outcome:
         if self.expected is not None:
             return self.is_known
         return self.row.verdict is Verdict.PASS and not (self.is_strict and self.warnings)
+
+
+def at_end(row: Row, cause: Mapping[str, object] | None) -> str:
+    """What is to be warned of at the end of a script that passes, in the words that follow `passes, but`."""
+    if cause is None or row.verdict is not Verdict.PASS or not row.number:
+        return ""
+    return safe(str(cause.get("what", ""))).removeprefix(_IT)
 
 
 @dataclass(frozen=True)

@@ -2,7 +2,6 @@
 
 import os
 from collections.abc import Callable, Iterator
-from dataclasses import replace
 from itertools import chain, islice
 from pathlib import Path
 
@@ -10,11 +9,10 @@ from pdsuite.faults import Fault, why
 from pdsuite.programs.places import FOLDER, REGRESS, digest
 from pdsuite.programs.protocol import Cause
 from pdsuite.programs.rows import Row, Verdict
-from pdsuite.run.explainer import Explainer, explained_steps, with_cause
-from pdsuite.run.outcomes import Outcome
-from pdsuite.run.runs import Piece, Run, Script, outcome_of
+from pdsuite.run.explainer import TELLS
+from pdsuite.run.runs import Piece, Run, Script
 from pdsuite.run.settling import SettledPiece, Step
-from pdsuite.run.settling import load, settle, start_with
+from pdsuite.run.settling import load, settle, settled_piece, start_telling, start_with
 from pdsuite.scripts.settings import Settings
 from pdsuite.scripts.text import Text, text_of
 from pdsuite.show.octets import shown_path
@@ -24,9 +22,8 @@ from pdsuite.signals import Stop
 Parcel = tuple[Settings, list[list[tuple[str, bytes | str]]]]
 # The program: its path on the machine that asks, and its SHA-256.
 WantedProgram = tuple[str, str]
-# A verdict with its number and word, the line that it names, what it means, what stands below it, all that by keys, and
-# what is to be warned of at the script's end.
-PlainRow = tuple[str, int, str, bytes | None, str, tuple[str, ...], Cause | None, str]
+# A verdict with its number and word, and what is told of the script by keys.
+PlainRow = tuple[str, int, str, Cause | None]
 # The rows of each piece, and before them what is said on the way; or why nothing was run.
 Answer = list[str | list[PlainRow]] | str
 
@@ -47,8 +44,8 @@ def fault_of(wanted: WantedProgram) -> str:
     return ""
 
 
-def work(parcel: Parcel, wanted: WantedProgram, by_keys: bool) -> Answer:
-    """Settles and explains a run on the machine where this is called, if its program is that one."""
+def work(parcel: Parcel, wanted: WantedProgram) -> Answer:
+    """Settles a run on the machine where this is called, if its program is that one."""
     try:
         program = _find(*wanted)
     except Fault as fault:
@@ -56,9 +53,8 @@ def work(parcel: Parcel, wanted: WantedProgram, by_keys: bool) -> Answer:
     run, texts = _unpacked(parcel)
     answer: list[str | list[PlainRow]] = []
     with Stop(signals=()) as stop:
-        explainer = Explainer(program, stop, answer.append, by_keys=by_keys, of_ends=True)
-        start = start_with(program, 0, 1, stop)
-        for step in explained_steps(settle(run, start, lambda it: texts[it.index]), explainer):
+        start, untelling = start_telling(program, TELLS, 1, stop), start_with(program, 0, 1, stop)
+        for step in settle(run, start, lambda it: texts[it.index], untelling):
             answer.append(_plain_step(step))
     return answer
 
@@ -72,9 +68,10 @@ def steps_of(
         if isinstance(it, str):
             note(it)
             continue
-        piece = list(islice(sent, len(it)))
-        texts = {script.index: text_of(text) for script, text in piece if isinstance(text, bytes)}
-        yield SettledPiece([(script, _outcome(script, row)) for (script, _), row in zip(piece, it)], texts)
+        piece = [(script, _text(text)) for script, text in islice(sent, len(it))]
+        told = [(script, row) for (script, text), row in zip(piece, it) if isinstance(text, Text)]
+        rows = (Row(Verdict(verdict), number, word) for _, (verdict, number, word, _) in told)
+        yield settled_piece(piece, rows, {script.index: row[3] for script, row in told if row[3] is not None})
 
 
 def _plain_text(script: Script) -> bytes | str:
@@ -98,19 +95,10 @@ def _text(plain: bytes | str) -> Text | str:
 
 
 def _plain_step(step: Step) -> str | list[PlainRow]:
-    if isinstance(step, SettledPiece):
-        return [_plain_row(outcome) for _, outcome in step.outcomes]
-    return str(step)
-
-
-def _plain_row(it: Outcome) -> PlainRow:
-    return it.row.verdict.value, it.row.number, it.row.word, it.text, it.why, it.told, it.explanation, it.at_end
-
-
-def _outcome(script: Script, plain: PlainRow) -> Outcome:
-    verdict, number, word, line, meaning, told, cause, at_end = plain
-    outcome = with_cause(outcome_of(script, Row(Verdict(verdict), number, word), line, meaning, told), cause)
-    return replace(outcome, at_end=at_end)
+    if not isinstance(step, SettledPiece):
+        return str(step)
+    rows = [(script.index, outcome.row) for script, outcome in step.outcomes]
+    return [(row.verdict.value, row.number, row.word, step.causes.get(index)) for index, row in rows]
 
 
 def _find(path: str, wanted: str) -> Path:

@@ -32,11 +32,9 @@ class Script:
     held: bytes | None = None
 
 
-def outcome_of(
-    script: Script, row: Row, line: bytes | None = None, why: str = "", told: tuple[str, ...] = ()
-) -> Outcome:
-    """What came of a script, whose text has this line where the row names one, and why."""
-    return Outcome(script.path, script.settings, row, line, why, told, script.is_strict, script.expected)
+def outcome_of(script: Script, row: Row, line: bytes | None = None) -> Outcome:
+    """What came of a script, whose text has this line where the row names one."""
+    return Outcome(script.path, script.settings, row, line, is_strict=script.is_strict, expected=script.expected)
 
 
 Piece = tuple[Script, ...]

@@ -1,14 +1,16 @@
-"""Has scripts settled: run by run, piece by piece, and once more where a program ended on the way."""
+"""Has scripts settled, with what is told of them: piece by piece, and once more where a program ended on the way."""
 
 from collections import deque
-from collections.abc import Callable, Generator, Iterable, Iterator
+from contextlib import closing
+from collections.abc import Callable, Generator, Iterable, Iterator, Mapping, Sequence
 from dataclasses import dataclass, field
 from pathlib import Path
 
 from pdsuite.programs.program import Ended, Program
-from pdsuite.programs.protocol import LONGEST_LINE, SETTLE, Unexpected
-from pdsuite.programs.protocol import add, before_total, name_of, rows_in
+from pdsuite.programs.protocol import LONGEST_CAUSE, LONGEST_LINE, SETTLE, Cause, Unexpected
+from pdsuite.programs.protocol import add, before_total, causes_in, name_of, rows_in
 from pdsuite.programs.rows import Row, Verdict
+from pdsuite.run.explainer import with_told
 from pdsuite.run.outcomes import Outcome
 from pdsuite.run.runs import Piece, Run, Script, outcome_of
 from pdsuite.scripts.settings import Settings, settings_text
@@ -23,10 +25,11 @@ Load = Callable[[Script], Text | str]
 
 @dataclass(frozen=True)
 class SettledPiece:
-    """A piece that has been settled, with the texts that were run, by the places of their scripts."""
+    """A piece that has been settled; by the places of its scripts, the texts that were run and what is told by keys."""
 
     outcomes: list[tuple[Script, Outcome]]
     texts: dict[int, Text] = field(default_factory=dict)
+    causes: Mapping[int, Cause] = field(default_factory=dict)
 
 
 @dataclass(frozen=True)
@@ -41,16 +44,33 @@ class Restart:
         return f"pdsuite: {self.reason}; a new run begins at {shown_path(self.script.path)}"
 
 
-Step = SettledPiece | Restart
-# Has runs settled and what doesn't pass explained. The steps come in the order of the runs, whoever takes them.
+@dataclass(frozen=True)
+class Untold:
+    """A program ended where it was to tell of this script, which has a row all the same."""
+
+    script: Script
+    reason: str
+
+    def __str__(self) -> str:
+        """The line that says so."""
+        return f"pdsuite: {self.reason}; nothing is told of {shown_path(self.script.path)}"
+
+
+Step = SettledPiece | Restart | Untold
+# Has runs settled, with what is told of them. The steps come in the order of the runs, whoever takes them.
 Mapper = Callable[[Iterable[Run]], Generator[Step, None, None]]
 
 
 def start_with(program: Path, workers: int, cache: int, stop: Stop) -> Start:
-    """What starts the program for a run under settings."""
+    """What starts the program for a run under settings, in which it tells nothing of scripts but their rows."""
+    return start_telling(program, ("--workers", str(workers)), cache, stop)
+
+
+def start_telling(program: Path, tells: Sequence[str], cache: int, stop: Stop) -> Start:
+    """What starts the program for a run under settings, with words that say what it tells of scripts."""
 
     def start(settings: Settings) -> Program:
-        words: list[str | Path] = [program, "--workers", str(workers), "--cache", str(cache)]
+        words: list[str | Path] = [program, *tells, "--cache", str(cache)]
         text = settings_text(settings)
         return Program([*words, "--settings", text] if text else words, stop)
 
@@ -67,11 +87,30 @@ def load(script: Script) -> Text | str:
         return str(unfit)
 
 
-def settle(run: Run, start: Start, load_text: Load = load) -> Generator[Step, None, None]:
-    """Has a run settled.
+def settle(
+    run: Run, start: Start, load_text: Load = load, untelling: Start | None = None
+) -> Generator[Step, None, None]:
+    """Has a run settled, as `settling` does it, and waits for its programs."""
+    with closing(settling(run, start, load_text, untelling)) as steps:
+        yield from _waited(steps)
+
+
+def _waited(steps: Iterable[Step | Program]) -> Iterator[Step]:
+    for step in steps:
+        if isinstance(step, Program):
+            step.wait()
+        else:
+            yield step
+
+
+def settling(
+    run: Run, start: Start, load_text: Load = load, untelling: Start | None = None
+) -> Generator[Step | Program, None, None]:
+    """Has a run settled, and gives way with its program where that is to be waited for.
 
     Where its program ends, a new one begins with what is left, each script of that piece by itself. A script whose
-    program ends a second time is an error.
+    program ends a second time is given to one that tells nothing, if there is one; else, or where that ends too, it is
+    an error.
     """
     left = deque(run.pieces)
     ended: set[int] = set()
@@ -82,45 +121,87 @@ def settle(run: Run, start: Start, load_text: Load = load) -> Generator[Step, No
         except Ended as end:
             piece = left.popleft()
             if len(piece) == 1 and piece[0].index in ended:
-                yield unrun(piece, str(end))
+                yield from _untold(piece, run.settings, untelling, load_text, str(end))
                 continue
             ended.update(script.index for script in piece)
             left.extendleft((script,) for script in reversed(piece))
             yield Restart(piece[0], str(end))
 
 
-def _settle_pieces(program: Program, left: deque[Piece], load_text: Load) -> Iterator[SettledPiece]:
+def _untold(piece: Piece, settings: Settings, untelling: Start | None, load_text: Load, reason: str) -> Iterator[Step]:
+    """Has a script settled on which programs end that tell of it."""
+    if untelling is not None:
+        try:
+            with untelling(settings) as program:
+                steps = list(_waited(_settle_pieces(program, deque([piece]), load_text)))
+        except Ended as end:
+            reason = str(end)
+        else:
+            yield Untold(piece[0], reason)
+            yield from steps
+            return
+    yield unrun(piece, reason)
+
+
+def _settle_pieces(program: Program, left: deque[Piece], load_text: Load) -> Iterator[SettledPiece | Program]:
     """Has one piece after another settled by this program; each is taken from `left` once it is."""
     before = b""
     count = 0
     while left:
         loaded = [(script, load_text(script)) for script in left[0]]
         texts = {script.index: it for script, it in loaded if isinstance(it, Text)}
-        rows: Iterator[Row] = iter(())
+        rows: list[Row] = []
+        causes: dict[int, Cause] = {}
         if texts:
             names = [name_of(count + number) for number in range(len(texts))]
             count += len(texts)
             commands = b"".join(map(add, names, texts.values())) + SETTLE
-            answer = program.ask(commands, LONGEST_LINE * (count + 2))
-            rows = iter(_rows(answer, before, names, count))
+            longest = LONGEST_LINE * (count + 2)
+            answer, said = yield from program.hearing(commands, longest, LONGEST_CAUSE * (len(texts) + 1))
+            rows, causes = _read(answer, said, before, dict(zip(names, texts)), count)
             before = before_total(answer)
         left.popleft()
-        yield SettledPiece([_outcome(script, text, rows) for script, text in loaded], texts)
+        yield settled_piece(loaded, rows, causes)
 
 
-def _rows(answer: bytes, before: bytes, names: list[bytes], count: int) -> list[Row]:
+def _read(
+    answer: bytes, said: bytes, before: bytes, places: Mapping[bytes, int], count: int
+) -> tuple[list[Row], dict[int, Cause]]:
     try:
-        return rows_in(answer, before, names, count)
+        return read_told(answer, said, before, places, count)
     except Unexpected as unexpected:
         raise Ended(f"pdregress: {unexpected}") from unexpected
 
 
-def _outcome(script: Script, text: Text | str, rows: Iterator[Row]) -> tuple[Script, Outcome]:
-    if isinstance(text, str):
-        return _error(script, text)
-    row = next(rows)
+def read_told(
+    answer: bytes, said: bytes, before: bytes, places: Mapping[bytes, int], count: int
+) -> tuple[list[Row], dict[int, Cause]]:
+    """The rows of scripts, whose places are given by their names, and what is told of them by keys, by their places.
+
+    What is told of another line than the row's is of no row.
+    """
+    rows = rows_in(answer, before, list(places), count)
+    lines = {name: row.line for name, row in zip(places, rows)}
+    told = causes_in(said).items()
+    return rows, {places[name]: it for (name, line), it in told if name in lines and lines[name] in (None, line)}
+
+
+def settled_piece(
+    loaded: Sequence[tuple[Script, Text | str]], rows: Iterable[Row], causes: Mapping[int, Cause]
+) -> SettledPiece:
+    """A piece of scripts with their texts, or why they couldn't be run; those that could have these rows."""
+    left = iter(rows)
+    texts = {script.index: text for script, text in loaded if isinstance(text, Text)}
+    outcomes = [
+        _error(script, text) if isinstance(text, str) else _outcome(script, text, next(left), causes.get(script.index))
+        for script, text in loaded
+    ]
+    return SettledPiece(outcomes, texts, causes)
+
+
+def _outcome(script: Script, text: Text, row: Row, cause: Cause | None) -> tuple[Script, Outcome]:
     line = None if row.line is None else text.line(row.line)
-    return script, outcome_of(script, row, line)
+    return script, with_told(outcome_of(script, row, line), cause, text)
 
 
 def unrun(piece: Piece, reason: str) -> SettledPiece:

@@ -3,6 +3,7 @@
 from collections.abc import Iterable, Iterator, Mapping
 from dataclasses import dataclass
 
+from pdsuite.scripts.renamed import BAD_VALUE, UNKNOWN_KEY, new_name
 from pdsuite.scripts.search import SUFFIX
 from pdsuite.scripts.settings import Settings, Value, shown_value
 from pdsuite.show.octets import shown_text
@@ -50,9 +51,9 @@ KEYS: dict[str, Number | Word] = {
     "granularity_us": Number(1_000, 1, 1_000_000, "microseconds"),
     "nagle": Word(True),
     "limited_transmit": Word(True),
-    "byte_counting": Number(1, 1, 8, "segments"),
-    "restart_after_idle": Word(False),
-    "recovery_rate": Word("pipe", ("pipe", "prr", "prr_crb")),
+    "abc_limit": Number(1, 1, 8, "segments"),
+    "slow_start_after_idle": Word(False),
+    "recovery_algorithm": Word("rfc6675", ("rfc6675", "rfc9937")),
     "tolerance_us": Number(4_000, 0, 1_000_000, "microseconds"),
 }
 # end
@@ -92,10 +93,15 @@ def _is_quoted(key: str, value: Value) -> bool:
 
 def help_for(key: str, value: Value, reason: str, others: Iterable[str] = ()) -> str | None:
     """What helps against a refusal of a key or its value; `others` are the client's own keys in that place."""
-    if reason == "BadValue" and key in KEYS:
-        return f"it takes {KEYS[key].takes}" + (", without quotes" if _is_quoted(key, value) else "")
-    if reason == "UnknownKey" and isinstance(value, Mapping) and not key.endswith(SUFFIX):
+    name = new_name(key, value)
+    if reason == BAD_VALUE and key in KEYS:
+        takes = f"it takes {KEYS[key].takes}"
+        return f"{takes}; {name}" if name else takes + (", without quotes" if _is_quoted(key, value) else "")
+    if reason != UNKNOWN_KEY or key in KEYS:
+        return None
+    if name is not None:
+        return name
+    if isinstance(value, Mapping) and not key.endswith(SUFFIX):
         return f'a table is of a script, by its whole name: ["{shown_text(key)}{SUFFIX}"]'
-    if reason == "UnknownKey" and (near := nearest(key, [*KEYS, *others])):
-        return f"the nearest is {near}"
-    return None
+    near = nearest(key, [*KEYS, *others])
+    return f"the nearest is {near}" if near else None

@@ -1,14 +1,16 @@
 """pdsuite.toml: which settings a script has."""
 
 import os
+import re
 import tomllib
 from collections.abc import Callable, Iterable, Iterator, Mapping
 from dataclasses import dataclass
 from pathlib import Path
 
-from pdsuite.faults import Fault
+from pdsuite.faults import Fault, FileFault
 from pdsuite.scripts.defaults import help_for
 from pdsuite.scripts.expectation import Expectation, is_row
+from pdsuite.scripts.renamed import reason_of
 from pdsuite.scripts.search import SUFFIX, ScriptFile
 from pdsuite.scripts.settings import Settings, Value, settings_of
 from pdsuite.scripts.text import Unfit, read_file
@@ -28,6 +30,12 @@ REASON = "reason"
 # The last part of a script's name in a table without quotes: [a.pkt] is the table pkt in the table a.
 _PART = SUFFIX.removeprefix(".")
 _DEEPEST = 16
+# Where Python says that a text is no TOML.
+_AT = re.compile(r"\(at line (\d+), column (\d+)\)")
+_AT_END = "(at end of document)"
+# A word without quotes, as the value of a key.
+_BARE = re.compile(r"(?<==)\s*[A-Za-z]|(?<== )[A-Za-z]")
+_MARK = b"\xef\xbb\xbf"
 LONGEST = 1 << 20
 
 Table = Mapping[str, Value]
@@ -180,7 +188,7 @@ def _truth_of(table: dict[str, Value], key: str, places: TomlPlaces, name: str =
     if value is None or isinstance(value, bool):
         return value
     beside = f' (["{_shown(name)}"])' if name else ""
-    raise Fault(f"{places.at(name, key)}: {key}: BadValue{beside}: it takes true or false")
+    raise FileFault(f"{places.at(name, key)}: {key}: BadValue{beside}: it takes true or false")
 
 
 def _expected_of(places: TomlPlaces, name: str, table: dict[str, Value]) -> Expectation | None:
@@ -190,14 +198,14 @@ def _expected_of(places: TomlPlaces, name: str, table: dict[str, Value]) -> Expe
     if row is None and reason is None:
         return None
     if reason is None:
-        raise Fault(f"{places.at(name, EXPECT)}: {EXPECT}: needs a {REASON} beside it {beside}")
+        raise FileFault(f"{places.at(name, EXPECT)}: {EXPECT}: needs a {REASON} beside it {beside}")
     if row is None:
-        raise Fault(f"{places.at(name, REASON)}: {REASON}: needs {EXPECT} beside it {beside}")
+        raise FileFault(f"{places.at(name, REASON)}: {REASON}: needs {EXPECT} beside it {beside}")
     if not isinstance(row, str) or not is_row(row):
         takes = 'it takes a row that doesn\'t pass, as "fail 12 seq", or its first words'
-        raise Fault(f"{places.at(name, EXPECT)}: {EXPECT}: BadValue {beside}: {takes}")
+        raise FileFault(f"{places.at(name, EXPECT)}: {EXPECT}: BadValue {beside}: {takes}")
     if not isinstance(reason, str) or not reason.strip():
-        raise Fault(f"{places.at(name, REASON)}: {REASON}: BadValue {beside}: it takes a text that isn't empty")
+        raise FileFault(f"{places.at(name, REASON)}: {REASON}: BadValue {beside}: it takes a text that isn't empty")
     return Expectation(row, _shown(reason))
 
 
@@ -205,13 +213,13 @@ def _refuse_expected(places: TomlPlaces, keys: Table) -> None:
     """Raises a fault where a row is expected of no script."""
     for key in (EXPECT, REASON):
         if key in keys:
-            raise Fault(f'{places.at("", key)}: {key}: stands in no script\'s table, as ["NAME{SUFFIX}"] is')
+            raise FileFault(f'{places.at("", key)}: {key}: stands in no script\'s table, as ["NAME{SUFFIX}"] is')
 
 
 def _refuse_unquoted(places: TomlPlaces, table: Table) -> None:
     """Raises a fault where a script's name stands without quotes: its parts are then tables in tables."""
     for name in _unquoted(table):
-        raise Fault(f'{places.at(name)}: [{_shown(name)}]: a script\'s name stands in quotes: ["{_shown(name)}"]')
+        raise FileFault(f'{places.at(name)}: [{_shown(name)}]: a script\'s name stands in quotes: ["{_shown(name)}"]')
 
 
 def _unquoted(table: Table, before: str = "", deepest: int = _DEEPEST) -> Iterator[str]:
@@ -234,7 +242,32 @@ def _table_of(place: str, octets: bytes) -> dict[str, Value]:
     try:
         return tomllib.loads(octets.decode())
     except (ValueError, RecursionError) as error:
-        raise Fault(f"{place}: no TOML: {_shown(str(error))}") from error
+        words = f"no TOML: {_why_no_toml(error, octets)}"
+        if place in _OPTIONS:
+            raise Fault(f"{place}: {words}") from error
+        raise FileFault(f"{place}:{_line_without_toml(error, octets)}: {words}") from error
+
+
+def _line_without_toml(error: ValueError | RecursionError, octets: bytes) -> int:
+    """The line at which octets are no TOML: their last one where they break off, and 1 where no line is told."""
+    if isinstance(error, UnicodeDecodeError):
+        return octets.count(b"\n", 0, error.start) + 1
+    if _AT_END in str(error):
+        return octets.rstrip(b"\n").count(b"\n") + 1
+    found = _AT.search(str(error))
+    return 1 if found is None else int(found[1])
+
+
+def _why_no_toml(error: ValueError | RecursionError, octets: bytes) -> str:
+    """Why octets are no TOML, in the words of Python where it has any for people."""
+    if isinstance(error, UnicodeDecodeError):
+        return f"octet 0x{octets[error.start]:02x} is no UTF-8"
+    if octets.startswith(_MARK):
+        return "a byte order mark; a file of settings begins without one"
+    found = _AT.search(str(error))
+    if found is not None and _BARE.match(octets.decode().split("\n")[int(found[1]) - 1], int(found[2]) - 1):
+        return f"{_shown(str(error))}: a word stands in quotes"
+    return _shown(str(error))
 
 
 def claims_of(layers: Iterable[Layer]) -> Iterator[Claim]:
@@ -245,6 +278,13 @@ def claims_of(layers: Iterable[Layer]) -> Iterator[Claim]:
         for name, table in layer.tables.items():
             for key, value in table.items():
                 yield Claim(layer.places.at(name, key), name, key, value)
+
+
+def old_names(claims: Iterable[Claim]) -> Iterator[str]:
+    """The lines of claims by keys or words that have another name now, as where a program refuses them."""
+    for claim in claims:
+        if (reason := reason_of(claim.key, claim.value)) is not None:
+            yield claim.refused(reason)
 
 
 def read_layer(path: Path) -> Layer | None:

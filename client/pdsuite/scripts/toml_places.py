@@ -10,8 +10,9 @@ _HIDING = re.compile(
     re.DOTALL,
 )
 _NAME = r"""(?:"([^"]*)"|'([^']*)'|([A-Za-z0-9_-]+))"""
-_KEY = re.compile(rf"\s*{_NAME}\s*=")
-_TABLE = re.compile(rf"\s*\[\s*(?:{_NAME}|([^\[\]]*?))\s*\]")
+# Of a key in a table without a heading, as `a.b = 1`, it is the table.
+_KEY = re.compile(rf"\s*{_NAME}\s*(?:\.[^=]*)?=")
+_TABLE = re.compile(rf"\s*\[\[?\s*(?:{_NAME}|([^\[\]]*?))\s*\]")
 _LONG = ('"""', "'''")
 
 

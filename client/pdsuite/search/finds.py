@@ -96,7 +96,7 @@ class Reaches:
 
 
 def _difference(inputs: Inputs, one: Recording, other: Recording) -> Difference | None:
-    if not one.text:
+    if not one.text or one.text == other.text:
         return None
     if _differ(one, other):
         return Difference(Find(inputs, one.text), True, len(inputs.events))

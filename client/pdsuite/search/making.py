@@ -25,23 +25,24 @@ _SHORT = (1_000, 2_000, 3_000, 4_000, 5_000, 1, 100, 500, 1_500, 2_500, 0)
 _OUTAGES = (500_000, 2 * SECOND, 10 * SECOND, 70 * SECOND, 200 * SECOND)
 _LONG_HANDSHAKES = (1_200_000, 3_500_000, 8 * SECOND)
 _IDLE = (2 * SECOND, 5 * SECOND, 70 * SECOND)
-_RESTART = "restart_after_idle"
+_RESTART = "slow_start_after_idle"
 # So many recordings more are made where an idle time comes at the end.
 _MORE_ROUNDS = 10
 # So long before and after an RTO.
 _AROUND = (-400_000, -1, 0, 1, 1, 1_000, 500_000, 2 * SECOND, 10 * SECOND)
 # What inputs set, each one of these values.
 KEYS: dict[str, tuple[Value, ...]] = {
-    "byte_counting": (2, 3, 8),
+    "abc_limit": (2, 3, 8),
     "granularity_us": (1, 100_000, 1_000_000),
     "initial_ssthresh": (128, 2_000, 3_000, 4_000, 5_000, 8_000),
     "initial_window": ("rfc6928",),
     "limited_transmit": (False,),
+    "max_rto_us": (100_000_000, 3_600_000_000),
     "min_rto_us": (1_000, 200_000, 3_000_000),
     "mss": _SEGMENTS,
     "nagle": (False,),
     "rcv_wnd": (1, 1_000, 100_000, 1_000_000),
-    "recovery_rate": ("prr", "prr_crb"),
+    "recovery_algorithm": ("rfc9937",),
     _RESTART: (True,),
     "sack": (False,),
     "sndbuf": (1_024, 2_000, 4_000, 8_000),
@@ -208,7 +209,7 @@ class _Maker:
         if self._one_in(3):
             is_near = closed is not None and not self._one_in(3)
             odd.append(Odd((closed or 0) + round_trip // 4 if is_near else self._after(round_trip), Oddity.FIN))
-        if self._one_in(10):
+        if self._one_in(3 if Theme.CLOSE in self._themes else 10):
             odd.append(Odd(self._after(round_trip), Oddity.RESET, self._number(2)))
         if self._often(Theme.ODD, 3):
             for _ in range(self._from(1, 4)):

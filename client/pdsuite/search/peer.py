@@ -112,6 +112,10 @@ class Peer:
             yield TcpOption("sack", (max(ack - 1 - number, 0), ack))
         elif it.kind is Oddity.BLOCK_ABOVE:
             yield TcpOption("sack", (max(self.top - number, ack), self.top + 1 + number))
+        elif it.kind is Oddity.SMALL_BLOCKS:
+            step = max((self.top - ack) // (_MOST_BLOCKS + 1), 2)
+            lefts = [ack + place * step for place in range(_MOST_BLOCKS, 0, -1)]
+            yield TcpOption("sack", tuple(at for left in lefts for at in (left, left + min(1 + number, step - 1))))
         else:
             left = ack + number % max(self.top - ack, 1)
             yield TcpOption("sack", (left, min(left + 1_000, max(self.top, left + 1))))

@@ -27,6 +27,7 @@ class Oddity(StrEnum):
     BLOCK_BELOW = "a SACK block of what was acknowledged"
     BLOCK_ABOVE = "a SACK block up to beyond what was sent"
     BLOCK_WITHIN = "a SACK block of some octets on the way"
+    SMALL_BLOCKS = "three SACK blocks of few octets each on the way"
     BLOCK_AFTER_END = "a SACK block after the end of the options"
 
 

@@ -10,12 +10,12 @@ from pdsuite.search.plans import Emphasis, Theme
 
 # By a part of a name in the sources: the settings, and what a connection has to meet, so that it matters.
 _PARTS: Mapping[str, tuple[Sequence[str], Sequence[Theme]]] = {
-    "idle|restart|last_sent": (("restart_after_idle", "byte_counting"), (Theme.IDLE,)),
-    "follows_expiry|byte_limit|growth|limit": (("byte_counting", "restart_after_idle"), (Theme.EXPIRY,)),
-    "prr|reduction|sndcnt|proportion|recover_fs|delivered|pace": (("recovery_rate",), (Theme.LOSS,)),
+    "idle|restart|last_sent": (("slow_start_after_idle", "abc_limit"), (Theme.IDLE,)),
+    "follows_expiry|byte_limit|growth|limit": (("abc_limit", "slow_start_after_idle"), (Theme.EXPIRY,)),
+    "prr|reduction|sndcnt|proportion|recover_fs|deliver|safe_ack|forced|pace": (("recovery_algorithm",), (Theme.LOSS,)),
     "early|limited": (("limited_transmit",), (Theme.LOSS,)),
     "nagle|held_back": (("nagle",), (Theme.SMALL,)),
-    "widest|half_window|sendable|usable": ((), (Theme.WINDOW, Theme.SMALL)),
+    "widest|half_window|sendable|usable": (("nagle",), (Theme.WINDOW, Theme.SMALL)),
     "rwnd|window_edge|wl1|wl2": ((), (Theme.WINDOW, Theme.ODD)),
     "sack|score|block|span|range|mark|lost|pipe|high_rxt|rescue|fresh|(^|_)hole": ((), (Theme.LOSS, Theme.ODD)),
     "dup|recover|half|note|step_c": ((), (Theme.LOSS,)),

@@ -35,7 +35,8 @@ class Searched:
 class Search:
     """What is searched for: finds by a test, and by a second one those that their script doesn't show yet.
 
-    Inputs are made for so many seconds, and a find is shrunk for as long again at most.
+    Inputs are made for so many seconds, or, where a count is given, until so many were tried however long that takes.
+    A find is shrunk for so many seconds at most.
     """
 
     before: SenderAsker
@@ -43,9 +44,10 @@ class Search:
     hidden: Differs | None
     drawing: Drawing
     seconds: float
+    count: int | None = None
 
     def run(self, advance: Callable[[int], None]) -> Searched:
-        """Searches until something is found, or the time is over."""
+        """Searches until something is found, or the time or the count is reached."""
         begin = time.monotonic()
         reached = Reached()
         unshown: Find | None = None
@@ -58,11 +60,14 @@ class Search:
             if found is not None:
                 return self._shrunk(found, self.test, reached, time.monotonic() - begin)
             advance(reached.inputs)
-            if time.monotonic() - begin >= self.seconds:
+            if self._is_over(reached, time.monotonic() - begin):
                 break
         if unshown is not None and self.hidden is not None:
             return self._shrunk(unshown, self.hidden, reached, time.monotonic() - begin)
         return Searched(None, None, reached, time.monotonic() - begin)
+
+    def _is_over(self, reached: Reached, seconds: float) -> bool:
+        return seconds >= self.seconds if self.count is None else reached.inputs >= self.count
 
     def _shrunk(self, find: Find, test: Test, reached: Reached, seconds: float) -> Searched:
         begin = time.monotonic()

@@ -9,6 +9,7 @@ from pdsuite.packetdrill.items import SECOND
 # How two states differ of which one follows the other: the kind before, what happened, and the kind after.
 Step = tuple[str, str, str]
 _SEGMENT = 1_000
+_NONE = "none"
 
 
 @dataclass(frozen=True, slots=True)
@@ -31,6 +32,11 @@ class State:
     def is_open(self) -> bool:
         """Whether the connection is established, and no RST has come."""
         return "cwnd" in self.facts and self.name != "CLOSED"
+
+    @property
+    def is_recovering(self) -> bool:
+        """Whether loss recovery goes on."""
+        return self.facts.get("recovery", _NONE) != _NONE
 
     @property
     def kind(self) -> str:
@@ -85,9 +91,11 @@ def states_before(played: Sequence[PlayedEvent]) -> list[State]:
 
 def steps_in(recording: str) -> Iterator[Step]:
     """The steps of a recording: each from one kind of state to another, or on which a packet leaves."""
-    before = ""
+    before = kind = last = ""
     for it in played_events(recording):
-        kind = state_of(it.state).kind
+        # Most events leave the state as it is, and to tell its kind costs most here.
+        if it.state != last:
+            kind, last = state_of(it.state).kind, it.state
         what = _what(it)
         if kind != before or what != "leaves":
             yield before, what, kind

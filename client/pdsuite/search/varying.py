@@ -1,6 +1,6 @@
 """Varies inputs: their settings, a packet or a call in them, its moment, and how they go on."""
 
-from collections.abc import Sequence
+from collections.abc import Mapping, Sequence
 from dataclasses import dataclass, replace
 from random import Random
 from typing import TypeVar
@@ -10,18 +10,26 @@ from pdsuite.packetdrill.items import SECOND, Call, Packet, TcpOption
 from pdsuite.scripts.settings import Settings, settings_of
 from pdsuite.search.inputs import Input, Inputs, call, options_text, packet
 from pdsuite.search.making import KEYS
-from pdsuite.search.plans import Emphasis
+from pdsuite.search.plans import Emphasis, Theme
 from pdsuite.search.states import State, states_before
 
 T = TypeVar("T")
 
 _WRITE = "write"
-_SIZES = (1, 100, 500, 999, 1_000, 1_500, 2_000, 2_500, 4_000, 5_000, 8_000, 10_000, 20_000)
+_SIZES = (0, 1, 100, 500, 999, 1_000, 1_500, 2_000, 2_500, 4_000, 5_000, 8_000, 10_000, 20_000)
 _WINDOWS = (0, 1, 4, 8, 16, 40, 257, 500, 600, 1_000, 1_500, 2_000, 4_000, 32_792, 65_535)
 _GAPS = (0, 1, 1_000, 10_000, 100_000, 200_000, 500_000, SECOND, 3 * SECOND, 70 * SECOND)
 _OFFSETS = (0, 1, 500, 1_000, 1_001, 2_000, 3_000, 4_000)
 _NODELAY = (4, "SOL_TCP", "TCP_NODELAY")
 _MOST_EDITS = 3
+# What is put in that isn't there yet: how often of some, and how often where a theme comes first.
+_KINDS: Mapping[str, tuple[int, Theme | None, int]] = {
+    "write": (10, None, 10),
+    "close": (2, Theme.CLOSE, 8),
+    "no delay": (2, Theme.SMALL, 4),
+    "odd": (2, Theme.ODD, 6),
+    "ACK": (18, None, 18),
+}
 
 
 @dataclass(frozen=True)
@@ -47,6 +55,7 @@ class Varying:
         self._random = Random(seed)
         self._keys = sorted(set(KEYS) - emphasis.fixed)
         self._first = sorted(emphasis.keys - emphasis.fixed)
+        self._weights = [more if theme in emphasis.themes else some for some, theme, more in _KINDS.values()]
 
     def choose(self, kept: Sequence[Kept], latest: int) -> Kept:
         """One of those that are kept: each second time one of the latest."""
@@ -57,7 +66,7 @@ class Varying:
         states = states_before(list(played_events(kept.recording)))
         events = list(kept.inputs.events)
         open_from = next((place for place, it in enumerate(states) if it.is_open), len(events))
-        place = self._random.randint(min(open_from, len(events)), len(events))
+        place = self._place(states, min(open_from, len(events)), len(events))
         goes_on = self._random.random() < 0.7
         if goes_on:
             del events[place:]
@@ -66,6 +75,13 @@ class Varying:
             self._edit(events, at, states[min(at, len(states) - 1)])
         settings = self._settings(kept.inputs.settings)
         return Variation(Inputs(settings, _in_order(events), kept.inputs.is_exact), goes_on)
+
+    def _place(self, states: Sequence[State], first: int, last: int) -> int:
+        """Where inputs are varied: each second time where the sender recovers, if it does."""
+        recovering = [place for place, it in enumerate(states[: last + 1]) if first <= place and it.is_recovering]
+        if recovering and self._random.random() < 0.5:
+            return self._pick(recovering)
+        return self._random.randint(first, last)
 
     def _pick(self, values: Sequence[T]) -> T:
         return self._random.choice(values)
@@ -109,15 +125,15 @@ class Varying:
 
     def _new(self, state: State) -> Packet | Call:
         """A call or a packet that isn't there yet."""
-        kind = self._random.random()
-        if kind < 0.3:
-            return call(_WRITE, 4, "...", self._pick(_SIZES))
-        if kind < 0.36:
-            return call("close", 4)
-        if kind < 0.42:
-            return call("setsockopt", self._pick((3, 4)), *_NODELAY[1:], self._pick(("[0]", "[1]")), 4)
-        if kind < 0.48:
-            return packet(self._pick(("F.", "R", "R.", "-")), self._pick((1, 1, 2)), self._number(state), 257)
+        match self._random.choices(list(_KINDS), self._weights)[0]:
+            case "write":
+                return call(_WRITE, 4, "...", self._pick(_SIZES))
+            case "close":
+                return call("close", 4)
+            case "no delay":
+                return call("setsockopt", self._pick((3, 4)), *_NODELAY[1:], self._pick(("[0]", "[1]")), 4)
+            case "odd":
+                return packet(self._pick(("F.", "R", "R.", "-")), self._pick((1, 1, 2)), self._number(state), 257)
         return self._ack(state)
 
     def _ack(self, state: State) -> Packet:

@@ -1,12 +1,15 @@
-"""The runs that stay up: they are brought to hold what is wanted, and where one ends a new one takes its place."""
+"""The runs that stay up and tell why: they are brought to hold what is wanted; where one ends a new one begins."""
 
 from collections.abc import Callable, Iterator, Mapping
 from dataclasses import dataclass
 
 from pdsuite.programs.program import Ended
+from pdsuite.programs.protocol import Cause
 from pdsuite.programs.rows import Row, Verdict
+from pdsuite.run.explainer import with_told
+from pdsuite.run.outcomes import Outcome
 from pdsuite.run.runs import PIECE, Run, Script, cut
-from pdsuite.run.settling import SettledPiece, Start, settle
+from pdsuite.run.settling import SettledPiece, Start, Untold, settle
 from pdsuite.scripts.settings import Settings
 from pdsuite.show.octets import shown_path
 from pdsuite.watch.live_run import LiveRun
@@ -15,18 +18,28 @@ from pdsuite.watch.run_changes import Add, RunChange, RunContents, WantedScript,
 
 @dataclass(frozen=True, slots=True)
 class FatalScript:
-    """A script on which runs ended, and why."""
+    """A script on which runs ended, and the row that it has."""
 
     wanted: WantedScript
-    reason: str
+    row: Row
     is_lasting: bool  # only another text mends it: an empty run does answer
 
 
 class Fleet:
-    """All runs. `note` is told of each that ends, `tell` what is running."""
+    """All runs. `note` is told of each that ends, `tell` what is running.
 
-    def __init__(self, start: Start, note: Callable[[str], None], tell: Callable[[str], None]) -> None:
+    A script on which a run ends gets its row by one that tells nothing of it, if `untelling` starts one.
+    """
+
+    def __init__(
+        self,
+        start: Start,
+        note: Callable[[str], None],
+        tell: Callable[[str], None],
+        untelling: Start | None = None,
+    ) -> None:
         self._start = start
+        self._untelling = untelling
         self._note = note
         self._tell = tell
         self._runs: list[LiveRun] = []
@@ -81,7 +94,20 @@ class Fleet:
         for run in self._runs:
             yield from run.rows.items()
         for path, it in self._unrun.items():
-            yield path, Row(Verdict.ERROR, word=it.reason)
+            yield path, it.row
+
+    def causes(self) -> Mapping[str, Cause]:
+        """What was told by keys of scripts, by their paths."""
+        return {path: it for run in self._runs for path, it in run.causes.items()}
+
+    def explain(self, outcome: Outcome, wanted: WantedScript) -> Outcome:
+        """An outcome with what was told of it."""
+        told = (run.causes[outcome.path] for run in self._runs if outcome.path in run.causes)
+        return with_told(outcome, next(told, None), wanted.text)
+
+    def steps(self) -> Mapping[str, int]:
+        """How many steps scripts took that ran at the last change, by their paths."""
+        return {path: it for run in self._runs for path, it in run.steps.items()}
 
     def _make_change(self, run: LiveRun | None, change: RunChange) -> None:
         if run is not None and not change.after.texts:
@@ -123,16 +149,16 @@ class Fleet:
 
     def _begin_apart(self, contents: RunContents, place: int) -> None:
         """Finds the scripts on which a run ends, and starts one with all others."""
-        reasons = self._reasons(contents)
-        rest = {path: text for path, text in contents.texts.items() if path not in reasons}
+        rows = self._fatal(contents)
+        rest = {path: text for path, text in contents.texts.items() if path not in rows}
         if rest:
             try:
                 self._begin(RunContents(contents.settings, rest), place)
             except Ended as end:
-                reasons.update(dict.fromkeys(rest, str(end)))
-        is_lasting = bool(reasons) and self._answers(contents.settings)
-        for path, reason in reasons.items():
-            self._unrun[path] = FatalScript(WantedScript(contents.settings, contents.texts[path]), reason, is_lasting)
+                rows.update(dict.fromkeys(rest, Row(Verdict.ERROR, word=str(end))))
+        is_lasting = bool(rows) and self._answers(contents.settings)
+        for path, row in rows.items():
+            self._unrun[path] = FatalScript(WantedScript(contents.settings, contents.texts[path]), row, is_lasting)
 
     def _answers(self, settings: Settings) -> bool:
         """Whether a run without scripts answers."""
@@ -148,13 +174,19 @@ class Fleet:
             run.program.close()
         return True
 
-    def _reasons(self, contents: RunContents) -> dict[str, str]:
-        """The scripts on which a run ends twice, as `pdsuite run` finds them, each with the last words."""
+    def _fatal(self, contents: RunContents) -> dict[str, Row]:
+        """The scripts on which a run ends twice, as `pdsuite run` finds them, each with its row."""
         scripts = [Script(index, path, contents.settings) for index, path in enumerate(contents.texts)]
         run = Run(contents.settings, tuple(cut(scripts, PIECE)))
-        steps = settle(run, self._start, lambda script: contents.texts[script.path])
-        settled = [pair for step in steps if isinstance(step, SettledPiece) for pair in step.outcomes]
-        return {script.path: it.row.word for script, it in settled if it.row.verdict is Verdict.ERROR}
+        untold: set[str] = set()
+        rows: dict[str, Row] = {}
+        for step in settle(run, self._start, lambda script: contents.texts[script.path], self._untelling):
+            if isinstance(step, SettledPiece):
+                rows |= {script.path: it.row for script, it in step.outcomes}
+            elif isinstance(step, Untold):
+                untold.add(step.script.path)
+                self._note(str(step))
+        return {path: it for path, it in rows.items() if it.verdict is Verdict.ERROR or path in untold}
 
 
 def _running(change: RunChange) -> str:

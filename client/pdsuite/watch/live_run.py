@@ -1,19 +1,17 @@
-"""A run of the program that stays up: it is told what changes, and says the row of each of its scripts."""
+"""A run of the program that stays up: it is told what changes, and says the row of each of its scripts, and why."""
 
-import re
-from collections.abc import Iterator, Sequence
+from collections.abc import Mapping, Sequence
+from typing import TypeVar
 
 from pdsuite.programs.program import Ended, Program
-from pdsuite.programs.protocol import LONGEST_LINE, SETTLE, Unexpected
-from pdsuite.programs.protocol import add, edit, name_of, remove, rows_in, set_key
+from pdsuite.programs.protocol import LONGEST_CAUSE, LONGEST_LINE, SETTLE, Cause, Unexpected
+from pdsuite.programs.protocol import add, causes_in, edit, name_of, remove, rows_in, set_key, steps_in
 from pdsuite.programs.rows import Row
 from pdsuite.run.settling import Start
 from pdsuite.scripts.settings import Settings
 from pdsuite.watch.run_changes import Act, Add, Change, Remove, RunContents, Set
 
-
-# What a program that counts steps says of a job: the script's name, and how many steps it took.
-_STEPS = re.compile(rb"^job \d+ (\S+) steps (\d+)$", re.MULTILINE)
+T = TypeVar("T")
 # An act is recorded once, and the start and the end of each job that it leads to; beside workers a job may come twice.
 _PER_JOB = 4
 
@@ -21,8 +19,8 @@ _PER_JOB = 4
 class LiveRun:
     """A started program, what it holds, and what it said last.
 
-    `acts` is how many acts its history has at most; `steps` how many the last change cost, by the paths of scripts,
-    where the program counts them.
+    `acts` is how many acts its history has at most. By the paths of scripts, `causes` has what the program tells of
+    them by keys, and `steps` how many the last change cost, where the program does so.
     """
 
     def __init__(self, settings: Settings, start: Start) -> None:
@@ -30,6 +28,7 @@ class LiveRun:
         self.rows: dict[str, Row] = {}
         self.program: Program = start(settings)
         self.acts = 0
+        self.causes: dict[str, Cause] = {}
         self.steps: dict[str, int] = {}
         self._names: dict[str, bytes] = {}
         self._count = 0
@@ -38,20 +37,31 @@ class LiveRun:
         """Has the program hold something else, and settles it."""
         commands = b"".join(self._command(it) for it in acts)
         names = list(self._names.values())
-        answer = self.program.ask(commands + SETTLE, LONGEST_LINE * (len(acts) + len(names) + 2))
+        longest = LONGEST_LINE * (len(acts) + len(names) + 2)
+        answer, said = self.program.ask_and_hear(commands + SETTLE, longest, LONGEST_CAUSE * (len(names) + 1))
         try:
             rows = rows_in(answer, b"", names, len(names))
+            told = {name: it for (name, _), it in causes_in(said).items()}
         except Unexpected as unexpected:
             raise Ended(f"pdregress: {unexpected}") from unexpected
         self.rows = dict(zip(self._names, rows))
         self.contents = after
         self.acts += sum(1 + _PER_JOB * (len(names) if isinstance(it, Set) else 1) for it in acts)
-        self.steps = dict(self._steps())
+        self._take_told(acts, self._by_paths(told))
+        self.steps = self._by_paths(steps_in(said))
 
-    def _steps(self) -> Iterator[tuple[str, int]]:
+    def _take_told(self, acts: Sequence[Act], told: Mapping[str, Cause]) -> None:
+        """Takes what is told of the scripts that have run again; of any other stays what was told before."""
+        for it in acts:
+            if isinstance(it, Set):
+                self.causes.clear()
+            else:
+                self.causes.pop(it.path, None)
+        self.causes |= {path: it for path, it in told.items() if self.rows[path].line in (None, it["line"])}
+
+    def _by_paths(self, each: Mapping[bytes, T]) -> dict[str, T]:
         paths = {name: path for path, name in self._names.items()}
-        jobs = _STEPS.findall(self.program.said())
-        return ((paths[name], int(steps)) for name, steps in jobs if name in paths)
+        return {paths[name]: it for name, it in each.items() if name in paths}
 
     def _command(self, act: Act) -> bytes:
         match act:

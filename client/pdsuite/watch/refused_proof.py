@@ -1,35 +1,49 @@
-"""A proof that is refused: `./prove` leaves what it says of that, which is told once."""
+"""A proof that is refused: `./prove` leaves what it says of that, which holds until a file that it names changes."""
 
+import re
+from collections.abc import Iterator, Mapping, Sequence
 from pathlib import Path
 
 from pdsuite.faults import Fault
-from pdsuite.file_stamps import Stamp, stamp_of
-from pdsuite.programs.places import TOP
+from pdsuite.file_stamps import Stamp, have_stamps, stamp_of
 from pdsuite.scripts.text import Unfit, read_file
 from pdsuite.show.octets import shown
 
 # What ./prove leaves where a proof is refused, and takes away when it begins.
-_FILE = TOP / "crates/pdregress/out/refused"
+_FILE = "crates/pdregress/out/refused"
 _LONGEST = 1 << 16
 _NONE = 1  # a stamp of a file that isn't there has one number
+# A place of the sources, wherever it stands in a line.
+_PLACE = re.compile(r"(?<!\S)\(?(/[^:()]+\.(?:rt|antt)):\d")
 
 
 class RefusedProof:
-    """What was seen of the file last; what it holds at the beginning is an older proof's."""
+    """What was refused last in a tree; what lies there at the beginning is an older proof's."""
 
-    def __init__(self, file: Path = _FILE) -> None:
-        self._file = file
-        self._stamp: Stamp = stamp_of(file)
+    def __init__(self, tree: Path | None) -> None:
+        self._file = None if tree is None else tree / _FILE
+        self._stamp = self._seen()
+        self._named: Mapping[str, Stamp] = {}
+        self.lines: Sequence[str] = ()  # what is said of it
 
-    def look(self) -> list[str]:
-        """The lines of a proof that was refused since the last look."""
-        stamp = stamp_of(self._file)
-        if stamp == self._stamp:
-            return []
-        self._stamp = stamp
-        if len(stamp) == _NONE:
-            return []
+    def look(self) -> bool:
+        """Whether something else is said of it than at the last look."""
+        before, stamp = self.lines, self._seen()
+        if stamp != self._stamp:
+            self._stamp = stamp
+            self.lines = tuple(self._read())
+            self._named = {path: stamp_of(path) for line in self.lines for path in _PLACE.findall(line)}
+        elif not have_stamps(self._named):
+            self.lines, self._named = (), {}
+        return self.lines != before
+
+    def _seen(self) -> Stamp:
+        return (_NONE,) if self._file is None else stamp_of(self._file)
+
+    def _read(self) -> Iterator[str]:
+        if self._file is None or len(self._stamp) == _NONE:
+            return
         try:
-            return [shown(line) for line in read_file(self._file, _LONGEST).splitlines()]
+            yield from (shown(line) for line in read_file(self._file, _LONGEST).splitlines())
         except (Fault, Unfit):
-            return []
+            return

@@ -55,7 +55,7 @@ class SenderFollower:
     def __init__(self, look: Look, needs: Sequence[str] = (REGRESS,), tree: Path | None = None) -> None:
         self._look = look
         self._needs = needs
-        self._tree = tree
+        self.tree = tree
         self.sender: LiveSender | None = None
         self.reason = ""  # why none stands, if so it is
         self.failure: tuple[str, ...] = ()  # why none can be built: what the compiler says stands below the first line
@@ -101,10 +101,10 @@ class SenderFollower:
             self._end_build()
             self._sources, self.failure = None, ()
             self._stand(LiveSender(regress, record if isinstance(record, Standing) else None))
-        elif self._tree is None:
+        elif self.tree is None:
             self._leave(missing[0])
         else:
-            self._follow_sources(self._tree, now)
+            self._follow_sources(self.tree, now)
         return before != (self.sender, self.reason, self.failure)
 
     def folders(self) -> set[str]:

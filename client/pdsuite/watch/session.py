@@ -8,13 +8,14 @@ from dataclasses import dataclass, replace
 from typing import TYPE_CHECKING, NoReturn
 
 from pdsuite.programs.program import Program
+from pdsuite.programs.protocol import Cause
 from pdsuite.programs.refusals import refusals
 from pdsuite.programs.rows import Row, Verdict
 from pdsuite.programs.standing import SenderChanged
-from pdsuite.run.explainer import Explainer
+from pdsuite.run.explainer import TELLS
 from pdsuite.run.outcomes import Outcome
 from pdsuite.run.runs import RUN
-from pdsuite.run.settling import start_with
+from pdsuite.run.settling import start_telling, start_with
 from pdsuite.scripts.settings import Settings
 from pdsuite.scripts.suite import Claim, Layer, claims_of
 from pdsuite.scripts.text import Text
@@ -52,11 +53,10 @@ class Refused(Exception):
 
 @dataclass(frozen=True)
 class Watched:
-    """What is watched: which scripts, the settings before all others, by how many threads, and against which sender."""
+    """What is watched: which scripts, the settings before all others, and against which sender."""
 
     choice: Choice
     option: Layer
-    threads: int
     base: Base | None
 
 
@@ -82,7 +82,7 @@ class Session:
         self._sender: LiveSender | None = None
         self._fleet: Fleet | None = None
         self._is_new = False
-        self._refused_proof = RefusedProof()
+        self._refused_proof = RefusedProof(follower.tree)
         self._runs = held.enter_context(ExitStack())
         self._watcher = held.enter_context(Watcher())
         self._sources = held.enter_context(Watcher())
@@ -111,9 +111,9 @@ class Session:
             if not follower.is_current:
                 self._view.leave(follower.reason)
             if follower.failure and follower.failure != failure:
-                self._view.refuse([_NO_BUILD, *follower.failure])
-        if lines := self._refused_proof.look():
-            self._view.refuse(lines)
+                self._view.refuse(_not_built(follower.failure))
+        if self._refused_proof.look() and self._refused_proof.lines:
+            self._view.refuse(self._refused_proof.lines)
         self._tell(follower.doing)
 
     def _go_over(self, sender: LiveSender | None) -> None:
@@ -122,12 +122,10 @@ class Session:
         if sender is None:
             self._end_runs()
         elif sender != before:
-            self._begin(sender)
-            self._view.turn(
-                self._explainer(sender), _words(before, sender), not sender.is_proved, self._compare(before)
-            )
-        elif self._follower.is_current:
-            self._view.turn(self._explainer(sender), _AGAIN, not sender.is_proved)
+            fleet = self._begin(sender)
+            self._view.turn(fleet, _words(before, sender), not sender.is_proved, self._compare(before))
+        elif self._follower.is_current and self._fleet is not None:
+            self._view.turn(self._fleet, _AGAIN, not sender.is_proved)
             self._is_new = True
 
     def _compare(self, before: LiveSender | None) -> Compare | None:
@@ -148,12 +146,15 @@ class Session:
         self._is_new = False
 
     def _tell(self, doing: str) -> None:
-        """Says what is built, at the bottom of a terminal and on the page."""
-        if doing or not self._follower.is_current:
+        """Says what is built, at the bottom of a terminal and on the page, and there what is refused, too."""
+        follower, drawing = self._follower, self._drawing
+        if doing or not follower.is_current:
             self._view.tell(doing)
-        if self._drawing is not None:
-            why = self._follower.phase or self._follower.reason
-            self._drawing.mark("" if self._follower.is_current else f"the sender has changed; {why}")
+        if drawing is not None:
+            is_of_before = self._view.status is not None and not follower.is_current
+            drawing.mark(f"the sender has changed; {follower.phase or follower.reason}" if is_of_before else "")
+            refusals = (_not_built(follower.failure), self._refused_proof.lines)
+            drawing.say([it for it in refusals if it])
 
     def _wait(self) -> None:
         files = [self._stop.fileno(), self._watcher.fileno(), self._sources.fileno(), *self._follower.filenos()]
@@ -172,14 +173,12 @@ class Session:
         sender.check()
         return refusals(claims, lambda: Program([program], self._stop))
 
-    def _explainer(self, sender: LiveSender) -> Explainer:
-        return Explainer(sender.regress.path, self._stop, self._screen.note, of_ends=True)
-
-    def _begin(self, sender: LiveSender) -> None:
+    def _begin(self, sender: LiveSender) -> Fleet:
         """Begins runs of a sender in place of those of the one before."""
         is_first = self._view.status is None
         self._end_runs()
-        start = start_with(sender.regress.path, self._watched.threads, RUN, self._stop)
+        start = start_telling(sender.regress.path, TELLS, RUN, self._stop)
+        untelling = start_with(sender.regress.path, 0, 1, self._stop)
 
         def checked(settings: Settings) -> Program:
             sender.check()
@@ -188,16 +187,23 @@ class Session:
         self._sender = sender
         if is_first and (lines := self._refused(claims_of([self._watched.option]))):
             raise Refused(lines)
-        self._fleet = self._runs.enter_context(Fleet(checked, self._screen.note, self._view.tell))
+        fleet = Fleet(checked, self._screen.note, self._view.tell, untelling)
+        self._fleet = self._runs.enter_context(fleet)
         self._is_new = True
         if not is_first:
             self._folders.check_settings()
         if self._drawing is not None:
             self._drawing.turn(*sender.paths, not sender.is_proved)
+        return fleet
 
     def _end_runs(self) -> None:
         self._runs.close()
         self._fleet = self._sender = None
+
+
+def _not_built(failure: Sequence[str]) -> Sequence[str]:
+    """What is said where no sender can be built; nothing where that isn't so."""
+    return (_NO_BUILD, *failure) if failure else ()
 
 
 def _words(before: LiveSender | None, sender: LiveSender) -> str:
@@ -230,15 +236,18 @@ def step(
         check()
         view.show(_outcomes(folders, fleet, unfit), wanted, now, folders.is_strict, check)
         if drawing is not None:
-            drawing.follow(_entries(view.outcomes, wanted))
+            drawing.follow(_entries(view.outcomes, wanted, fleet.causes()), view.turned)
 
 
-def _entries(outcomes: Outcomes, wanted: Mapping[str, WantedScript]) -> "list[Entry]":
-    """What the page shows."""
+def _entries(outcomes: Outcomes, wanted: Mapping[str, WantedScript], causes: Mapping[str, Cause]) -> "list[Entry]":
+    """What the page shows; of a script that passes nothing is told there."""
     from pdsuite.page.sheets import Entry
 
+    told = {path: it for path, it in causes.items() if path in outcomes and outcomes[path].row.line is not None}
     return [
-        Entry(replace(it, settings=wanted[path].settings), wanted[path].text) if path in wanted else Entry(it)
+        Entry(replace(it, settings=wanted[path].settings), wanted[path].text, cause=told.get(path))
+        if path in wanted
+        else Entry(it)
         for path, it in outcomes.items()
     ]
 

@@ -7,6 +7,7 @@ from dataclasses import replace
 
 from pdsuite.compare.comparison import ComparedScript
 from pdsuite.reports.plain import Plain, style_of
+from pdsuite.show.fitting import columns_of, fitting, wrapped
 from pdsuite.show.octets import shown_path
 from pdsuite.show.styled_text import StyledText
 from pdsuite.watch.change_report import ChangeReport, changed, entries, gone, gone_row, told_anew, totals_of
@@ -15,10 +16,6 @@ from pdsuite.watch.run_changes import WantedScript
 
 # So many rows of a kind are shown, and so many blocks.
 _MOST = 10
-# What these begin are words and facts, which nobody pastes.
-_PROSE = ("  state: ", "  reason: ", "  rule: ", "  expected: ", "  found: ", "  runs: ", "  mend: ")
-_INDENT = "    "
-_LEAST = 20
 
 
 class TerminalReport(ChangeReport):
@@ -80,31 +77,15 @@ class TerminalReport(ChangeReport):
     def left(self, why: str) -> StyledText:
         """That the sender doesn't stand any more of which all rows are, and why, in lines that fit."""
         lines = super().left(why).plain.splitlines()
-        return StyledText([(f"{self._wrapped(line)}\n", "dim") for line in lines])
+        return StyledText([(f"{wrapped(line, self._columns())}\n", "dim") for line in lines])
 
     def _columns(self) -> int:
-        """How long a line may be, so that no terminal begins another one after it."""
-        return max(_LEAST, self._width() - 1)
+        """How long a line may be."""
+        return columns_of(self._width())
 
     def _fitting(self, text: StyledText) -> StyledText:
-        """The text, whose lines of words and facts are broken at blanks where they don't fit."""
-        return StyledText(
-            [("".join(map(self._broken, it.splitlines(keepends=True))), style) for it, style in text.pieces]
-        )
-
-    def _broken(self, line: str) -> str:
-        return f"{self._wrapped(line)}\n" if line.startswith(_PROSE) else line
-
-    def _wrapped(self, line: str) -> str:
-        """A line broken at blanks."""
-        lines = textwrap.wrap(
-            line,
-            self._columns(),
-            subsequent_indent=_INDENT,
-            break_long_words=False,
-            break_on_hyphens=False,
-        )
-        return "\n".join(lines)
+        """The text in lines that fit."""
+        return fitting(text, self._columns())
 
 
 def _known(before: Outcomes, moves: Sequence[Move]) -> Outcomes:

@@ -8,10 +8,11 @@ from typing import Protocol
 from pdsuite.compare.comparison import ComparedScript, Kind
 from pdsuite.compare.parting import Parting, parting_of
 from pdsuite.programs.recorder import Recorder
-from pdsuite.run.explainer import Explainer, explained_steps
+from pdsuite.run.explainer import TELLS_WHY
+from pdsuite.run.local_mapper import local_mapper
 from pdsuite.run.outcomes import Outcome
 from pdsuite.run.runs import Script, runs_of
-from pdsuite.run.settling import SettledPiece, settle, start_with
+from pdsuite.run.settling import SettledPiece, Untold
 from pdsuite.scripts.text import Text
 from pdsuite.signals import Stop
 from pdsuite.watch.folder_moves import Outcomes
@@ -58,8 +59,9 @@ class Base:
 
     def __init__(self, programs: Programs, workers: int, stop: Stop, note: Callable[[str], None]) -> None:
         self._programs = programs
-        self._start = start_with(programs[0], workers, 1, stop)
-        self._explainer = Explainer(programs[0], stop, note)
+        self._workers = workers
+        self._stop = stop
+        self._note = note
         self._known: dict[str, tuple[WantedScript, Outcome]] = {}
 
     def outcomes(self, shown: Shown, now: Shown) -> Outcomes:
@@ -77,10 +79,11 @@ class Base:
         def load(script: Script) -> Text:
             return wanted[script.path].text
 
-        for run in runs_of(scripts):
-            for step in explained_steps(settle(run, self._start, load), self._explainer):
-                if isinstance(step, SettledPiece):
-                    yield from (outcome for _, outcome in step.outcomes)
+        for step in local_mapper(self._programs[0], TELLS_WHY, self._workers, self._stop, load)(runs_of(scripts)):
+            if isinstance(step, SettledPiece):
+                yield from (outcome for _, outcome in step.outcomes)
+            elif isinstance(step, Untold):
+                self._note(str(step))
 
 
 def turned(

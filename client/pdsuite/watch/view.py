@@ -1,19 +1,16 @@
 """What was shown while scripts are watched, and what each report shows beside that."""
 
 import time
-from collections.abc import Callable, Iterator, Mapping, Sequence
+from collections.abc import Callable, Iterable, Iterator, Mapping, Sequence
 from dataclasses import replace
+from typing import Protocol
 
 from pdsuite.compare.comparison import ComparedScript
 from pdsuite.programs.rows import Row, Verdict
 from pdsuite.programs.standing import SenderChanged
-from pdsuite.run.explainer import Explainer
 from pdsuite.run.outcomes import Outcome
-from pdsuite.run.runs import Script, runs_of
-from pdsuite.run.settling import SettledPiece
 from pdsuite.show.screen import Screen
 from pdsuite.show.styled_text import StyledText
-from pdsuite.signals import Stopped
 from pdsuite.watch.change_report import ChangeReport, changed, of_sender_before, totals_of
 from pdsuite.watch.folder_moves import Move, Outcomes
 from pdsuite.watch.run_changes import WantedScript
@@ -24,6 +21,13 @@ _FAULT = 2
 _NOT_RUN = Row(Verdict.NOT_RUN)
 
 Wanted = Mapping[str, WantedScript]
+
+
+class Explainer(Protocol):
+    """Who knows what was told of scripts."""
+
+    def explain(self, outcome: Outcome, wanted: WantedScript) -> Outcome:
+        """An outcome with what was told of it."""
 
 
 # The scripts that turned, by what was shown of them and by what is now.
@@ -41,6 +45,7 @@ class View:
         self, screen: Screen, explainer: Explainer | None, every: bool, news: ChangeReport, of_known: bool = False
     ) -> None:
         self.outcomes: Outcomes = {}
+        self.turned: Sequence[ComparedScript] = ()  # those that the sender turned, and that are as they were then
         self._status: int | None = None
         self._screen = screen
         self._explainer = explainer
@@ -48,7 +53,6 @@ class View:
         self._news = news
         self._of_known = of_known
         self._wanted: Wanted = {}
-        self._ends: dict[str, tuple[WantedScript, str]] = {}
         self._is_current = True
         self._marked: set[str] = set()  # the scripts whose last row was shown as one of the sender before
         self._turn: str | None = None  # what is said of another sender before its first report
@@ -81,7 +85,6 @@ class View:
         self._explainer = explainer
         self._compare = compare
         self._news.is_unproved = is_unproved
-        self._ends = {}
         self._is_current = True
         self._turn = words
         self.tell("")
@@ -98,17 +101,10 @@ class View:
 
         `check` raises SenderChanged where what was told isn't surely of the program whose rows these are.
         """
-        stopped = None
-        try:
-            self._ask_ends(outcomes, wanted)
-        except Stopped as end:
-            stopped = end
+        passing = self._explained((it for it in outcomes.values() if it.row.verdict is Verdict.PASS), wanted)
+        put = {it.path: replace(it, is_strict=is_strict(it.path)) for it in passing if it.at_end}
         check()
-        warned = {path: end for path, (_, end) in self._ends.items() if end and path in outcomes}
-        put = {path: replace(outcomes[path], at_end=end, is_strict=is_strict(path)) for path, end in warned.items()}
         self._show({**outcomes, **put}, wanted, begin, check)
-        if stopped is not None:
-            raise stopped
 
     def tell(self, doing: str) -> None:
         """Keeps at the bottom of a terminal how many scripts pass, and what is running."""
@@ -117,14 +113,6 @@ class View:
         if passing and not (self._is_current and self._turn is None):
             passing += " by the sender before"
         self._screen.bottom(", ".join(it for it in (passing, doing) if it))
-
-    def _ask_ends(self, outcomes: Outcomes, wanted: Wanted) -> None:
-        """Asks what scripts that pass leave at their ends, of those alone that aren't as they were."""
-        passing = [it for it in outcomes.values() if it.row.verdict is Verdict.PASS and it.row.number]
-        self._ends = {it.path: known for it in passing if (known := self._ends.get(it.path))}
-        asked = [it for it in passing if it.path not in self._ends or self._ends[it.path][0] != wanted[it.path]]
-        for outcome in self._explained(asked, wanted):
-            self._ends[outcome.path] = wanted[outcome.path], outcome.at_end
 
     def _show(self, outcomes: Outcomes, wanted: Wanted, begin: float, check: Callable[[], None]) -> None:
         """Shows what changed: the rows at once, what is told of them once it is; at first all in one."""
@@ -138,42 +126,40 @@ class View:
             self._screen.show(self._head().append_text(self._as_it_stands(rows)))
             self._note_marked(before, outcomes)
         after = {path: self.outcomes[path] if self._is_told(it, wanted) else it for path, it in outcomes.items()}
-        asked = [it for path, it in after.items() if self._is_asked(it) and it is outcomes[path]]
-        stopped = None
+        untold = [it for path, it in after.items() if self._is_asked(it) and it is outcomes[path]]
+        after |= {it.path: it for it in self._explained(untold, wanted)}
         try:
-            for outcome in self._explained(asked, wanted):
-                after[outcome.path] = outcome
-        except Stopped as end:
-            stopped = end
-        try:
-            turned = self._turned(after, wanted) if stopped is None else ()
+            turned = self._turned(after, wanted)
             check()
         except SenderChanged:
             # The rows were shown; what is told of them may be another program's.
             self.outcomes, self._wanted = outcomes, wanted
             raise
-        self._close(before, after, bool(rows.plain), moves, begin, turned)
+        self._close(before, after, bool(rows.plain), moves, begin, turned or ())
+        self._keep_turned(turned, after, wanted)
         self._wanted = wanted
-        if stopped is not None:
-            raise stopped
 
     def _placed(self, outcomes: Outcomes, wanted: Wanted) -> Outcomes:
         """The outcomes, those of texts that are no scripts with what is told of them: it says where these break off."""
-        placed = dict(outcomes)
-        unread = [it for it in outcomes.values() if it.row.verdict is Verdict.SYNTAX and not self._is_told(it, wanted)]
-        try:
-            placed.update((it.path, it) for it in self._explained(unread, wanted))
-        except Stopped:
-            pass  # the rows are shown all the same
-        return placed
+        unread = (it for it in outcomes.values() if it.row.verdict is Verdict.SYNTAX and not self._is_told(it, wanted))
+        return {**outcomes, **{it.path: it for it in self._explained(unread, wanted)}}
 
-    def _turned(self, after: Outcomes, wanted: Wanted) -> Sequence[ComparedScript]:
-        """The scripts that another sender turned."""
+    def _turned(self, after: Outcomes, wanted: Wanted) -> Sequence[ComparedScript] | None:
+        """The scripts that another sender turned; None where there is no other."""
         if self._compare is None:
-            return ()
+            return None
         found = self._compare(Shown(self.outcomes, self._wanted), Shown(after, wanted))
         self._compare = None
         return found
+
+    def _keep_turned(self, found: Sequence[ComparedScript] | None, after: Outcomes, wanted: Wanted) -> None:
+        """Keeps the scripts that turned: those that were found, or of those before the ones that are as they were."""
+        if found is None:
+            same = [it for it in self.turned if it.path in after and after[it.path].row == it.after.row]
+            found = [it for it in same if wanted.get(it.path) == self._wanted.get(it.path)]
+            if len(found) == len(self.turned):
+                return
+        self.turned = found
 
     def _close(
         self,
@@ -240,14 +226,7 @@ class View:
         """Whether it is asked why an outcome is so; of a known one nothing is shown but on the page."""
         return outcome.row.line is not None and not outcome.told and (self._of_known or not outcome.is_known)
 
-    def _explained(self, outcomes: Sequence[Outcome], wanted: Wanted) -> Iterator[Outcome]:
-        """Outcomes with what is told of them, piece by piece."""
-        explainer = self._explainer
-        if explainer is None:
-            return
-        scripts = [Script(index, it.path, wanted[it.path].settings) for index, it in enumerate(outcomes)]
-        for run in runs_of(scripts):
-            for piece in run.pieces:
-                texts = {it.index: wanted[it.path].text for it in piece}
-                settled = SettledPiece([(it, outcomes[it.index]) for it in piece], texts)
-                yield from (outcome for _, outcome in explainer.explain(settled))
+    def _explained(self, outcomes: Iterable[Outcome], wanted: Wanted) -> Iterator[Outcome]:
+        """Outcomes with what is told of them."""
+        if self._explainer is not None:
+            yield from (self._explainer.explain(it, wanted[it.path]) for it in outcomes)

@@ -29,6 +29,18 @@ local function open_outside(_, params)
   return { success = true }
 end
 
+-- What is told anew of a script is so of the line above it, too, also where the sender has changed and no text. Neovim
+-- asks for that line by itself only since 0.10.
+local function publish(fault, result, context, config)
+  vim.lsp.diagnostic.on_publish_diagnostics(fault, result, context, config)
+  local buffer = vim.uri_to_bufnr(result.uri)
+  if vim.api.nvim_buf_is_loaded(buffer) and vim.lsp.buf_is_attached(buffer, context.client_id) then
+    vim.api.nvim_buf_call(buffer, function()
+      vim.lsp.codelens.refresh()
+    end)
+  end
+end
+
 local function on_attach(_, buffer)
   local function map(keys, action, what)
     vim.keymap.set('n', keys, action, { buffer = buffer, desc = what })
@@ -61,7 +73,7 @@ function M.attach(buffer)
       workspace_folders = { { uri = vim.uri_from_fname(root), name = root } },
       capabilities = capabilities(),
       flags = { debounce_text_changes = DEBOUNCE },
-      handlers = { ['window/showDocument'] = open_outside },
+      handlers = { ['window/showDocument'] = open_outside, ['textDocument/publishDiagnostics'] = publish },
       on_attach = on_attach,
     })
   end

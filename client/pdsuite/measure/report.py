@@ -1,0 +1,170 @@
+"""What two senders made of transfers: as a table for people, and as JSON."""
+
+import json
+from collections import Counter
+from collections.abc import Iterator, Sequence
+from dataclasses import dataclass
+
+from pdsuite.measure.statistics import Row, Table, Unit, Verdict
+from pdsuite.measure.measuring import Case
+from pdsuite.run.outcomes import UNPROVED
+from pdsuite.show.fitting import wrapped
+from pdsuite.show.octets import shown_text
+from pdsuite.show.styled_text import StyledText, unstyled
+
+# Of the JSON, as docs/measure.schema.json has it.
+VERSION = 1
+_INDENT = "  "
+# Times below so many microseconds are told in these.
+_SHORT = 100
+_STYLES = {Verdict.BETTER: "green", Verdict.WORSE: "bold red", Verdict.UNSHOWN: "dim", Verdict.SAME: "dim"}
+
+
+@dataclass(frozen=True)
+class MeasureReport:
+    """Tables, senders, seed, counts of transfers and seconds, and whether it is unproved or ended by a signal."""
+
+    tables: Sequence[Table]
+    names: tuple[str, str]
+    seed: int
+    transfers: int
+    seconds: float
+    is_unproved: bool
+    is_cut: bool = False  # a signal ended it early
+
+    @property
+    def verdicts(self) -> Counter[Verdict]:
+        """How many rows have which verdict."""
+        return Counter(row.verdict for table in self.tables for row in table.rows)
+
+
+def title_of(case: Case, runs: int) -> str:
+    """A case in words."""
+    twice = f", twice, {number_of(Unit.TIME, case.path.idle_us)} apart" if case.path.idle_us else ""
+    count = "1 run, without chance" if not case.path.has_chance else f"{runs:,} run{'s' * (runs != 1)}"
+    return f"{case.path.name}, {case.size:,} octets{twice}: {count}"
+
+
+def plain(report: MeasureReport, columns: int | None = None) -> StyledText:
+    """A table of each case, and the totals, in lines of so many columns at most if they are said."""
+    text = StyledText()
+    for table in report.tables:
+        text.append(f"{title_of(table.measured.case, len(table.measured.pairs))}\n", "bold")
+        for line, verdict, below in lines_of(table, columns):
+            text.append(f"{_INDENT}{line}  ").append(verdict, _STYLES[verdict]).append("\n")
+            text.append("".join(f"{2 * _INDENT}{it}\n" for it in below))
+        if table.measured.unplayed:
+            text.append(f"{_fitted(f'{_INDENT}{unplayed_of(table)}', columns)}\n", "bold red")
+    return text.append("".join(f"{_fitted(line, columns)}\n" for line in totals_of(report)))
+
+
+def _fitted(line: str, columns: int | None) -> str:
+    return line if columns is None else wrapped(line, columns, 2 * _INDENT)
+
+
+def totals_of(report: MeasureReport) -> tuple[str, str]:
+    """The last lines: how many figures show what, and how many transfers were played."""
+    mark = f" {UNPROVED}" if report.is_unproved else ""
+    cut = " until a signal came" if report.is_cut else ""
+    counts = ", ".join(f"{report.verdicts[it]} {it}" for it in Verdict)
+    return counts, f"total {report.transfers:,} transfers in {report.seconds:.2f} s{cut}, seed {report.seed}{mark}"
+
+
+def unplayed_of(table: Table) -> str:
+    """How many transfers came to no end, and why the first didn't."""
+    first, *more = table.measured.unplayed
+    return f"not played: {shown_text(first)}" + (f", and {len(more)} more" if more else "")
+
+
+def lines_of(table: Table, columns: int | None) -> Iterator[tuple[str, Verdict, Sequence[str]]]:
+    """The rows of a case, each with its verdict: in columns, or where these don't fit with their numbers below."""
+    cells = [cells_of(it) for it in table.rows]
+    widths = [max(len(row[column]) for row in cells) for column in range(len(cells[0]))] if cells else []
+    rows = [(row.verdict, _in_columns(it, widths)) for row, it in zip(table.rows, cells)]
+    if columns is None or all(len(f"{_INDENT}{line}  {verdict}") <= columns for verdict, line in rows):
+        yield from ((line, verdict, ()) for verdict, line in rows)
+        return
+    for row, (name, *numbers) in zip(table.rows, cells):
+        yield name.ljust(widths[0]), row.verdict, _below(numbers, columns)
+
+
+def _in_columns(cells: Sequence[str], widths: Sequence[int]) -> str:
+    name, *numbers = cells
+    return "  ".join([name.ljust(widths[0]), *(it.rjust(width) for it, width in zip(numbers, widths[1:]))])
+
+
+def _below(numbers: Sequence[str], columns: int) -> Sequence[str]:
+    """Numbers in a line; where it doesn't fit the last, which says where a difference lies, has one of its own."""
+    line = "  ".join(it for it in numbers if it)
+    return [line] if len(f"{2 * _INDENT}{line}") <= columns else ["  ".join(numbers[:-1]), numbers[-1]]
+
+
+def cells_of(row: Row) -> tuple[str, ...]:
+    """A row in words: its name, both sides, the difference, and where that lies."""
+    unit = row.figure.unit
+    is_short = max(row.before, row.after) < _SHORT
+    before, after = number_of(unit, row.before, "", is_short), number_of(unit, row.after, "", is_short)
+    difference, low, high = (number_of(unit, it, "+", is_short) for it in (row.difference, row.low, row.high))
+    return row.figure.words, before, after, difference, f"({low} to {high})" if row.chance is not None else ""
+
+
+def number_of(unit: Unit, value: float, sign: str = "", is_short: bool = False) -> str:
+    """A number with its unit; a time in milliseconds, or beside short times in microseconds."""
+    if unit is Unit.TIME and is_short:
+        return f"{value:{sign},.3f} us"
+    if unit is Unit.TIME:
+        return f"{value / 1_000:{sign},.3f} ms"
+    if unit is Unit.SHARE:
+        return f"{100 * value:{sign}.2f} %"
+    return f"{value:{sign},.2f}"
+
+
+def as_json(report: MeasureReport) -> StyledText:
+    """One object: the senders, and each case with its rows."""
+    whole: dict[str, object] = {
+        "version": VERSION,
+        "before": report.names[0],
+        "after": report.names[1],
+        "seed": report.seed,
+        "cases": [_case(it) for it in report.tables],
+        "verdicts": {it.value: report.verdicts[it] for it in Verdict},
+        "transfers": report.transfers,
+        "seconds": round(report.seconds, 2),
+    }
+    if report.is_cut:
+        whole["cut"] = True
+    if report.is_unproved:
+        whole[UNPROVED] = True
+    return unstyled(json.dumps(whole, ensure_ascii=False, indent=1) + "\n")
+
+
+def _case(table: Table) -> dict[str, object]:
+    measured = table.measured
+    case: dict[str, object] = {
+        "path": measured.case.path.name,
+        "octets": measured.case.size,
+        "chance": measured.case.path.has_chance,
+        "figures": {it.figure.key: _row(it) for it in table.rows},
+        "runs": [{"run": it.run, "before_us": it.before.time, "after_us": it.after.time} for it in measured.pairs],
+    }
+    if measured.unplayed:
+        case["unplayed"] = [shown_text(it) for it in measured.unplayed]
+    return case
+
+
+def _row(row: Row) -> dict[str, object]:
+    return {
+        "words": row.figure.words,
+        "unit": row.figure.unit.value,
+        "before": _rounded(row.before),
+        "after": _rounded(row.after),
+        "difference": _rounded(row.difference),
+        "low": _rounded(row.low),
+        "high": _rounded(row.high),
+        "chance": None if row.chance is None else _rounded(row.chance),
+        "verdict": row.verdict.value,
+    }
+
+
+def _rounded(value: float) -> float:
+    return round(value, 6)

@@ -1,0 +1,183 @@
+"""Figures of transfers under two senders, their differences by a paired bootstrap, and what those show."""
+
+from collections.abc import Callable, Iterator, Sequence
+from dataclasses import dataclass, replace
+from enum import StrEnum
+from functools import lru_cache
+from typing import Any
+
+import numpy
+
+from pdsuite.measure.measuring import MeasuredCase
+from pdsuite.measure.transfer import Delivery
+
+# Samples of a bootstrap, and how many are looked at at once.
+_SAMPLES = 9_999
+_BLOCK = 1_111
+_SEED = 1
+# What is told is wrong, over all of a table, as often as this at most, and an interval holds what is so but for this.
+LEVEL = 0.05
+
+Array = Any
+
+
+class Verdict(StrEnum):
+    """What a difference shows."""
+
+    BETTER = "better"
+    WORSE = "worse"
+    UNSHOWN = "no difference shown"
+    SAME = "the same"
+
+
+class Unit(StrEnum):
+    """What a figure counts."""
+
+    TIME = "microseconds"
+    SHARE = "share"
+    COUNT = "count"
+
+
+@dataclass(frozen=True)
+class Figure:
+    """A number of many transfers: what of each it is of, and whether more of it is better.
+
+    It is the least value that such a share of the runs doesn't exceed, or without a share the mean.
+    """
+
+    key: str
+    words: str
+    unit: Unit
+    of: Callable[[Delivery, int], float]  # with the rate of the path
+    share: float | None = None
+    is_more_better: bool = False
+
+
+@dataclass(frozen=True)
+class Row:
+    """A figure under both senders: the difference, where it lies by the runs, and what that shows.
+
+    There is no chance where nothing is drawn: the difference is exact, and `chance` None. Else that is the share of
+    such differences, or larger ones, where there is none.
+    """
+
+    figure: Figure
+    before: float
+    after: float
+    low: float
+    high: float
+    chance: float | None
+    verdict: Verdict = Verdict.UNSHOWN
+
+    @property
+    def difference(self) -> float:
+        return self.after - self.before
+
+
+@dataclass(frozen=True)
+class Table:
+    """A case with its rows; without runs it has none."""
+
+    measured: MeasuredCase
+    rows: tuple[Row, ...]
+
+
+FIGURES = (
+    *(
+        Figure(key, f"time to deliver, {words}", Unit.TIME, lambda it, _: it.time, share)
+        for key, words, share in (
+            ("time_median", "median", 0.5),
+            ("time_90", "90th percentile", 0.9),
+            ("time_99", "99th percentile", 0.99),
+        )
+    ),
+    Figure("goodput", "goodput, of the rate", Unit.SHARE, lambda it, rate: goodput(it, rate), is_more_better=True),
+    Figure("segments_again", "segments sent again", Unit.COUNT, lambda it, _: it.segments_again),
+    Figure("octets_again", "octets sent again", Unit.COUNT, lambda it, _: it.octets_again),
+    Figure("expiries", "expiries of the timer", Unit.COUNT, lambda it, _: it.expiries),
+    Figure("queue", "time in the queue", Unit.TIME, lambda it, _: it.queue),
+)
+
+
+def goodput(it: Delivery, rate: int) -> float:
+    """What the peer got, as a share of what the path could have brought in that time."""
+    return it.octets * 8_000_000 / it.time / rate
+
+
+def tables_of(cases: Sequence[MeasuredCase]) -> list[Table]:
+    """The tables of all cases, with verdicts that hold together."""
+    tables = [Table(it, tuple(_rows(it)) if it.pairs else ()) for it in cases]
+    shown = _shown([row.chance for table in tables for row in table.rows])
+    verdicts = iter(shown)
+    return [
+        replace(table, rows=tuple(replace(row, verdict=_verdict(row, next(verdicts))) for row in table.rows))
+        for table in tables
+    ]
+
+
+def _rows(it: MeasuredCase) -> Iterator[Row]:
+    """The figures of a case, whose verdicts are open. All are of the same samples of runs."""
+    rate = it.case.path.rate
+    count = len(it.pairs)
+    for figure in FIGURES:
+        sides = [numpy.array([figure.of(pair.sides[side], rate) for pair in it.pairs], float) for side in (0, 1)]
+        before, after = (float(_estimates(each, numpy.ones((1, count)), figure.share)[0]) for each in sides)
+        if not it.case.path.has_chance:
+            yield Row(figure, before, after, after - before, after - before, None)
+        elif (sides[0] == sides[1]).all():
+            yield Row(figure, before, after, 0.0, 0.0, 1.0)
+        else:
+            differences = _differences(sides, figure.share)
+            low, high = numpy.quantile(differences, (LEVEL / 2, 1 - LEVEL / 2))
+            yield Row(
+                figure, before, after, float(low), float(high), _chance(differences, int((sides[0] != sides[1]).sum()))
+            )
+
+
+def _differences(sides: Sequence[Array], share: float | None) -> Array:
+    """The difference of both sides in each sample of the pairs."""
+    counts = _samples(len(sides[0]))
+    blocks = [counts[begin : begin + _BLOCK] for begin in range(0, _SAMPLES, _BLOCK)]
+    return numpy.concatenate([_estimates(sides[1], it, share) - _estimates(sides[0], it, share) for it in blocks])
+
+
+@lru_cache(maxsize=1)
+def _samples(count: int) -> Array:
+    """How often each of so many pairs is in each sample, the same at each call."""
+    draw = numpy.random.default_rng(_SEED)
+    return draw.multinomial(count, [1 / count] * count, _SAMPLES).astype(numpy.int16)
+
+
+def _estimates(values: Array, counts: Array, share: float | None) -> Array:
+    """A figure of each sample: the mean, or the least value that such a share of it doesn't exceed."""
+    count = len(values)
+    if share is None:
+        return counts @ values / count
+    order = values.argsort(kind="stable")
+    reached = counts[:, order].cumsum(axis=1) >= share * count
+    return values[order][reached.argmax(axis=1)]
+
+
+def _chance(differences: Array, unequal: int) -> float:
+    """How often chance alone would make such a difference: both tails, and no less than a test of signs allows."""
+    tail = min(int((differences <= 0).sum()), int((differences >= 0).sum()))
+    return min(1.0, max(2 * (tail + 1) / (len(differences) + 1), 2.0 ** (1 - unequal)))
+
+
+def _shown(chances: Sequence[float | None]) -> list[bool]:
+    """Which differences are shown, so that all of them are with the same certainty (Holm)."""
+    tested = sorted((it, place) for place, it in enumerate(chances) if it is not None)
+    shown = [it is None for it in chances]
+    for number, (chance, place) in enumerate(tested):
+        if chance > LEVEL / (len(tested) - number):
+            break
+        shown[place] = True
+    return shown
+
+
+def _verdict(row: Row, is_shown: bool) -> Verdict:
+    if row.low == row.high == row.difference == 0:
+        return Verdict.SAME
+    if not is_shown or row.difference == 0:
+        return Verdict.UNSHOWN
+    return Verdict.BETTER if (row.difference > 0) is row.figure.is_more_better else Verdict.WORSE

@@ -1,0 +1,272 @@
+"""One transfer over a modelled path: what a sender is told to send goes over the link, and the peer's ACKs come back.
+
+The sender is asked for by whoever plays: it gets inputs as lines of a script, and tells what left.
+"""
+
+import heapq
+from collections.abc import Generator, Sequence
+from dataclasses import dataclass, field
+from itertools import count
+from random import Random
+
+from pdsuite.measure.link import Fate, Link
+from pdsuite.measure.paths import HEADER, NetworkPath
+from pdsuite.measure.receiver import Ack, Receiver, Span
+from pdsuite.measure.writer import Writer
+from pdsuite.packetdrill.items import SECOND
+from pdsuite.search.inputs import EXACT
+
+SYN_AT = 100_000
+_HEADER_LINES = (
+    EXACT,
+    "0 socket(..., SOCK_STREAM, IPPROTO_TCP) = 3",
+    "+0 bind(3, ..., ...) = 0",
+    "+0 listen(3, 1) = 0",
+)
+# Comes after whatever else has a number.
+_LAST = 1 << 30
+# Changes nothing, and so lets the timer expire before it.
+_TICK = "fcntl(4, F_SETFL, O_RDWR) = 0"
+
+
+@dataclass(frozen=True, slots=True)
+class Departure:
+    """A segment with octets that left at a moment, and whether the timer sent it."""
+
+    at: int
+    start: int
+    end: int
+    is_by_timer: bool = False
+
+
+@dataclass(frozen=True, slots=True)
+class SenderReply:
+    """What a sender tells after inputs: what left since it was asked last, and when its timer expires, if it runs."""
+
+    departures: tuple[Departure, ...]
+    expiry: int | None
+
+
+@dataclass(frozen=True)
+class Delivery:
+    """What came of a transfer. Times are in microseconds, that in the queue a mean.
+
+    The time is that from the first write until the peer has all, without an idle time in between.
+    """
+
+    octets: int
+    time: int
+    segments: int
+    segments_again: int
+    octets_again: int
+    expiries: int
+    queue: float
+    overflows: int
+    losses: int
+    lines: tuple[str, ...] = field(repr=False)  # of its inputs
+    departures: tuple[Departure, ...] = field(repr=False)
+
+    def script(self) -> bytes:
+        """The script of its inputs alone."""
+        return "".join(f"{it}\n" for it in self.lines).encode()
+
+    @property
+    def packets(self) -> tuple[Departure, ...]:
+        """The segments that left, whatever sent them."""
+        return tuple(Departure(it.at, it.start, it.end) for it in self.departures)
+
+
+class Stalled(Exception):
+    """That neither the sender nor the peer has anything to do, and not all was delivered."""
+
+
+# Hands out inputs as lines, and gets what the sender tells.
+Playing = Generator[Sequence[str], SenderReply, Delivery]
+
+
+def play(path: NetworkPath, size: int, seed: str, room: int) -> Playing:
+    """Plays a transfer of so many octets; the sender's buffer has this room."""
+    return (yield from Transfer(path, size, seed, room).play())
+
+
+class Transfer:
+    """What is on its way, in the order of moments, and what was counted."""
+
+    def __init__(self, path: NetworkPath, size: int, seed: str, room: int) -> None:
+        self._path = path
+        self._link = Link(path, seed)
+        self._lost_acks = Random(f"{seed} acks")
+        self._receiver = Receiver(path.ack_every, path.sack)
+        self._writer = Writer(path, size, room)
+        # What reaches the peer and the sender: segments and ACKs in their order, and of a moment last a timer, as None.
+        self._at_peer: list[tuple[int, int, Span | None]] = []
+        self._at_sender: list[tuple[int, int, Ack | None]] = []
+        self._acks = count()
+        # An ACK that waits for newer ones, and when what is due at the peer by itself is.
+        self._gathered: Ack | None = None
+        self._ack_due: int | None = None
+        self._gather_due: int | None = None
+        self._lines: list[str] = []
+        self._now = 0
+        self._departures: list[Departure] = []
+        self._waits: list[int] = []
+        self._fates = {it: 0 for it in Fate}
+
+    def play(self) -> Playing:
+        reply = yield self._handshake()
+        self._carry(reply)
+        while not self._writer.is_over:
+            reply = yield self._inputs(reply.expiry)
+            self._carry(reply)
+        return self._delivery()
+
+    # ---- the sender
+
+    def _handshake(self) -> list[str]:
+        """The lines up to the first write. No packet of the handshake is lost, and none waits."""
+        path = self._path
+        sack = ",sackOK" if path.sack else ""
+        scale = f",nop,wscale {path.shift}" if path.shift else ""
+        window = min(path.window, 65_535)
+        self._lines += _HEADER_LINES
+        self._put(SYN_AT, f"< S 0:0(0) win {window} <mss {path.mss}{sack}{scale}>")
+        at = self._link.earliest(SYN_AT) + path.delay_us
+        self._put(at, f"< . 1:1(0) ack 1 win {path.field}")
+        self._put(at, "accept(3, ..., ...) = 4")
+        self._write(at)
+        return list(self._lines)
+
+    def _inputs(self, expiry: int | None) -> list[str]:
+        """What is put in before the sender could be answered again, once all of that is known."""
+        begin = len(self._lines)
+        while len(self._lines) == begin:
+            first = self._first(expiry)
+            if first is None:
+                raise Stalled(f"nothing is due, and {self._receiver.taken:,} of {self._writer.total:,} octets arrived")
+            horizon = self.horizon(first)
+            is_told = self._tell_peer(horizon)
+            while self._at_sender and self._at_sender[0][0] < horizon + self._path.delay_us:
+                at, _, ack = heapq.heappop(self._at_sender)
+                if ack is not None:
+                    self._acknowledge(at, ack)
+                self._write(at)
+            if not is_told and len(self._lines) == begin and first == expiry:
+                self._put(first, _TICK)
+        return self._lines[begin:]
+
+    def horizon(self, first: int) -> int:
+        """A moment before which nothing reaches the peer that leaves from the first one on."""
+        return self._link.earliest(first)
+
+    def _first(self, expiry: int | None) -> int | None:
+        """The first moment at which the sender may do something."""
+        moments = [] if expiry is None else [expiry]
+        if self._at_sender:
+            moments.append(self._at_sender[0][0])
+        if self._at_peer:
+            moments.append(self._at_peer[0][0] + self._path.delay_us)
+        return min(moments, default=None)
+
+    def _acknowledge(self, at: int, ack: Ack) -> None:
+        blocks = " ".join(f"{left}:{right}" for left, right in ack.blocks)
+        options = f" <nop,nop,sack {blocks}>" if blocks else ""
+        self._put(at, f"< . 1:1(0) ack {ack.number} win {self._path.field}{options}")
+        self._writer.acknowledge(at, ack.number)
+
+    def _write(self, at: int) -> None:
+        """Writes what is due and has room, and notes when more is due."""
+        for octets in self._writer.writes(at):
+            self._put(at, f"write(4, ..., {octets}) = {octets}")
+        due = self._writer.wakes(at)
+        if due is not None:
+            heapq.heappush(self._at_sender, (due, _LAST, None))
+
+    def _put(self, at: int, what: str) -> None:
+        self._lines.append(f"{_after(at - self._now)} {what}")
+        self._now = at
+
+    def _carry(self, reply: SenderReply) -> None:
+        """Hands what left to the link."""
+        for it in reply.departures:
+            self._departures.append(it)
+            carried = self._link.carry(it.at, it.end - it.start + HEADER)
+            self._fates[carried.fate] += 1
+            if carried.fate is not Fate.OVERFLOW:
+                self._waits.append(carried.waited)
+            if carried.arrives:
+                heapq.heappush(self._at_peer, (carried.at, len(self._departures), (it.start, it.end)))
+
+    # ---- the peer
+
+    def _tell_peer(self, until: int) -> bool:
+        """Lets come what reaches the peer before a moment; whether there was anything."""
+        is_any = False
+        while self._at_peer and self._at_peer[0][0] < until:
+            at, _, span = heapq.heappop(self._at_peer)
+            is_any = True
+            if span is None:
+                self._expire(at)
+            elif self._receiver.take(span):
+                self._send(at)
+            elif self._receiver.waiting == 1:
+                self._ack_due = at + self._path.ack_delay_us
+                self._wake(self._ack_due)
+            self._writer.deliver(at, self._receiver.next)
+        return is_any
+
+    def _expire(self, at: int) -> None:
+        """What the peer does when a timer of its own may be due: it acknowledges, or lets gathered ACKs go."""
+        if self._ack_due == at:
+            self._send(at)
+        if self._gathered is not None and self._gather_due == at:
+            ack, self._gathered = self._gathered, None
+            self._return(at, ack)
+
+    def _send(self, at: int) -> None:
+        """Sends an ACK, which may wait for newer ones on its way."""
+        self._ack_due = None
+        ack = self._receiver.acknowledge()
+        if not self._path.ack_gather_us:
+            self._return(at, ack)
+            return
+        if self._gathered is None:
+            self._gather_due = at + self._path.ack_gather_us
+            self._wake(self._gather_due)
+        self._gathered = ack
+
+    def _return(self, at: int, ack: Ack) -> None:
+        if self._lost_acks.random() >= self._path.ack_loss:
+            heapq.heappush(self._at_sender, (at + self._path.delay_us, next(self._acks), ack))
+
+    def _wake(self, at: int) -> None:
+        heapq.heappush(self._at_peer, (at, _LAST, None))
+
+    # ---- what came of it
+
+    def _delivery(self) -> Delivery:
+        top = 1
+        segments = octets = 0
+        for it in self._departures:
+            segments += it.start < top
+            octets += max(0, min(it.end, top) - it.start)
+            top = max(top, it.end)
+        return Delivery(
+            octets=self._receiver.taken,
+            time=self._writer.time,
+            segments=len(self._departures),
+            segments_again=segments,
+            octets_again=octets,
+            expiries=len({it.at for it in self._departures if it.is_by_timer}),
+            queue=sum(self._waits) / max(len(self._waits), 1) / 1_000,
+            overflows=self._fates[Fate.OVERFLOW],
+            losses=self._fates[Fate.LOST],
+            lines=tuple(self._lines),
+            departures=tuple(self._departures),
+        )
+
+
+def _after(microseconds: int) -> str:
+    """A time after the event before, as short as a script has it."""
+    whole, part = divmod(microseconds, SECOND)
+    digits = f"{part:06}".rstrip("0")
+    return f"+{whole}.{digits}" if digits else f"+{whole}"
