@@ -3,10 +3,10 @@ use Rattle.std.proofs.Common.{◌≡◌, ℕ, ◌+◌, ◌-◌, ◌<◌, ◌≤�
 use Rattle.std.specs.Prelude.{nat_le, nat_lt, unwrap_or}
 use Rattle.std.specs.Option.{option_map}
 use Rattle.std.proofs.lemmas.Bool.Decides.{nat_tests}
-use Rattle.pd_board.specs.Octets.{contains, octets_where, least_where, greatest_where}
+use Rattle.pd_board.specs.Octets.{contains, octets_where, least_where, greatest_where, after}
 use Rattle.pd_board.specs.Board.{BoardView, skipped}
 use Rattle.pd_board.specs.Loss.{is_lost, is_free, sacked_above}
-use Rattle.pd_board.specs.Choice.{run_at, most_from, is_hole, next_hole, next_lost, rescue, segment_to, after}
+use Rattle.pd_board.specs.Choice.{run_at, most_from, is_hole, next_hole, next_lost, rescue, segment_to}
 use Rattle.pd_board.proofs.Sets.{lt, ge, size_where-some, size_where-skip, size_where-none}
 use Rattle.pd_board.proofs.Find.{least-is, least-none, least-both, only_if, greatest-is, greatest-none, greatest-below, greatest-under}
 use Rattle.pd_board.proofs.Lost.{lost_below}

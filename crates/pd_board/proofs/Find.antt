@@ -3,8 +3,7 @@ use Rattle.std.proofs.Common.{◌≡◌, ℕ, zero, suc, ◌+◌, ◌-◌, ◌<�
 use Rattle.std.specs.Prelude.{nat_lt}
 use Rattle.std.specs.List.{range_with_len, find}
 use Rattle.std.proofs.lemmas.List.{reverse-append}
-use Rattle.pd_board.specs.Choice.{after}
-use Rattle.pd_board.specs.Octets.{least_where, greatest_where}
+use Rattle.pd_board.specs.Octets.{least_where, greatest_where, after}
 use Rattle.pd_board.proofs.Sets.{lt, ge}
 
 pub least_step : (p : ℕ → Bool) (a b : ℕ) → a < b → least_where p a b ≡ cond (p a) (Some a) (least_where p (a + 1) b)
@@ -120,4 +119,56 @@ greatest-under p a (suc n) =
     elim (p (a + n)) as (λ t. p (a + n) ≡ t → after (greatest_where p a (a + suc n)) ≤ a + suc n) [
       | true ↦ λ t. let f = ap (λ c. after (cond c (Some (a + n)) (greatest_where p a (a + n)))) t in omega (arith, step, f)
       | false ↦ λ t. let f = ap (λ c. after (cond c (Some (a + n)) (greatest_where p a (a + n)))) t in omega (arith, step, f, ih)
+    ] refl
+
+-- a test that agrees on the range has the same greatest
+pub greatest-same : (p q : ℕ → Bool) (a n : ℕ) → ((x : ℕ) → a ≤ x → x < a + n → p x ≡ q x) → greatest_where p a (a + n) ≡ greatest_where q a (a + n)
+greatest-same p q a zero h = greatest_empty p a (a + 0) (omega arith) ∙ sym (greatest_empty q a (a + 0) (omega arith))
+greatest-same p q a (suc n) h =
+    let e : a + suc n ≡ a + n + 1 = omega arith in
+    let last : p (a + n) ≡ q (a + n) = h (a + n) (omega arith) (omega arith) in
+    let rest : greatest_where p a (a + n) ≡ greatest_where q a (a + n) = greatest-same p q a n (λ x l u. h x l (omega arith)) in
+    ap (greatest_where p a) e ∙ greatest_step p a (a + n) (omega arith)
+    ∙ (λ i. cond (last i) (Some (a + n)) (rest i))
+    ∙ sym (greatest_step q a (a + n) (omega arith)) ∙ sym (ap (greatest_where q a) e)
+
+-- one that passes lies below the number after the greatest
+pub greatest-reaches : (p : ℕ → Bool) (a n x : ℕ) → a ≤ x → x < a + n → p x ≡ true → x < after (greatest_where p a (a + n))
+greatest-reaches p a zero x l u y = absurd (omega arith)
+greatest-reaches p a (suc n) x l u y =
+    let e : a + suc n ≡ a + n + 1 = omega arith in
+    let step = ap after (ap (greatest_where p a) e ∙ greatest_step p a (a + n) (omega arith)) in
+    elim (p (a + n)) as (λ t. p (a + n) ≡ t → x < after (greatest_where p a (a + suc n))) [
+      | true ↦ λ t. let f = ap (λ c. after (cond c (Some (a + n)) (greatest_where p a (a + n)))) t in omega (arith, step, f)
+      | false ↦ λ t.
+          let f = ap (λ c. after (cond c (Some (a + n)) (greatest_where p a (a + n)))) t in
+          let apart : x ≡ a + n → ⊥ = λ same. no (sym y ∙ ap p same ∙ t) in
+          let ih = greatest-reaches p a n x l (below x (a + n) (omega arith) apart) y in
+          omega (arith, step, f, ih)
+    ] refl
+  where
+    no : true ≡ false → ⊥
+    no bad = absurd cc
+
+    below : (x m : ℕ) → x ≤ m → (x ≡ m → ⊥) → x < m
+    below x m h apart = elim (nat_lt x m) as (λ t. nat_lt x m ≡ t → x < m) [
+      | true ↦ λ t. lt x m t
+      | false ↦ λ t. absurd (apart (let k = ge x m t in omega arith))
+    ] refl
+
+-- the greatest passes, in the range
+pub greatest-passes : (p : ℕ → Bool) (a n m : ℕ) → after (greatest_where p a (a + n)) ≡ m + 1 → (p m ≡ true) × (a ≤ m) × (m < a + n)
+greatest-passes p a zero m h = let e = ap after (greatest_empty p a (a + 0) (omega arith)) in absurd (omega (arith, e, h))
+greatest-passes p a (suc n) m h =
+    let e : a + suc n ≡ a + n + 1 = omega arith in
+    let step = ap after (ap (greatest_where p a) e ∙ greatest_step p a (a + n) (omega arith)) in
+    elim (p (a + n)) as (λ t. p (a + n) ≡ t → (p m ≡ true) × (a ≤ m) × (m < a + suc n)) [
+      | true ↦ λ t.
+          let f = ap (λ c. after (cond c (Some (a + n)) (greatest_where p a (a + n)))) t in
+          let same : m ≡ a + n = omega (arith, step, f, h) in
+          (ap p same ∙ t, omega arith, omega arith)
+      | false ↦ λ t.
+          let f = ap (λ c. after (cond c (Some (a + n)) (greatest_where p a (a + n)))) t in
+          let ih = greatest-passes p a n m (sym f ∙ sym step ∙ h) in
+          (ih.0, ih.1, omega (arith, ih.2))
     ] refl

@@ -8,3 +8,5 @@ pub mod Merge
 pub mod Counted
 pub mod Way
 pub mod Ahead
+pub mod Edge
+pub mod Delivered

@@ -167,6 +167,25 @@ begins_run_in p a b x l u =
     before : x ≡ a → 0 < x → contains (octets_where p a b) (x - 1) ≡ false
     before e h = contains_below p a b (x - 1) (omega arith)
 
+-- a set in two parts
+pub size_where-parts : (p : ℕ → Bool) (a m b n : ℕ) → a + n ≡ m → m ≤ b → size_where p a b ≡ size_where p a m + size_where p m b
+size_where-parts p a m b zero e l =
+    let same : a ≡ m = omega arith in
+    let all : size_where p a b ≡ size_where p m b = ap (λ k. size_where p k b) same in
+    omega (arith, all, size_where-none p a m (omega arith))
+size_where-parts p a m b (suc n) e l =
+    omega (arith, size_where-first p a b (omega arith), size_where-first p a m (omega arith), size_where-parts p (a + 1) m b n (omega arith) l)
+
+-- those that pass and those that don't are all
+pub size_where-both : (p : ℕ → Bool) (a b n : ℕ) → a + n ≡ b → size_where p a b + size_where (λ x. not (p x)) a b ≡ n
+size_where-both p a b zero e = omega (arith, size_where-none p a b (omega arith), size_where-none (λ x. not (p x)) a b (omega arith))
+size_where-both p a b (suc n) e =
+    omega (arith, size_where-first p a b (omega arith), size_where-first (λ x. not (p x)) a b (omega arith), one (p a), size_where-both p (a + 1) b n (omega arith))
+  where
+    one : (v : Bool) → cond {A = ℕ} v 1 0 + cond {A = ℕ} (not v) 1 0 ≡ 1
+    one true = refl
+    one false = refl
+
 pub any-first : (p : ℕ → Bool) (a b : ℕ) → a < b → list_any p (interval a b) ≡ (p a || list_any p (interval (a + 1) b))
 any-first p a b h =
     let e : b - a ≡ suc (b - (a + 1)) = omega arith in

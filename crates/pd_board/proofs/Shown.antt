@@ -4,12 +4,13 @@ use Rattle.std.specs.Prelude.{nat_le, nat_lt, nat_eq}
 use Rattle.std.specs.List.{list_any}
 use Rattle.std.proofs.lemmas.Bool.Decides.{nat_tests}
 use Rattle.pd_seg.specs.declared.sack_blocks.Span.{Span}
-use Rattle.pd_board.specs.Octets.{contains, interval, octets_where, size_where, begins_run}
+use Rattle.pd_board.specs.Octets.{contains, interval, octets_where, size_where, greatest_where, after, begins_run}
 use Rattle.pd_board.specs.Board.{BoardView, IsBoardView, covers, marked, has_new, sent_to, acknowledged}
-use Rattle.pd_board.specs.Loss.{is_lost, is_free, pipe, shows_loss}
+use Rattle.pd_board.specs.Loss.{is_lost, is_free, lost_edge, pipe, shows_loss}
 use Rattle.pd_board.specs.declared.ranges.Ranges.{Ranges}
 use Rattle.pd_board.specs.Ranges.{IsBoard}
-use Rattle.pd_board.specs.Tests.{first_of, lost_from, pipe_from}
+use Rattle.pd_board.specs.Tests.{first_of, lost_from, pipe_from, edge_from}
+use Rattle.pd_board.proofs.Find.{greatest-same}
 use Rattle.pd_board.proofs.Sets.{lt, ge, cut, contains-octets_where, contains_in, contains_below, octets_where-same, octets_where-longer, any-part, any-same, any-false, size_where-same, size_where-skip, size_where-none, begins_run_in}
 
 conj : (a b c : Bool) → (a && (b && c)) ≡ true → (a ≡ true) × (b ≡ true)
@@ -26,8 +27,8 @@ covering una a b f x was e l = grind (arith, nat_tests)
 before : (a b f una x : ℕ) (free : Bool) → f ≡ max una a → una ≤ x → x < f → ((nat_le a x && nat_lt x b) && free) ≡ false
 before a b f una x free e l u = grind (arith, nat_tests)
 
-after : (a b x : ℕ) (free : Bool) → b ≤ x → ((nat_le a x && nat_lt x b) && free) ≡ false
-after a b x free l = grind (arith, nat_tests)
+beyond : (a b x : ℕ) (free : Bool) → b ≤ x → ((nat_le a x && nat_lt x b) && free) ≡ false
+beyond a b x free l = grind (arith, nat_tests)
 
 inner : (a b f una x : ℕ) (free : Bool) → f ≡ max una a → f ≤ x → x < b → ((nat_le a x && nat_lt x b) && free) ≡ free
 inner a b f una x free e l u = grind (arith, nat_tests)
@@ -98,6 +99,14 @@ module _ (p : ℕ → Bool) (s : BoardView) (shown : s.sacked ≡ octets_where p
       let again = size_where-same (λ x. is_free x s && nat_lt x high_rxt) _ s.una s.top (λ x l u i. not (within x l u i) && nat_lt x high_rxt) in
       λ i. free i + again i
 
+  pub lost_edge_is : s.una ≤ s.top → lost_edge s ≡ edge_from p s.una s.top s.smss
+  lost_edge_is l =
+      let to : s.top ≡ s.una + (s.top - s.una) = omega arith in
+      ap (λ n. after (greatest_where (λ x. is_free x s && is_lost x s) s.una n)) to
+      ∙ ap after (greatest-same (λ x. is_free x s && is_lost x s) (λ x. not (p x) && lost_from p s.una s.top s.smss (x + 1)) s.una (s.top - s.una)
+      (λ x m u i. not (within x m (omega arith) i) && lost_at x m i))
+      ∙ sym (ap (λ n. after (greatest_where (λ x. not (p x) && lost_from p s.una s.top s.smss (x + 1)) s.una n)) to)
+
   pub marked_is : (q : ℕ → Bool) (block : Span) (first : ℕ) → first ≡ max s.una block.start
       → ((x : ℕ) → q x ≡ (p x || (nat_le first x && nat_lt x block.end))) → record s { sacked = octets_where q s.una s.top } ≡ marked block s
   marked_is q block first e h =
@@ -112,7 +121,7 @@ module _ (p : ℕ → Bool) (s : BoardView) (shown : s.sacked ≡ octets_where p
   has_new_is block first e l u =
       any-part _ s.una first block.end s.top (omega arith) l u
       (λ x m v. before block.start block.end first s.una x (not (contains s.sacked x)) e m v)
-      (λ x m v. after block.start block.end x (not (contains s.sacked x)) m)
+      (λ x m v. beyond block.start block.end x (not (contains s.sacked x)) m)
       ∙ any-same _ _ first block.end (λ x m v.
       inner block.start block.end first s.una x (not (contains s.sacked x)) e m v ∙ ap not (within x (omega arith) (omega arith)))
 

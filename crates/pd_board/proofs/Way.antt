@@ -77,6 +77,18 @@ module _ (p : ℕ → Bool) (una top smss high : ℕ) where
 first_same : (una x i : ℕ) (px ix pb ib : Bool) → px ≡ ix → (ix ≡ true → una < x → i ≤ x - 1) → (i ≤ x - 1 → pb ≡ ib) → una ≤ x → (px && (nat_eq x una || not pb)) ≡ (ix && (nat_eq x una || not ib))
 first_same una x i px ix pb ib e l h u = grind (arith, nat_tests)
 
+-- what lies from the first of some ranges on
+pub lost_over : (p : ℕ → Bool) (una top smss i : ℕ) (r : Span) (rs : List Span) → una ≤ i → Between i (r ∷ rs) (top + 1) → ((y : ℕ) → i ≤ y → p y ≡ among (r ∷ rs) y)
+    → ((x : ℕ) → among (r ∷ rs) x ≡ true → una < x → i ≤ x - 1) → lost_from p una top smss r.start ≡ shows_loss smss (length rs + 1) (r.end - r.start + octets_in rs)
+lost_over p una top smss i r rs l h same edge =
+    let b : Between r.start (r ∷ rs) (top + 1) = (omega arith, h.1, h.2) in
+    let octets : size_where p r.start top ≡ r.end - r.start + octets_in rs =
+    size_where-same p (among (r ∷ rs)) r.start top (λ x m u. same x (omega (arith, h.0))) ∙ octets_of r.start (r ∷ rs) r.start top b ∙ all_octets r.start (r ∷ rs) (top + 1) b ∙ sum_by-cons (λ q. q.end - q.start) r rs in
+    let runs : size_where (first_of p una) r.start top ≡ length rs + 1 =
+    size_where-same (first_of p una) (first_of (among (r ∷ rs)) una) r.start top (λ x m u. first_same una x i _ _ (p (x - 1)) (among (r ∷ rs) (x - 1)) (same x (omega (arith, h.0))) (edge x) (same (x - 1)) (omega (arith, h.0)))
+    ∙ runs_of una r.start (r ∷ rs) r.start top (omega (arith, h.0)) (omega (arith, h.0)) b ∙ all_runs r.start (r ∷ rs) (top + 1) b ∙ omega arith in
+    λ k. shows_loss smss (runs k) (octets k)
+
 -- the pipe over ranges
 pub way_is : (p : ℕ → Bool) (una top smss high i : ℕ) (rs : List Span) → una ≤ i → Between i rs (top + 1) → i ≤ top → ((y : ℕ) → i ≤ y → p y ≡ among rs y)
     → ((x : ℕ) → among rs x ≡ true → una < x → i ≤ x - 1) → pipe_from p una top smss high i ≡ way smss high top i rs
@@ -91,13 +103,8 @@ way_is p una top smss high i [] l h t same edge =
 way_is p una top smss high i (r ∷ rs) l h t same edge =
     let b : Between r.start (r ∷ rs) (top + 1) = (omega arith, h.1, h.2) in
     let last : r.end + 1 ≤ top + 1 = Between-end (r.end + 1) rs (top + 1) h.2 in
-    let octets : size_where p r.start top ≡ r.end - r.start + octets_in rs =
-    size_where-same p (among (r ∷ rs)) r.start top (λ x m u. same x (omega (arith, h.0))) ∙ octets_of r.start (r ∷ rs) r.start top b ∙ all_octets r.start (r ∷ rs) (top + 1) b ∙ sum_by-cons (λ q. q.end - q.start) r rs in
-    let runs : size_where (first_of p una) r.start top ≡ length rs + 1 =
-    size_where-same (first_of p una) (first_of (among (r ∷ rs)) una) r.start top (λ x m u. first_same una x i _ _ (p (x - 1)) (among (r ∷ rs) (x - 1)) (same x (omega (arith, h.0))) (edge x) (same (x - 1)) (omega (arith, h.0)))
-    ∙ runs_of una r.start (r ∷ rs) r.start top (omega (arith, h.0)) (omega (arith, h.0)) b ∙ all_runs r.start (r ∷ rs) (top + 1) b ∙ omega arith in
     free p una top smss high i r.start (r.start - i) (omega (arith, h.0)) (omega (arith, h.1)) (λ x m u. same x m ∙ none_below r.start (r ∷ rs) (top + 1) x b u)
-    ∙ (λ k. (cond (shows_loss smss (runs k) (octets k)) 0 (r.start - i) + (min high r.start - i)) + pipe_from p una top smss high r.start)
+    ∙ ap (λ l. (cond l 0 (r.start - i) + (min high r.start - i)) + pipe_from p una top smss high r.start) (lost_over p una top smss i r rs l h same edge)
     ∙ ap (λ v. gap smss high (length rs + 1) (r.end - r.start + octets_in rs) i r.start + v)
     (held p una top smss high r.start r.end (r.end - r.start) (omega (arith, h.1)) (omega arith) (λ x m u. same x (omega (arith, h.0)) ∙ yes x m u)
     ∙ way_is p una top smss high r.end rs (omega (arith, h.0, h.1)) (Between-lower r.end (r.end + 1) rs (top + 1) (omega arith) h.2) (omega arith)

@@ -1,8 +1,8 @@
 -- Which octets to send again (RFC 6675, section 4, NextSeg).
-use Rattle.std.specs.Prelude.{ℕ, ◌+◌, ◌-◌, min, max, Bool, ◌&&◌, nat_lt, nat_le, Option, Some, None, unwrap_or}
+use Rattle.std.specs.Prelude.{ℕ, ◌+◌, ◌-◌, min, max, Bool, ◌&&◌, nat_lt, nat_le, Option, unwrap_or}
 use Rattle.std.specs.Option.{option_map}
 use Rattle.pd_seg.specs.declared.sack_blocks.Span.{Span}
-use Rattle.pd_board.specs.Octets.{contains, least_where, greatest_where}
+use Rattle.pd_board.specs.Octets.{contains, least_where, greatest_where, after}
 use Rattle.pd_board.specs.Loss.{sacked_above, is_lost, is_free}
 use Rattle.pd_board.specs.Board.{BoardView}
 
@@ -25,11 +25,6 @@ next_lost high_rxt s = least_where (λ x. is_hole high_rxt x s && is_lost x s) s
 -- rule 3: the least such octet
 abbrev pub next_hole : ℕ → BoardView → Option ℕ
 next_hole high_rxt s = least_where (λ x. is_hole high_rxt x s) s.una s.top
-
--- the number after an octet, 0 where there is none
-abbrev pub after : Option ℕ → ℕ
-after None = 0
-after (Some x) = x + 1
 
 -- the segment that ends with e: from una on, SMSS octets at most, and after the SACKed octets below e
 abbrev pub segment_to : BoardView → ℕ → Span

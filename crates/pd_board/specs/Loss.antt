@@ -1,6 +1,6 @@
 -- Which octets count as lost, and how many are on the way (RFC 6675, section 4).
 use Rattle.std.specs.Prelude.{ℕ, ◌+◌, ◌-◌, ◌*◌, Bool, ◌&&◌, ◌||◌, not, nat_lt, nat_le}
-use Rattle.pd_board.specs.Octets.{contains, size_where, begins_run}
+use Rattle.pd_board.specs.Octets.{contains, size_where, greatest_where, after, begins_run}
 use Rattle.pd_board.specs.Board.{BoardView}
 
 -- DupThresh: how many duplicates, or runs of SACKed octets, show a loss (RFC 6675, section 2)
@@ -19,7 +19,7 @@ sacked_above x s = size_where (contains s.sacked) (x + 1) s.top
 abbrev pub runs_above : ℕ → BoardView → ℕ
 runs_above x s = size_where (begins_run s.sacked) (x + 1) s.top
 
--- how many octets are SACKed (RFC 6937, section 3: SACKd)
+-- how many octets are SACKed
 abbrev pub sacked_octets : BoardView → ℕ
 sacked_octets s = size_where (contains s.sacked) s.una s.top
 
@@ -30,6 +30,14 @@ is_lost x s = shows_loss s.smss (runs_above x s) (sacked_above x s)
 -- x isn't SACKed
 abbrev pub is_free : ℕ → BoardView → Bool
 is_free x s = not (contains s.sacked x)
+
+-- how many octets that were sent are neither acknowledged nor SACKed
+abbrev pub undelivered : BoardView → ℕ
+undelivered s = s.top - s.una - sacked_octets s
+
+-- the number after the highest octet that isn't SACKed and is lost, 0 where there is none
+abbrev pub lost_edge : BoardView → ℕ
+lost_edge s = after (greatest_where (λ x. is_free x s && is_lost x s) s.una s.top)
 
 -- Pipe: of the octets that aren't SACKed, one for each that isn't lost and one for each below HighRxt
 abbrev pub pipe : ℕ → BoardView → ℕ

@@ -1,5 +1,5 @@
 -- Finite sets of octet numbers, their sizes, and their least and greatest members.
-use Rattle.std.specs.Prelude.{ℕ, ◌-◌, Bool, Option, ◌==◌, ◌&&◌, ◌||◌, not, List, reverse}
+use Rattle.std.specs.Prelude.{ℕ, ◌+◌, ◌-◌, Bool, Option, Some, None, ◌==◌, ◌&&◌, ◌||◌, not, List, reverse}
 use Rattle.std.specs.List.{range_with_len, count_by, filter, find, list_any}
 
 -- a finite set of octet numbers: its members in ascending order
@@ -29,6 +29,11 @@ least_where p a b = find p (interval a b)
 -- the greatest member of {x : a ≤ x < b, p x}, if there is one
 abbrev pub greatest_where : (ℕ → Bool) → ℕ → ℕ → Option ℕ
 greatest_where p a b = find p (reverse (interval a b))
+
+-- the number after an octet, 0 where there is none
+abbrev pub after : Option ℕ → ℕ
+after None = 0
+after (Some x) = x + 1
 
 -- x is the first octet of a maximal run of consecutive members
 abbrev pub begins_run : Octets → ℕ → Bool

@@ -62,6 +62,12 @@ abbrev pub way : ℕ → ℕ → ℕ → ℕ → List Span → ℕ
 way smss high top i [] = gap smss high 0 0 i top
 way smss high top i (r ∷ rs) = gap smss high (length rs + 1) (r.end - r.start + octets_in rs) i r.start + way smss high top r.end rs
 
+-- the number after the last lost octet of the gaps between i and the ranges there, and e where there is none
+abbrev pub edge_over : ℕ → ℕ → ℕ → List Span → ℕ
+edge_over smss e i [] = e
+edge_over smss e i (r ∷ rs) =
+    cond (shows_loss smss (length rs + 1) (r.end - r.start + octets_in rs)) (edge_over smss (cond (nat_lt i r.start) r.start e) r.end rs) e
+
 -- the ranges without those that end at start or below it
 abbrev pub ranges_after : ℕ → List Span → List Span
 ranges_after start [] = []

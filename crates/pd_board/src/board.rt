@@ -1,12 +1,13 @@
 //! The scoreboard of a sender.
 ghost use Rattle.std.specs.Prelude.{◌≡◌, ◌+◌, ◌≤◌, ◌<◌, ◌^◌, true, false, IfOk, OnOk, OnErr, IsErr, ◌↔◌};
 ghost use Rattle.pd_board.specs.Board.{IsBoardView, opened, written, sent_to, acknowledged, marked, has_new, unmarked, skipped, without_memory};
-ghost use Rattle.pd_board.specs.Loss.{is_lost, pipe, sacked_octets, sacked_above, runs_above};
+ghost use Rattle.pd_board.specs.Loss.{is_lost, pipe, sacked_octets, undelivered, lost_edge, sacked_above, runs_above};
 ghost use Rattle.pd_board.specs.Choice.{run_at, next_lost, next_hole, rescue};
 ghost use Rattle.pd_board.specs.Runs.{AreRuns};
 
 use crate::counts::{
     Above, after_last_free, after_last_marked, count_above, count_pipe, first_free, first_marked,
+    lost_edge,
 };
 use crate::ranges::Ranges;
 use pd_seg::Span;
@@ -233,12 +234,27 @@ impl Board {
         count_above(&self.ranges, self.una, x + 1, self.top)
     }
 
-    /// How many octets from `una` on and below `top` SACK blocks told (RFC 6937, section 3: SACKd).
+    /// How many octets from `una` on and below `top` SACK blocks told.
     pub fn sacked_octets(&self) -> u32
         ensures value { result ≡ sacked_octets self.now }
         ensures small { result ≤ 2 ^ 31 }
     {
         self.ranges.octets
+    }
+
+    /// How many octets that were sent are neither acknowledged nor SACKed.
+    pub fn undelivered(&self) -> u32
+        ensures { result ≡ undelivered self.now }
+    {
+        (self.top - self.una).saturating_sub(self.sacked_octets())
+    }
+
+    /// The number after the highest octet that isn't SACKed and is lost (RFC 6675, section 4, IsLost), 0 where none is:
+    /// those below it are lost too.
+    pub fn lost_edge(&self) -> u32
+        ensures { result ≡ lost_edge self.now }
+    {
+        lost_edge(&self.ranges, self.una, self.top, self.smss)
     }
 
     /// Pipe (RFC 6675, section 4): of the octets sent that aren't SACKed, one for each that isn't lost and one for each

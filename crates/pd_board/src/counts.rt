@@ -1,8 +1,8 @@
 //! What is counted and found over ranges, each in one pass.
-ghost use Rattle.std.specs.Prelude.{◌≡◌, ℕ, ◌≤◌, ◌<◌, ◌+◌, ◌-◌, ◌^◌, true, false};
+ghost use Rattle.std.specs.Prelude.{◌≡◌, ℕ, ◌≤◌, ◌<◌, ◌+◌, ◌-◌, ◌^◌, true, false, cond, nat_lt};
 ghost use Rattle.pd_board.specs.Loss.{shows_loss};
 ghost use Rattle.pd_board.specs.Octets.{size_where};
-ghost use Rattle.pd_board.specs.Tests.{first_of, pipe_from};
+ghost use Rattle.pd_board.specs.Tests.{first_of, pipe_from, edge_from};
 ghost use Rattle.pd_board.specs.Ranges.{in_ranges, AreRanges};
 
 use crate::ranges::Ranges;
@@ -71,6 +71,38 @@ pub fn count_pipe(ranges: &Ranges, una: u32, top: u32, smss: u16, high: u32) -> 
     }
     pipe += top - place;
     pipe + high.min(top).saturating_sub(place)
+}
+
+/// The number after the last octet in no range that is lost, or 0: below the ranges that are left lie gaps.
+pub fn lost_edge(ranges: &Ranges, una: u32, top: u32, smss: u16) -> u32
+    requires ranges { AreRanges una (top + 1) ranges.now }
+    requires low { una ≤ top }
+    requires small { top < 2 ^ 31 }
+    requires segment { smss ≤ 65495 }
+    ensures { result ≡ edge_from (in_ranges ranges.now) una top smss }
+{
+    let mut runs = ranges.spans.len();
+    let mut octets = ranges.octets;
+    let mut edge: u32 = 0;
+    let mut place = una;
+    for range in ranges.spans.iter() {
+        let above = Above { runs, octets };
+        if !above.makes_lost(smss) {
+            return edge;
+        }
+        edge = after_gap(place, range.start, edge);
+        runs -= 1;
+        octets -= range.end - range.start;
+        place = range.end;
+    }
+    edge
+}
+
+/// The number after the octets from `from` on and below `to`, or `before` where there are none.
+fn after_gap(from: u32, to: u32, before: u32) -> u32
+    ensures { result ≡ cond (nat_lt from to) to before }
+{
+    if from < to { to } else { before }
 }
 
 /// The first octet of the ranges from `from` on and below `to`, or `to`.

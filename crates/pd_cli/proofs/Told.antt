@@ -1,5 +1,5 @@
 -- What is reported of jobs, and how a run ends that tells it.
-use Rattle.std.proofs.Common.{◌≡◌, ◌⊎◌, ◌==◌, ◌||◌, ℕ, Bool, true, false, List, [], ◌∷◌, ◌++◌, length, bytes_eq, Bor, Option, Some, None, if◌then◌else◌, Result, Err, IfSome, refl, sym, ap, subst, ◌∙◌, append_assoc, append-nil}
+use Rattle.std.proofs.Common.{◌≡◌, ◌⊎◌, ◌==◌, ◌||◌, ℕ, Bool, true, false, List, [], ◌∷◌, ◌++◌, length, bytes_eq, codes, Bor, Option, Some, None, if◌then◌else◌, Result, Err, IfSome, refl, sym, ap, subst, ◌∙◌, append_assoc, append-nil}
 use Rattle.std.specs.Io.KnownBytes.{Appends}
 use Rattle.std.specs.List.{list_any}
 use Rattle.std.proofs.lemmas.List.{length-map}
@@ -106,12 +106,12 @@ pub quiet_end : (failed : Type 0) (exit : Exit) (end : Result Bool ProgramFault)
 quiet_end failed exit end workers asked text all out out1 err err1 e m h = (end, e, ([], [], tt, refl, m), h)
 
 -- settings that are no good
-pub settings_end : (failed : Type 0) (exit : Exit) (fault : ProgramFault) (workers : ℕ) (asked : Asked) (text : List ℕ) (all out err err1 : Option (List ℕ)) → exit.status ≡ 2 → Says exit.told err err1 (fault_line fault) → (settings_in text ≡ Err fault) ⊎ (fault ≡ Serving OutOfMemory)
+pub settings_end : (failed : Type 0) (exit : Exit) (fault : ProgramFault) (workers : ℕ) (asked : Asked) (text : List ℕ) (all out err err1 : Option (List ℕ)) → exit.status ≡ 2 → Says exit.told err err1 (fault_line (codes "pdregress") fault) → (settings_in text ≡ Err fault) ⊎ (fault ≡ Serving OutOfMemory)
     → Finishes failed exit workers asked text all out out err err1
 settings_end failed exit fault workers asked text all out err err1 e m h = quiet_end failed exit (Err fault) workers asked text all out out err err1 e m ([], appends_none out, settings_out failed workers fault (settings_in text) all h)
 
 -- want of memory before anything is read
-pub memory_ends : (failed : Type 0) (exit : Exit) (workers : ℕ) (asked : Asked) (text : List ℕ) (all out err err1 : Option (List ℕ)) → exit.status ≡ 2 → Says exit.told err err1 (fault_line (Serving OutOfMemory)) → Finishes failed exit workers asked text all out out err err1
+pub memory_ends : (failed : Type 0) (exit : Exit) (workers : ℕ) (asked : Asked) (text : List ℕ) (all out err err1 : Option (List ℕ)) → exit.status ≡ 2 → Says exit.told err err1 (fault_line (codes "pdregress") (Serving OutOfMemory)) → Finishes failed exit workers asked text all out out err err1
 memory_ends failed exit workers asked text all out err err1 e h = (Err (Serving OutOfMemory), e, ([], [], tt, refl, h), ([], appends_none out, memory_runs failed workers (settings_in text) all))
 
 -- the same run, by equal words

@@ -1,5 +1,5 @@
 -- What the program writes, and its status.
-use Rattle.std.specs.Prelude.{◌≡◌, ℕ, suc, zero, Bool, true, false, ◌⊎◌, List, [], ◌++◌, Option, Some, Result, Ok, Err, IfSome}
+use Rattle.std.specs.Prelude.{◌≡◌, ℕ, suc, zero, Bool, true, false, ◌⊎◌, List, [], ◌++◌, codes, Option, Some, Result, Ok, Err, IfSome}
 use Rattle.std.specs.Io.KnownBytes.{Appends}
 use Rattle.pd_settings.specs.declared.fields.Settings.{Settings}
 use Rattle.pd_words.specs.Chosen.{Asked}
@@ -51,7 +51,7 @@ status_of (Err fault) = 2
 -- what is on standard error: the line of a fault
 abbrev pub said_of : Result Bool ProgramFault → List ℕ
 said_of (Ok passed) = []
-said_of (Err fault) = fault_line fault
+said_of (Err fault) = fault_line (codes "pdregress") fault
 
 -- a run with so many workers and this settings text came to an end with its status, told what was asked of some jobs, which
 -- are numbered from 1 on, then said what the end has to say, and wrote what belongs to it, where a read failed or none did

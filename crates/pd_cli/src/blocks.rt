@@ -24,7 +24,7 @@ pub(crate) fn block_of(
     done: &Done,
 ) -> Result<Vec<u8>, AllocError>
     ensures names { IfOk result (λ block. is_looked_into (names_of explaining.now.only.items) done.now.name ≡ false → block.items ≡ []) }
-    ensures ends { IfOk result (λ block. explaining.now.ends ≡ false → is_pass (verdict_of done.now.text done.now.settings) ≡ true → block.items ≡ []) }
+    ensures ends { IfOk result (λ block. explaining.now.leftovers ≡ false → is_pass (verdict_of done.now.text done.now.settings) ≡ true → block.items ≡ []) }
 {
     if !is_looked_into(explaining.only.as_slice(), done.name()) {
         return Ok(Vec::new(alloc));
@@ -52,9 +52,9 @@ fn reason_of(alloc: Global, json: bool, done: &Done) -> Result<Vec<u8>, AllocErr
 
 /// What a job that passes leaves at its end, where that is asked for.
 fn end_of(alloc: Global, explaining: &Explaining<'_>, done: &Done) -> Result<Vec<u8>, AllocError>
-    ensures { IfOk result (λ block. explaining.now.ends ≡ false → block.items ≡ []) }
+    ensures { IfOk result (λ block. explaining.now.leftovers ≡ false → block.items ≡ []) }
 {
-    if !explaining.ends {
+    if !explaining.leftovers {
         return Ok(Vec::new(alloc));
     }
     match find_ending(alloc, done.text().lines(), &done.settings())? {

@@ -23,5 +23,5 @@ pub use pd_words::{
 };
 pub use rendering::render;
 pub use serving::{serve_alone, serve_seat};
-pub use whole_program::{run, run_alone};
+pub use whole_program::{PROGRAM, run, run_alone};
 pub use workers::serve;

@@ -27,6 +27,9 @@ use std::io::Write;
 use std::sync::Wait;
 use std::thread::Threads;
 
+/// The program's own name, by which it says its faults.
+pub const PROGRAM: &str = "pdregress";
+
 /// Runs the program on its words, of which the first is its own name. Words that `clap` refuses, and `--help`, print
 /// its own text on `err`, with the status 2. It starts threads where the words ask for workers, and no others.
 pub fn run<H: Threads + Wait + Sync, S: AsStr, R: InputStream, W: Write, E: Write>(
@@ -44,7 +47,7 @@ pub fn run<H: Threads + Wait + Sync, S: AsStr, R: InputStream, W: Write, E: Writ
 {
     let chosen = match options(alloc, words) {
         Ok(options) => options,
-        Err(error) => return refuse(alloc, &error, err),
+        Err(error) => return refuse(alloc, PROGRAM, &error, err),
     };
     if chosen.workers == 0 {
         return run_alone(alloc, &chosen, reader, out, err);
@@ -71,7 +74,7 @@ pub fn run_alone<R: InputStream, W: Write, E: Write>(
             let (err, told, end) = serve_telling(alloc, options, settings, reader, out, err);
             ended(told, end, err)
         }
-        Err(fault) => fail(err, fault),
+        Err(fault) => fail(PROGRAM, err, fault),
     }
 }
 
@@ -132,7 +135,7 @@ fn run_beside<H: Threads + Wait + Sync, R: InputStream, W: Write, E: Write>(
             let end = serve(rt, alloc, settings, cache, workers, reader, out, &OpenGate);
             ended(true, end, err)
         }
-        Err(fault) => fail(err, fault),
+        Err(fault) => fail(PROGRAM, err, fault),
     }
 }
 
@@ -146,7 +149,7 @@ fn ended<E: Write>(told: bool, end: Result<bool, ServeFault>, err: &mut E) -> Ex
             status: if passed { 0 } else { 1 },
             told,
         },
-        Err(fault) if told => fail(err, ProgramFault::Serving(fault)),
+        Err(fault) if told => fail(PROGRAM, err, ProgramFault::Serving(fault)),
         Err(_) => Exit {
             status: FAULT,
             told: false,

@@ -9,13 +9,14 @@ use Rattle.pd_book.specs.declared.act.Ruling.{Ruling}
 use Rattle.pd_book.specs.declared.faults.FinishFault.{FinishFault}
 use Rattle.pd_book.specs.declared.faults.FinishFault.TheVariants as finish
 use Rattle.pd_book.specs.Given.{GivesFinish, GivesAbandon}
+use Rattle.pd_book.specs.Story.{Story}
 use Rattle.pd_track.specs.declared.task.Task.{Task}
-use Rattle.pd_seat.specs.Seats.{SeatView, with_act, unended, is_unended, Unless}
-use Rattle.pd_desk.specs.Desk.{AfterSome}
-use Rattle.pd_desk.specs.Work.{with_acts, RefusesFinish, none, finished, not_ended, begun, abandoned, not_abandoned, Worked, Left, Works}
-use Rattle.pd_desk.specs.Inner.{IsWant, EndsJob, AbandonsJob}
+use Rattle.pd_seat.specs.Seats.{SeatView, with_act, unended, is_unended}
+use Rattle.pd_desk.specs.Desk.{Disagrees}
+use Rattle.pd_desk.specs.Work.{with_acts, with_start, RefusesFinish, RefusesAbandon, none, finished, not_ended, begun, abandoned, not_abandoned, Worked, Left, Strayed, Works}
+use Rattle.pd_desk.specs.Inner.{IsWant, EndsJob, AbandonsJob, Compared, LeavesJob, GivesUp}
 use Rattle.pd_desk.specs.declared.faults.DeskFault.{DeskFault}
-use Rattle.pd_desk.specs.declared.faults.DeskFault.TheVariants.{OutOfMemory}
+use Rattle.pd_desk.specs.declared.faults.DeskFault.TheVariants.{HistoryFull, NoWorkers, Differs, OutOfMemory}
 
 nat_same : (n : ℕ) → (n == n) ≡ true
 nat_same n = grind (arith, nat_tests)
@@ -34,6 +35,10 @@ later s m s' older newer e f =
     f ∙ (ap (λ (t : SeatView). with_acts t newer) e
     ∙ ap (λ (l : List Act). record { number = s.number; own = l; longest = s.longest }) (sym (append_assoc newer older s.own)))
 
+-- a seat after jobs and a start
+started : (s m b : SeatView) (number : ℕ) (name : List ℕ) (w : Worked s m) → b ≡ with_act m (Start number name) → b ≡ with_start s w.acts number name
+started s m b number name w e = e ∙ ap (λ (t : SeatView). with_act t (Start number name)) w.now
+
 -- one job more, which was finished, or that was refused
 pub worked_more : (s m b s' : SeatView) (task : Task) → Worked s m → b ≡ with_act m (Start task.number task.name) → EndsJob task b s' → Worked s s'
 worked_more s m b s' task w e (inl (ruling, f)) = record {
@@ -43,22 +48,40 @@ worked_more s m b s' task w e (inl (ruling, f)) = record {
 }
 worked_more s m b s' task w e (inr (fault, why, f)) = record {
   acts = Start task.number task.name ∷ w.acts;
-  jobs = not_ended task fault w.acts why w.jobs;
+  jobs = not_ended task fault w.acts (subst (λ (t : SeatView). RefusesFinish t task fault) (started s m b task.number task.name w e) why) w.jobs;
   now = later s m s' w.acts (Start task.number task.name ∷ []) w.now (f ∙ e);
 }
 
 -- one job more, which was given up, or that was refused
-pub left_more : (s m b s' : SeatView) (number : ℕ) (name : List ℕ) → Worked s m → b ≡ with_act m (Start number name) → AbandonsJob number b s' → Left s s'
-left_more s m b s' number name w e (inl f) = record {
+abandoned_more : (s m b s' : SeatView) (number : ℕ) (name : List ℕ) → Worked s m → b ≡ with_act m (Start number name) → AbandonsJob number b s' → Left s s'
+abandoned_more s m b s' number name w e (inl f) = record {
   acts = Abandon number ∷ Start number name ∷ w.acts;
   jobs = abandoned number name w.acts w.jobs;
   now = later s m s' w.acts (Abandon number ∷ Start number name ∷ []) w.now (f ∙ ap (λ (t : SeatView). with_act t (Abandon number)) e);
 }
-left_more s m b s' number name w e (inr (fault, why, f)) = record {
+abandoned_more s m b s' number name w e (inr (fault, why, f)) = record {
   acts = Start number name ∷ w.acts;
-  jobs = not_abandoned number name fault w.acts why w.jobs;
+  jobs = not_abandoned number name fault w.acts (subst (λ (t : SeatView). RefusesAbandon t number fault) (started s m b number name w e) why) w.jobs;
   now = later s m s' w.acts (Start number name ∷ []) w.now (f ∙ e);
 }
+
+-- a job more that was left as it is
+strayed_more : (s m b s' : SeatView) (number : ℕ) (name : List ℕ) → Worked s m → b ≡ with_act m (Start number name) → LeavesJob b s' → Strayed s s'
+strayed_more s m b s' number name w e (f, strays) = record {
+  acts = w.acts;
+  number = number;
+  name = name;
+  jobs = w.jobs;
+  now = f ∙ started s m b number name w e;
+  strays = subst (λ (t : SeatView). Disagrees t) (sym f) strays;
+}
+
+-- how a worker leaves that gives up the job at hand
+pub works_given_up : (s m b s' : SeatView) (number : ℕ) (name : List ℕ) (fault : DeskFault) → Worked s m → b ≡ with_act m (Start number name) → GivesUp number fault b s' → Works s (Err fault) s'
+works_given_up s m b s' number name OutOfMemory w e g = abandoned_more s m b s' number name w e g
+works_given_up s m b s' number name Differs w e g = strayed_more s m b s' number name w e g
+works_given_up s m b s' number name HistoryFull w e g = absurd g
+works_given_up s m b s' number name NoWorkers w e g = absurd g
 
 -- a job that was started is not ended yet
 any_last : (jobs : List ℕ) (number : ℕ) → list_any (λ (job : ℕ). job == number) (jobs ++ number ∷ []) ≡ true
@@ -68,23 +91,25 @@ any_last (job ∷ jobs) number = ap (λ (b : Bool). (job == number) || b) (any_l
 pub is_started : (s s' : SeatView) (number : ℕ) (name : List ℕ) → s' ≡ with_act s (Start number name) → is_unended s'.own number ≡ true
 is_started s s' number name e = ap (λ (t : SeatView). is_unended t.own number) e ∙ any_last (unended s.own) number
 
--- what the reply to a finish says of the job, where it isn't want of memory
-pub ends_job : (reply : Result Ruling FinishFault) (task done : Task) (s s' : SeatView) → done ≡ task → Unless finish.OutOfMemory reply (AfterSome (λ before after. GivesFinish before done reply after))
-    → IfOk reply (λ ruling. s' ≡ with_act s (Finish done.number ruling)) → (is_unended s.own done.number ≡ true → reply ≢ Err finish.OutOfMemory) → is_unended s.own task.number ≡ true → OnErr reply (s' ≡ s) → EndsJob task s s'
-ends_job (Ok ruling) task done s s' e gives records room started refuses = inl (ruling, subst (λ (t : Task). s' ≡ with_act s (Finish t.number ruling)) e records)
-ends_job (Err fault) task done s s' e gives records room started refuses =
-    let there = room (subst (λ (t : Task). is_unended s.own t.number ≡ true) (sym e) started) in
-    inr (fault, subst (λ (t : Task). RefusesFinish t fault) e (gives (λ same. there (ap (λ (f : FinishFault). Err f) same))), refuses)
+-- what the reply to a finish says of the job of the task, where the history agrees with the seat
+pub finish_ends : (reply : Result Ruling FinishFault) (agrees : Bool) (task : Task) (s s' : SeatView) → Compared s reply agrees (λ before after. GivesFinish before task reply after)
+    → IfOk reply (λ ruling. s' ≡ with_act s (Finish task.number ruling)) → (is_unended s.own task.number ≡ true → reply ≢ Err finish.OutOfMemory) → is_unended s.own task.number ≡ true → OnErr reply (s' ≡ s) → agrees ≡ true → EndsJob task s s'
+finish_ends (Ok ruling) agrees task s s' compared records room started refuses e = inl (ruling, records)
+finish_ends (Err fault) true task s s' compared records room started refuses e = inr (fault, compared (λ same. room started (ap (λ (f : FinishFault). Err f) same)), refuses)
+finish_ends (Err fault) false task s s' compared records room started refuses e = absurd cc
 
-abandoned_so : (reply : Result (Unit {0}) FinishFault) (number : ℕ) (s s' : SeatView) → Unless finish.OutOfMemory reply (AfterSome (λ before after. GivesAbandon before number reply after))
-    → OnOk reply (s' ≡ with_act s (Abandon number)) → (is_unended s.own number ≡ true → reply ≢ Err finish.OutOfMemory) → is_unended s.own number ≡ true → OnErr reply (s' ≡ s) → AbandonsJob number s s'
-abandoned_so (Ok u) number s s' gives records room started refuses = inl records
-abandoned_so (Err fault) number s s' gives records room started refuses = inr (fault, gives (λ same. room started (ap (λ (f : FinishFault). Err f) same)), refuses)
+-- a job whose end is refused after a history that disagrees with the seat
+pub leaves_job : {T : Type 0} → (reply : Result T FinishFault) (agrees : Bool) (P : Story → Story → Type 0) (s s' : SeatView) → Compared s reply agrees P → OnErr reply (s' ≡ s) → agrees ≡ false → LeavesJob s s'
+leaves_job (Ok x) agrees P s s' compared refuses e = absurd cc
+leaves_job (Err fault) true P s s' compared refuses e = absurd cc
+leaves_job (Err fault) false P s s' compared refuses e = (refuses, compared)
 
-pub abandons_job : (reply : Result (Unit {0}) FinishFault) (number called : ℕ) (s s' : SeatView) → called ≡ number → Unless finish.OutOfMemory reply (AfterSome (λ before after. GivesAbandon before called reply after))
-    → OnOk reply (s' ≡ with_act s (Abandon called)) → (is_unended s.own called ≡ true → reply ≢ Err finish.OutOfMemory) → is_unended s.own number ≡ true → OnErr reply (s' ≡ s) → AbandonsJob number s s'
-abandons_job reply number called s s' e gives records room started refuses =
-    subst (λ (n : ℕ). AbandonsJob n s s') e (abandoned_so reply called s s' gives records room (subst (λ (n : ℕ). is_unended s.own n ≡ true) (sym e) started) refuses)
+-- what the reply to an abandonment says of the job, where the history agrees with the seat
+pub abandon_ends : (reply : Result (Unit {0}) FinishFault) (agrees : Bool) (number : ℕ) (s s' : SeatView) → Compared s reply agrees (λ before after. GivesAbandon before number reply after)
+    → OnOk reply (s' ≡ with_act s (Abandon number)) → (is_unended s.own number ≡ true → reply ≢ Err finish.OutOfMemory) → is_unended s.own number ≡ true → OnErr reply (s' ≡ s) → agrees ≡ true → AbandonsJob number s s'
+abandon_ends (Ok u) agrees number s s' compared records room started refuses e = inl records
+abandon_ends (Err fault) true number s s' compared records room started refuses e = inr (fault, compared (λ same. room started (ap (λ (f : FinishFault). Err f) same)), refuses)
+abandon_ends (Err fault) false number s s' compared records room started refuses e = absurd cc
 
 -- no job more
 pub worked_on : (s m s' : SeatView) → Worked s m → s' ≡ m → Worked s s'
@@ -98,10 +123,6 @@ left_of s s' w = record { acts = w.acts; jobs = begun w.acts w.jobs; now = w.now
 pub works_want : (s s' : SeatView) (fault : DeskFault) → IsWant fault → Worked s s' → Works s (Err fault) s'
 works_want s s' fault (inl e) w = subst (λ (f : DeskFault). Works s (Err f) s') (sym e) w
 works_want s s' fault (inr e) w = subst (λ (f : DeskFault). Works s (Err f) s') (sym e) (left_of s s' w)
-
--- a worker that leaves for want of memory, with a job at hand
-pub works_left : (s s' : SeatView) (fault : DeskFault) → fault ≡ OutOfMemory → Left s s' → Works s (Err fault) s'
-works_left s s' fault e l = subst (λ (f : DeskFault). Works s (Err f) s') (sym e) l
 
 -- what holds of a job that is given
 pub of_given : {A : Type 0} (P : A → Type 0) (given : Option A) (job : A) → given ≡ Some job → IfSome given P → P job

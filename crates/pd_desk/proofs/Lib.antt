@@ -2,3 +2,4 @@
 pub mod Jobs
 pub mod HandedOut
 pub mod AfterSome
+pub mod Others

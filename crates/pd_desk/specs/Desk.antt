@@ -1,12 +1,12 @@
 -- What a desk tells those at its seats.
-use Rattle.std.specs.Prelude.{◌≡◌, List, Some, All, IsSome}
+use Rattle.std.specs.Prelude.{◌≡◌, List, length, Some, All, IsSome}
 use Rattle.pd_book.specs.declared.row.Row.{Row}
 use Rattle.pd_track.specs.declared.task.Task.{Task}
 use Rattle.pd_book.specs.Legal.{Legal}
 use Rattle.pd_book.specs.Refusals.{next_job}
 use Rattle.pd_book.specs.Report.{ReportView}
 use Rattle.pd_book.specs.Story.{Story, BookView}
-use Rattle.pd_seat.specs.Seats.{HeldView, SeatView}
+use Rattle.pd_seat.specs.Seats.{HeldView, SeatView, Agrees}
 use Rattle.pd_seat.specs.Closing.{Closes}
 
 -- the book is that of some legal history in which each seat's acts stand once, in its order, and no others
@@ -24,3 +24,16 @@ IsHandedOut task = (story : Story) × Legal story.opening story.past × (next_jo
 -- P holds of some legal story and one after it
 abbrev pub AfterSome : (Story → Story → Type 0) → Type 0
 AfterSome P = (before after : Story) × Legal before.opening before.past × P before after
+
+-- a book with a legal history, each act of which has a note
+pub record IsKept (held : HeldView) : Type 0 where
+  pub legal : Legal held.book.story.opening held.book.story.past
+  pub noted : length held.notes ≡ length held.book.story.past
+
+-- P holds of some legal story that agrees with the seat and one after it
+abbrev pub AfterOwn : SeatView → (Story → Story → Type 0) → Type 0
+AfterOwn seat P = (held : HeldView) × (after : Story) × IsKept held × Agrees held seat × P held.book.story after
+
+-- some legal history disagrees with the seat
+abbrev pub Disagrees : SeatView → Type 0
+Disagrees seat = (held : HeldView) × IsKept held × ¬ Agrees held seat

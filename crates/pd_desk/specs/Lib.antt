@@ -5,3 +5,4 @@ pub mod Desk
 pub mod Work
 pub mod Faults
 pub mod Inner
+pub mod Laws

@@ -5,6 +5,7 @@ ghost use Rattle.pd_book.specs.Given.{GivesAdd, GivesEdit, GivesRemove, GivesSet
 ghost use Rattle.pd_seat.specs.Seats.{new_seats, with_act, is_unended, Unless, IsShown};
 ghost use Rattle.pd_seat.specs.Closing.{ClosesNotAt};
 ghost use Rattle.pd_desk.specs.Desk.{AfterSome, IsClosed, IsHandedOut};
+ghost use Rattle.pd_desk.specs.Inner.{Compared};
 
 use crate::crew::Crew;
 use crate::room::Room;
@@ -164,8 +165,25 @@ impl Desk {
         ensures room { is_unended seat.old.own done.now.number ≡ true → result ≢ Err FinishFault.OutOfMemory }
         ensures refuses { OnErr result (seat.new ≡ seat.old) }
     {
+        let (reply, _) = self.finish_compared(rt, seat, done);
+        reply
+    }
+
+    /// Takes the result of an outstanding job; and whether the history agrees with the seat, as `Room::finish` does.
+    pub(crate) fn finish_compared<R: Wait>(
+        &self,
+        rt: &R,
+        seat: &mut Seat,
+        done: &Done,
+    ) -> (Result<Ruling, FinishFault>, bool)
+        ensures gives { Unless FinishFault.OutOfMemory result.0 (AfterSome (λ before after. GivesFinish before done.now result.0 after)) }
+        ensures compared { Compared seat.old result.0 result.1 (λ before after. GivesFinish before done.now result.0 after) }
+        ensures records { IfOk result.0 (λ ruling. seat.new ≡ with_act seat.old (Act.Finish done.now.number ruling)) }
+        ensures room { is_unended seat.old.own done.now.number ≡ true → result.0 ≢ Err FinishFault.OutOfMemory }
+        ensures refuses { OnErr result.0 (seat.new ≡ seat.old) }
+    {
         let mut room = self.room.lock(rt);
-        let reply = room.held.finish(seat, done);
+        let ended = room.finish(seat, done);
         let spent = room.held.take_spent();
         let is_awaited = room.is_awaited();
         drop(room);
@@ -173,7 +191,7 @@ impl Desk {
             self.moved.notify_all();
         }
         drop(spent);
-        reply
+        ended
     }
 
     /// Gives up an outstanding job.
@@ -186,9 +204,26 @@ impl Desk {
         ensures room { is_unended seat.old.own number ≡ true → result ≢ Err FinishFault.OutOfMemory }
         ensures refuses { OnErr result (seat.new ≡ seat.old) }
     {
-        let reply = self.room.lock(rt).held.abandon(seat, number);
-        self.moved.notify_all();
+        let (reply, _) = self.abandon_compared(rt, seat, number);
         reply
+    }
+
+    /// Gives up an outstanding job; and whether the history agrees with the seat, as `Room::finish` does.
+    pub(crate) fn abandon_compared<R: Wait>(
+        &self,
+        rt: &R,
+        seat: &mut Seat,
+        number: u64,
+    ) -> (Result<(), FinishFault>, bool)
+        ensures gives { Unless FinishFault.OutOfMemory result.0 (AfterSome (λ before after. GivesAbandon before number result.0 after)) }
+        ensures compared { Compared seat.old result.0 result.1 (λ before after. GivesAbandon before number result.0 after) }
+        ensures records { OnOk result.0 (seat.new ≡ with_act seat.old (Act.Abandon number)) }
+        ensures room { is_unended seat.old.own number ≡ true → result.0 ≢ Err FinishFault.OutOfMemory }
+        ensures refuses { OnErr result.0 (seat.new ≡ seat.old) }
+    {
+        let ended = self.room.lock(rt).abandon(seat, number);
+        self.moved.notify_all();
+        ended
     }
 
     /// The report as it stands, of a history that agrees with the seat.

@@ -3,12 +3,12 @@ ghost use Rattle.std.specs.Prelude.{◌≡◌, ◌≢◌, ◌+◌, ◌≤◌, �
 ghost use Rattle.pd_seat.specs.Seats.{with_act, is_unended, IsShown};
 ghost use Rattle.pd_desk.specs.Desk.{IsCurrent};
 ghost use Rattle.pd_desk.specs.Work.{Works};
-ghost use Rattle.pd_desk.specs.Inner.{IsWant, EndsJob, AbandonsJob};
+ghost use Rattle.pd_desk.specs.Inner.{IsWant, EndsJob, LeavesJob, GivesUp};
 
 use crate::desk::Desk;
 use crate::faults::DeskFault;
 use crate::gate::Gate;
-use pd_book::{Act, BookFault, Job, MAX_ACTS, Report, headline, run_job};
+use pd_book::{Act, BookFault, Done, Job, MAX_ACTS, Report, headline, run_job};
 use pd_run::Stepper;
 use pd_seat::Seat;
 use std::alloc::Global;
@@ -46,7 +46,9 @@ impl Desk {
     ///
     /// # Errors
     /// `NoWorkers` where as many workers entered as the desk was opened for; `HistoryFull` where a start finds no room, or
-    /// after 65,536 jobs; `OutOfMemory` where a start or a job found no memory, and then the job is abandoned.
+    /// after 65,536 jobs; `OutOfMemory` where a start or a job found no memory, and then the job is abandoned; `Differs`
+    /// where the end of a job is refused, and the seat's acts aren't those noted with its number, or the seat was shown a
+    /// longer history.
     pub fn work<R: Wait, G: Gate, S: Stepper>(
         &self,
         rt: &R,
@@ -109,7 +111,7 @@ impl Desk {
         }
     }
 
-    /// Runs a job that was started, and ends it.
+    /// Runs a job that was started, and ends it. Where its end is refused, somebody else has ended it.
     fn do_job<R: Wait, G: Gate, S: Stepper>(
         &self,
         rt: &R,
@@ -122,7 +124,7 @@ impl Desk {
         requires room { S.counted stepper.old + 4096 < 2 ^ 64 }
         requires started { is_unended seat.old.own job.task.number ≡ true }
         ensures finished { OnOk result (EndsJob job.task seat.old seat.new) }
-        ensures abandoned { IfErr result (λ fault. (fault ≡ DeskFault.OutOfMemory) × AbandonsJob job.task.number seat.old seat.new) }
+        ensures given_up { IfErr result (λ fault. GivesUp job.task.number fault seat.old seat.new) }
         ensures few { OnOk result (S.counted stepper.new ≤ S.counted stepper.old + 4096) }
     {
         let number = job.number();
@@ -130,15 +132,37 @@ impl Desk {
         let ran = run_job(alloc, job, stepper);
         gate.after(number);
         match ran {
-            Ok(done) => {
-                // Where it is refused, somebody else has ended the job, and nothing is left to do.
-                let _ = self.finish(rt, seat, &done);
-                Ok(())
-            }
-            Err(_) => {
-                let _ = self.abandon(rt, seat, number);
-                Err(DeskFault::OutOfMemory)
-            }
+            Ok(done) => self.hand_in(rt, seat, &done),
+            Err(_) => Err(self.give_up(rt, seat, number)),
         }
+    }
+
+    /// Hands in the result of a job that the seat started.
+    ///
+    /// # Errors
+    /// `Differs` where it is refused, after a history that disagrees with the seat.
+    fn hand_in<R: Wait>(&self, rt: &R, seat: &mut Seat, done: &Done) -> Result<(), DeskFault>
+        requires started { is_unended seat.old.own done.now.number ≡ true }
+        ensures finished { OnOk result (EndsJob done.now seat.old seat.new) }
+        ensures left { IfErr result (λ fault. (fault ≡ DeskFault.Differs) × LeavesJob seat.old seat.new) }
+    {
+        let (_, agrees) = self.finish_compared(rt, seat, done);
+        if !agrees {
+            return Err(DeskFault::Differs);
+        }
+        Ok(())
+    }
+
+    /// Gives up a job that the seat started: why its worker leaves. It is `Differs` where that is refused, after a history
+    /// that disagrees with the seat.
+    fn give_up<R: Wait>(&self, rt: &R, seat: &mut Seat, number: u64) -> DeskFault
+        requires started { is_unended seat.old.own number ≡ true }
+        ensures { GivesUp number result seat.old seat.new }
+    {
+        let (_, agrees) = self.abandon_compared(rt, seat, number);
+        if !agrees {
+            return DeskFault::Differs;
+        }
+        DeskFault::OutOfMemory
     }
 }

@@ -13,9 +13,10 @@ use Rattle.pd_recover.specs.Acks.{IsNamed, acked}
 use Rattle.pd_recover.specs.Cong.{CongView}
 use Rattle.pd_recover.specs.Laws.{IsWithin, StaysWithin}
 use Rattle.pd_recover.specs.declared.feedback.Ack.{Ack}
+use Rattle.pd_recover.specs.declared.feedback.Delivery.{Delivery}
 use Rattle.pd_recover.specs.declared.responses.Then.{Then}
 use Rattle.pd_recover.specs.declared.responses.Then.TheVariants.{Ordinary, StepC, Entry, LimitedTransmit, NewSegment, FastRetransmit, Nothing}
-use Rattle.pd_host.specs.Acknowledgments.{newly_acked, with_number, blocks_of, told_blocks, scored, with_blocks, with_timing, is_current, with_new_window, with_ack, ack_of_segment, taking, delivered_data, window_after, responding}
+use Rattle.pd_host.specs.Acknowledgments.{newly_acked, with_number, blocks_of, told_blocks, scored, with_blocks, with_timing, is_current, with_new_window, with_ack, ack_of_segment, taking, delivery, window_after, responding}
 use Rattle.pd_host.specs.Arrivals.{ruling_of}
 use Rattle.pd_host.specs.Connection.{ConnectionView}
 use Rattle.pd_host.specs.Handshake.{looked_at}
@@ -212,14 +213,14 @@ module _ (b : Settings) (now : ℕ) where
         → IsWithin c.board.smss initial (record w { cwnd = window_after next c w })
     window-within initial StepC c w h = paced-within initial c.board.smss (pipe w.high_rxt c.board) w h
     window-within initial Ordinary c w h = h
-    window-within initial Entry c w h = h
+    window-within initial Entry c w h = paced-within initial c.board.smss (pipe w.high_rxt c.board) w h
     window-within initial LimitedTransmit c w h = h
     window-within initial (NewSegment segment) c w h = h
     window-within initial (FastRetransmit segment) c w h = h
     window-within initial Nothing c w h = h
 
     -- an answer to an ACK
-    module _ (segment : Segment) (n delivered : ℕ) (fresh : Bool) (rwnd : ℕ) (d : ConnectionView) (e : Established) (h : IsLive b now (whole (d, e))) where
+    module _ (segment : Segment) (n : ℕ) (delivered : Delivery) (fresh : Bool) (rwnd : ℕ) (d : ConnectionView) (e : Established) (h : IsLive b now (whole (d, e))) where
       abbrev ack : Ack
       ack = ack_of_segment segment n delivered fresh rwnd e d
 
@@ -255,7 +256,7 @@ module _ (b : Settings) (now : ℕ) where
     taking_live segment c None h passed is = record { reached = h; live = (passes c segment passed).live }
     taking_live segment c (Some e) h passed is =
         let after : (ConnectionView × Established) × Bool = with_ack now segment e c in
-        answered_live segment (newly_acked c segment) (delivered_data (newly_acked c segment) c.board after.0.0.board) after.1 e.rwnd after.0.0 after.0.1
+        answered_live segment (newly_acked c segment) (delivery (newly_acked c segment) c.board after.0.0.board) after.1 e.rwnd after.0.0 after.0.1
         (with_ack_live segment c e h (passes c segment passed) is)
 
     pub taking_new : (segment : Segment) (c : ConnectionView) (new : Span) (o : Option Established) → IsReached b now c → ruling_of c segment ≡ None → c.established ≡ o
@@ -263,7 +264,7 @@ module _ (b : Settings) (now : ℕ) where
     taking_new segment c new None h passed is x = absurd cc
     taking_new segment c new (Some e) h passed is x =
         let after : (ConnectionView × Established) × Bool = with_ack now segment e c in
-        new_live segment (newly_acked c segment) (delivered_data (newly_acked c segment) c.board after.0.0.board) after.1 e.rwnd after.0.0 after.0.1
+        new_live segment (newly_acked c segment) (delivery (newly_acked c segment) c.board after.0.0.board) after.1 e.rwnd after.0.0 after.0.1
         (with_ack_live segment c e h (passes c segment passed) is) new x
 
     pub taking_again : (segment : Segment) (c : ConnectionView) (first : Span) (o : Option Established) → IsReached b now c → ruling_of c segment ≡ None → c.established ≡ o
@@ -271,5 +272,5 @@ module _ (b : Settings) (now : ℕ) where
     taking_again segment c first None h passed is x = absurd cc
     taking_again segment c first (Some e) h passed is x =
         let after : (ConnectionView × Established) × Bool = with_ack now segment e c in
-        again_live segment (newly_acked c segment) (delivered_data (newly_acked c segment) c.board after.0.0.board) after.1 e.rwnd after.0.0 after.0.1
+        again_live segment (newly_acked c segment) (delivery (newly_acked c segment) c.board after.0.0.board) after.1 e.rwnd after.0.0 after.0.1
         (with_ack_live segment c e h (passes c segment passed) is) first x

@@ -1,12 +1,13 @@
 -- What an ACK leaves of the numbers of loss recovery, and which octets it names.
-use Rattle.std.proofs.Common.{◌≡◌, ℕ, ◌+◌, ◌-◌, ◌<◌, ◌≤◌, ◌&&◌, min, nat_lt, nat_le, Bool, true, false, Option, Some, None, refl, arith}
+use Rattle.std.proofs.Common.{◌≡◌, ℕ, ◌+◌, ◌-◌, ◌<◌, ◌≤◌, ◌==◌, ◌&&◌, min, nat_lt, nat_le, Bool, true, false, Option, Some, None, refl, arith}
 use Rattle.std.proofs.lemmas.Bool.Decides.{nat_tests}
 use Rattle.pd_recover.specs.declared.feedback.Ack.{Ack}
 use Rattle.pd_recover.specs.declared.feedback.News.{News}
 use Rattle.pd_recover.specs.declared.responses.Then.{Then}
-use Rattle.pd_recover.specs.declared.responses.Then.TheVariants.{NewSegment}
-use Rattle.pd_recover.specs.Acks.{IsNamed, acked, renewed, told, told_by_sack, told_by_number, selective_duplicate, plain_duplicate, counted, grown_by, advanced, new_segment, is_duplicate}
+use Rattle.pd_recover.specs.declared.responses.Then.TheVariants.{StepC, NewSegment, Nothing}
+use Rattle.pd_recover.specs.Acks.{IsNamed, acked, renewed, told, told_by_sack, told_by_number, with_delivered, selective_duplicate, plain_duplicate, counted, grown_by, advanced, new_segment, is_duplicate}
 use Rattle.pd_recover.specs.Cong.{CongView}
+use Rattle.pd_recover.specs.Prr.{is_proportional}
 use Rattle.pd_recover.proofs.Cases.{selective_cases, plain_cases}
 use Rattle.pd_recover.proofs.Chosen.{AllOf, one_of, allowed_of}
 use Rattle.pd_host.proofs.Kept.{by_test}
@@ -71,14 +72,16 @@ module _ (ack : Ack) (smss : 0 < ack.smss) (sent : ack.una ≤ ack.top) where
   duplicate_leads : (lost : Bool) (w : CongView) → Below w → Then_leads (selective_duplicate ack lost w)
   duplicate_leads lost w h =
       selective_cases Then_leads ack lost w (record { below = h; named = tt })
-      (record { below = record { recovery_point = omega arith; high_rxt = h.high_rxt; rescue_rxt = h.rescue_rxt }; named = tt })
+      (record { below = record { recovery_point = omega arith; high_rxt = sent; rescue_rxt = h.rescue_rxt }; named = tt })
       (record { below = record { recovery_point = h.recovery_point; high_rxt = sent; rescue_rxt = h.rescue_rxt }; named = tt })
 
   sack_leads : (news : News) (w : CongView) → Below w → Then_leads (told_by_sack ack news w)
   sack_leads news w h =
       by_test Then_leads (w.recovering && nat_le w.recovery_point ack.una) _ _
       (λ _. record { below = kept ack.top w _ refl refl refl h; named = tt })
-      (λ _. by_test Then_leads w.recovering _ _ (λ _. record { below = kept ack.top w _ refl refl refl h; named = tt })
+      (λ _. by_test Then_leads w.recovering _ _
+      (λ _. by_test Then_leads (is_proportional w.rate && ack.delivery.delivered_data == 0) (w, Nothing) (with_delivered ack w, StepC)
+      (λ _. record { below = h; named = tt }) (λ _. record { below = kept ack.top w _ refl refl refl h; named = tt }))
       (λ _. by_test Then_leads news.fresh _ _
       (λ _. duplicate_leads news.lost (counted (grown_by ack w)) (kept ack.top (grown_by ack w) _ refl refl refl (grown_below w h)))
       (λ _. record { below = grown_below w h; named = tt })))

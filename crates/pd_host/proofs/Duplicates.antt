@@ -35,7 +35,7 @@ selective_limits ack lost w = selective_cases (Limits ack) ack lost w tt tt tt
 
 sack_limits : (ack : Ack) (news : News) (w : CongView) → Limits ack (told_by_sack ack news w)
 sack_limits ack news w =
-    sack_cases (Limits ack) ack news w tt tt (selective_limits ack news.lost (counted (grown_by ack w))) tt
+    sack_cases (Limits ack) ack news w tt tt tt (selective_limits ack news.lost (counted (grown_by ack w))) tt
 
 told_limits : (ack : Ack) (o : Option News) (w : CongView) → Limits ack (told ack o w)
 told_limits ack None w = number_limits ack w

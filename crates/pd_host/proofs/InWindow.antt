@@ -9,7 +9,7 @@ use Rattle.pd_seg.specs.declared.answers.Answer.{Answer}
 use Rattle.pd_seg.specs.declared.sack_blocks.Span.{Span}
 use Rattle.pd_seg.specs.declared.segments.Segment.{Segment}
 use Rattle.pd_seg.specs.declared.segments.Sent.{Sent}
-use Rattle.pd_host.specs.Acknowledgments.{newly_acked, ack_of_segment, with_ack, taking, ack_taken, delivered_data, responding}
+use Rattle.pd_host.specs.Acknowledgments.{newly_acked, ack_of_segment, with_ack, taking, ack_taken, delivery, responding}
 use Rattle.std.specs.Prelude.{option_map}
 use Rattle.pd_board.specs.Board.{unmarked}
 use Rattle.pd_script.specs.declared.calls.Call.{Call}
@@ -251,7 +251,7 @@ taking_named now segment c None = tt
 taking_named now segment c (Some e) =
     let after : (ConnectionView × Established) × Bool = with_ack now segment e c in
     let n : ℕ = newly_acked c segment in
-    let ack : Ack = ack_of_segment segment n (delivered_data n c.board after.0.0.board) after.1 e.rwnd after.0.1 after.0.0 in
+    let ack : Ack = ack_of_segment segment n (delivery n c.board after.0.0.board) after.1 e.rwnd after.0.1 after.0.0 in
     let step : ConnectionView × Then = responding after.0.0 after.0.1 ack in
     named ack step.0 step.1 refl refl refl (what_follows ack after.0.1.congestion)
 

@@ -1,119 +1,252 @@
--- Recovery by PRR puts out sndcnt octets at most after each ACK.
-use Rattle.std.proofs.Common.{◌≡◌, ℕ, ◌+◌, ◌-◌, ◌≤◌, nat_lt, Bool, true, Option, Some, None, Ok, refl, sym, subst, ap, ◌∙◌, arith}
-use Rattle.pd_board.specs.Choice.{run_at}
-use Rattle.pd_board.specs.Loss.{pipe}
-use Rattle.pd_recover.specs.Acks.{acked}
-use Rattle.pd_recover.specs.Cong.{CongView, is_reducing, sndcnt, entered_to}
-use Rattle.pd_recover.specs.Laws.{LetsOutInProportion}
-use Rattle.pd_recover.specs.declared.feedback.Ack.{Ack}
-use Rattle.pd_recover.specs.declared.responses.Then.{Then}
-use Rattle.pd_recover.specs.declared.responses.Then.TheVariants.{StepC}
+-- Recovery by PRR puts out sndcnt octets at most at each ACK, and at an entry the segment at una.
+use Rattle.std.proofs.Common.{◌≡◌, ◌⊎◌, inl, inr, ℕ, ◌+◌, ◌-◌, ◌<◌, ◌≤◌, max, nat_lt, Bool, true, false, List, [], ◌∷◌, ◌++◌, Option, Some, None, Ok, refl, sym, subst, ap, ◌∙◌, append_assoc, append-nil, arith}
 use Rattle.pd_seg.specs.declared.sack_blocks.Span.{Span}
 use Rattle.pd_seg.specs.declared.segments.Segment.{Segment}
-use Rattle.pd_host.specs.Acknowledgments.{window_after, pipe_of, filled, put_segment, entered_on, entry, led_to, ack_of_segment, newly_acked, delivered_data, with_ack, taking, ack_taken}
+use Rattle.pd_seg.specs.declared.segments.Sent.{Sent}
+use Rattle.pd_board.specs.Board.{BoardView}
+use Rattle.pd_board.specs.Choice.{run_at}
+use Rattle.pd_board.specs.Loss.{pipe}
+use Rattle.pd_board.proofs.Lost.{pipe_again}
+use Rattle.pd_recover.specs.Acks.{acked}
+use Rattle.pd_recover.specs.Cong.{CongView, is_reducing, sndcnt}
+use Rattle.pd_recover.specs.Laws.{forces, LetsOutInProportion, CountsRecovery, SparesSacked}
+use Rattle.pd_recover.specs.declared.feedback.Ack.{Ack}
+use Rattle.pd_recover.specs.declared.responses.Then.{Then}
+use Rattle.pd_recover.specs.declared.responses.Then.TheVariants.{StepC, Entry}
+use Rattle.pd_host.specs.Acknowledgments.{window_after, octets_of, pipe_of, filled, put_segment, entered_on, entry, led_to, ack_of_segment, newly_acked, delivery, with_ack, taking, ack_taken}
 use Rattle.pd_host.specs.Connection.{ConnectionView}
+use Rattle.pd_host.specs.Packets.{data_of}
 use Rattle.pd_host.specs.Places.{has_place}
-use Rattle.pd_host.specs.Sending.{with_block}
-use Rattle.pd_host.specs.SendingLaws.{cwnd_in, reducing_in, out_in, sndcnt_in, LetsOut, RecoversInProportion}
+use Rattle.pd_host.specs.Sending.{value_on, with_block, with_segment}
+use Rattle.pd_host.specs.SendingLaws.{end_with_fin, octets_in, cwnd_in, reducing_in, out_in, sndcnt_in, forces_in, LetsOut, RecoversInProportion}
 use Rattle.pd_host.specs.Timing.{clocked}
 use Rattle.pd_host.specs.declared.established.Established.{Established}
 use Rattle.pd_host.specs.declared.connection.acknowledgments.Filling.TheVariants.{NextSeg}
 use Rattle.pd_host.specs.declared.endpoint.State.{State}
-use Rattle.pd_host.proofs.Outcomes.{Leaves, came, either}
-use Rattle.pd_host.proofs.Room.{filled_out}
+use Rattle.pd_host.proofs.Chosen.{run_end}
+use Rattle.pd_host.proofs.InWindow.{packet_ends}
+use Rattle.pd_host.proofs.Outcomes.{Leaves, came, leaves_too, then_leaves, either}
+use Rattle.pd_host.proofs.Room.{FillsOut, filled_out, fills_out, sent_out}
 
 -- beside the pipe the window leaves sndcnt octets at most, where recovery goes on by PRR
 abbrev IsPaced : Option ConnectionView → Type 0
 IsPaced connection = reducing_in connection ≡ true → cwnd_in connection - pipe_of connection ≤ sndcnt_in connection
 
+-- Sums
+
+split_octets : (a b : List Sent) → octets_in (a ++ b) ≡ octets_in a + octets_in b
+split_octets [] b = omega arith
+split_octets (p ∷ a) b =
+    let h : octets_in (a ++ b) ≡ octets_in a + octets_in b = split_octets a b in
+    omega (arith, h)
+
+within : (octets room most : ℕ) → octets ≤ room → room ≤ most → octets ≤ most
+within octets room most a b = omega (arith, a, b)
+
+grown : (after before room most : ℕ) → after ≤ before + room → room ≤ most → after ≤ before + most
+grown after before room most a b = omega (arith, a, b)
+
+-- the first segment and those after it, where the pipe has grown by the first
+first_and_more : (one more first pipe window pipe' window' sndcnt : ℕ) → one ≤ first → more ≤ window' - pipe' → pipe + first ≤ pipe'
+    → window' ≡ window → window - pipe ≤ sndcnt → one + more ≤ max sndcnt first
+first_and_more one more first pipe window pipe' window' sndcnt a b c e d = omega (arith, a, b, c, e, d)
+
+first_and_more_out : (after between before first pipe window pipe' window' sndcnt : ℕ) → between ≤ before + first → after ≤ between + (window' - pipe')
+    → pipe + first ≤ pipe' → window' ≡ window → window - pipe ≤ sndcnt → after ≤ before + max sndcnt first
+first_and_more_out after between before first pipe window pipe' window' sndcnt a b c e d = omega (arith, a, b, c, e, d)
+
+one_packet : (end start last : ℕ) → end ≤ last → end - start + 0 ≤ last - start
+one_packet end start last h = omega (arith, h)
+
+-- The segment that an entry sends
+
+-- it was put out, where it has octets, and counts as sent and as on the way
+record IsEntered (first : ℕ) (s u : State) : Type 0 where
+  packets : List Sent
+  octets : octets_in packets ≤ first
+  out : out_in u.endpoint.connection ≤ out_in s.endpoint.connection + first
+  pipe : pipe_of s.endpoint.connection + first ≤ pipe_of u.endpoint.connection
+  window : cwnd_in u.endpoint.connection ≡ cwnd_in s.endpoint.connection
+  outbox : u.endpoint.outbox ≡ s.endpoint.outbox ++ packets
+
+-- the same of the connection alone
+record IsAfter (first : ℕ) (c d : ConnectionView) : Type 0 where
+  out : out_in (Some d) ≤ out_in (Some c) + first
+  pipe : pipe_of (Some c) + first ≤ pipe_of (Some d)
+  window : cwnd_in (Some d) ≡ cwnd_in (Some c)
+
+module _ (spares : SparesSacked) (now : ℕ) (c : ConnectionView) (e : Established) (is : c.established ≡ Some e)
+    (begins : e.congestion.high_rxt ≡ c.board.una) where
+  abbrev first : Span
+  first = run_at c.board.una c.board
+
+  more_on_the_way : pipe c.board.una c.board + octets_of first ≤ pipe first.end c.board
+  more_on_the_way = pipe_again c.board first.end (λ y l u. spares.again c.board c.board.una y l u) (run_end c.board c.board.una)
+
+  entered_after : (x : ConnectionView) → x.board ≡ c.board → IsAfter (octets_of first) c (entered_on first x (Some e))
+  entered_after x same =
+      let before : out_in (Some c) ≡ e.congestion.reduction.prr_out = ap (value_on 0 (λ _ y. y.congestion.reduction.prr_out) c) is in
+      let counted = sent_out e.congestion.rate (octets_of first) e.congestion.reduction in
+      let on_the_way : pipe_of (Some c) ≡ pipe c.board.una c.board =
+      ap (value_on 0 (λ d y. pipe y.congestion.high_rxt d.board) c) is ∙ ap (λ (n : ℕ). pipe n c.board) begins in
+      let then : pipe_of (Some (entered_on first x (Some e))) ≡ pipe first.end c.board = ap (pipe first.end) same in
+      let k = more_on_the_way in
+      record {
+        out = omega (arith, before, counted);
+        pipe = omega (arith, on_the_way, then, k);
+        window = sym (ap (value_on 0 (λ _ y. y.congestion.cwnd) c) is);
+      }
+
+  after : (x : ConnectionView) → x.board ≡ c.board → IsAfter (octets_of first) c (entered_on first x c.established)
+  after x same = subst (λ (o : Option Established). IsAfter (octets_of first) c (entered_on first x o)) (sym is) (entered_after x same)
+
+  entry_enters : (s : State) → s.endpoint.connection ≡ Some c → Leaves (IsEntered (octets_of first) s) (entry now c s)
+  entry_enters s has =
+      either (IsEntered (octets_of first) s) (nat_lt first.start first.end) _ _
+      (either (IsEntered (octets_of first) s) (has_place s.endpoint.outbox) _ _ (put (after (clocked now first c) refl)) tt)
+      (moved (after c refl))
+    where
+      packet : Sent
+      packet = record { segment = data_of c first; at = now }
+
+      out_from : (d : ConnectionView) → out_in (Some d) ≤ out_in (Some c) + octets_of first → out_in (Some d) ≤ out_in s.endpoint.connection + octets_of first
+      out_from d h = subst (λ (o : Option ConnectionView). out_in (Some d) ≤ out_in o + octets_of first) (sym has) h
+
+      pipe_from : (d : ConnectionView) → pipe_of (Some c) + octets_of first ≤ pipe_of (Some d) → pipe_of s.endpoint.connection + octets_of first ≤ pipe_of (Some d)
+      pipe_from d h = subst (λ (o : Option ConnectionView). pipe_of o + octets_of first ≤ pipe_of (Some d)) (sym has) h
+
+      put : IsAfter (octets_of first) c (entered_on first (clocked now first c) c.established)
+          → Leaves (IsEntered (octets_of first) s) (Ok (with_segment now first c (entered_on first (clocked now first c) c.established) s))
+      put h = record {
+        packets = packet ∷ [];
+        octets = one_packet (end_with_fin packet.segment) first.start first.end (packet_ends c first);
+        out = out_from (entered_on first (clocked now first c) c.established) h.out;
+        pipe = pipe_from (entered_on first (clocked now first c) c.established) h.pipe;
+        window = h.window ∙ sym (ap cwnd_in has);
+        outbox = refl;
+      }
+
+      moved : IsAfter (octets_of first) c (entered_on first c c.established)
+          → Leaves (IsEntered (octets_of first) s) (Ok (with_block (entered_on first c c.established) s))
+      moved h = record {
+        packets = [];
+        octets = omega arith;
+        out = out_from (entered_on first c c.established) h.out;
+        pipe = pipe_from (entered_on first c c.established) h.pipe;
+        window = h.window ∙ sym (ap cwnd_in has);
+        outbox = sym (append-nil s.endpoint.outbox);
+      }
+
+-- The window is set before anything is sent
+
 module _ (laws : LetsOutInProportion) where
-  paced_by : (next : Then) (c : ConnectionView) (w : CongView) → next ≡ StepC → is_reducing w.recovering w.rate ≡ true
+  paced_by : (next : Then) (c : ConnectionView) (w : CongView) → (next ≡ StepC) ⊎ (next ≡ Entry) → is_reducing w.recovering w.rate ≡ true
       → window_after next c w - pipe w.high_rxt c.board ≤ sndcnt c.board.smss (pipe w.high_rxt c.board) w
-  paced_by next c w step reducing =
+  paced_by next c w (inl step) reducing =
+      subst (λ (n : Then). window_after n c w - pipe w.high_rxt c.board ≤ sndcnt c.board.smss (pipe w.high_rxt c.board) w) (sym step)
+      (laws.window c.board.smss (pipe w.high_rxt c.board) w reducing)
+  paced_by next c w (inr step) reducing =
       subst (λ (n : Then). window_after n c w - pipe w.high_rxt c.board ≤ sndcnt c.board.smss (pipe w.high_rxt c.board) w) (sym step)
       (laws.window c.board.smss (pipe w.high_rxt c.board) w reducing)
 
-  taking_paced : (now : ℕ) (segment : Segment) (c : ConnectionView) (o : Option Established) → (taking now segment c o).1 ≡ StepC
-      → IsPaced (Some (taking now segment c o).0)
-  taking_paced now segment c None step = absurd cc
+  taking_paced : (now : ℕ) (segment : Segment) (c : ConnectionView) (o : Option Established)
+      → ((taking now segment c o).1 ≡ StepC) ⊎ ((taking now segment c o).1 ≡ Entry) → IsPaced (Some (taking now segment c o).0)
+  taking_paced now segment c None (inl step) = absurd cc
+  taking_paced now segment c None (inr step) = absurd cc
   taking_paced now segment c (Some e) step =
       let after : (ConnectionView × Established) × Bool = with_ack now segment e c in
       let n : ℕ = newly_acked c segment in
-      let ack : Ack = ack_of_segment segment n (delivered_data n c.board after.0.0.board) after.1 e.rwnd after.0.1 after.0.0 in
+      let ack : Ack = ack_of_segment segment n (delivery n c.board after.0.0.board) after.1 e.rwnd after.0.1 after.0.0 in
       let response : CongView × Then = acked ack after.0.1.congestion in
       paced_by response.1 after.0.0 response.0 step
 
-  entered_paced : (segment : Span) (c : ConnectionView) (o : Option Established) → c.established ≡ o → IsPaced (Some (entered_on segment c o))
-  entered_paced segment c None none reducing = absurd (nothing c.established none reducing)
-    where
-      nothing : (o : Option Established) → o ≡ None → reducing_in (Some (record c { established = o })) ≡ true → ⊥
-      nothing None e h = cc
-      nothing (Some x) e h = cc
-  entered_paced segment c (Some e) is reducing =
-      let w : CongView = entered_to segment e.congestion in
-      laws.window c.board.smss (pipe w.high_rxt c.board) w reducing
-
-  -- the window was set so before step C
-  lets_out : (now : ℕ) (s t : State) → reducing_in s.endpoint.connection ≡ true → IsPaced s.endpoint.connection → filled now NextSeg s ≡ Ok t
-      → LetsOut s t
-  lets_out now s t reducing paced h =
-      let f = filled_out now NextSeg s t h in
-      (f.0, within _ _ _ f.1 (paced reducing), grown _ _ _ _ f.2 (paced reducing), f.3)
-    where
-      within : (octets room sndcnt : ℕ) → octets ≤ room → room ≤ sndcnt → octets ≤ sndcnt
-      within octets room sndcnt a b = omega (arith, a, b)
-
-      grown : (after before room sndcnt : ℕ) → after ≤ before + room → room ≤ sndcnt → after ≤ before + sndcnt
-      grown after before room sndcnt a b = omega (arith, a, b)
-
   after_ack : (now : ℕ) (segment : Segment) (c : ConnectionView) (s t : State) (o : Option Established)
       → (taking now segment c o).1 ≡ StepC → reducing_in (Some (taking now segment c o).0) ≡ true
-      → ack_taken now segment c s o ≡ Ok t → LetsOut (with_block (taking now segment c o).0 s) t
+      → ack_taken now segment c s o ≡ Ok t → LetsOut (sndcnt_in (Some (taking now segment c o).0)) (with_block (taking now segment c o).0 s) t
   after_ack now segment c s t o step reducing h =
       let d : ConnectionView = (taking now segment c o).0 in
-      lets_out now (with_block d s) t reducing (taking_paced now segment c o step)
-      (sym (ap (led_to now d (with_block d s)) step) ∙ h)
+      let u : State = with_block d s in
+      let f = filled_out now NextSeg u t (sym (ap (led_to now d u) step) ∙ h) in
+      let paced : cwnd_in (Some d) - pipe_of (Some d) ≤ sndcnt_in (Some d) = taking_paced now segment c o (inl step) reducing in
+      (f.0, within _ _ _ f.1 paced, grown _ _ _ _ f.2 paced, f.3)
 
-  -- an entry leaves the window so
-  put_paced : (now : ℕ) (segment : Span) (c d : ConnectionView) (s : State) → IsPaced (Some d)
-      → Leaves (λ (u : State). IsPaced u.endpoint.connection) (put_segment now segment c d s)
-  put_paced now segment c d s h =
-      either (λ (u : State). IsPaced u.endpoint.connection) (has_place s.endpoint.outbox) _ _ h tt
-
-  entry_paced : (now : ℕ) (c : ConnectionView) (s : State) → Leaves (λ (u : State). IsPaced u.endpoint.connection) (entry now c s)
-  entry_paced now c s =
-      let segment : Span = run_at c.board.una c.board in
-      either (λ (u : State). IsPaced u.endpoint.connection) (nat_lt segment.start segment.end) _ _
-      (put_paced now segment c (entered_on segment (clocked now segment c) c.established) s (entered_paced segment (clocked now segment c) c.established refl))
-      (entered_paced segment c c.established refl)
-
-  pub recovers_in_proportion : RecoversInProportion
-  recovers_in_proportion = record {
-    acks = λ now segment c s t o step reducing h. after_ack now segment c s t o step reducing h;
-    entries = λ now c s u t h reducing f.
-        lets_out now u t reducing (came (λ (x : State). IsPaced x.endpoint.connection) (entry now c s) u h (entry_paced now c s)) f;
-    proportional = λ s t c e has is out above.
-        let here : out_in s.endpoint.connection ≡ e.congestion.reduction.prr_out = out_of s c e has is in
-        let sends : sndcnt_in s.endpoint.connection ≡ sndcnt c.board.smss (pipe e.congestion.high_rxt c.board) e.congestion = sndcnt_of s c e has is in
-        let k = laws.proportional c.board.smss (pipe e.congestion.high_rxt c.board) e.congestion above in
-        omega (arith, out.2, here, sends, k);
-    conservative = λ s t c e has is out crb known which.
-        let here : out_in s.endpoint.connection ≡ e.congestion.reduction.prr_out = out_of s c e has is in
-        let sends : sndcnt_in s.endpoint.connection ≡ sndcnt c.board.smss (pipe e.congestion.high_rxt c.board) e.congestion = sndcnt_of s c e has is in
-        let k = laws.conservative c.board.smss (pipe e.congestion.high_rxt c.board) e.congestion crb known which in
-        omega (arith, out.2, here, sends, k);
-  }
+  -- the segment at una, and step C after it
+  entry_lets_out : (spares : SparesSacked) (now : ℕ) (c : ConnectionView) (e : Established) (s t : State) → c.established ≡ Some e
+      → e.congestion.high_rxt ≡ c.board.una → s.endpoint.connection ≡ Some c
+      → cwnd_in (Some c) - pipe_of (Some c) ≤ sndcnt_in (Some c) → led_to now c s Entry ≡ Ok t
+      → LetsOut (max (sndcnt_in (Some c)) (octets_of (run_at c.board.una c.board))) s t
+  entry_lets_out spares now c e s t is begins has paced h =
+      let first : ℕ = octets_of (run_at c.board.una c.board) in
+      let most : ℕ = max (sndcnt_in (Some c)) first in
+      came (LetsOut most s) (led_to now c s Entry) t h
+      (then_leaves (IsEntered first s) (LetsOut most s) (filled now NextSeg) (entry now c s) (entry_enters spares now c e is begins s has)
+      (λ u k. leaves_too (FillsOut u) (LetsOut most s) (filled now NextSeg u) (λ v f. (
+        k.packets ++ f.0,
+        subst (λ (n : ℕ). n ≤ most) (sym (split_octets k.packets f.0))
+            (first_and_more (octets_in k.packets) (octets_in f.0) first (pipe_of s.endpoint.connection) (cwnd_in s.endpoint.connection)
+            (pipe_of u.endpoint.connection) (cwnd_in u.endpoint.connection) (sndcnt_in (Some c)) k.octets f.1 k.pipe k.window there),
+        first_and_more_out (out_in v.endpoint.connection) (out_in u.endpoint.connection) (out_in s.endpoint.connection) first (pipe_of s.endpoint.connection)
+            (cwnd_in s.endpoint.connection) (pipe_of u.endpoint.connection) (cwnd_in u.endpoint.connection) (sndcnt_in (Some c)) k.out f.2 k.pipe k.window there,
+        f.3 ∙ ap (λ (l : List Sent). l ++ f.0) k.outbox ∙ append_assoc s.endpoint.outbox k.packets f.0,
+      )) (fills_out now NextSeg u)))
     where
-      out_on : (c : ConnectionView) (o : Option Established) → ℕ
-      out_on c o = out_in (Some (record c { established = o }))
+      there : cwnd_in s.endpoint.connection - pipe_of s.endpoint.connection ≤ sndcnt_in (Some c)
+      there = subst (λ (o : Option ConnectionView). cwnd_in o - pipe_of o ≤ sndcnt_in (Some c)) (sym has) paced
 
-      sndcnt_on : (c : ConnectionView) (o : Option Established) → ℕ
-      sndcnt_on c o = sndcnt_in (Some (record c { established = o }))
+  module _ (counts : CountsRecovery) (spares : SparesSacked) where
+    after_entry : (now : ℕ) (segment : Segment) (c : ConnectionView) (s t : State) (o : Option Established)
+        → (taking now segment c o).1 ≡ Entry → reducing_in (Some (taking now segment c o).0) ≡ true
+        → ack_taken now segment c s o ≡ Ok t
+        → LetsOut (max (sndcnt_in (Some (taking now segment c o).0)) (octets_of (run_at (taking now segment c o).0.board.una (taking now segment c o).0.board)))
+        (with_block (taking now segment c o).0 s) t
+    after_entry now segment c s t None step reducing h = absurd cc
+    after_entry now segment c s t (Some e) step reducing h =
+        let after : (ConnectionView × Established) × Bool = with_ack now segment e c in
+        let n : ℕ = newly_acked c segment in
+        let ack : Ack = ack_of_segment segment n (delivery n c.board after.0.0.board) after.1 e.rwnd after.0.1 after.0.0 in
+        let response : CongView × Then = acked ack after.0.1.congestion in
+        let left : Established = record after.0.1 { congestion = record response.0 { cwnd = window_after response.1 after.0.0 response.0 } } in
+        let d : ConnectionView = (taking now segment c (Some e)).0 in
+        entry_lets_out spares now d left (with_block d s) t refl (counts.again ack after.0.1.congestion step) refl
+        (taking_paced now segment c (Some e) (inr step) reducing) (sym (ap (led_to now d (with_block d s)) step) ∙ h)
 
-      out_of : (s : State) (c : ConnectionView) (e : Established) → s.endpoint.connection ≡ Some c → c.established ≡ Some e
-          → out_in s.endpoint.connection ≡ e.congestion.reduction.prr_out
-      out_of s c e has is = ap out_in has ∙ ap (out_on c) is
+    pub recovers_in_proportion : RecoversInProportion
+    recovers_in_proportion = record {
+      acks = λ now segment c s t o step reducing h. after_ack now segment c s t o step reducing h;
+      entries = λ now segment c s t o step reducing h. after_entry now segment c s t o step reducing h;
+      proportional = λ most s t c e has is out few none above.
+          let here : out_in s.endpoint.connection ≡ e.congestion.reduction.prr_out = out_of s c e has is in
+          let sends : sndcnt_in s.endpoint.connection ≡ sndcnt c.board.smss (pipe e.congestion.high_rxt c.board) e.congestion = sndcnt_of s c e has is in
+          let k = laws.proportional c.board.smss (pipe e.congestion.high_rxt c.board) e.congestion (free_of s c e has is none) above in
+          omega (arith, out.2, few, here, sends, k);
+      target = λ most s t c e has is out few none low.
+          let sends : sndcnt_in s.endpoint.connection ≡ sndcnt c.board.smss (pipe e.congestion.high_rxt c.board) e.congestion = sndcnt_of s c e has is in
+          let k = laws.target c.board.smss (pipe e.congestion.high_rxt c.board) e.congestion (free_of s c e has is none) low in
+          omega (arith, out.1, few, sends, k);
+      conservative = λ most s t c e has is out few none low failed.
+          let here : out_in s.endpoint.connection ≡ e.congestion.reduction.prr_out = out_of s c e has is in
+          let sends : sndcnt_in s.endpoint.connection ≡ sndcnt c.board.smss (pipe e.congestion.high_rxt c.board) e.congestion = sndcnt_of s c e has is in
+          let k = laws.conservative c.board.smss (pipe e.congestion.high_rxt c.board) e.congestion (free_of s c e has is none) low failed in
+          omega (arith, out.2, few, here, sends, k);
+    }
+      where
+        out_on : (c : ConnectionView) (o : Option Established) → ℕ
+        out_on c o = out_in (Some (record c { established = o }))
 
-      sndcnt_of : (s : State) (c : ConnectionView) (e : Established) → s.endpoint.connection ≡ Some c → c.established ≡ Some e
-          → sndcnt_in s.endpoint.connection ≡ sndcnt c.board.smss (pipe e.congestion.high_rxt c.board) e.congestion
-      sndcnt_of s c e has is = ap sndcnt_in has ∙ ap (sndcnt_on c) is
+        sndcnt_on : (c : ConnectionView) (o : Option Established) → ℕ
+        sndcnt_on c o = sndcnt_in (Some (record c { established = o }))
+
+        forces_on : (c : ConnectionView) (o : Option Established) → Bool
+        forces_on c o = forces_in (Some (record c { established = o }))
+
+        out_of : (s : State) (c : ConnectionView) (e : Established) → s.endpoint.connection ≡ Some c → c.established ≡ Some e
+            → out_in s.endpoint.connection ≡ e.congestion.reduction.prr_out
+        out_of s c e has is = ap out_in has ∙ ap (out_on c) is
+
+        sndcnt_of : (s : State) (c : ConnectionView) (e : Established) → s.endpoint.connection ≡ Some c → c.established ≡ Some e
+            → sndcnt_in s.endpoint.connection ≡ sndcnt c.board.smss (pipe e.congestion.high_rxt c.board) e.congestion
+        sndcnt_of s c e has is = ap sndcnt_in has ∙ ap (sndcnt_on c) is
+
+        free_of : (s : State) (c : ConnectionView) (e : Established) → s.endpoint.connection ≡ Some c → c.established ≡ Some e
+            → forces_in s.endpoint.connection ≡ false → forces c.board.smss (pipe e.congestion.high_rxt c.board) e.congestion ≡ false
+        free_of s c e has is none = sym (ap (forces_on c) is) ∙ sym (ap forces_in has) ∙ none

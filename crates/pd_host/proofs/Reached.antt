@@ -7,13 +7,12 @@ use Rattle.pd_settings.specs.declared.fields.Settings.{Settings}
 use Rattle.pd_seg.specs.declared.sack_blocks.Span.{Span}
 use Rattle.pd_timer.specs.Rto.{RtoView, started, restarted}
 use Rattle.pd_recover.specs.Choice.{segment_of}
-use Rattle.pd_recover.proofs.Windows.{restarted-within, paced-within}
+use Rattle.pd_recover.proofs.Windows.{restarted-within}
 use Rattle.pd_recover.specs.Cong.{CongView, is_reducing, entered_to, restarted as window_restarted}
-use Rattle.pd_board.specs.Loss.{pipe}
 use Rattle.pd_recover.specs.Laws.{IsWithin}
 use Rattle.pd_recover.specs.declared.segments.NextSegment.{NextSegment}
 use Rattle.pd_recover.specs.declared.segments.NextSegment.TheVariants.{Lost, New, Hole, Rescue}
-use Rattle.pd_host.specs.Acknowledgments.{sent_as, noted_by, noted_on, entered_on, paced_on}
+use Rattle.pd_host.specs.Acknowledgments.{sent_as, noted_by, noted_on, entered_on}
 use Rattle.pd_host.specs.Connection.{ConnectionView}
 use Rattle.pd_host.specs.Invariants.{IsEnding, IsOfPhase, IsInBounds, IsTimed, IsReached}
 use Rattle.pd_host.specs.Sending.{is_idle, restarted_in, begun_again, past_sacked, sent_on}
@@ -258,15 +257,14 @@ module _ (b : Settings) (now : ℕ) where
       let w : CongView = entered_to segment est.congestion in
       let below : IsBelow c.board.top w = record { recovery_point = k.recovery_point; high_rxt = to; rescue_rxt = to } in
       let bounds : IsInBounds b c.board.smss c.board.top c.widest est = at_some (IsInBounds b c.board.smss c.board.top c.widest) c.established est is h.reached.bounds in
-      congestion_live c est (paced_on c w) h is
-      (paced-within b.initial_ssthresh c.board.smss (pipe w.high_rxt c.board) w
+      congestion_live c est w h is
       (record {
         cwnd_from = bounds.windows.cwnd_from;
         cwnd_to = bounds.windows.cwnd_to;
         ssthresh_from = bounds.windows.ssthresh_from;
         ssthresh_to = bounds.windows.ssthresh_to;
         recovering = bounds.windows.recovering;
-      }))
+      })
       (record { recovery_point = below.recovery_point; high_rxt = below.high_rxt; rescue_rxt = below.rescue_rxt })
 
   first_to : (c : ConnectionView) → IsLive b now c → (first_run c).end ≤ c.board.top

@@ -1,5 +1,5 @@
 -- With SACK loss recovery goes on only below RecoveryPoint.
-use Rattle.std.proofs.Common.{◌≡◌, ℕ, ◌<◌, ◌&&◌, ◌||◌, not, nat_lt, nat_le, List, [], ◌∷◌, Bool, true, false, if◌then◌else◌, Option, Some, None, refl, sym, ap, subst, ◌∙◌, arith}
+use Rattle.std.proofs.Common.{◌≡◌, ℕ, ◌<◌, ◌==◌, ◌&&◌, ◌||◌, not, nat_lt, nat_le, List, [], ◌∷◌, Bool, true, false, if◌then◌else◌, Option, Some, None, refl, sym, ap, subst, ◌∙◌, arith}
 use Rattle.std.specs.Prelude.{option_map}
 use Rattle.std.proofs.lemmas.Bool.Decides.{nat_tests}
 use Rattle.pd_seg.specs.declared.sack_blocks.Span.{Span}
@@ -7,15 +7,18 @@ use Rattle.pd_seg.specs.declared.segments.Segment.{Segment}
 use Rattle.pd_board.proofs.Sets.{any-none}
 use Rattle.pd_board.specs.Octets.{contains}
 use Rattle.pd_board.specs.Board.{BoardView, covers, marked, has_new}
-use Rattle.pd_recover.specs.Acks.{renewed, told, told_by_sack, selective_duplicate, counted, grown_by}
+use Rattle.pd_recover.specs.Acks.{renewed, told, told_by_sack, with_delivered, selective_duplicate, counted, grown_by}
+use Rattle.pd_recover.specs.Prr.{is_proportional}
 use Rattle.pd_recover.specs.Cong.{CongView, entered_to}
 use Rattle.pd_recover.specs.declared.feedback.Ack.{Ack}
+use Rattle.pd_recover.specs.declared.feedback.Delivery.{Delivery}
 use Rattle.pd_recover.specs.declared.feedback.News.{News}
 use Rattle.pd_recover.specs.declared.responses.Then.{Then}
+use Rattle.pd_recover.specs.declared.responses.Then.TheVariants.{StepC, Nothing}
 use Rattle.pd_recover.specs.declared.segments.NextSegment.{NextSegment}
 use Rattle.pd_recover.specs.declared.segments.NextSegment.TheVariants.{Lost, New, Hole, Rescue}
 use Rattle.pd_board.specs.Loss.{is_lost}
-use Rattle.pd_host.specs.Acknowledgments.{newly_acked, with_number, is_block_sent, blocks_of, told_block, told_blocks, scored, with_timing, is_current, with_new_window, with_blocks, with_ack, news_of, ack_of_segment, taking, sent_as, noted_by, noted_on, entered_on, delivered_data, paced_on, responding}
+use Rattle.pd_host.specs.Acknowledgments.{newly_acked, with_number, is_block_sent, blocks_of, told_block, told_blocks, scored, with_timing, is_current, with_new_window, with_blocks, with_ack, news_of, ack_of_segment, taking, sent_as, noted_by, noted_on, entered_on, delivery, responding}
 use Rattle.pd_host.specs.Arrivals.{with_peer_fin}
 use Rattle.pd_host.specs.Calls.{with_stream, with_nagle}
 use Rattle.pd_host.specs.Connection.{ConnectionView}
@@ -122,12 +125,14 @@ module _ (ack : Ack) where
   sack_below : (news : News) (w : CongView) → (news.fresh ≡ true → ack.una < ack.top) → Below (told_by_sack ack news w)
   sack_below news w out =
       by_test Below (w.recovering && nat_le w.recovery_point ack.una) _ _ (λ _ r. absurd cc)
-      (λ below. by_test Below w.recovering _ _ (λ _ r. above w.recovering w.recovery_point ack.una below r)
+      (λ below. by_test Below w.recovering _ _
+      (λ _. by_test Below (is_proportional w.rate && ack.delivery.delivered_data == 0) (w, Nothing) (with_delivered ack w, StepC)
+      (λ _ r. above w.recovering w.recovery_point ack.una below r) (λ _ r. above w.recovering w.recovery_point ack.una below r))
       (λ still. by_test Below news.fresh _ _
       (λ fresh. duplicate_below news.lost (counted (grown_by ack w)) (grown_same w ∙ still) (out fresh))
       (λ _ r. absurd (unlike w.recovering (sym (grown_same w) ∙ r) still))))
 
-answered_below : (segment : Segment) (n delivered : ℕ) (fresh : Bool) (rwnd : ℕ) (c : ConnectionView) (after : Established)
+answered_below : (segment : Segment) (n : ℕ) (delivered : Delivery) (fresh : Bool) (rwnd : ℕ) (c : ConnectionView) (after : Established)
     → (fresh ≡ true → c.board.una < c.board.top)
     → IsBelowPoint (responding c after (ack_of_segment segment n delivered fresh rwnd after c)).0
 answered_below segment n delivered fresh rwnd c after out sack =
@@ -145,7 +150,7 @@ taking_below now segment c (Some e) h =
     let told_at : TellsWithin segment.ack c.board.top (scored segment (with_number segment c)) = scored_within segment (with_number segment c) in
     let k = ack_board now segment e c in
     let after : (ConnectionView × Established) × Bool = with_ack now segment e c in
-    answered_below segment (newly_acked c segment) (delivered_data (newly_acked c segment) c.board after.0.0.board) after.1 e.rwnd after.0.0 after.0.1
+    answered_below segment (newly_acked c segment) (delivery (newly_acked c segment) c.board after.0.0.board) after.1 e.rwnd after.0.0 after.0.1
     (λ fresh. let out = told_at.fresh fresh in
     moved_within (scored segment (with_number segment c)).0 after.0.0.board k (omega (arith, out, told_at.low, told_at.high)))
 
@@ -183,7 +188,7 @@ noted_below now filling c (Rescue segment) o h is = noted_too filling (sent_as n
 
 pub entered_below : (segment : Span) (c : ConnectionView) (o : Option Established) → IsBelowPoint c → c.established ≡ o → IsBelowPoint (entered_on segment c o)
 entered_below segment c None h is = h
-entered_below segment c (Some e) h is = recongested c e (paced_on c (entered_to segment e.congestion)) h is refl refl
+entered_below segment c (Some e) h is = recongested c e (entered_to segment e.congestion) h is refl refl
 
 -- sending begins, after an idle time or without one
 begun_same : (una smss : ℕ) (idle : Bool) (o : Option Established) → RecoversBelow una o → RecoversBelow una (restarted_in smss idle o)

@@ -5,9 +5,10 @@ use Rattle.pd_recover.specs.Acks.{acked}
 use Rattle.pd_recover.specs.Cong.{CongView}
 use Rattle.pd_recover.specs.Laws.{EndsInTime}
 use Rattle.pd_recover.specs.declared.feedback.Ack.{Ack}
+use Rattle.pd_recover.specs.declared.feedback.Delivery.{Delivery}
 use Rattle.pd_recover.specs.declared.feedback.News.{News}
 use Rattle.pd_seg.specs.declared.segments.Segment.{Segment}
-use Rattle.pd_host.specs.Acknowledgments.{newly_acked, news_of, ack_of_segment, with_ack, taking, ack_taken, delivered_data, responding}
+use Rattle.pd_host.specs.Acknowledgments.{newly_acked, news_of, ack_of_segment, with_ack, taking, ack_taken, delivery, responding}
 use Rattle.pd_host.specs.Connection.{ConnectionView}
 use Rattle.pd_host.specs.Sending.{with_block, is_recovering}
 use Rattle.pd_host.specs.SendingLaws.{recovers, EndsRecovery}
@@ -42,7 +43,7 @@ record Tells (ack : Ack) (una n : ℕ) (news : Option News) : Type 0 where
   pub octets : ack.acked ≡ n
   pub blocks : ack.sack ≡ news
 
-answer_ends : (segment : Segment) (n delivered : ℕ) (fresh : Bool) (rwnd : ℕ) (d : ConnectionView) (e : Established) (w : CongView) (X : Type 0)
+answer_ends : (segment : Segment) (n : ℕ) (delivered : Delivery) (fresh : Bool) (rwnd : ℕ) (d : ConnectionView) (e : Established) (w : CongView) (X : Type 0)
     → e.congestion ≡ w
     → ((ack : Ack) → Tells ack d.board.una n (news_of fresh d) → Ends ack w X)
     → (is_recovering (responding d e (ack_of_segment segment n delivered fresh rwnd e d)).0.established ≡ false) ↔ X
@@ -62,7 +63,7 @@ taken_ends now segment c s t e X has ends h =
     let sent : IsSentOn now (with_block left s) t = came (IsSentOn now (with_block left s)) (ack_taken now segment c s (Some e)) t same (taken_sends now segment c s (Some e)) in
     let una : after.0.0.board.una ≡ segment.ack = ap (λ (x : ConnectionView). x.board.una) (ack_keeps now segment e c) in
     subst (λ (b : Bool). (b ≡ false) ↔ X) (sym (sent_recovers now (with_block left s) t sent))
-    (answer_ends segment (newly_acked c segment) (delivered_data (newly_acked c segment) c.board after.0.0.board) after.1 e.rwnd after.0.0 after.0.1 e.congestion X (ack_leaves_congestion now segment e c)
+    (answer_ends segment (newly_acked c segment) (delivery (newly_acked c segment) c.board after.0.0.board) after.1 e.rwnd after.0.0 after.0.1 e.congestion X (ack_leaves_congestion now segment e c)
     (λ ack tells. ends ack after.1 (record { number = tells.number ∙ una; octets = tells.octets; blocks = tells.blocks })))
 
 -- whether SACK was agreed

@@ -1,15 +1,15 @@
 -- Step C and limited transmit put out no more octets than the congestion window has room for.
 use Rattle.std.proofs.Common.{◌≡◌, ℕ, ◌+◌, ◌-◌, ◌≤◌, ◌&&◌, ◌^◌, min, max, nat_lt, nat_le, if◌then◌else◌, List, [], ◌∷◌, ◌++◌, Option, None, Some, refl, sym, subst, ap, ◌∙◌, append_assoc, append-nil, arith}
 use Rattle.std.specs.Prelude.{Ok, unwrap_or, option_map}
-use Rattle.pd_board.specs.Choice.{run_at, most_from, next_lost, next_hole, rescue, segment_to, after}
+use Rattle.pd_board.specs.Choice.{run_at, most_from, next_lost, next_hole, rescue, segment_to}
 use Rattle.pd_board.specs.Loss.{is_free}
-use Rattle.pd_board.specs.Octets.{contains, least_where, greatest_where}
+use Rattle.pd_board.specs.Octets.{contains, least_where, greatest_where, after}
 use Rattle.pd_board.specs.Board.{BoardView}
 use Rattle.pd_recover.specs.Choice.{segment_of, has_room, lost_run, new_data, hole_run, rescue_run, next_send as next_seg, step_c_segment, limited_segment}
 use Rattle.pd_recover.specs.Cong.{CongView}
 use Rattle.pd_recover.specs.declared.segments.NextSegment.{NextSegment}
 use Rattle.pd_recover.specs.declared.segments.NextSegment.TheVariants.{Lost, New, Hole, Rescue}
-use Rattle.pd_settings.specs.declared.recovery_rate.RecoveryRate.{RecoveryRate}
+use Rattle.pd_settings.specs.declared.recovery_algorithm.RecoveryAlgorithm.{RecoveryAlgorithm}
 use Rattle.pd_recover.specs.Prr.{is_proportional, sent_of}
 use Rattle.pd_recover.specs.declared.reductions.Reduction.{Reduction}
 use Rattle.pd_recover.proofs.Cases.{either}
@@ -139,7 +139,7 @@ noted_window NextSeg (Hole segment) w = refl
 noted_window NextSeg (Rescue segment) w = refl
 
 -- prr_out grows by what is sent at most
-sent_out : (rate : RecoveryRate) (octets : ℕ) (r : Reduction) → (if is_proportional rate then sent_of octets r else r).prr_out ≤ r.prr_out + octets
+pub sent_out : (rate : RecoveryAlgorithm) (octets : ℕ) (r : Reduction) → (if is_proportional rate then sent_of octets r else r).prr_out ≤ r.prr_out + octets
 sent_out rate octets r = either (λ (q : Reduction). q.prr_out ≤ r.prr_out + octets) (is_proportional rate) (sent_of octets r) r (lesser r.prr_out octets) (grown r.prr_out octets)
   where
     lesser : (out n : ℕ) → min (out + n) (2 ^ 31) ≤ out + n
@@ -227,7 +227,7 @@ ended s t h = (
 )
 
 -- the same, and prr_out has grown by no more than the window had room for
-abbrev FillsOut : State → State → Type 0
+abbrev pub FillsOut : State → State → Type 0
 FillsOut s t =
     (packets : List Sent)
     × (octets_in packets ≤ cwnd_in s.endpoint.connection - pipe_of s.endpoint.connection)
@@ -245,7 +245,7 @@ ended_out s t h = (
   h.outbox,
 )
 
-fills_out : (now : ℕ) (filling : Filling) (s : State) → Leaves (FillsOut s) (filled now filling s)
+pub fills_out : (now : ℕ) (filling : Filling) (s : State) → Leaves (FillsOut s) (filled now filling s)
 fills_out now filling s =
     let pipe : ℕ = pipe_of s.endpoint.connection in
     let cwnd : ℕ = cwnd_in s.endpoint.connection in

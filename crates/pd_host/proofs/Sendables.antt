@@ -2,9 +2,9 @@
 use Rattle.std.proofs.Common.{◌≡◌, ℕ, ◌+◌, ◌-◌, ◌<◌, ◌≤◌, ◌&&◌, max, min, nat_lt, nat_le, Bool, true, false, if◌then◌else◌, Option, Some, None, refl, arith}
 use Rattle.std.specs.Prelude.{option_map}
 use Rattle.pd_seg.specs.declared.sack_blocks.Span.{Span}
-use Rattle.pd_board.specs.Choice.{run_at, next_lost, next_hole, rescue, segment_to, after}
+use Rattle.pd_board.specs.Choice.{run_at, next_lost, next_hole, rescue, segment_to}
 use Rattle.pd_board.specs.Loss.{is_free}
-use Rattle.pd_board.specs.Octets.{contains, greatest_where}
+use Rattle.pd_board.specs.Octets.{contains, greatest_where, after}
 use Rattle.pd_board.specs.Board.{BoardView}
 use Rattle.pd_recover.specs.declared.segments.NextSegment.{NextSegment}
 use Rattle.pd_recover.specs.declared.segments.NextSegment.TheVariants.{Lost, New, Hole, Rescue}

@@ -5,12 +5,13 @@ use Rattle.pd_seg.specs.declared.option_list.SegOption.TheVariants.{Sack}
 use Rattle.pd_seg.specs.declared.sack_blocks.Span.{Span}
 use Rattle.pd_seg.specs.declared.segments.Segment.{Segment}
 use Rattle.pd_board.specs.Choice.{run_at}
-use Rattle.pd_board.specs.Loss.{is_lost, pipe, sacked_octets}
+use Rattle.pd_board.specs.Loss.{is_lost, pipe, sacked_octets, undelivered, lost_edge}
 use Rattle.pd_board.specs.Board.{BoardView, acknowledged, marked, has_new}
 use Rattle.pd_recover.specs.Acks.{acked}
 use Rattle.pd_recover.specs.Choice.{segment_of, step_c_segment, limited_segment, noted}
 use Rattle.pd_recover.specs.Cong.{CongView, entered_to, with_limited, paced}
 use Rattle.pd_recover.specs.declared.feedback.Ack.{Ack}
+use Rattle.pd_recover.specs.declared.feedback.Delivery.{Delivery}
 use Rattle.pd_recover.specs.declared.feedback.News.{News}
 use Rattle.pd_recover.specs.declared.responses.Then.{Then}
 use Rattle.pd_recover.specs.declared.responses.Then.TheVariants.{Ordinary, StepC, Entry, LimitedTransmit, NewSegment, FastRetransmit, Nothing}
@@ -94,33 +95,41 @@ with_new_window segment e c =
 abbrev pub news_of : Bool → ConnectionView → Option News
 news_of fresh c = if c.sack then Some (record { fresh = fresh; lost = fresh && is_lost c.board.una c.board }) else None
 
--- DeliveredData of an ACK of n new octets: change_in(snd.una) + change_in(SACKd), by the boards before and after it (RFC 6937,
--- section 3)
-abbrev pub delivered_data : ℕ → BoardView → BoardView → ℕ
-delivered_data n before after = n + sacked_octets after - sacked_octets before
+-- what an ACK of n new octets delivered, by the boards before and after it (RFC 9937, section 6). DeliveredData: the advance of
+-- SND.UNA and the change of SACKed octets. RecoverFS: what wasn't delivered before the ACK, which is what is outstanding after it,
+-- less the octets SACKed before it that still are, and those that it acknowledges (none counts twice). SafeACK: SND.UNA has
+-- advanced, and no octet is lost that wasn't before (own; it lies no higher than the last that was, since all below a lost one
+-- are lost)
+abbrev pub delivery : ℕ → BoardView → BoardView → Delivery
+delivery n before after = record {
+  delivered_data = n + sacked_octets after - sacked_octets before;
+  recover_fs = undelivered before;
+  safe_ack = nat_lt 0 n && nat_le (lost_edge after) (lost_edge before);
+}
 
 -- what the ACK tells congestion control: where the connection is after it, and the peer's window before it
-abbrev pub ack_of_segment : Segment → ℕ → ℕ → Bool → ℕ → Established → ConnectionView → Ack
-ack_of_segment segment n delivered fresh rwnd e c = record {
+abbrev pub ack_of_segment : Segment → ℕ → Delivery → Bool → ℕ → Established → ConnectionView → Ack
+ack_of_segment segment n delivery fresh rwnd e c = record {
   smss = c.board.smss;
   una = c.board.una;
   top = c.board.top;
   end = c.board.end;
   rwnd = e.rwnd;
   acked = n;
-  delivered = delivered;
+  delivery = delivery;
   same_window = window_in c segment == rwnd;
   fin = segment.flags.fin;
   sack = news_of fresh c;
 }
 
--- congestion control on a connection at its pipe, by which PRR sets the window (RFC 6937, section 3)
+-- congestion control on a connection at its pipe, by which PRR sets the window (RFC 9937, section 6)
 abbrev pub paced_on : ConnectionView → CongView → CongView
 paced_on c w = paced c.board.smss (pipe w.high_rxt c.board) w
 
--- so it does at each ACK in recovery; other ACKs leave the window
+-- so it does at each ACK in recovery, from the one that enters on, before anything of it is sent; other ACKs leave the window
 abbrev pub window_after : Then → ConnectionView → CongView → ℕ
 window_after StepC c w = (paced_on c w).cwnd
+window_after Entry c w = (paced_on c w).cwnd
 window_after _ c w = w.cwnd
 
 -- congestion control takes the ACK: the connection afterwards, and what follows
@@ -151,7 +160,7 @@ taking now segment c (Some e) =
     let after = with_ack now segment e c in
     let n = newly_acked c segment in
     responding after.0.0 after.0.1
-    (ack_of_segment segment n (delivered_data n c.board after.0.0.board) after.1 e.rwnd after.0.1 after.0.0)
+    (ack_of_segment segment n (delivery n c.board after.0.0.board) after.1 e.rwnd after.0.1 after.0.0)
 
 -- What follows
 
@@ -225,12 +234,13 @@ put_segment now segment before after s =
     if has_place s.endpoint.outbox then Ok (with_segment now segment before after s) else Err Limit
 
 -- an entry into loss recovery has sent this segment again: HighRxt and RescueRxt are its end (RFC 6675, section 5, step 4.3),
--- and the pipe, which it is part of, sets PRR's window (step 4.4; RFC 6937, section 3)
+-- and by PRR its octets count as sent
 abbrev pub entered_on : Span → ConnectionView → Option Established → ConnectionView
 entered_on segment c None = c
-entered_on segment c (Some e) = record c { established = Some (record e { congestion = paced_on c (entered_to segment e.congestion) }) }
+entered_on segment c (Some e) = record c { established = Some (record e { congestion = entered_to segment e.congestion }) }
 
--- recovery begins: the segment at SND.UNA is sent again, unless its first octet is SACKed (RFC 6675, section 5, step 4.3)
+-- recovery begins: the segment at SND.UNA is sent again, unless its first octet is SACKed (RFC 6675, section 5, step 4.3); by
+-- PRR it is the segment that is forced (RFC 9937, section 6), and leaves whatever sndcnt is (own)
 abbrev pub entry : ℕ → ConnectionView → State → Result State Halt
 entry now c s =
     let segment = run_at c.board.una c.board in

@@ -7,19 +7,18 @@ use Rattle.pd_board.specs.Loss.{pipe}
 use Rattle.pd_recover.specs.Acks.{acked}
 use Rattle.pd_recover.specs.Choice.{segment_of}
 use Rattle.pd_settings.specs.declared.initial_window.InitialWindow.{InitialWindow}
-use Rattle.pd_settings.specs.declared.recovery_rate.RecoveryRate.TheVariants.{PrrCrb}
-use Rattle.pd_recover.specs.Cong.{CongView, IsCongView, window_by, is_reducing, sndcnt}
+use Rattle.pd_recover.specs.Cong.{CongView, window_by, is_reducing, sndcnt}
 use Rattle.pd_recover.specs.Prr.{proportion}
-use Rattle.pd_recover.specs.Laws.{IsSpared}
+use Rattle.pd_recover.specs.Laws.{IsSpared, forces}
 use Rattle.pd_recover.specs.declared.feedback.Ack.{Ack}
-use Rattle.pd_recover.specs.declared.responses.Then.TheVariants.{StepC, NewSegment}
+use Rattle.pd_recover.specs.declared.responses.Then.TheVariants.{StepC, Entry, NewSegment}
 use Rattle.pd_recover.specs.declared.segments.NextSegment.{NextSegment}
 use Rattle.pd_script.specs.declared.calls.Call.{Call}
 use Rattle.pd_seg.specs.declared.answers.Answer.{Answer}
 use Rattle.pd_seg.specs.declared.sack_blocks.Span.{Span}
 use Rattle.pd_seg.specs.declared.segments.Segment.{Segment}
 use Rattle.pd_seg.specs.declared.segments.Sent.{Sent}
-use Rattle.pd_host.specs.Acknowledgments.{OnTheWay, newly_acked, next_by, next_found, one_filled, pipe_of, filled_from, filled, entry, taking, ack_taken}
+use Rattle.pd_host.specs.Acknowledgments.{OnTheWay, newly_acked, octets_of, next_by, next_found, one_filled, pipe_of, filled_from, filled, taking, ack_taken}
 use Rattle.pd_host.specs.Arrivals.{arrived}
 use Rattle.pd_host.specs.Calls.{called, stream_of}
 use Rattle.pd_host.specs.Connection.{ConnectionView, data_end}
@@ -30,7 +29,6 @@ use Rattle.pd_host.specs.Sending.{value_in, with_block, window_edge, ordinary_se
 use Rattle.pd_host.specs.Timing.{overlaps, clocked}
 use Rattle.pd_host.specs.declared.established.Established.{Established}
 use Rattle.pd_host.specs.declared.connection.acknowledgments.Filling.{Filling}
-use Rattle.pd_host.specs.declared.connection.acknowledgments.Filling.TheVariants.{NextSeg}
 use Rattle.pd_host.specs.declared.requests.Operation.TheVariants.{Close}
 use Rattle.pd_host.specs.declared.requests.Request.TheVariants.{On}
 use Rattle.pd_host.specs.declared.endpoint.State.{State}
@@ -137,48 +135,64 @@ FillsWindow s t =
 abbrev pub KeepsToWindow : Type 0
 KeepsToWindow = (now : ℕ) (filling : Filling) (s t : State) → filled now filling s ≡ Ok t → FillsWindow s t
 
--- Proportional Rate Reduction (RFC 6937, section 3)
+-- Proportional Rate Reduction (RFC 9937, section 6)
 
 -- whether recovery goes on by it
 abbrev pub reducing_in : Option ConnectionView → Bool
 reducing_in connection = value_in false (λ c e. is_reducing e.congestion.recovering e.congestion.rate) connection
 
--- prr_out, and sndcnt at the pipe, 0 where there are none yet
+-- prr_out, and at the pipe sndcnt and whether a segment is forced; 0 and false where there are none yet
 abbrev pub out_in : Option ConnectionView → ℕ
 out_in connection = value_in 0 (λ c e. e.congestion.reduction.prr_out) connection
 
 abbrev pub sndcnt_in : Option ConnectionView → ℕ
 sndcnt_in connection = value_in 0 (λ c e. sndcnt c.board.smss (pipe e.congestion.high_rxt c.board) e.congestion) connection
 
--- what was put out has sndcnt octets at most, and prr_out has grown by no more
-abbrev pub LetsOut : State → State → Type 0
-LetsOut s t =
+abbrev pub forces_in : Option ConnectionView → Bool
+forces_in connection = value_in false (λ c e. forces c.board.smss (pipe e.congestion.high_rxt c.board) e.congestion) connection
+
+-- what was put out has so many octets at most, and prr_out has grown by no more
+abbrev pub LetsOut : ℕ → State → State → Type 0
+LetsOut most s t =
     (packets : List Sent)
-    × (octets_in packets ≤ sndcnt_in s.endpoint.connection)
-    × (out_in t.endpoint.connection ≤ out_in s.endpoint.connection + sndcnt_in s.endpoint.connection)
+    × (octets_in packets ≤ most)
+    × (out_in t.endpoint.connection ≤ out_in s.endpoint.connection + most)
     × (t.endpoint.outbox ≡ s.endpoint.outbox ++ packets)
 
--- so it is after each ACK in recovery by PRR, and after an entry, the segment apart that it sends first. So where the pipe is
--- above ssthresh, prr_out is then at most what it was, or the part of ssthresh that was delivered; and by the conservative
--- bound at most what it was, or prr_delivered (where the pipe is above ssthresh, if ssthresh isn't above RecoverFS)
+-- all that an ACK in recovery by PRR puts out has sndcnt octets at most, as they are before anything of it is sent; at an entry
+-- the segment at una leaves whatever sndcnt is. Where no segment is forced and no more than sndcnt octets leave: with the pipe
+-- above ssthresh, prr_out is then at most what it was, or the part of ssthresh that was delivered; else the pipe, with what was
+-- put out, stays at or below ssthresh, and where SafeACK fails prr_out is at most the greater of prr_delivered and what it was
+-- with DeliveredData
 pub record RecoversInProportion : Type 0 where
   pub acks :
       (now : ℕ) (segment : Segment) (c : ConnectionView) (s t : State) (o : Option Established)
       → (taking now segment c o).1 ≡ StepC → reducing_in (Some (taking now segment c o).0) ≡ true
-      → ack_taken now segment c s o ≡ Ok t → LetsOut (with_block (taking now segment c o).0 s) t
+      → ack_taken now segment c s o ≡ Ok t
+      → LetsOut (sndcnt_in (Some (taking now segment c o).0)) (with_block (taking now segment c o).0 s) t
   pub entries :
-      (now : ℕ) (c : ConnectionView) (s u t : State) → entry now c s ≡ Ok u → reducing_in u.endpoint.connection ≡ true
-      → filled now NextSeg u ≡ Ok t → LetsOut u t
+      (now : ℕ) (segment : Segment) (c : ConnectionView) (s t : State) (o : Option Established)
+      → let d : ConnectionView = (taking now segment c o).0 in
+      (taking now segment c o).1 ≡ Entry → reducing_in (Some d) ≡ true
+      → ack_taken now segment c s o ≡ Ok t
+      → LetsOut (max (sndcnt_in (Some d)) (octets_of (run_at d.board.una d.board))) (with_block d s) t
   pub proportional :
-      (s t : State) (c : ConnectionView) (e : Established) → s.endpoint.connection ≡ Some c → c.established ≡ Some e
-      → LetsOut s t → e.congestion.ssthresh < pipe e.congestion.high_rxt c.board
+      (most : ℕ) (s t : State) (c : ConnectionView) (e : Established) → s.endpoint.connection ≡ Some c → c.established ≡ Some e
+      → LetsOut most s t → most ≤ sndcnt_in s.endpoint.connection → forces_in s.endpoint.connection ≡ false
+      → e.congestion.ssthresh < pipe e.congestion.high_rxt c.board
       → out_in t.endpoint.connection
       ≤ max e.congestion.reduction.prr_out (proportion e.congestion.ssthresh e.congestion.reduction)
+  pub target :
+      (most : ℕ) (s t : State) (c : ConnectionView) (e : Established) → s.endpoint.connection ≡ Some c → c.established ≡ Some e
+      → (out : LetsOut most s t) → most ≤ sndcnt_in s.endpoint.connection → forces_in s.endpoint.connection ≡ false
+      → pipe e.congestion.high_rxt c.board ≤ e.congestion.ssthresh
+      → pipe e.congestion.high_rxt c.board + octets_in out.0 ≤ e.congestion.ssthresh
   pub conservative :
-      (s t : State) (c : ConnectionView) (e : Established) → s.endpoint.connection ≡ Some c → c.established ≡ Some e
-      → LetsOut s t → e.congestion.rate ≡ PrrCrb → IsCongView e.congestion
-      → (pipe e.congestion.high_rxt c.board ≤ e.congestion.ssthresh) ⊎ (e.congestion.ssthresh ≤ e.congestion.reduction.recover_fs)
-      → out_in t.endpoint.connection ≤ max e.congestion.reduction.prr_out e.congestion.reduction.prr_delivered
+      (most : ℕ) (s t : State) (c : ConnectionView) (e : Established) → s.endpoint.connection ≡ Some c → c.established ≡ Some e
+      → LetsOut most s t → most ≤ sndcnt_in s.endpoint.connection → forces_in s.endpoint.connection ≡ false
+      → pipe e.congestion.high_rxt c.board ≤ e.congestion.ssthresh → e.congestion.reduction.safe_ack ≡ false
+      → out_in t.endpoint.connection
+      ≤ max e.congestion.reduction.prr_delivered (e.congestion.reduction.prr_out + e.congestion.reduction.delivered_data)
 
 -- All that may leave does
 

@@ -36,7 +36,7 @@ pub struct Windows {
     pub dup_acks: u32,
     /// Which loss recovery goes on.
     pub recovery: Recovery,
-    /// What PRR keeps of a recovery with SACK, where the setting `recovery_rate` isn't `pipe` (RFC 6937, section 3).
+    /// What PRR keeps of a recovery with SACK, where the setting `recovery_algorithm` is `rfc9937` (RFC 9937, section 6).
     pub reduction: Option<Reduction>,
 }
 

@@ -1,12 +1,13 @@
 -- Definitions that contracts of private functions cite and no public one does.
-use Rattle.std.specs.Prelude.{◌≡◌, ℕ, List, ◌⊎◌, None, Some}
+use Rattle.std.specs.Prelude.{◌≡◌, ℕ, Bool, not, true, List, Option, ◌⊎◌, None, Some}
 use Rattle.pd_text.specs.Edit.{edited, edit_refusal}
 use Rattle.pd_text.specs.declared.faults.TextFault.TheVariants as text_fault
 use Rattle.pd_text.specs.declared.line_edit.LineEdit.{LineEdit}
 use Rattle.pd_settings.specs.declared.fields.Settings.{Settings}
 use Rattle.pd_run.specs.declared.verdicts.Verdict.{Verdict}
 use Rattle.pd_script.specs.declared.script_events.Event.{Event}
-use Rattle.pd_least.specs.Mending.{IsFollowed, IsMend}
+use Rattle.pd_explain.specs.declared.endings.Ending.{Ending}
+use Rattle.pd_least.specs.Mending.{IsFollowed, IsMend, IsRetiming}
 use Rattle.pd_least.specs.declared.refusals.NotMended.{NotMended}
 use Rattle.pd_least.specs.declared.refusals.NotMended.TheVariants.{Stopped, TooLarge, OutOfMemory}
 
@@ -28,6 +29,15 @@ abbrev pub IsStuck : List (List ℕ) → Verdict → NotMended → Type 0
 IsStuck text verdict (Stopped stuck) = (stuck.lines ≡ text) × (stuck.verdict ≡ verdict)
 IsStuck text verdict _ = ⊥
 
--- an edit changes one line: the one at which a run stopped, or that of an event which follows one there
-abbrev pub IsChange : List Event → ℕ → LineEdit → Type 0
-IsChange events line edit = (edit.remove ≡ 1) × ((edit.from ≡ line) ⊎ IsFollowed events line edit.from)
+-- an edit puts lines in, with which at most one other line gets another time
+abbrev pub IsPut : List (List ℕ) → LineEdit → Type 0
+IsPut text edit = (edit.remove ≡ 0) ⊎ IsRetiming text edit
+
+-- an edit changes one line, the one at which a run stopped, or that of an event which follows one there; or it puts lines in
+abbrev pub IsChange : List (List ℕ) → List Event → ℕ → LineEdit → Type 0
+IsChange text events line edit = IsPut text edit ⊎ ((edit.remove ≡ 1) × ((edit.from ≡ line) ⊎ IsFollowed events line edit.from))
+
+-- an ending tells of no packet that might have been awaited
+abbrev pub awaits_no_more : Option Ending → Bool
+awaits_no_more None = true
+awaits_no_more (Some ending) = not ending.awaits

@@ -1,13 +1,12 @@
 -- What mending a text comes to.
-use Rattle.std.specs.Prelude.{◌≡◌, ℕ, List, Some}
+use Rattle.std.specs.Prelude.{◌≡◌, ℕ, true, List, Some}
 use Rattle.pd_text.specs.Edit.{edit_refusal}
 use Rattle.pd_text.specs.declared.faults.TextFault.TheVariants as text_fault
 use Rattle.pd_text.specs.declared.line_edit.LineEdit.{LineEdit}
 use Rattle.pd_settings.specs.declared.fields.Settings.{Settings}
 use Rattle.pd_run.specs.Run.{verdict_of}
-use Rattle.pd_run.specs.declared.verdicts.Verdict.{Verdict}
 use Rattle.pd_run.specs.declared.verdicts.Verdict.TheVariants.{Pass}
-use Rattle.pd_least.specs.Mending.{after, IsMend, AreMends}
+use Rattle.pd_least.specs.Mending.{after, takes_all, IsMend, IsUnfinished, AreMends}
 use Rattle.pd_least.specs.declared.refusals.NotMended.{NotMended}
 use Rattle.pd_least.specs.declared.refusals.NotMended.TheVariants.{Stopped, TooLarge, OutOfMemory}
 
@@ -17,21 +16,21 @@ pub record Leads (settings : Settings) (text : List (List ℕ)) (end : List (Lis
   pub mends : AreMends settings text edits
   pub left : end ≡ after edits text
 
--- a text is mended to another one: mends lead to it, and it passes with a number of events
+-- a text is mended to another one: mends lead to it, it passes with a number of events, and takes all packets if it awaits any
 pub record IsMended (settings : Settings) (text : List (List ℕ)) (mended : List (List ℕ)) (events : ℕ) : Type 0 where
   pub leads : Leads settings text mended
   pub passes : verdict_of mended settings ≡ Pass events
+  pub takes : takes_all settings mended ≡ true
 
--- a verdict is no pass
-abbrev pub IsNoPass : Verdict → Type 0
-IsNoPass (Pass n) = ⊥
-IsNoPass verdict = Unit {0}
+-- a text passes, and takes all packets if it awaits any
+abbrev pub IsFinished : Settings → List (List ℕ) → Type 0
+IsFinished settings text = ((n : ℕ) × (verdict_of text settings ≡ Pass n)) × (takes_all settings text ≡ true)
 
--- why a text isn't mended: mends lead to a text that doesn't pass, or to one whose next mend is over the limits of a text; for want
+-- why a text isn't mended: mends lead to a text that isn't finished, or to one whose next mend is over the limits of a text; for want
 -- of memory nothing is claimed
 abbrev pub RefusesToMend : Settings → List (List ℕ) → NotMended → Type 0
 RefusesToMend settings text (Stopped stuck) =
-    Leads settings text stuck.lines × (stuck.verdict ≡ verdict_of stuck.lines settings) × IsNoPass stuck.verdict
+    Leads settings text stuck.lines × (stuck.verdict ≡ verdict_of stuck.lines settings) × IsUnfinished settings stuck.lines
 RefusesToMend settings text TooLarge =
     (left : List (List ℕ)) × (edit : LineEdit) × Leads settings text left × IsMend settings left edit
     × (edit_refusal left edit ≡ Some text_fault.TooLarge)

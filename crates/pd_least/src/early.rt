@@ -27,12 +27,18 @@ impl Early {
         Ok(self.packets.push(sent)?)
     }
 
-    /// Whether an awaited packet is one of them.
+    /// When an awaited packet was sent that is one of them.
     ///
     /// # Errors
     /// `AllocError` where a growth is refused.
-    pub fn has(&self, alloc: Global, packet: &Packet) -> Result<bool, AllocError> {
-        Ok(self.place_of(alloc, packet)?.is_some())
+    pub fn moment_of(&self, alloc: Global, packet: &Packet) -> Result<Option<u64>, AllocError> {
+        let Some(place) = self.place_of(alloc, packet)? else {
+            return Ok(None);
+        };
+        match self.packets.get(place) {
+            Some(sent) => Ok(Some(sent.at)),
+            None => Ok(None),
+        }
     }
 
     /// Takes an awaited packet away, if it is one of them.

@@ -1,18 +1,21 @@
 //! Mends a script until it passes.
-ghost use Rattle.std.specs.Prelude.{◌≡◌, ℕ, IfOk, IfErr, MatchOption};
+ghost use Rattle.std.specs.Prelude.{◌≡◌, true, IfOk, IfErr, MatchOption};
 ghost use Rattle.pd_run.specs.Grammatical.{IsVerdictOf};
 ghost use Rattle.pd_run.specs.Run.{verdict_of};
 ghost use Rattle.pd_run.specs.declared.verdicts.Verdict.TheVariants.{Pass};
-ghost use Rattle.pd_least.specs.Mended.{IsMended, IsNoPass, RefusesToMend};
+ghost use Rattle.pd_least.specs.Mending.{IsNoPass, IsUnfinished, takes_all};
+ghost use Rattle.pd_least.specs.Mended.{IsFinished, IsMended, RefusesToMend};
 ghost use Rattle.pd_least.specs.Inner.{IsStuck};
 
 use crate::lines_left::line_in;
 use crate::mender::Mender;
+use crate::moves::Moves;
 use crate::refusals::{NotMended, Stuck};
+use crate::taking::takes_all;
 use pd_run::{Verdict, run_all};
 use pd_settings::Settings;
 use pd_text::Lines;
-use std::alloc::Global;
+use std::alloc::{AllocError, Global};
 
 /// The most mends of a text: four for each event that a script may have.
 const MAX_MENDS: usize = 16_384;
@@ -26,14 +29,15 @@ pub struct Mended {
     pub events: usize,
 }
 
-/// Mends a text under settings until it passes. Where its run fails, the line at which it stops is written anew by as little as
-/// makes it hold, and the text is run again. So each mend costs a run of the text, and three where no packet came. A packet that
-/// is awaited and doesn't come is made a comment, or with `drop` taken away.
+/// Mends a text under settings until it passes, and takes all packets that leave if it awaits any. Where its run fails, the line at
+/// which it stops is written anew by as little as makes it hold; where a packet left earlier, or no line asked for it, a line is put
+/// where it left; and the text is run again. So each mend costs a run of the text, or a few. A packet that is awaited and doesn't
+/// come is made a comment, or with `drop` taken away. A line whose packet leaves elsewhere moves there: that is known only once all
+/// is mended, so the text is mended once more then.
 ///
 /// # Errors
 /// `Stopped` where the run stops and no mend helps, `TooLarge` where a mended text would be over the limits of one, and
 /// `OutOfMemory`.
-#[tactic(auto, using(crate::proofs::Leading::starts, crate::proofs::Leading::goes_on, crate::proofs::Leading::ends, crate::proofs::Leading::is_stuck, crate::proofs::Leading::is_unmade, crate::proofs::Leading::spared_unmade, crate::proofs::Leading::spared_stuck))]
 pub fn least(
     alloc: Global,
     lines: &Lines,
@@ -46,15 +50,42 @@ pub fn least(
     ensures grammar { IfOk result (λ mended. IsVerdictOf mended.lines settings.now (Pass mended.events)) }
     ensures refused { IfErr result (RefusesToMend settings.now lines.now) }
 
-    // A text that passes stays as it is.
-    ensures stays { IfOk result (λ mended. (n : ℕ) → verdict_of lines.now settings.now ≡ Pass n → mended.lines ≡ lines.now) }
-    ensures spared { IfErr result (λ refusal. (n : ℕ) → verdict_of lines.now settings.now ≡ Pass n → refusal ≡ NotMended.OutOfMemory) }
+    // A text that passes and takes all packets stays as it is.
+    ensures stays { IfOk result (λ mended. IsFinished settings.now lines.now → mended.lines ≡ lines.now) }
+    ensures spared { IfErr result (λ refusal. IsFinished settings.now lines.now → refusal ≡ NotMended.OutOfMemory) }
+{
+    let mut mender = Mender::new(alloc, lines.len(), drop, Moves::new(alloc))?;
+    let first = mend_all(alloc, lines, settings, &mut mender)?;
+    let moves = mender.into_moves(alloc)?;
+    if moves.is_empty() {
+        return Ok(first);
+    }
+    let mut again = Mender::new(alloc, lines.len(), drop, moves)?;
+    match mend_all(alloc, lines, settings, &mut again) {
+        Ok(second) => Ok(second),
+        Err(NotMended::OutOfMemory) => Err(NotMended::OutOfMemory),
+        Err(_) => Ok(first),
+    }
+}
+
+/// Mends a text mend by mend.
+#[tactic(auto, using(crate::proofs::Leading::starts, crate::proofs::Leading::goes_on, crate::proofs::Leading::ends, crate::proofs::Leading::is_stuck, crate::proofs::Leading::is_unmade, crate::proofs::Leading::spared_unmade, crate::proofs::Leading::spared_stuck))]
+fn mend_all(
+    alloc: Global,
+    lines: &Lines,
+    settings: &Settings,
+    mender: &mut Mender,
+) -> Result<Mended, NotMended>
+    ensures mended { IfOk result (λ mended. IsMended settings.now lines.now mended.lines mended.events) }
+    ensures grammar { IfOk result (λ mended. IsVerdictOf mended.lines settings.now (Pass mended.events)) }
+    ensures refused { IfErr result (RefusesToMend settings.now lines.now) }
+    ensures stays { IfOk result (λ mended. IsFinished settings.now lines.now → mended.lines ≡ lines.now) }
+    ensures spared { IfErr result (λ refusal. IsFinished settings.now lines.now → refusal ≡ NotMended.OutOfMemory) }
 {
     let mut text = lines.copy()?;
-    let mut mender = Mender::new(alloc, lines.len(), drop)?;
     for _ in 0..MAX_MENDS {
         let verdict = run_all(alloc, &text, settings)?;
-        if let Some(events) = events_passed(verdict) {
+        if let Some(events) = events_at_end(alloc, &text, settings, verdict)? {
             return Ok(Mended {
                 lines: text,
                 events,
@@ -62,16 +93,36 @@ pub fn least(
         }
         match mender.mended(alloc, &text, settings, verdict)? {
             Some(next) => text = next,
-            None => return Err(stuck(text, verdict, &mender)),
+            None => return Err(stuck(text, verdict, mender)),
         }
     }
     let verdict = run_all(alloc, &text, settings)?;
-    match events_passed(verdict) {
+    match events_at_end(alloc, &text, settings, verdict)? {
         Some(events) => Ok(Mended {
             lines: text,
             events,
         }),
-        None => Err(stuck(text, verdict, &mender)),
+        None => Err(stuck(text, verdict, mender)),
+    }
+}
+
+/// How many events a text has that is finished: all pass, and all packets are taken.
+fn events_at_end(
+    alloc: Global,
+    text: &Lines,
+    settings: &Settings,
+    verdict: Verdict,
+) -> Result<Option<usize>, AllocError>
+    requires { verdict ≡ verdict_of text.now settings.now }
+    ensures unfinished { IfOk result (λ end. MatchOption end (IsUnfinished settings.now text.now) (λ events. (verdict ≡ Pass events) × (takes_all settings.now text.now ≡ true))) }
+{
+    let Some(events) = events_passed(verdict) else {
+        return Ok(None);
+    };
+    if takes_all(alloc, text, settings)? {
+        Ok(Some(events))
+    } else {
+        Ok(None)
     }
 }
 

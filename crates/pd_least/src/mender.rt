@@ -2,18 +2,21 @@
 ghost use Rattle.std.specs.Prelude.{◌≡◌, ◌⊎◌, IfOk, IfErr, IfSome};
 ghost use Rattle.pd_run.specs.Run.{verdict_of};
 ghost use Rattle.pd_script.specs.Script.{script_of};
+ghost use Rattle.pd_least.specs.Mending.{IsPlaced, IsUnfinished};
 ghost use Rattle.pd_least.specs.Inner.{IsChange, IsNext, IsUnmade};
 
-use crate::early::Early;
+use crate::known::Known;
+use crate::leftovers::{filling, put};
 use crate::lines_left::follower_of;
-use crate::mends::{Fate, Mend, copy_of, mend_of};
+use crate::mends::{Mend, Target, mend_of};
+use crate::moves::Moves;
 use crate::origins::Origins;
 use crate::refusals::NotMended;
 use crate::site::Site;
 use pd_run::{Stopped, Verdict, find_stop};
-use pd_script::{Action, Event, Parsed, parse};
+use pd_script::{Event, Parsed, parse};
 use pd_settings::Settings;
-use pd_text::{LineEdit, Lines, TextFault};
+use pd_text::{LineEdit, LineList, Lines, TextFault};
 use std::alloc::{AllocError, Global};
 
 /// Mends a text, one line after the other.
@@ -21,31 +24,40 @@ use std::alloc::{AllocError, Global};
 pub struct Mender {
     /// Where the lines come from.
     origins: Origins,
-    /// Whether a packet that doesn't come is taken away.
-    drop: bool,
-    /// The packets that were sent in the places of others.
-    early: Early,
-    /// Whether the event after the one that stops the run was moved, so that this one can be taken out.
-    is_moved: bool,
+    /// What is known of the mends before.
+    known: Known,
 }
 
 impl Mender {
-    /// Before the first mend of a text of so many lines.
+    /// Before the first mend of a text of so many lines, some of which are known to move. With `drop` a packet that doesn't come is
+    /// taken away.
     ///
     /// # Errors
     /// `AllocError` where a growth is refused.
-    pub fn new(alloc: Global, count: usize, drop: bool) -> Result<Mender, AllocError> {
+    pub fn new(
+        alloc: Global,
+        count: usize,
+        drop: bool,
+        moves: Moves,
+    ) -> Result<Mender, AllocError> {
         Ok(Mender {
             origins: Origins::new(alloc, count)?,
-            drop,
-            early: Early::new(alloc),
-            is_moved: false,
+            known: Known::new(alloc, drop, moves),
         })
     }
 
     /// The line of the text as it was given from which a line comes.
     pub fn origin_of(&self, line: usize) -> usize {
         self.origins.line_of(line)
+    }
+
+    /// The lines that turned out to move.
+    ///
+    /// # Errors
+    /// `AllocError` where a growth is refused.
+    pub fn into_moves(self, alloc: Global) -> Result<Moves, AllocError> {
+        let Mender { known, .. } = self;
+        known.into_moves(alloc)
     }
 
     /// The text after one more mend; nothing where none helps against its verdict.
@@ -59,14 +71,12 @@ impl Mender {
         settings: &Settings,
         verdict: Verdict,
     ) -> Result<Option<Lines>, NotMended>
-        requires { verdict ≡ verdict_of text.now settings.now }
+        requires verdict { verdict ≡ verdict_of text.now settings.now }
+        requires unfinished { IsUnfinished settings.now text.now }
         ensures next { IfOk result (λ next. IfSome next (IsNext settings.now text.now)) }
         ensures refused { IfErr result (IsUnmade settings.now text.now) }
     {
-        let Verdict::Fail(line, _) = verdict else {
-            return Ok(None);
-        };
-        let Some(edit) = self.edit(alloc, text, settings, line)? else {
+        let Some(edit) = self.edit(alloc, text, settings, verdict)? else {
             return Ok(None);
         };
         match text.apply(&edit) {
@@ -80,15 +90,33 @@ impl Mender {
         }
     }
 
-    /// The edit of the next mend of a text whose run fails at a line.
+    /// The edit of the next mend of a text: where its run fails, or where it passes and leaves packets.
     fn edit(
+        &mut self,
+        alloc: Global,
+        text: &Lines,
+        settings: &Settings,
+        verdict: Verdict,
+    ) -> Result<Option<LineEdit>, AllocError>
+        requires { verdict ≡ verdict_of text.now settings.now }
+        ensures { IfOk result (λ found. IfSome found (IsPlaced settings.now text.now)) }
+    {
+        match verdict {
+            Verdict::Fail(line, _) => self.edit_on(alloc, text, settings, line),
+            Verdict::Pass(_) => filling(alloc, text, settings, &mut self.known),
+            _ => Ok(None),
+        }
+    }
+
+    /// The edit of the next mend of a text whose run fails at a line.
+    fn edit_on(
         &mut self,
         alloc: Global,
         text: &Lines,
         settings: &Settings,
         line: usize,
     ) -> Result<Option<LineEdit>, AllocError>
-        ensures { IfOk result (λ found. IfSome found (IsChange (script_of text.now).events line)) }
+        ensures { IfOk result (λ found. IfSome found (IsChange text.now (script_of text.now).events line)) }
     {
         let parsed = parse(alloc, text)?;
         match find_stop(alloc, &parsed, settings, line)? {
@@ -107,7 +135,7 @@ impl Mender {
         stop: &Stopped,
         line: usize,
     ) -> Result<Option<LineEdit>, AllocError>
-        ensures { IfOk result (λ found. IfSome found (IsChange parsed.now.events line)) }
+        ensures { IfOk result (λ found. IfSome found (IsChange text.now parsed.now.events line)) }
     {
         match Site::at(alloc, text, settings, parsed, stop, line)? {
             Some(site) => self.edit_at(&site),
@@ -117,45 +145,21 @@ impl Mender {
 
     /// The same at the event that stops it.
     fn edit_at(&mut self, site: &Site<'_>) -> Result<Option<LineEdit>, AllocError>
-        ensures { IfOk result (λ found. IfSome found (IsChange site.now.parsed.now.events site.now.line)) }
+        ensures { IfOk result (λ found. IfSome found (IsChange site.now.lines.now site.now.parsed.now.events site.now.line)) }
     {
-        let Some(mend) = self.next_mend(site)? else {
+        let Some(mend) = mend_of(site, &self.known)? else {
             return Ok(None);
         };
+        self.known.note(site, &mend)?;
         let events = site.parsed.events.as_slice();
         Ok(changed(events, site.stop.passed, site.line, site.lines, mend))
     }
 
-    /// The next mend, of which what counts for later ones is noted.
-    fn next_mend(&mut self, site: &Site<'_>) -> Result<Option<Mend>, AllocError> {
-        let Some(mend) = mend_of(site, &self.early, self.drop, self.is_moved)? else {
-            return Ok(None);
-        };
-        self.is_moved = mend.is_follower;
-        self.note_fate(site, &mend.fate)?;
-        Ok(Some(mend))
-    }
-
-    /// Notes a packet that was sent in the place of another one, and that the line of one was taken out.
-    fn note_fate(&mut self, site: &Site<'_>, fate: &Fate) -> Result<(), AllocError> {
-        match fate {
-            Fate::Stays => Ok(()),
-            Fate::Yields(sent) => self.early.add(copy_of(sent)?),
-            Fate::Goes => self.forget(site),
-        }
-    }
-
-    /// The awaited packet has no line any more.
-    fn forget(&mut self, site: &Site<'_>) -> Result<(), AllocError> {
-        match &site.event.action {
-            Action::Outbound(packet) => self.early.remove(site.alloc, packet),
-            _ => Ok(()),
-        }
-    }
-
     /// Notes where the lines of an edit come from.
     fn note(&mut self, alloc: Global, edit: &LineEdit) -> Result<(), AllocError> {
-        self.origins = self.origins.after(alloc, edit.from, edit.insert.len())?;
+        self.origins = self
+            .origins
+            .after(alloc, edit.from, edit.remove, edit.insert.len())?;
         Ok(())
     }
 }
@@ -168,19 +172,26 @@ fn changed(
     text: &Lines,
     mend: Mend,
 ) -> Option<LineEdit>
-    ensures { IfSome result (IsChange events.now line) }
+    ensures { IfSome result (IsChange text.now events.now line) }
 {
-    let from = if mend.is_follower {
-        follower_of(events, passed, line)?
-    } else {
-        line
-    };
-    if mend.lines.len() == 1 && mend.lines.get(0) == text.line(from) {
+    match mend.target {
+        Target::Own => replaced(text, line, mend.lines),
+        Target::Follower => replaced(text, follower_of(events, passed, line)?, mend.lines),
+        Target::Before(_) | Target::Retimed(_) => put(text, mend),
+    }
+}
+
+/// The edit that writes lines in the place of one; nothing where that is the same.
+fn replaced(text: &Lines, from: usize, insert: LineList) -> Option<LineEdit>
+    ensures from { IfSome result (λ edit. edit.from ≡ from) }
+    ensures one { IfSome result (λ edit. edit.remove ≡ 1) }
+{
+    if insert.len() == 1 && insert.get(0) == text.line(from) {
         return None;
     }
     Some(LineEdit {
         from,
         remove: 1,
-        insert: mend.lines,
+        insert,
     })
 }

@@ -1,20 +1,14 @@
 //! What becomes of a packet that isn't sent in time.
-ghost use Rattle.std.specs.Prelude.{◌≤◌, length};
-
 use crate::awaited::look_ahead;
 use crate::differences::Differences;
 use crate::mends::{Mend, fitted};
-use crate::new_lines::one_line;
-use crate::pieces::{Span, part, rest};
+use crate::new_lines::{Removal, one_line};
 use crate::site::Site;
-use pd_run::{RunState, Stopped, Why, find_stop};
-use pd_script::{Parsed, parse};
+use crate::trials::{NEVER, stop_in};
+use pd_run::{RunState, Stopped, Why};
 use pd_seg::Sent;
 use pd_text::Lines;
 use std::alloc::AllocError;
-
-/// A packet that is awaited at any time and never is sent.
-const NEVER: &[u8] = b"* > FSRP. 0:0(0)";
 
 /// Whether the packet that is sent next is the awaited one, and late.
 #[derive(Clone, Copy, PartialEq, Eq)]
@@ -31,8 +25,8 @@ enum Lateness {
 ///
 /// # Errors
 /// `AllocError` where a growth is refused.
-pub fn mend_missing(site: &Site<'_>, drop: bool) -> Result<Option<Mend>, AllocError> {
-    let gone = site.not_sent(drop)?;
+pub fn mend_missing(site: &Site<'_>, removal: Removal) -> Result<Option<Mend>, AllocError> {
+    let gone = site.not_sent(removal)?;
     match next_packet(site)? {
         Some((sent, run)) => mend_unless_late(site, gone, &sent, &run),
         None => Ok(Some(gone)),
@@ -74,32 +68,25 @@ fn likelier(
 /// The packet that is sent next, however late, in the run that took it: what a run meets that awaits another one.
 fn next_packet(site: &Site<'_>) -> Result<Option<(Sent, RunState)>, AllocError> {
     match text_awaiting_never(site)? {
-        Some(lines) => differing_packet(site, &parse(site.alloc, &lines)?),
+        Some(lines) => differing_packet(site, &lines),
         None => Ok(None),
     }
 }
 
 /// The text with a packet that never is sent in the place of the awaited one.
 fn text_awaiting_never(site: &Site<'_>) -> Result<Option<Lines>, AllocError> {
-    let span = site.span();
-    let before = Span {
-        from: 0,
-        to: span.from,
-    };
-    let mut line = Vec::from_slice(site.alloc, part(site.octets, before))?;
+    let mut line = Vec::from_slice(site.alloc, site.own.before())?;
     line.extend_from_slice(NEVER)?;
-    line.extend_from_slice(rest(site.octets, span.to))?;
+    line.extend_from_slice(site.own.after())?;
     site.with_lines(one_line(site.alloc, line.as_slice())?.lines)
 }
 
 /// The packet that isn't the one that a text awaits on the line of the event, and the run that took it.
 fn differing_packet(
     site: &Site<'_>,
-    parsed: &Parsed,
-) -> Result<Option<(Sent, RunState)>, AllocError>
-    requires { length parsed.now.events ≤ 4096 }
-{
-    let Some(stop) = find_stop(site.alloc, parsed, site.settings, site.line)? else {
+    lines: &Lines,
+) -> Result<Option<(Sent, RunState)>, AllocError> {
+    let Some(stop) = stop_in(site.alloc, lines, site.settings, site.line)? else {
         return Ok(None);
     };
     let Stopped { why, .. } = stop;

@@ -3,20 +3,33 @@ ghost use Rattle.std.specs.Prelude.{◌≡◌};
 ghost use Rattle.pd_text.specs.Text.{is_line};
 
 use crate::differences::Differences;
-use crate::mends::{Fate, Mend, copy_of};
-use crate::pieces::{Span, event_pieces, part, rest};
+use crate::event_lines::EventLine;
+use crate::mends::{Fate, Mend, Target};
+use crate::moves::Moves;
+use crate::pieces::{Span, part, rest};
 use crate::rewriting::{Change, retimed, rewritten};
 use crate::site::Site;
-use crate::swaps::{Redraft, second_column};
 use crate::times::{later, moment_of, sooner, time_at};
 use pd_print::write_time;
-use pd_script::{Action, Options};
+use pd_run::RunState;
+use pd_script::{Action, Options, Time};
 use pd_seg::Sent;
 use pd_text::LineList;
 use std::alloc::{AllocError, Global};
 
 /// What is before a packet that wasn't sent.
 const NOT_SENT: &[u8] = b"// not sent: ";
+
+/// What is left of the line of a packet that is taken out.
+#[derive(Clone, Copy)]
+pub enum Removal {
+    /// Nothing.
+    Gone,
+    /// A comment that it wasn't sent.
+    NotSent,
+    /// A comment that it left at this moment, in another line's place.
+    LeftAt(u64),
+}
 
 /// A mend that writes one line in the place of the event's.
 ///
@@ -26,168 +39,184 @@ pub fn one_line(alloc: Global, octets: &[u8]) -> Result<Mend, AllocError> {
     let mut lines = LineList::new(alloc);
     push_line(&mut lines, octets)?;
     Ok(Mend {
-        is_follower: false,
+        target: Target::Own,
         lines,
         fate: Fate::Stays,
     })
+}
+
+/// The text of a packet that no line asked for: that of the line which moves here, else in the style of an event.
+///
+/// # Errors
+/// `AllocError` where a growth is refused.
+pub fn text_of(
+    style: &EventLine<'_>,
+    moves: &Moves,
+    sent: &Sent,
+    base: u64,
+    tolerance: u64,
+) -> Result<Option<NewText>, AllocError> {
+    if let Some(text) = moves.text_of(sent) {
+        let time = time_at(text.written(), base, sent.at, tolerance);
+        let octets = text.at_time(style.alloc, time)?;
+        return Ok(Some(NewText { octets, time }));
+    }
+    let Action::Outbound(packet) = &style.event.action else {
+        return Ok(None);
+    };
+    let time = time_at(style.event.time, base, sent.at, tolerance);
+    let change = Change {
+        segment: &sent.segment,
+        fields: Differences {
+            options: !matches!(packet.options, Options::Any)
+                || packet.flags.syn != sent.segment.flags.syn,
+            ..Differences::all()
+        },
+        time: Some(time),
+    };
+    match rewritten(style, style.up_to_end(), &change)? {
+        Some(line) => {
+            let octets = Vec::from_slice(style.alloc, rest(line.as_slice(), style.from()))?;
+            Ok(Some(NewText { octets, time }))
+        }
+        None => Ok(None),
+    }
+}
+
+/// A packet as a line of its own.
+#[derive(Drop)]
+pub struct NewText {
+    pub octets: Vec<u8>,
+    /// The time that is written.
+    pub time: Time,
 }
 
 /// A packet that no line asked for gets a line before the event's, in its style. The event's time counts from that packet then.
 ///
 /// # Errors
 /// `AllocError` where a growth is refused.
-pub fn inserted(site: &Site<'_>, sent: &Sent, base: u64) -> Result<Option<Mend>, AllocError> {
-    let Action::Outbound(packet) = &site.event.action else {
-        return Ok(None);
-    };
-    let span = site.span();
-    let time = time_at(site.event.time, base, sent.at);
-    let change = Change {
-        segment: &sent.segment,
-        fields: Differences {
-            options: !matches!(packet.options, Options::Any),
-            ..Differences::all()
-        },
-        time: Some(time),
-    };
-    let up_to_end = part(
-        site.octets,
-        Span {
-            from: 0,
-            to: span.to,
-        },
-    );
-    let Some(extra) = rewritten(site, up_to_end, &change)? else {
+pub fn inserted(
+    site: &Site<'_>,
+    sent: &Sent,
+    run: &RunState,
+    moves: &Moves,
+) -> Result<Option<Mend>, AllocError> {
+    let base = run.base();
+    let Some(extra) = text_of(&site.own, moves, sent, base, run.tolerance())? else {
         return Ok(None);
     };
     let mut lines = LineList::new(site.alloc);
     let from = put_before(&mut lines, site)?;
-    push_line(&mut lines, rest(extra.as_slice(), from))?;
-    match moment_of(base, time) {
+    push_line(&mut lines, extra.octets.as_slice())?;
+    match moment_of(base, extra.time) {
         Some(at) if at > base => {
-            let own = retimed(site, sooner(site.event.time, at - base))?;
+            let own = retimed(&site.own, sooner(site.own.event.time, at - base))?;
             push_line(&mut lines, rest(own.as_slice(), from))?;
         }
-        _ => push_line(&mut lines, rest(site.octets, from))?,
+        _ => push_line(&mut lines, rest(site.octets(), from))?,
     }
     Ok(Some(Mend {
-        is_follower: false,
+        target: Target::Own,
         lines,
-        fate: Fate::Yields(copy_of(sent)?),
+        fate: Fate::Put(sent.copy()?),
     }))
 }
 
 /// Puts what is before the event on a line of its own, unless these are blanks; where the event's own line begins then.
 fn put_before(lines: &mut LineList, site: &Site<'_>) -> Result<usize, AllocError> {
-    let before = part(
-        site.octets,
-        Span {
-            from: 0,
-            to: site.span().from,
-        },
-    );
-    if is_blank(before) {
-        return Ok(0);
+    if !site.own.is_first() {
+        push_line(lines, site.own.before().trim_ascii_end())?;
     }
-    push_line(lines, before.trim_ascii_end())?;
-    Ok(site.span().from)
+    Ok(site.own.from())
 }
 
-/// The event's packet wasn't sent, and its line becomes a comment, or with `drop` nothing. What else is on it stays.
+/// The event's packet wasn't sent here, and of its line this is left. What else is on it stays.
 ///
 /// # Errors
 /// `AllocError` where a growth is refused.
-pub fn taken_out(site: &Site<'_>, drop: bool) -> Result<Mend, AllocError> {
-    let span = site.span();
+pub fn taken_out(site: &Site<'_>, removal: Removal) -> Result<Mend, AllocError> {
     let mut lines = LineList::new(site.alloc);
     let from = put_before(&mut lines, site)?;
-    let after = rest(site.octets, span.to);
-    let is_last = is_blank(after) || after.trim_ascii_start().starts_with(b"//");
-    if !drop {
-        let indent = Span {
-            from,
-            to: span.from,
-        };
-        let mut comment = Vec::from_slice(site.alloc, part(site.octets, indent))?;
-        comment.extend_from_slice(NOT_SENT)?;
-        comment.extend_from_slice(part(site.octets, span))?;
-        if is_last {
-            comment.extend_from_slice(after)?;
-        }
+    if let Some(comment) = comment_of(site, from, removal)? {
         push_line(&mut lines, comment.as_slice())?;
     }
-    if !is_last {
-        push_line(&mut lines, after.trim_ascii_start())?;
+    if !site.own.ends_line() {
+        push_line(&mut lines, site.own.after().trim_ascii_start())?;
     }
     Ok(Mend {
-        is_follower: false,
+        target: Target::Own,
         lines,
         fate: Fate::Goes,
     })
 }
 
-impl Site<'_> {
-    /// Whether nothing but blanks is after the event on its line.
-    pub fn is_last(&self) -> bool {
-        is_blank(rest(self.octets, self.span().to))
+/// The comment that is left of an event whose own line begins at an octet.
+fn comment_of(
+    site: &Site<'_>,
+    from: usize,
+    removal: Removal,
+) -> Result<Option<Vec<u8>>, AllocError> {
+    let span = site.span();
+    let indent = Span {
+        from,
+        to: span.from,
+    };
+    let mut comment = Vec::from_slice(site.alloc, part(site.octets(), indent))?;
+    match removal {
+        Removal::Gone => return Ok(None),
+        Removal::NotSent => comment.extend_from_slice(NOT_SENT)?,
+        Removal::LeftAt(at) => {
+            comment.extend_from_slice(b"// left at ")?;
+            comment.extend_from_slice(write_time(site.alloc, Time::Absolute(at))?.as_slice())?;
+            comment.extend_from_slice(b": ")?;
+        }
     }
+    comment.extend_from_slice(rest(site.own.with_comment(), span.from))?;
+    Ok(Some(comment))
+}
 
-    /// The event's packet wasn't sent. Where the time of the next event counts from the event's, it is moved first, so that it
+impl Site<'_> {
+    /// The event's packet wasn't sent here. Where the time of the next event counts from the event's, it is moved first, so that it
     /// stays the same moment.
     ///
     /// # Errors
     /// `AllocError` where a growth is refused.
-    pub fn not_sent(&self, drop: bool) -> Result<Mend, AllocError> {
+    pub fn not_sent(&self, removal: Removal) -> Result<Mend, AllocError> {
         match self.moved_follower()? {
             Some(mend) => Ok(mend),
-            None => taken_out(self, drop),
+            None => taken_out(self, removal),
         }
     }
 
     /// The line of the next event, its time counted from the base of this one; nothing where that changes nothing.
     fn moved_follower(&self) -> Result<Option<Mend>, AllocError> {
         let base = self.stop.before.base();
-        let Some(at) = moment_of(base, self.event.time) else {
-            return Ok(None);
-        };
-        let Some(follower) = self.events().get(1) else {
-            return Ok(None);
-        };
-        let Some(time) = later(follower.time, at.saturating_sub(base)) else {
+        let Some(at) = moment_of(base, self.own.event.time) else {
             return Ok(None);
         };
         let number = self.stop.passed.saturating_add(1);
-        let first = self.parsed.header.end();
-        let Some(pieces) = event_pieces(self.alloc, self.lines, first, number)? else {
+        let Some(follower) = EventLine::find(self.alloc, self.lines, self.parsed, number)? else {
             return Ok(None);
         };
-        if at <= base || pieces.line != follower.line {
+        let Some(time) = later(follower.event.time, at.saturating_sub(base)) else {
+            return Ok(None);
+        };
+        if at <= base || follower.line != follower.event.line {
             return Ok(None);
         }
-        let Some(octets) = self.lines.line(follower.line) else {
-            return Ok(None);
-        };
-        let column = if pieces.span().from == 0 {
-            second_column(self.lines, follower.line, octets)
-        } else {
-            None
-        };
-        let mut draft = Redraft::new(self.alloc, octets, column);
-        draft.swap(pieces.time(), write_time(self.alloc, time)?.as_slice())?;
-        let line = draft.finish(pieces.span().to)?;
+        let line = retimed(&follower, time)?;
         Ok(Some(Mend {
-            is_follower: true,
+            target: Target::Follower,
             ..one_line(self.alloc, line.as_slice())?
         }))
     }
 }
 
-fn is_blank(octets: &[u8]) -> bool {
-    octets.trim_ascii_start().is_empty()
-}
-
 /// Adds a line; octets with a newline, which no line has, are left out.
-fn push_line(list: &mut LineList, octets: &[u8]) -> Result<(), AllocError> {
+///
+/// # Errors
+/// `AllocError` where a growth is refused.
+pub fn push_line(list: &mut LineList, octets: &[u8]) -> Result<(), AllocError> {
     if is_line(octets) {
         list.push(octets)?;
     }

@@ -28,21 +28,33 @@ impl Origins {
         }
     }
 
-    /// After so many lines were put in the place of one, from which they come.
+    /// After so many lines were put in the place of one, from which they come, or before it, with none taken away.
     ///
     /// # Errors
     /// `AllocError` where a growth is refused.
-    pub fn after(&self, alloc: Global, line: usize, count: usize) -> Result<Origins, AllocError> {
+    pub fn after(
+        &self,
+        alloc: Global,
+        line: usize,
+        removed: usize,
+        count: usize,
+    ) -> Result<Origins, AllocError> {
         let mut lines = Vec::new(alloc);
         let mut number = 0usize;
         for origin in &self.lines {
             number = number.saturating_add(1);
-            if number != line {
-                lines.push(*origin)?;
-                continue;
+            if number == line {
+                for _ in 0..count {
+                    lines.push(*origin)?;
+                }
             }
-            for _ in 0..count {
+            if number != line || removed == 0 {
                 lines.push(*origin)?;
+            }
+        }
+        if line > number {
+            for _ in 0..count {
+                lines.push(self.line_of(number))?;
             }
         }
         Ok(Origins { lines })

@@ -173,3 +173,8 @@ pub fn rest(octets: &[u8], from: usize) -> &[u8] {
         },
     )
 }
+
+/// Whether octets are blanks alone.
+pub fn is_blank(octets: &[u8]) -> bool {
+    octets.trim_ascii_start().is_empty()
+}

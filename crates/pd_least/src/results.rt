@@ -24,7 +24,7 @@ struct ResultSpans {
 /// # Errors
 /// `AllocError` where a growth is refused.
 pub fn mend_result(site: &Site<'_>, answer: Answer) -> Result<Option<Mend>, AllocError> {
-    let Some(spans) = result_spans(&site.pieces) else {
+    let Some(spans) = result_spans(&site.own.pieces) else {
         return Ok(None);
     };
     let is_error = matches!(answer, Answer::Error(_));
@@ -36,7 +36,7 @@ pub fn mend_result(site: &Site<'_>, answer: Answer) -> Result<Option<Mend>, Allo
             to: spans.end,
         }
     };
-    let mut draft = Redraft::new(site.alloc, site.octets, None);
+    let mut draft = Redraft::new(site.alloc, site.octets(), None);
     draft.swap(span, write_answer(site.alloc, answer)?.as_slice())?;
     let line = draft.finish(spans.end)?;
     Ok(Some(one_line(site.alloc, line.as_slice())?))

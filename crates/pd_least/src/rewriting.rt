@@ -1,8 +1,8 @@
 //! Writes the fields of an awaited packet anew.
 use crate::differences::Differences;
+use crate::event_lines::EventLine;
 use crate::packet_spans::{PacketSpans, packet_spans};
 use crate::pieces::{Span, rest};
-use crate::site::Site;
 use crate::swaps::Redraft;
 use itoa::Buffer;
 use pd_print::{Parts, sent_packet, write_parts, write_time};
@@ -27,26 +27,26 @@ pub struct Change<'a> {
 /// # Errors
 /// `AllocError` where a growth is refused.
 pub fn rewritten(
-    site: &Site<'_>,
+    own: &EventLine<'_>,
     octets: &[u8],
     change: &Change<'_>,
 ) -> Result<Option<Vec<u8>>, AllocError> {
-    let Some(spans) = packet_spans(&site.pieces, octets) else {
+    let Some(spans) = packet_spans(&own.pieces, octets) else {
         return Ok(None);
     };
-    let column = site.column();
-    let mut draft = Redraft::new(site.alloc, octets, column);
+    let column = own.column();
+    let mut draft = Redraft::new(own.alloc, octets, column);
     if let Some(time) = change.time {
-        draft.swap(spans.time, write_time(site.alloc, time)?.as_slice())?;
+        draft.swap(spans.time, write_time(own.alloc, time)?.as_slice())?;
     }
-    let actual = sent_packet(site.alloc, change.segment)?;
-    let parts = write_parts(site.alloc, &actual)?;
+    let actual = sent_packet(own.alloc, change.segment)?;
+    let parts = write_parts(own.alloc, &actual)?;
     swap_octets(&mut draft, &spans, change, &parts)?;
     swap_numbers(&mut draft, &spans, change)?;
     if change.fields.options {
         swap_options(&mut draft, &spans, parts.options.as_slice())?;
     }
-    Ok(Some(draft.finish(site.span().to)?))
+    Ok(Some(draft.finish(own.span().to)?))
 }
 
 /// Writes the flags and the sequence numbers anew.
@@ -114,9 +114,9 @@ fn swap_options(
 ///
 /// # Errors
 /// `AllocError` where a growth is refused.
-pub fn retimed(site: &Site<'_>, time: Time) -> Result<Vec<u8>, AllocError> {
-    let column = site.column();
-    let mut draft = Redraft::new(site.alloc, site.octets, column);
-    draft.swap(site.pieces.time(), write_time(site.alloc, time)?.as_slice())?;
-    draft.finish(site.span().to)
+pub fn retimed(own: &EventLine<'_>, time: Time) -> Result<Vec<u8>, AllocError> {
+    let column = own.column();
+    let mut draft = Redraft::new(own.alloc, own.octets, column);
+    draft.swap(own.pieces.time(), write_time(own.alloc, time)?.as_slice())?;
+    draft.finish(own.span().to)
 }

@@ -1,8 +1,8 @@
 //! Where a run stopped, as it stands in its text.
 ghost use Rattle.std.specs.Prelude.{◌≡◌, IfOk, IfSome};
 
-use crate::pieces::{EventPieces, Span, event_pieces};
-use crate::swaps::second_column;
+use crate::event_lines::EventLine;
+use crate::pieces::Span;
 use pd_run::Stopped;
 use pd_script::{Event, Parsed};
 use pd_settings::Settings;
@@ -21,14 +21,10 @@ pub struct Site<'a> {
     pub parsed: &'a Parsed,
     /// Where the run stops, and why.
     pub stop: &'a Stopped,
-    /// The event that stops it.
-    pub event: &'a Event,
-    /// The line on which it begins, counted from 1.
+    /// The line on which the event begins, counted from 1.
     pub line: usize,
-    /// The octets of that line.
-    pub octets: &'a [u8],
-    /// The tokens of the event, all of them on that line.
-    pub pieces: EventPieces,
+    /// The event that stops it.
+    pub own: EventLine<'a>,
 }
 
 impl<'a> Site<'a> {
@@ -44,25 +40,17 @@ impl<'a> Site<'a> {
         stop: &'a Stopped,
         line: usize,
     ) -> Result<Option<Site<'a>>, AllocError>
-        ensures { IfOk result (λ found. IfSome found (λ site. (site.parsed.now ≡ parsed.now) × (site.line ≡ line))) }
+        ensures { IfOk result (λ found. IfSome found (λ site. (site.lines.now ≡ lines.now) × (site.parsed.now ≡ parsed.now) × (site.line ≡ line))) }
     {
-        let Some(event) = parsed.events.as_slice().get(stop.passed) else {
-            return Ok(None);
-        };
-        let Some(octets) = lines.line(line) else {
-            return Ok(None);
-        };
-        match event_pieces(alloc, lines, parsed.header.end(), stop.passed)? {
-            Some(pieces) if pieces.line == line => Ok(Some(Site {
+        match EventLine::find(alloc, lines, parsed, stop.passed)? {
+            Some(own) if own.line == line => Ok(Some(Site {
                 alloc,
                 lines,
                 settings,
                 parsed,
                 stop,
-                event,
                 line,
-                octets,
-                pieces,
+                own,
             })),
             _ => Ok(None),
         }
@@ -70,16 +58,12 @@ impl<'a> Site<'a> {
 
     /// Where the event stands on its line.
     pub fn span(&self) -> Span {
-        self.pieces.span()
+        self.own.span()
     }
 
-    /// The column of what follows the time, if lines beside this one have one.
-    pub fn column(&self) -> Option<usize> {
-        if self.span().from == 0 {
-            second_column(self.lines, self.line, self.octets)
-        } else {
-            None
-        }
+    /// The octets of its line.
+    pub fn octets(&self) -> &'a [u8] {
+        self.own.octets
     }
 
     /// The events from this one on.

@@ -20,15 +20,19 @@ pub fn is_in_time(moments: Option<(u64, u64)>, at: u64, tolerance: u64) -> bool 
     }
 }
 
-/// The time of a packet that left at a moment, in the kind of another time: absolute, relative or `*`. It is `*` too where the
-/// packet left before the base.
-pub fn time_at(written: Time, base: u64, at: u64) -> Time {
+/// The time of a packet that left at a moment, absolute where another time is, else relative. It is `*` only where the packet left
+/// before the base, by more than a tolerance.
+pub fn time_at(written: Time, base: u64, at: u64, tolerance: u64) -> Time {
     match written {
-        _ if at < base => Time::Any,
-        Time::Any => Time::Any,
-        Time::Absolute(_) | Time::AbsoluteRange(_, _) => Time::Absolute(at),
-        Time::Relative(_) | Time::RelativeRange(_, _) => Time::Relative(at - base),
+        _ if is_before(base, at, tolerance) => Time::Any,
+        Time::Absolute(_) | Time::AbsoluteRange(_, _) => Time::Absolute(at.max(base)),
+        _ => Time::Relative(at.saturating_sub(base)),
     }
+}
+
+/// Whether a moment lies before a base by more than a tolerance.
+pub fn is_before(base: u64, at: u64, tolerance: u64) -> bool {
+    at.saturating_add(tolerance) < base
 }
 
 /// A time that counts from a base so much earlier; nothing where it doesn't count from one.

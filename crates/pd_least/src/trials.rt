@@ -1,13 +1,78 @@
-//! How far a script gets with a mend.
+//! Runs of a script as it stands with a mend, or with a packet that is never sent.
 ghost use Rattle.std.specs.Prelude.{◌≤◌, length};
 
+use crate::event_lines::EventLine;
 use crate::lines_left::line_in;
-use crate::mends::Mend;
+use crate::mends::{Mend, Target};
+use crate::new_lines::push_line;
 use crate::site::Site;
-use pd_run::{Verdict, find_stop, run_all};
+use pd_run::{Stopped, Verdict, find_stop, run_all};
 use pd_script::{Parsed, parse};
+use pd_settings::Settings;
 use pd_text::{LineEdit, LineList, Lines, TextFault};
-use std::alloc::AllocError;
+use std::alloc::{AllocError, Global};
+
+/// A packet that is awaited at any time and never is sent.
+pub const NEVER: &[u8] = b"* > FSRP. 0:0(0)";
+
+/// The text with one more line, which awaits a packet that is never sent; nothing where it would be over the limits of one.
+///
+/// # Errors
+/// `AllocError` where a growth is refused.
+pub fn awaiting_never(
+    alloc: Global,
+    lines: &Lines,
+    line: usize,
+) -> Result<Option<Lines>, AllocError> {
+    let mut insert = LineList::new(alloc);
+    push_line(&mut insert, NEVER)?;
+    let edit = LineEdit {
+        from: line,
+        remove: 0,
+        insert,
+    };
+    edited(lines, &edit)
+}
+
+/// Where the run of a text stops on a line.
+///
+/// # Errors
+/// `AllocError` where a growth is refused.
+pub fn stop_in(
+    alloc: Global,
+    lines: &Lines,
+    settings: &Settings,
+    line: usize,
+) -> Result<Option<Stopped>, AllocError> {
+    let parsed = parse(alloc, lines)?;
+    find_stop(alloc, &parsed, settings, line)
+}
+
+/// The run of a site's text at an event that is the first on its line, where a packet is awaited before it that is never sent.
+///
+/// # Errors
+/// `AllocError` where a growth is refused.
+pub fn stop_before(site: &Site<'_>, number: usize) -> Result<Option<Stopped>, AllocError> {
+    let Some(event) = EventLine::find(site.alloc, site.lines, site.parsed, number)? else {
+        return Ok(None);
+    };
+    if !event.is_first() {
+        return Ok(None);
+    }
+    match awaiting_never(site.alloc, site.lines, event.line)? {
+        Some(lines) => stop_in(site.alloc, &lines, site.settings, event.line),
+        None => Ok(None),
+    }
+}
+
+/// The text after an edit; nothing where it would be over the limits of one.
+fn edited(lines: &Lines, edit: &LineEdit) -> Result<Option<Lines>, AllocError> {
+    match lines.apply(edit) {
+        Ok(lines) => Ok(Some(lines)),
+        Err(TextFault::OutOfMemory) => Err(AllocError),
+        Err(_) => Ok(None),
+    }
+}
 
 impl Site<'_> {
     /// The text with lines in the place of the event's; nothing where it would be over the limits of one.
@@ -20,11 +85,7 @@ impl Site<'_> {
             remove: 1,
             insert,
         };
-        match self.lines.apply(&edit) {
-            Ok(lines) => Ok(Some(lines)),
-            Err(TextFault::OutOfMemory) => Err(AllocError),
-            Err(_) => Ok(None),
-        }
+        edited(self.lines, &edit)
     }
 
     /// Whether the script gets further with one mend of the event's line than with another one; unknown of any other line.
@@ -32,10 +93,10 @@ impl Site<'_> {
     /// # Errors
     /// `AllocError` where a growth is refused.
     pub fn gets_further(&self, mend: &Mend, other: &Mend) -> Result<bool, AllocError> {
-        if mend.is_follower || other.is_follower {
-            return Ok(false);
+        match (mend.target, other.target) {
+            (Target::Own, Target::Own) => Ok(self.left_after(mend)? < self.left_after(other)?),
+            _ => Ok(false),
         }
-        Ok(self.left_after(mend)? < self.left_after(other)?)
     }
 
     /// How many events are left where the run of the text stops with a mend of the event's line.

@@ -1,12 +1,13 @@
 -- What an ACK makes of congestion control, case by case: what holds of each case holds of the rule.
-use Rattle.std.proofs.Common.{◌≡◌, ◌-◌, Bool, true, false, if◌then◌else◌, Option, Some, None, refl}
+use Rattle.std.proofs.Common.{◌≡◌, ◌-◌, ◌==◌, ◌&&◌, Bool, true, false, if◌then◌else◌, Option, Some, None, refl}
 use Rattle.pd_seg.specs.declared.sack_blocks.Span.{Span}
 use Rattle.pd_recover.specs.declared.feedback.Ack.{Ack}
 use Rattle.pd_recover.specs.declared.feedback.News.{News}
 use Rattle.pd_recover.specs.declared.responses.Then.{Then}
 use Rattle.pd_recover.specs.declared.responses.Then.TheVariants.{Ordinary, StepC, Entry, LimitedTransmit, NewSegment, FastRetransmit, Nothing}
-use Rattle.pd_recover.specs.Acks.{told_by_sack, told_by_number, advanced, counted, grown_by, recovered, with_delivered, selective_duplicate, plain_duplicate, sent_limited, entered, retransmitted, new_segment, first_outstanding}
+use Rattle.pd_recover.specs.Acks.{told_by_sack, told_by_number, advanced, counted, grown_by, recovered, with_delivered, gone_on, selective_duplicate, plain_duplicate, sent_limited, entered, retransmitted, new_segment, first_outstanding}
 use Rattle.pd_recover.specs.Cong.{CongView, widened, with_limited}
+use Rattle.pd_recover.specs.Prr.{is_proportional}
 
 pub either : {A : Type 0} (P : A → Type 0) (b : Bool) (x y : A) → P x → P y → P (if b then x else y)
 either P true x y first second = first
@@ -38,12 +39,18 @@ module _ (P : CongView × Then → Type 0) (ack : Ack) where
       (either P _ _ _ (sent_cases (new_segment ack.smss ack.una ack.top ack.end ack.rwnd) w nothing sent) nothing)
       (either P _ _ _ again wider)
 
-  -- an ACK with SACK: recovery ends or goes on, a duplicate, or any other
+  -- recovery with SACK goes on, with nothing or something delivered
+  pub gone_cases : (w : CongView) → P (w, Nothing) → P (with_delivered ack w, StepC) → P (gone_on ack w)
+  gone_cases w idle rests =
+      either P (is_proportional w.rate && ack.delivery.delivered_data == 0) (w, Nothing) (with_delivered ack w, StepC) idle rests
+
+  -- an ACK with SACK: recovery ends, or goes on, a duplicate, or any other
   pub sack_cases : (news : News) (w : CongView)
-      → P (recovered w, Ordinary) → P (with_delivered ack w, StepC) → P (selective_duplicate ack news.lost (counted (grown_by ack w)))
+      → P (recovered w, Ordinary) → P (w, Nothing) → P (with_delivered ack w, StepC) → P (selective_duplicate ack news.lost (counted (grown_by ack w)))
       → P (grown_by ack w, Ordinary)
       → P (told_by_sack ack news w)
-  sack_cases news w ended rests duplicate other = either P _ _ _ ended (either P _ _ _ rests (either P _ _ _ duplicate other))
+  sack_cases news w ended idle rests duplicate other =
+      either P _ _ _ ended (either P w.recovering (gone_on ack w) _ (gone_cases w idle rests) (either P _ _ _ duplicate other))
 
   -- an ACK without SACK: new octets, a duplicate, or any other
   pub number_cases : (w : CongView)

@@ -4,6 +4,7 @@ pub mod Cases
 pub mod Chosen
 pub mod Found
 pub mod Proportion
+pub mod Rests
 pub mod Sendable
 pub mod SlowStart
 pub mod Spared

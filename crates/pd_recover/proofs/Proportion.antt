@@ -1,21 +1,20 @@
 -- Proportional Rate Reduction lets out what its laws say, counts each recovery from its entry on, and does nothing by the pipe.
-use Rattle.std.proofs.Common.{◌≡◌, ◌⊎◌, inl, inr, ℕ, ◌+◌, ◌-◌, ◌*◌, ◌/◌, ◌^◌, ◌<◌, ◌≤◌, ◌&&◌, ◌||◌, min, max, nat_lt, nat_le, Bool, true, false, if◌then◌else◌, Option, Some, None, refl, sym, subst, ap, ◌∙◌, arith}
+use Rattle.std.proofs.Common.{◌≡◌, ℕ, ◌+◌, ◌-◌, ◌^◌, ◌<◌, ◌≤◌, ◌==◌, ◌&&◌, ◌||◌, min, max, nat_lt, nat_le, Bool, true, false, if◌then◌else◌, Option, Some, None, refl, sym, subst, ap, ◌∙◌, arith}
 use Rattle.std.specs.Prelude.{IsSome, is_some}
 use Rattle.std.proofs.lemmas.Bool.Decides.{nat_tests}
-use Rattle.std.proofs.lemmas.Nat.{div_below}
-use Rattle.std.proofs.Math.Nat.{mul-le-mul_left}
-use Rattle.pd_settings.specs.declared.recovery_rate.RecoveryRate.{RecoveryRate}
-use Rattle.pd_settings.specs.declared.recovery_rate.RecoveryRate.TheVariants.{Pipe, PrrCrb}
+use Rattle.pd_settings.specs.declared.recovery_algorithm.RecoveryAlgorithm.{RecoveryAlgorithm}
+use Rattle.pd_settings.specs.declared.recovery_algorithm.RecoveryAlgorithm.TheVariants.{Rfc6675}
 use Rattle.pd_board.specs.Loss.{dup_thresh}
 use Rattle.pd_recover.specs.declared.feedback.Ack.{Ack}
+use Rattle.pd_recover.specs.declared.feedback.Delivery.{Delivery}
 use Rattle.pd_recover.specs.declared.feedback.News.{News}
 use Rattle.pd_recover.specs.declared.reductions.Reduction.{Reduction}
 use Rattle.pd_recover.specs.declared.responses.Then.{Then}
 use Rattle.pd_recover.specs.declared.responses.Then.TheVariants.{Ordinary, StepC, Entry, LimitedTransmit, Nothing}
-use Rattle.pd_recover.specs.Acks.{acked, told, told_by_sack, renewed, grown_by, counted, advanced, entered, recovered, selective_duplicate, with_delivered, reduction_begun}
+use Rattle.pd_recover.specs.Acks.{acked, told, told_by_sack, renewed, grown_by, counted, advanced, entered, recovered, selective_duplicate, with_delivered, gone_on, reduction_begun}
 use Rattle.pd_recover.specs.Cong.{CongView, is_reducing, paced, sndcnt, with_out}
-use Rattle.pd_recover.specs.Laws.{LetsOutInProportion, CountsRecovery, IsByPipe}
-use Rattle.pd_recover.specs.Prr.{is_proportional, no_reduction, begun_with, told_of, sent_of, proportion, bound_by}
+use Rattle.pd_recover.specs.Laws.{forces, LetsOutInProportion, CountsRecovery, IsByPipe}
+use Rattle.pd_recover.specs.Prr.{is_proportional, no_reduction, begun_with, told_of, sent_of, proportion, limit, unforced}
 use Rattle.pd_recover.proofs.Cases.{either, selective_cases, plain_cases, sack_cases, number_cases}
 
 -- What is let out
@@ -26,8 +25,8 @@ below a b h = grind (arith, nat_tests)
 not_below : (a b : ℕ) → b ≤ a → nat_lt a b ≡ false
 not_below a b h = grind (arith, nat_tests)
 
-left_of : (pipe n cwnd : ℕ) → min (pipe + n) (2 ^ 30) - pipe ≤ n
-left_of pipe n cwnd = omega arith
+left_of : (pipe n : ℕ) → min (pipe + n) (2 ^ 30) - pipe ≤ n
+left_of pipe n = omega arith
 
 up_to : (out share : ℕ) → out + (share - out) ≤ max out share
 up_to out share = omega arith
@@ -35,55 +34,54 @@ up_to out share = omega arith
 up_to_target : (pipe target bound : ℕ) → pipe ≤ target → pipe + min (target - pipe) bound ≤ target
 up_to_target pipe target bound h = omega (arith, h)
 
-up_to_delivered : (out delivered left : ℕ) → out + min left (delivered - out) ≤ max out delivered
-up_to_delivered out delivered left = omega arith
+up_to_delivered : (out delivered last left : ℕ) → out + min left (max (delivered - out) last + 0) ≤ max delivered (out + last)
+up_to_delivered out delivered last left = omega arith
 
-at_most_delivered : (out share delivered : ℕ) → share ≤ delivered → out + (share - out) ≤ max out delivered
-at_most_delivered out share delivered h = omega (arith, h)
+first_is_none : (a b : ℕ) → (a == 0 && b == 0) ≡ true → a ≡ 0
+first_is_none a b h = grind (arith, nat_tests)
 
--- a part of ssthresh that isn't above RecoverFS is no more than was delivered
-no_more : (delivered ssthresh flight : ℕ) → 1 ≤ flight → ssthresh ≤ flight → (delivered * ssthresh + (flight - 1)) / flight ≤ delivered
-no_more delivered ssthresh flight some less =
-    let part : delivered * ssthresh ≤ delivered * flight = mul-le-mul_left delivered less in
-    let few : delivered * ssthresh + (flight - 1) < (delivered + 1) * flight = omega (arith, part, some) in
-    let h : (delivered * ssthresh + (flight - 1)) / flight < delivered + 1 = div_below _ flight (delivered + 1) some few in
-    omega (arith, h)
+module _ (smss pipe : ℕ) (w : CongView) where
+  abbrev kept : ℕ
+  kept = unforced smss pipe w.ssthresh w.reduction
+
+  free : forces smss pipe w ≡ false → sndcnt smss pipe w ≡ kept
+  free none = ap (λ (b : Bool). if b then smss else kept) none
+
+  in_part : w.ssthresh < pipe → kept ≡ proportion w.ssthresh w.reduction - w.reduction.prr_out
+  in_part above =
+      ap (λ (b : Bool). if b then proportion w.ssthresh w.reduction - w.reduction.prr_out else min (w.ssthresh - pipe) (limit smss w.reduction))
+      (below w.ssthresh pipe above)
+
+  in_limit : pipe ≤ w.ssthresh → kept ≡ min (w.ssthresh - pipe) (limit smss w.reduction)
+  in_limit low =
+      ap (λ (b : Bool). if b then proportion w.ssthresh w.reduction - w.reduction.prr_out else min (w.ssthresh - pipe) (limit smss w.reduction))
+      (not_below w.ssthresh pipe low)
+
+  unsafe : w.reduction.safe_ack ≡ false → limit smss w.reduction ≡ max (w.reduction.prr_delivered - w.reduction.prr_out) w.reduction.delivered_data + 0
+  unsafe e = ap (λ (b : Bool). max (w.reduction.prr_delivered - w.reduction.prr_out) w.reduction.delivered_data + (if b then smss else 0)) e
 
 pub lets_out_in_proportion : LetsOutInProportion
 lets_out_in_proportion = record {
   window = λ smss pipe w reducing.
       subst (λ (b : Bool). (if b then min (pipe + sndcnt smss pipe w) (2 ^ 30) else w.cwnd) - pipe ≤ sndcnt smss pipe w) (sym reducing)
-      (left_of pipe (sndcnt smss pipe w) w.cwnd);
-  proportional = λ smss pipe w above.
+      (left_of pipe (sndcnt smss pipe w));
+  proportional = λ smss pipe w none above.
       let r = w.reduction in
-      subst (λ (b : Bool). r.prr_out + (if b then proportion w.ssthresh r - r.prr_out else min (w.ssthresh - pipe) (bound_by w.rate smss r)) ≤ max r.prr_out (proportion w.ssthresh r))
-      (sym (below w.ssthresh pipe above)) (up_to r.prr_out (proportion w.ssthresh r));
-  target = λ smss pipe w low.
+      subst (λ (n : ℕ). r.prr_out + n ≤ max r.prr_out (proportion w.ssthresh r)) (sym (free smss pipe w none ∙ in_part smss pipe w above))
+      (up_to r.prr_out (proportion w.ssthresh r));
+  target = λ smss pipe w none low.
+      subst (λ (n : ℕ). pipe + n ≤ w.ssthresh) (sym (free smss pipe w none ∙ in_limit smss pipe w low))
+      (up_to_target pipe w.ssthresh (limit smss w.reduction) low);
+  conservative = λ smss pipe w none low failed.
       let r = w.reduction in
-      subst (λ (b : Bool). pipe + (if b then proportion w.ssthresh r - r.prr_out else min (w.ssthresh - pipe) (bound_by w.rate smss r)) ≤ w.ssthresh)
-      (sym (not_below w.ssthresh pipe low)) (up_to_target pipe w.ssthresh (bound_by w.rate smss r) low);
-  conservative = λ smss pipe w crb known which.
-      let r = w.reduction in
-      let each : (b : Bool) → nat_lt w.ssthresh pipe ≡ b → (pipe ≤ w.ssthresh) ⊎ (w.ssthresh ≤ r.recover_fs)
-      → r.prr_out + (if b then proportion w.ssthresh r - r.prr_out else min (w.ssthresh - pipe) (r.prr_delivered - r.prr_out)) ≤ max r.prr_out r.prr_delivered =
-      λ b. elim b as (λ b. nat_lt w.ssthresh pipe ≡ b → (pipe ≤ w.ssthresh) ⊎ (w.ssthresh ≤ r.recover_fs)
-      → r.prr_out + (if b then proportion w.ssthresh r - r.prr_out else min (w.ssthresh - pipe) (r.prr_delivered - r.prr_out)) ≤ max r.prr_out r.prr_delivered) [
-        | true ↦ λ e h. by_part w.ssthresh pipe r e known.counts.flight_from h
-        | false ↦ λ e h. up_to_delivered r.prr_out r.prr_delivered (w.ssthresh - pipe)
-      ] in
-      subst (λ (rate : RecoveryRate). r.prr_out + (if nat_lt w.ssthresh pipe then proportion w.ssthresh r - r.prr_out else min (w.ssthresh - pipe) (bound_by rate smss r)) ≤ max r.prr_out r.prr_delivered)
-      (sym crb) (each (nat_lt w.ssthresh pipe) refl which);
+      subst (λ (n : ℕ). r.prr_out + n ≤ max r.prr_delivered (r.prr_out + r.delivered_data))
+      (sym (free smss pipe w none ∙ in_limit smss pipe w low ∙ ap (λ (n : ℕ). min (w.ssthresh - pipe) n) (unsafe smss pipe w failed)))
+      (up_to_delivered r.prr_out r.prr_delivered r.delivered_data (w.ssthresh - pipe));
+  forced = λ smss pipe w yes. (
+    first_is_none w.reduction.prr_out (kept smss pipe w) yes,
+    ap (λ (b : Bool). if b then smss else kept smss pipe w) yes,
+  );
 }
-  where
-    by_part : (ssthresh pipe : ℕ) (r : Reduction) → nat_lt ssthresh pipe ≡ true → 1 ≤ r.recover_fs → (pipe ≤ ssthresh) ⊎ (ssthresh ≤ r.recover_fs)
-        → r.prr_out + (proportion ssthresh r - r.prr_out) ≤ max r.prr_out r.prr_delivered
-    by_part ssthresh pipe r e some (inl low) = absurd (clash (nat_lt ssthresh pipe) e (not_below ssthresh pipe low))
-      where
-        clash : (b : Bool) → b ≡ true → b ≡ false → ⊥
-        clash true f g = cc
-        clash false f g = cc
-    by_part ssthresh pipe r e some (inr less) =
-        at_most_delivered r.prr_out (proportion ssthresh r) r.prr_delivered (no_more r.prr_delivered ssthresh r.recover_fs some less)
 
 -- What is counted
 
@@ -97,22 +95,22 @@ renewed_same ack w = either (Same w) (nat_lt 0 ack.acked) _ w (refl, refl) (refl
 grown_same : (ack : Ack) (w v : CongView) → Same w v → Same w (grown_by ack v)
 grown_same ack w v h = either (Same w) (nat_lt 0 ack.acked) _ v h h
 
-on : (r q : RecoveryRate) (x y : Reduction) → q ≡ r → is_proportional r ≡ true → (if is_proportional q then x else y) ≡ x
+on : (r q : RecoveryAlgorithm) (x y : Reduction) → q ≡ r → is_proportional r ≡ true → (if is_proportional q then x else y) ≡ x
 on r q x y e h = ap (λ (b : Bool). if b then x else y) (ap is_proportional e ∙ h)
 
-off : (q : RecoveryRate) (x y : Reduction) → q ≡ Pipe → (if is_proportional q then x else y) ≡ y
-off q x y e = ap (λ (r : RecoveryRate). if is_proportional r then x else y) e
+off : (q : RecoveryAlgorithm) (x y : Reduction) → q ≡ Rfc6675 → (if is_proportional q then x else y) ≡ y
+off q x y e = ap (λ (r : RecoveryAlgorithm). if is_proportional r then x else y) e
 
 module _ (ack : Ack) (w : CongView) (by_prr : is_proportional w.rate ≡ true) where
   abbrev Enters : CongView × Then → Type 0
-  Enters step = step.1 ≡ Entry → step.0.reduction ≡ told_of ack.delivered (begun_with (ack.top - ack.una))
+  Enters step = step.1 ≡ Entry → step.0.reduction ≡ told_of ack.delivery (begun_with ack.delivery.recover_fs)
 
   told_enters : (o : Option News) (v : CongView) → Same w v → Enters (told ack o v)
   told_enters (Some news) v h =
       let u : CongView = counted (grown_by ack v) in
-      sack_cases Enters ack news v (λ e. absurd cc) (λ e. absurd cc)
+      sack_cases Enters ack news v (λ e. absurd cc) (λ e. absurd cc) (λ e. absurd cc)
       (selective_cases Enters ack news.lost u (λ e. absurd cc)
-      (λ e. on w.rate u.rate (told_of ack.delivered (begun_with (ack.top - ack.una))) u.reduction (grown_same ack w v h).0 by_prr)
+      (λ e. on w.rate u.rate (told_of ack.delivery (begun_with ack.delivery.recover_fs)) u.reduction (grown_same ack w v h).0 by_prr)
       (λ e. absurd cc))
       (λ e. absurd cc)
   told_enters None v h =
@@ -120,16 +118,30 @@ module _ (ack : Ack) (w : CongView) (by_prr : is_proportional w.rate ≡ true) w
       (λ e. absurd cc)
 
   abbrev Goes : CongView × Then → Type 0
-  Goes step = step.1 ≡ StepC → step.0.reduction ≡ told_of ack.delivered w.reduction
+  Goes step = step.1 ≡ StepC → step.0.reduction ≡ told_of ack.delivery w.reduction
 
   told_goes : (o : Option News) (v : CongView) → Same w v → Goes (told ack o v)
   told_goes (Some news) v h =
-      sack_cases Goes ack news v (λ e. absurd cc)
-      (λ e. on w.rate v.rate (told_of ack.delivered v.reduction) v.reduction h.0 by_prr ∙ ap (told_of ack.delivered) h.1)
+      sack_cases Goes ack news v (λ e. absurd cc) (λ e. absurd cc)
+      (λ e. on w.rate v.rate (told_of ack.delivery v.reduction) v.reduction h.0 by_prr ∙ ap (told_of ack.delivery) h.1)
       (selective_cases Goes ack news.lost (counted (grown_by ack v)) (λ e. absurd cc) (λ e. absurd cc) (λ e. absurd cc))
       (λ e. absurd cc)
   told_goes None v h =
       number_cases Goes ack v (λ e. absurd cc) (plain_cases Goes ack (counted v) (λ e. absurd cc) (λ _ _ e. absurd cc) (λ e. absurd cc) (λ e. absurd cc))
+      (λ e. absurd cc)
+
+-- where recovery begins nothing was sent again
+module _ (ack : Ack) where
+  abbrev Begins : CongView × Then → Type 0
+  Begins step = step.1 ≡ Entry → step.0.high_rxt ≡ ack.una
+
+  told_begins : (o : Option News) (v : CongView) → Begins (told ack o v)
+  told_begins (Some news) v =
+      sack_cases Begins ack news v (λ e. absurd cc) (λ e. absurd cc) (λ e. absurd cc)
+      (selective_cases Begins ack news.lost (counted (grown_by ack v)) (λ e. absurd cc) (λ e. refl) (λ e. absurd cc))
+      (λ e. absurd cc)
+  told_begins None v =
+      number_cases Begins ack v (λ e. absurd cc) (plain_cases Begins ack (counted v) (λ e. absurd cc) (λ _ _ e. absurd cc) (λ e. absurd cc) (λ e. absurd cc))
       (λ e. absurd cc)
 
 -- The end
@@ -173,6 +185,30 @@ module _ (ack : Ack) (w : CongView) where
   ends (Some news) v some h recovering by_prr at = at_end news v h recovering by_prr at
   ends None v some h recovering by_prr at = absurd cc
 
+-- an ACK in recovery that delivers nothing
+module _ (ack : Ack) (w : CongView) where
+  at_rest_in : (news : News) (v : CongView) → IsEnding w v → w.recovering ≡ true → is_proportional w.rate ≡ true → ack.una < w.recovery_point
+      → ack.delivery.delivered_data ≡ 0 → told_by_sack ack news v ≡ (v, Nothing)
+  at_rest_in news v h recovering by_prr inside none =
+      let goes : v.recovering ≡ true = h.recovering ∙ recovering in
+      let more : (v.recovering && nat_le v.recovery_point ack.una) ≡ false =
+      (λ i. goes i && nat_le (h.point i) ack.una) ∙ not_reached w.recovery_point ack.una inside in
+      let empty : (is_proportional v.rate && ack.delivery.delivered_data == 0) ≡ true =
+      (λ i. is_proportional (h.rate i) && none i == 0) ∙ ap (λ (b : Bool). b && true) by_prr in
+      let other : CongView × Then =
+      if news.fresh then selective_duplicate ack news.lost (counted (grown_by ack v)) else (grown_by ack v, Ordinary) in
+      ap (λ (b : Bool). if b then (recovered v, Ordinary) else if v.recovering then gone_on ack v else other) more
+      ∙ ap (λ (b : Bool). if b then gone_on ack v else other) goes
+      ∙ ap (λ (b : Bool). if b then (v, Nothing) else (with_delivered ack v, StepC)) empty
+    where
+      not_reached : (a b : ℕ) → b < a → nat_le a b ≡ false
+      not_reached a b l = grind (arith, nat_tests)
+
+  rests : (o : Option News) (v : CongView) → IsSome o → IsEnding w v → w.recovering ≡ true → is_proportional w.rate ≡ true
+      → ack.una < w.recovery_point → ack.delivery.delivered_data ≡ 0 → told ack o v ≡ (v, Nothing)
+  rests (Some news) v some h recovering by_prr inside none = at_rest_in news v h recovering by_prr inside none
+  rests None v some h recovering by_prr inside none = absurd cc
+
 renewed_ending : (ack : Ack) (w : CongView) → IsEnding w (renewed ack w)
 renewed_ending ack w =
     either (IsEnding w) (nat_lt 0 ack.acked) _ w
@@ -182,7 +218,10 @@ renewed_ending ack w =
 pub counts_recovery : CountsRecovery
 counts_recovery = record {
   entry = λ ack w e by_prr. told_enters ack w by_prr ack.sack (renewed ack w) (renewed_same ack w) e;
+  again = λ ack w e. told_begins ack ack.sack (renewed ack w) e;
   each = λ ack w e by_prr. told_goes ack w by_prr ack.sack (renewed ack w) (renewed_same ack w) e;
+  nothing = λ ack w sack reducing inside none.
+      rests ack w ack.sack (renewed ack w) sack (renewed_ending ack w) (first_of_two _ _ reducing) (second_of_two _ _ reducing) inside none;
   sent = λ octets w by_prr. on w.rate w.rate (sent_of octets w.reduction) w.reduction refl by_prr;
   ended = λ ack w sack reducing at.
       ends ack w ack.sack (renewed ack w) sack (renewed_ending ack w) (first_of_two _ _ reducing) (second_of_two _ _ reducing) at;
@@ -203,40 +242,50 @@ module _ (w : CongView) (ack : Ack) where
 
   told_rate : (o : Option News) (v : CongView) → Rate v → LeadsRate (told ack o v)
   told_rate (Some news) v h =
-      sack_cases LeadsRate ack news v h h
+      sack_cases LeadsRate ack news v h h h
       (selective_cases LeadsRate ack news.lost (counted (grown_by ack v)) (grown_rate v h) (grown_rate v h) (grown_rate v h))
       (grown_rate v h)
   told_rate None v h =
       number_cases LeadsRate ack v (either Rate v.recovering _ _ h (grown_rate v h)) (plain_cases LeadsRate ack (counted v) h (λ _ _. h) h h) h
 
-module _ (ack : Ack) (octets : ℕ) where
+module _ (ack : Ack) (delivery : Delivery) where
   abbrev other : Ack
-  other = record ack { delivered = octets }
+  other = record ack { delivery = delivery }
 
-  entered_alike : (v : CongView) → v.rate ≡ Pipe → entered other v ≡ entered ack v
+  entered_alike : (v : CongView) → v.rate ≡ Rfc6675 → entered other v ≡ entered ack v
   entered_alike v e =
       λ i. record (entered ack v) {
-        reduction = (off v.rate (told_of octets (begun_with (ack.top - ack.una))) v.reduction e
-            ∙ sym (off v.rate (told_of ack.delivered (begun_with (ack.top - ack.una))) v.reduction e)) i;
+        reduction = (off v.rate (told_of delivery (begun_with delivery.recover_fs)) v.reduction e
+            ∙ sym (off v.rate (told_of ack.delivery (begun_with ack.delivery.recover_fs)) v.reduction e)) i;
       }
 
-  delivered_alike : (v : CongView) → v.rate ≡ Pipe → with_delivered other v ≡ with_delivered ack v
+  delivered_alike : (v : CongView) → v.rate ≡ Rfc6675 → with_delivered other v ≡ with_delivered ack v
   delivered_alike v e =
-      λ i. record v { reduction = (off v.rate (told_of octets v.reduction) v.reduction e ∙ sym (off v.rate (told_of ack.delivered v.reduction) v.reduction e)) i }
+      λ i. record v { reduction = (off v.rate (told_of delivery v.reduction) v.reduction e ∙ sym (off v.rate (told_of ack.delivery v.reduction) v.reduction e)) i }
 
-  duplicate_alike : (lost : Bool) (v : CongView) → v.rate ≡ Pipe → selective_duplicate other lost v ≡ selective_duplicate ack lost v
+  -- by the pipe each ACK in recovery leads to step C
+  by_pipe : (q : RecoveryAlgorithm) (octets : ℕ) (x y : CongView × Then) → q ≡ Rfc6675 → (if is_proportional q && octets == 0 then x else y) ≡ y
+  by_pipe q octets x y e = ap (λ (r : RecoveryAlgorithm). if is_proportional r && octets == 0 then x else y) e
+
+  gone_alike : (v : CongView) → v.rate ≡ Rfc6675 → gone_on other v ≡ gone_on ack v
+  gone_alike v e =
+      by_pipe v.rate delivery.delivered_data (v, Nothing) (with_delivered other v, StepC) e
+      ∙ (λ i. (delivered_alike v e i, StepC))
+      ∙ sym (by_pipe v.rate ack.delivery.delivered_data (v, Nothing) (with_delivered ack v, StepC) e)
+
+  duplicate_alike : (lost : Bool) (v : CongView) → v.rate ≡ Rfc6675 → selective_duplicate other lost v ≡ selective_duplicate ack lost v
   duplicate_alike lost v e =
       λ i. if nat_lt ack.una v.recovery_point then (v, Ordinary)
       else if nat_le dup_thresh v.dup_acks || lost then (entered_alike v e i, Entry)
       else if v.sends_early then (record v { high_rxt = ack.una }, LimitedTransmit)
       else (v, Ordinary)
 
-  told_alike : (o : Option News) (v : CongView) → v.rate ≡ Pipe → told other o v ≡ told ack o v
+  told_alike : (o : Option News) (v : CongView) → v.rate ≡ Rfc6675 → told other o v ≡ told ack o v
   told_alike None v e = refl
   told_alike (Some news) v e =
       λ i. if v.recovering && nat_le v.recovery_point ack.una then (recovered v, Ordinary)
-      else if v.recovering then (delivered_alike v e i, StepC)
-      else if news.fresh then duplicate_alike news.lost (counted (grown_by ack v)) (either (λ (u : CongView). u.rate ≡ Pipe) (nat_lt 0 ack.acked) _ v e e) i
+      else if v.recovering then gone_alike v e i
+      else if news.fresh then duplicate_alike news.lost (counted (grown_by ack v)) (either (λ (u : CongView). u.rate ≡ Rfc6675) (nat_lt 0 ack.acked) _ v e e) i
       else (grown_by ack v, Ordinary)
 
 pub is_by_pipe : IsByPipe
@@ -246,9 +295,9 @@ is_by_pipe = record {
   paced = λ smss pipe w e.
       λ i. record w { cwnd = at_rest w.recovering w.rate (min (pipe + sndcnt smss pipe w) (2 ^ 30)) w.cwnd e i };
   sent = λ octets w e. λ i. record w { reduction = off w.rate (sent_of octets w.reduction) w.reduction e i };
-  told = λ ack octets w e. told_alike ack octets ack.sack (renewed ack w) ((renewed_same ack w).0 ∙ e);
+  told = λ ack delivery w e. told_alike ack delivery ack.sack (renewed ack w) ((renewed_same ack w).0 ∙ e);
 }
   where
-    at_rest : (recovering : Bool) (rate : RecoveryRate) (x y : ℕ) → rate ≡ Pipe → (if is_reducing recovering rate then x else y) ≡ y
-    at_rest true rate x y e = ap (λ (r : RecoveryRate). if is_proportional r then x else y) e
+    at_rest : (recovering : Bool) (rate : RecoveryAlgorithm) (x y : ℕ) → rate ≡ Rfc6675 → (if is_reducing recovering rate then x else y) ≡ y
+    at_rest true rate x y e = ap (λ (r : RecoveryAlgorithm). if is_proportional r then x else y) e
     at_rest false rate x y e = refl

@@ -57,7 +57,7 @@ module _ (v : CongView) (ack : Ack) where
 
   told_kept : (sack : Option News) (w : CongView) → Kept w → LeadsKept (told ack sack w)
   told_kept (Some news) w h =
-      sack_cases LeadsKept ack news w h h
+      sack_cases LeadsKept ack news w h h h
       (selective_cases LeadsKept ack news.lost (counted (grown_by ack w)) (grown_kept w h) (grown_kept w h) (grown_kept w h))
       (grown_kept w h)
   told_kept None w h =

@@ -1,9 +1,9 @@
 -- What is SACKed isn't sent again.
 use Rattle.std.proofs.Common.{◌≡◌, ℕ, ◌+◌, ◌-◌, ◌<◌, ◌≤◌, max, Option, Some, None, Bool, true, false, not, refl, arith}
 use Rattle.std.specs.Prelude.{unwrap_or, option_map}
-use Rattle.pd_board.specs.Choice.{run_at, next_lost, next_hole, rescue, segment_to, after, most_from}
+use Rattle.pd_board.specs.Choice.{run_at, next_lost, next_hole, rescue, segment_to, most_from}
 use Rattle.pd_board.specs.Loss.{is_free}
-use Rattle.pd_board.specs.Octets.{contains, least_where, greatest_where}
+use Rattle.pd_board.specs.Octets.{contains, least_where, greatest_where, after}
 use Rattle.pd_board.specs.Board.{BoardView, IsBoardView}
 use Rattle.pd_recover.specs.declared.segments.NextSegment.{NextSegment}
 use Rattle.pd_recover.specs.declared.segments.NextSegment.TheVariants.{Lost, New, Hole, Rescue}

@@ -1,5 +1,5 @@
 -- The window and the threshold stay within their bounds.
-use Rattle.std.proofs.Common.{◌≡◌, sym, ℕ, ◌+◌, ◌-◌, ◌*◌, ◌/◌, ◌^◌, ◌≤◌, ◌&&◌, min, max, nat_lt, nat_le, Bool, true, false, if◌then◌else◌, Option, Some, None, refl, subst, ◌∙◌, arith}
+use Rattle.std.proofs.Common.{◌≡◌, sym, ℕ, ◌+◌, ◌-◌, ◌*◌, ◌/◌, ◌^◌, ◌≤◌, ◌==◌, ◌&&◌, min, max, nat_lt, nat_le, Bool, true, false, if◌then◌else◌, Option, Some, None, refl, subst, ◌∙◌, arith}
 use Rattle.pd_recover.specs.declared.feedback.Ack.{Ack}
 use Rattle.pd_recover.specs.declared.feedback.News.{News}
 use Rattle.pd_recover.specs.declared.responses.Then.{Then}
@@ -134,7 +134,8 @@ module _ (initial : ℕ) (ack : Ack) (small : ack.smss ≤ 65495) (few : ack.top
   told_by_sack-within : (news : News) (w : CongView) → Within w → LeadsWithin (told_by_sack ack news w)
   told_by_sack-within news w h =
       chosen LeadsWithin (w.recovering && nat_le w.recovery_point ack.una) _ _ (λ both. recovered-within w (first_of_two w.recovering _ both) h)
-      (λ _. chosen LeadsWithin w.recovering _ _ (λ _. same w (with_delivered ack w) refl refl refl refl h)
+      (λ _. chosen LeadsWithin w.recovering _ _
+      (λ _. chosen LeadsWithin (is_proportional w.rate && ack.delivery.delivered_data == 0) _ _ (λ _. h) (λ _. same w (with_delivered ack w) refl refl refl refl h))
       (λ _. chosen LeadsWithin news.fresh _ _
       (λ _. selective_duplicate-within news.lost _ (same (grown_by ack w) _ refl refl refl refl (grown_by-within w h)))
       (λ _. grown_by-within w h)))

@@ -45,8 +45,7 @@ new_segment smss una top end rwnd =
 
 -- With SACK (RFC 6675, section 5)
 
--- una has reached RecoveryPoint: recovery ends, by PRR with ssthresh as the window (own; RFC 6937, section 3, has it as the
--- target)
+-- una has reached RecoveryPoint: recovery ends, by PRR with ssthresh as the window (RFC 9937, section 6)
 abbrev pub recovered : CongView → CongView
 recovered w = record w {
   cwnd = if is_proportional w.rate then w.ssthresh else w.cwnd;
@@ -56,21 +55,27 @@ recovered w = record w {
   reduction = no_reduction;
 }
 
--- what PRR keeps where recovery begins, whose ACK is the first that is counted (own), and after each ACK in it
+-- what PRR keeps where recovery begins, whose ACK is the first that is counted, and after each ACK in it
 abbrev pub reduction_begun : Ack → CongView → Reduction
 reduction_begun ack w =
-    if is_proportional w.rate then told_of ack.delivered (begun_with (ack.top - ack.una)) else w.reduction
+    if is_proportional w.rate then told_of ack.delivery (begun_with ack.delivery.recover_fs) else w.reduction
 
 abbrev pub with_delivered : Ack → CongView → CongView
-with_delivered ack w = record w { reduction = if is_proportional w.rate then told_of ack.delivered w.reduction else w.reduction }
+with_delivered ack w = record w { reduction = if is_proportional w.rate then told_of ack.delivery w.reduction else w.reduction }
 
--- recovery begins: RecoveryPoint is what was sent, and the window is halved (steps 4.1 and 4.2)
+-- an ACK in recovery leads to step C; by PRR one whose DeliveredData is 0 changes nothing and leads to nothing (own)
+abbrev pub gone_on : Ack → CongView → CongView × Then
+gone_on ack w =
+    if is_proportional w.rate && ack.delivery.delivered_data == 0 then (w, Nothing) else (with_delivered ack w, StepC)
+
+-- recovery begins: RecoveryPoint is what was sent, the window is halved (steps 4.1 and 4.2), and nothing was sent again
 abbrev pub entered : Ack → CongView → CongView
 entered ack w = record w {
   cwnd = half_of ack w;
   ssthresh = half_of ack w;
   recovering = true;
   recovery_point = ack.top;
+  high_rxt = ack.una;
   reduction = reduction_begun ack w;
 }
 
@@ -87,7 +92,7 @@ selective_duplicate ack lost w =
 abbrev pub told_by_sack : Ack → News → CongView → CongView × Then
 told_by_sack ack news w =
     if w.recovering && nat_le w.recovery_point ack.una then (recovered w, Ordinary)
-    else if w.recovering then (with_delivered ack w, StepC)
+    else if w.recovering then gone_on ack w
     else if news.fresh then selective_duplicate ack news.lost (counted (grown_by ack w))
     else (grown_by ack w, Ordinary)
 

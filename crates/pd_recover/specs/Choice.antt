@@ -70,6 +70,6 @@ moved (New segment) w = w
 moved (Hole segment) w = record w { high_rxt = segment.end }
 moved (Rescue segment) w = record w { rescue_rxt = w.recovery_point }
 
--- the same, and its octets count as sent in recovery (RFC 6937, section 3)
+-- the same, and its octets count as sent in recovery (RFC 9937, section 6)
 abbrev pub noted : NextSegment → CongView → CongView
 noted sent w = with_out ((segment_of sent).end - (segment_of sent).start) (moved sent w)

@@ -1,14 +1,14 @@
--- The congestion window (RFC 5681; RFC 3465), and what loss recovery keeps (RFC 6675; RFC 6937). All sizes are in octets.
+-- The congestion window (RFC 5681; RFC 3465), and what loss recovery keeps (RFC 6675; RFC 9937). All sizes are in octets.
 use Rattle.std.specs.Prelude.{◌≡◌, ℕ, ◌+◌, ◌-◌, ◌*◌, ◌/◌, ◌^◌, ◌≤◌, nat_lt, min, max, Bool, true, false, ◌&&◌, Option, None, Some, is_some, if◌then◌else◌}
 use Rattle.pd_board.specs.Loss.{dup_thresh}
 use Rattle.pd_settings.specs.declared.fields.Settings.{Settings}
 use Rattle.pd_settings.specs.declared.initial_window.InitialWindow.{InitialWindow}
 use Rattle.pd_settings.specs.declared.initial_window.InitialWindow.TheVariants.{Rfc5681, Rfc6928}
-use Rattle.pd_settings.specs.declared.recovery_rate.RecoveryRate.{RecoveryRate}
+use Rattle.pd_settings.specs.declared.recovery_algorithm.RecoveryAlgorithm.{RecoveryAlgorithm}
 use Rattle.pd_settings.specs.declared.use_set.UseSet.{UseSet}
 use Rattle.pd_seg.specs.declared.sack_blocks.Span.{Span}
 use Rattle.pd_recover.specs.declared.reductions.Reduction.{Reduction}
-use Rattle.pd_recover.specs.Prr.{IsReduction, is_proportional, no_reduction, told_of, sent_of, proportion, bound_by}
+use Rattle.pd_recover.specs.Prr.{IsReduction, is_proportional, no_reduction, sent_of, sndcnt_of}
 
 -- the state of congestion control (RFC 5681, section 3.1) and of loss recovery (RFC 6675, section 2)
 pub record CongView : Type 0 where
@@ -36,12 +36,12 @@ pub record CongView : Type 0 where
   pub follows_expiry : Bool
   -- the rule for IW, where the window restarts by it after an idle time (RFC 5681, section 4.1)
   pub restarts_by : Option InitialWindow
-  -- what paces recovery with SACK, and what PRR keeps of it (RFC 6937, section 3)
-  pub rate : RecoveryRate
+  -- the algorithm of recovery with SACK, and what PRR keeps of it (RFC 9937, section 6)
+  pub rate : RecoveryAlgorithm
   pub reduction : Reduction
 
 -- whether recovery goes on by PRR, which alone makes the window smaller than a segment
-abbrev pub is_reducing : Bool → RecoveryRate → Bool
+abbrev pub is_reducing : Bool → RecoveryAlgorithm → Bool
 is_reducing recovering rate = recovering && is_proportional rate
 
 -- the ranges of the window, the threshold and the counts
@@ -94,10 +94,10 @@ begun settings smss resent = record {
   high_rxt = 0;
   rescue_rxt = 0;
   expired = false;
-  byte_limit = settings.byte_counting;
+  byte_limit = settings.abc_limit;
   follows_expiry = false;
-  restarts_by = restart_rule settings.restart_after_idle settings.initial_window;
-  rate = settings.recovery_rate;
+  restarts_by = restart_rule settings.slow_start_after_idle settings.initial_window;
+  rate = settings.recovery_algorithm;
   reduction = no_reduction;
 }
 
@@ -107,9 +107,9 @@ begun_uses uses = record uses {
   initial_ssthresh = true;
   initial_window = true;
   limited_transmit = true;
-  byte_counting = true;
-  restart_after_idle = true;
-  recovery_rate = true;
+  abc_limit = true;
+  slow_start_after_idle = true;
+  recovery_algorithm = true;
 }
 
 -- a window that grows stays at or below 2^30
@@ -166,19 +166,15 @@ restarted smss idle w = record w {
   follows_expiry = if idle && is_some w.restarts_by then false else w.follows_expiry;
 }
 
--- By PRR (RFC 6937, section 3)
+-- By PRR (RFC 9937, section 6)
 
 -- octets were sent in recovery, which counts where it goes by PRR
 abbrev pub with_out : ℕ → CongView → CongView
 with_out octets w = record w { reduction = if is_proportional w.rate then sent_of octets w.reduction else w.reduction }
 
--- sndcnt, 0 where it would be less: where the pipe is above ssthresh, in proportion to what was delivered; else what ssthresh
--- leaves, within the reduction bound
+-- sndcnt at a pipe
 abbrev pub sndcnt : ℕ → ℕ → CongView → ℕ
-sndcnt smss pipe w =
-    if nat_lt w.ssthresh pipe
-    then proportion w.ssthresh w.reduction - w.reduction.prr_out
-    else min (w.ssthresh - pipe) (bound_by w.rate smss w.reduction)
+sndcnt smss pipe w = sndcnt_of smss pipe w.ssthresh w.reduction
 
 -- an ACK in recovery lets sndcnt octets out: cwnd = pipe + sndcnt, up to 2^30 (own)
 abbrev pub paced : ℕ → ℕ → CongView → CongView
@@ -186,7 +182,7 @@ paced smss pipe w = record w {
   cwnd = if is_reducing w.recovering w.rate then min (pipe + sndcnt smss pipe w) (2 ^ 30) else w.cwnd;
 }
 
--- an entry has sent the segment at una again (RFC 6675, section 5, step 4.3), which counts whatever sndcnt is
+-- an entry has sent the segment at una again (RFC 6675, section 5, step 4.3)
 abbrev pub entered_to : Span → CongView → CongView
 entered_to segment w = with_out (segment.end - segment.start) (record w { high_rxt = segment.end; rescue_rxt = segment.end })
 

@@ -1,9 +1,9 @@
 -- What holds of every state that the rules reach.
-use Rattle.std.specs.Prelude.{◌≡◌, ◌≢◌, ◌↔◌, ◌⊎◌, Some, ℕ, ◌+◌, ◌-◌, ◌*◌, ◌^◌, ◌<◌, ◌≤◌, min, max, Bool, true, false, Option, None, IsSome}
+use Rattle.std.specs.Prelude.{◌≡◌, ◌≢◌, ◌↔◌, Some, ℕ, ◌+◌, ◌-◌, ◌*◌, ◌^◌, ◌<◌, ◌≤◌, min, max, Bool, true, false, Option, None, IsSome}
 use Rattle.pd_seg.specs.declared.sack_blocks.Span.{Span}
 use Rattle.pd_settings.specs.declared.fields.Settings.{Settings}
 use Rattle.pd_settings.specs.declared.initial_window.InitialWindow.{InitialWindow}
-use Rattle.pd_settings.specs.declared.recovery_rate.RecoveryRate.TheVariants.{Pipe, PrrCrb}
+use Rattle.pd_settings.specs.declared.recovery_algorithm.RecoveryAlgorithm.TheVariants.{Rfc6675}
 use Rattle.pd_settings.specs.declared.use_set.UseSet.{UseSet}
 use Rattle.pd_settings.specs.Uses.{Agree}
 use Rattle.pd_board.specs.Choice.{run_at}
@@ -12,9 +12,10 @@ use Rattle.pd_board.specs.Board.{BoardView, IsBoardView}
 use Rattle.pd_recover.specs.declared.segments.NextSegment.{NextSegment}
 use Rattle.pd_recover.specs.declared.segments.NextSegment.TheVariants.{Rescue}
 use Rattle.pd_recover.specs.declared.feedback.Ack.{Ack}
-use Rattle.pd_recover.specs.declared.responses.Then.TheVariants.{StepC, Entry}
-use Rattle.pd_recover.specs.Prr.{is_proportional, no_reduction, begun_with, told_of, sent_of, proportion}
-use Rattle.pd_recover.specs.Acks.{acked}
+use Rattle.pd_recover.specs.declared.feedback.Delivery.{Delivery}
+use Rattle.pd_recover.specs.declared.responses.Then.TheVariants.{StepC, Entry, Nothing}
+use Rattle.pd_recover.specs.Prr.{is_proportional, no_reduction, begun_with, told_of, sent_of, proportion, is_forced}
+use Rattle.pd_recover.specs.Acks.{renewed, acked}
 use Rattle.pd_recover.specs.Choice.{IsSendable, segment_of, new_data, next_send, step_c_segment, noted}
 use Rattle.pd_recover.specs.Cong.{CongView, IsCongView, window_by, begun, begun_uses, is_reducing, limit_of, growth, timed_out, restarted, with_out, sndcnt, paced}
 
@@ -92,39 +93,53 @@ pub record IsAsBefore : Type 0 where
       (smss n : ℕ) (w : CongView) → w.byte_limit ≡ 1 → w.cwnd < w.ssthresh
       → growth smss n w ≡ min n smss
   pub limit :
-      (settings : Settings) (smss : ℕ) (resent : Bool) → settings.byte_counting ≡ 1
+      (settings : Settings) (smss : ℕ) (resent : Bool) → settings.abc_limit ≡ 1
       → (begun settings smss resent).byte_limit ≡ 1
   pub restart :
-      (settings : Settings) (smss : ℕ) (resent : Bool) → settings.restart_after_idle ≡ false
+      (settings : Settings) (smss : ℕ) (resent : Bool) → settings.slow_start_after_idle ≡ false
       → (begun settings smss resent).restarts_by ≡ None
 
--- Proportional Rate Reduction (RFC 6937, section 3)
+-- Proportional Rate Reduction (RFC 9937, section 6)
 
--- in recovery by PRR an ACK lets sndcnt octets out at most. Where the pipe is above ssthresh, they keep prr_out at or below the
--- part of ssthresh that was delivered; else they fill the window up to ssthresh at most. By the conservative bound they keep
--- prr_out at or below prr_delivered (where the pipe is above ssthresh too, if ssthresh isn't above RecoverFS)
+-- whether a segment is forced at a pipe
+abbrev pub forces : ℕ → ℕ → CongView → Bool
+forces smss pipe w = is_forced smss pipe w.ssthresh w.reduction
+
+-- in recovery by PRR an ACK lets sndcnt octets out at most. Where no segment is forced: with the pipe above ssthresh they keep
+-- prr_out at or below the part of ssthresh that was delivered; else they leave the pipe at or below ssthresh, and where
+-- SafeACK fails prr_out is at most the greater of prr_delivered and what it was with DeliveredData. A forced segment is the
+-- first of a recovery
 pub record LetsOutInProportion : Type 0 where
   pub window :
       (smss pipe : ℕ) (w : CongView) → is_reducing w.recovering w.rate ≡ true
       → (paced smss pipe w).cwnd - pipe ≤ sndcnt smss pipe w
   pub proportional :
-      (smss pipe : ℕ) (w : CongView) → w.ssthresh < pipe
+      (smss pipe : ℕ) (w : CongView) → forces smss pipe w ≡ false → w.ssthresh < pipe
       → w.reduction.prr_out + sndcnt smss pipe w ≤ max w.reduction.prr_out (proportion w.ssthresh w.reduction)
-  pub target : (smss pipe : ℕ) (w : CongView) → pipe ≤ w.ssthresh → pipe + sndcnt smss pipe w ≤ w.ssthresh
+  pub target :
+      (smss pipe : ℕ) (w : CongView) → forces smss pipe w ≡ false → pipe ≤ w.ssthresh
+      → pipe + sndcnt smss pipe w ≤ w.ssthresh
   pub conservative :
-      (smss pipe : ℕ) (w : CongView) → w.rate ≡ PrrCrb → IsCongView w
-      → (pipe ≤ w.ssthresh) ⊎ (w.ssthresh ≤ w.reduction.recover_fs)
-      → w.reduction.prr_out + sndcnt smss pipe w ≤ max w.reduction.prr_out w.reduction.prr_delivered
+      (smss pipe : ℕ) (w : CongView) → forces smss pipe w ≡ false → pipe ≤ w.ssthresh → w.reduction.safe_ack ≡ false
+      → w.reduction.prr_out + sndcnt smss pipe w ≤ max w.reduction.prr_delivered (w.reduction.prr_out + w.reduction.delivered_data)
+  pub forced :
+      (smss pipe : ℕ) (w : CongView) → forces smss pipe w ≡ true
+      → (w.reduction.prr_out ≡ 0) × (sndcnt smss pipe w ≡ smss)
 
--- recovery by PRR counts from its entry on: DeliveredData of the ACK that enters, and no octet that was sent before; at its
--- end ssthresh is the window (own), and there and at an expiry nothing of it is left
+-- recovery by PRR counts from its entry on: what the ACK that enters tells, and no octet that was sent before, or sent again;
+-- an ACK that delivers nothing changes nothing (own). At its end ssthresh is the window, and there and at an expiry nothing of it is left
+-- (own)
 pub record CountsRecovery : Type 0 where
   pub entry :
       (ack : Ack) (w : CongView) → (acked ack w).1 ≡ Entry → is_proportional w.rate ≡ true
-      → (acked ack w).0.reduction ≡ told_of ack.delivered (begun_with (ack.top - ack.una))
+      → (acked ack w).0.reduction ≡ told_of ack.delivery (begun_with ack.delivery.recover_fs)
+  pub again : (ack : Ack) (w : CongView) → (acked ack w).1 ≡ Entry → (acked ack w).0.high_rxt ≡ ack.una
   pub each :
       (ack : Ack) (w : CongView) → (acked ack w).1 ≡ StepC → is_proportional w.rate ≡ true
-      → (acked ack w).0.reduction ≡ told_of ack.delivered w.reduction
+      → (acked ack w).0.reduction ≡ told_of ack.delivery w.reduction
+  pub nothing :
+      (ack : Ack) (w : CongView) → IsSome ack.sack → is_reducing w.recovering w.rate ≡ true → ack.una < w.recovery_point
+      → ack.delivery.delivered_data ≡ 0 → acked ack w ≡ (renewed ack w, Nothing)
   pub sent :
       (octets : ℕ) (w : CongView) → is_proportional w.rate ≡ true
       → (with_out octets w).reduction ≡ sent_of octets w.reduction
@@ -133,15 +148,15 @@ pub record CountsRecovery : Type 0 where
       → ((acked ack w).0.cwnd ≡ w.ssthresh) × ((acked ack w).0.reduction ≡ no_reduction)
   pub expired : (smss una top : ℕ) (w : CongView) → (timed_out smss una top w).reduction ≡ no_reduction
 
--- where the setting is `pipe`, nothing is paced or counted, and no ACK does other than without DeliveredData
+-- where the setting is `rfc6675`, nothing is paced or counted, and no ACK does other than by what it acknowledges and SACKs
 pub record IsByPipe : Type 0 where
-  pub begun : (settings : Settings) (smss : ℕ) (resent : Bool) → (begun settings smss resent).rate ≡ settings.recovery_rate
+  pub begun : (settings : Settings) (smss : ℕ) (resent : Bool) → (begun settings smss resent).rate ≡ settings.recovery_algorithm
   pub kept : (ack : Ack) (w : CongView) → (acked ack w).0.rate ≡ w.rate
-  pub paced : (smss pipe : ℕ) (w : CongView) → w.rate ≡ Pipe → paced smss pipe w ≡ w
-  pub sent : (octets : ℕ) (w : CongView) → w.rate ≡ Pipe → with_out octets w ≡ w
+  pub paced : (smss pipe : ℕ) (w : CongView) → w.rate ≡ Rfc6675 → paced smss pipe w ≡ w
+  pub sent : (octets : ℕ) (w : CongView) → w.rate ≡ Rfc6675 → with_out octets w ≡ w
   pub told :
-      (ack : Ack) (octets : ℕ) (w : CongView) → w.rate ≡ Pipe
-      → acked (record ack { delivered = octets }) w ≡ acked ack w
+      (ack : Ack) (delivery : Delivery) (w : CongView) → w.rate ≡ Rfc6675
+      → acked (record ack { delivery = delivery }) w ≡ acked ack w
 
 -- an ACK ends recovery exactly where una reaches RecoveryPoint, if SACK was agreed, and else exactly where it
 -- acknowledges new octets; an expiry always ends it (RFC 6675, section 5; RFC 5681, section 3.2)

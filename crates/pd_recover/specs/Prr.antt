@@ -1,7 +1,8 @@
--- Proportional Rate Reduction: how many octets each ACK in recovery lets out (RFC 6937, section 3). All sizes are in octets.
-use Rattle.std.specs.Prelude.{ℕ, ◌+◌, ◌-◌, ◌*◌, ◌/◌, ◌^◌, ◌≤◌, min, max, Bool, true, false}
-use Rattle.pd_settings.specs.declared.recovery_rate.RecoveryRate.{RecoveryRate}
-use Rattle.pd_settings.specs.declared.recovery_rate.RecoveryRate.TheVariants.{Pipe, Prr}
+-- Proportional Rate Reduction: how many octets each ACK in recovery lets out (RFC 9937, section 6). All sizes are in octets.
+use Rattle.std.specs.Prelude.{ℕ, ◌+◌, ◌-◌, ◌*◌, ◌/◌, ◌^◌, ◌≤◌, ◌==◌, ◌&&◌, nat_lt, min, max, Bool, true, false, if◌then◌else◌}
+use Rattle.pd_settings.specs.declared.recovery_algorithm.RecoveryAlgorithm.{RecoveryAlgorithm}
+use Rattle.pd_settings.specs.declared.recovery_algorithm.RecoveryAlgorithm.TheVariants.{Rfc6675, Rfc9937}
+use Rattle.pd_recover.specs.declared.feedback.Delivery.{Delivery}
 use Rattle.pd_recover.specs.declared.reductions.Reduction.{Reduction}
 
 -- RecoverFS is never 0, and no connection has more than 2^31 octets
@@ -11,21 +12,25 @@ pub record IsReduction (r : Reduction) : Type 0 where
   pub flight_from : 1 ≤ r.recover_fs
 
 -- whether recovery goes by PRR
-abbrev pub is_proportional : RecoveryRate → Bool
-is_proportional Pipe = false
-is_proportional _ = true
+abbrev pub is_proportional : RecoveryAlgorithm → Bool
+is_proportional Rfc6675 = false
+is_proportional Rfc9937 = true
 
 -- no recovery by PRR goes on
 abbrev pub no_reduction : Reduction
-no_reduction = record { prr_delivered = 0; prr_out = 0; recover_fs = 1; delivered_data = 0 }
+no_reduction = record { prr_delivered = 0; prr_out = 0; recover_fs = 1; delivered_data = 0; safe_ack = false }
 
--- the start of loss recovery: RecoverFS is FlightSize, 1 at least
+-- the start of a recovery: prr_delivered = prr_out = 0, and RecoverFS, 1 at least
 abbrev pub begun_with : ℕ → Reduction
-begun_with flight = record { prr_delivered = 0; prr_out = 0; recover_fs = max flight 1; delivered_data = 0 }
+begun_with recover_fs = record { prr_delivered = 0; prr_out = 0; recover_fs = max recover_fs 1; delivered_data = 0; safe_ack = false }
 
 -- an ACK in recovery: prr_delivered += DeliveredData
-abbrev pub told_of : ℕ → Reduction → Reduction
-told_of octets r = record r { prr_delivered = min (r.prr_delivered + octets) (2 ^ 31); delivered_data = octets }
+abbrev pub told_of : Delivery → Reduction → Reduction
+told_of d r = record r {
+  prr_delivered = min (r.prr_delivered + d.delivered_data) (2 ^ 31);
+  delivered_data = d.delivered_data;
+  safe_ack = d.safe_ack;
+}
 
 -- data is sent, or sent again: prr_out += its octets
 abbrev pub sent_of : ℕ → Reduction → Reduction
@@ -35,8 +40,20 @@ sent_of octets r = record r { prr_out = min (r.prr_out + octets) (2 ^ 31) }
 abbrev pub proportion : ℕ → Reduction → ℕ
 proportion ssthresh r = (r.prr_delivered * ssthresh + (r.recover_fs - 1)) / r.recover_fs
 
--- limit: the slow start reduction bound is MAX(prr_delivered - prr_out, DeliveredData) + MSS, the conservative one
--- prr_delivered - prr_out
-abbrev pub bound_by : RecoveryRate → ℕ → Reduction → ℕ
-bound_by Prr smss r = max (r.prr_delivered - r.prr_out) r.delivered_data + smss
-bound_by _ smss r = r.prr_delivered - r.prr_out
+-- the greater of prr_delivered - prr_out and DeliveredData, and SMSS more at a SafeACK
+abbrev pub limit : ℕ → Reduction → ℕ
+limit smss r = max (r.prr_delivered - r.prr_out) r.delivered_data + (if r.safe_ack then smss else 0)
+
+-- sndcnt before a segment is forced: with the pipe above ssthresh, the part of ssthresh less prr_out, 0 where that is more
+-- (own); else the limit, up to ssthresh - pipe
+abbrev pub unforced : ℕ → ℕ → ℕ → Reduction → ℕ
+unforced smss pipe ssthresh r =
+    if nat_lt ssthresh pipe then proportion ssthresh r - r.prr_out else min (ssthresh - pipe) (limit smss r)
+
+-- a segment is forced where nothing was sent in this recovery and nothing would be
+abbrev pub is_forced : ℕ → ℕ → ℕ → Reduction → Bool
+is_forced smss pipe ssthresh r = r.prr_out == 0 && unforced smss pipe ssthresh r == 0
+
+-- sndcnt: how many octets an ACK lets out, SMSS where a segment is forced
+abbrev pub sndcnt_of : ℕ → ℕ → ℕ → Reduction → ℕ
+sndcnt_of smss pipe ssthresh r = if is_forced smss pipe ssthresh r then smss else unforced smss pipe ssthresh r

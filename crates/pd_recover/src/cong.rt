@@ -1,14 +1,14 @@
 //! The congestion window and what loss recovery keeps.
 ghost use Rattle.std.specs.Prelude.{◌≡◌, ◌-◌, ◌<◌, ◌≤◌, ◌^◌};
 ghost use Rattle.pd_recover.specs.Cong.{IsCongView, first_segments, window_by, first_window, restart_rule, begun, begun_uses, timed_out, restarted, entered_to, with_limited, is_reducing, with_out, sndcnt, paced};
-ghost use Rattle.pd_recover.specs.Prr.{is_proportional};
+ghost use Rattle.pd_recover.specs.Prr.{is_proportional, unforced};
 
 mod acks;
 mod choice;
 
 use crate::reductions::Reduction;
 use pd_seg::Span;
-use pd_settings::{InitialWindow, RecoveryRate, Settings, UseSet};
+use pd_settings::{InitialWindow, RecoveryAlgorithm, Settings, UseSet};
 use std::alloc::AllocError;
 use std::marker::Model;
 
@@ -23,7 +23,7 @@ const MAX_OCTETS: u32 = 0x8000_0000;
 /// No call takes memory.
 pub struct Cong {
     /// cwnd, the congestion window, in octets: 1 to 2^31 (RFC 5681, section 3.1), from 0 on where recovery goes on by PRR
-    /// (RFC 6937, section 3).
+    /// (RFC 9937, section 6).
     cwnd: u32,
     /// ssthresh, the slow start threshold, in octets: 1 to 2^30 (RFC 5681, section 3.1).
     ssthresh: u32,
@@ -50,9 +50,9 @@ pub struct Cong {
     follows_expiry: bool,
     /// The rule for IW, where the window restarts by it after an idle time (RFC 5681, section 4.1).
     restarts_by: Option<InitialWindow>,
-    /// What paces recovery with SACK (RFC 6675, section 5; RFC 6937, section 3).
-    rate: RecoveryRate,
-    /// What PRR keeps of a recovery with SACK (RFC 6937, section 3).
+    /// The algorithm of recovery with SACK (RFC 6675, section 5; RFC 9937, section 6).
+    rate: RecoveryAlgorithm,
+    /// What PRR keeps of a recovery with SACK (RFC 9937, section 6).
     reduction: Reduction,
 }
 
@@ -143,10 +143,10 @@ impl Cong {
             high_rxt: 0,
             rescue_rxt: 0,
             expired: false,
-            byte_limit: settings.byte_counting,
+            byte_limit: settings.abc_limit,
             follows_expiry: false,
-            restarts_by: restart_rule(settings.restart_after_idle, settings.initial_window),
-            rate: settings.recovery_rate,
+            restarts_by: restart_rule(settings.slow_start_after_idle, settings.initial_window),
+            rate: settings.recovery_algorithm,
             reduction: Reduction::NONE,
         }
     }
@@ -159,9 +159,9 @@ impl Cong {
             initial_ssthresh: true,
             initial_window: true,
             limited_transmit: true,
-            byte_counting: true,
-            restart_after_idle: true,
-            recovery_rate: true,
+            abc_limit: true,
+            slow_start_after_idle: true,
+            recovery_algorithm: true,
             ..uses
         }
     }
@@ -257,8 +257,8 @@ impl Cong {
         }
     }
 
-    /// What paces recovery with SACK.
-    pub fn rate(&self) -> RecoveryRate
+    /// The algorithm of recovery with SACK.
+    pub fn rate(&self) -> RecoveryAlgorithm
         ensures { result ≡ self.now.rate }
     {
         self.rate
@@ -276,8 +276,8 @@ impl Cong {
         ensures { result ≡ is_proportional self.now.rate }
     {
         match self.rate {
-            RecoveryRate::Pipe => false,
-            RecoveryRate::Prr | RecoveryRate::PrrCrb => true,
+            RecoveryAlgorithm::Rfc6675 => false,
+            RecoveryAlgorithm::Rfc9937 => true,
         }
     }
 
@@ -301,9 +301,22 @@ impl Cong {
         }
     }
 
-    /// How many octets an ACK in recovery lets out, with this SMSS and pipe, in octets (RFC 6937, section 3).
+    /// sndcnt: how many octets an ACK in recovery lets out, with this SMSS and pipe, in octets (RFC 9937, section 6). Where
+    /// nothing was sent and nothing would be, one segment is forced.
     fn sndcnt(&self, smss: u16, pipe: u32) -> u64
         ensures { result ≡ sndcnt smss pipe self.now }
+    {
+        let octets = self.unforced(smss, pipe);
+        if self.reduction.prr_out == 0 && octets == 0 {
+            u64::from(smss)
+        } else {
+            octets
+        }
+    }
+
+    /// sndcnt before a segment is forced.
+    fn unforced(&self, smss: u16, pipe: u32) -> u64
+        ensures { result ≡ unforced smss pipe self.now.ssthresh self.now.reduction }
     {
         if pipe > self.ssthresh {
             return self
@@ -311,7 +324,7 @@ impl Cong {
                 .proportion(self.ssthresh)
                 .saturating_sub(u64::from(self.reduction.prr_out));
         }
-        u64::from(self.ssthresh - pipe).min(self.reduction.bound(self.rate, smss))
+        u64::from(self.ssthresh - pipe).min(self.reduction.limit(smss))
     }
 
     /// Whether recovery goes on by PRR, where `pace` sets the window. Without SACK nothing calls it.
@@ -321,7 +334,8 @@ impl Cong {
         self.recovering && self.is_proportional()
     }
 
-    /// An ACK in recovery with SACK, with this SMSS and pipe in octets: by PRR it sets the window (RFC 6937, section 3).
+    /// An ACK in recovery with SACK, with this SMSS and pipe in octets: by PRR it sets the window, before anything is sent (RFC
+    /// 9937, section 6).
     pub fn pace(&mut self, smss: u16, pipe: u32)
         ensures { self.new ≡ paced smss pipe self.old }
     {

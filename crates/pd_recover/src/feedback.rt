@@ -16,14 +16,26 @@ pub struct Ack {
     pub rwnd: u32,
     /// How many octets the ACK acknowledges that weren't acknowledged.
     pub acked: u32,
-    /// DeliveredData: how many octets it tells to have reached the peer, acknowledged or SACKed (RFC 6937, section 3).
-    pub delivered: u32,
+    /// What it tells to have reached the peer.
+    pub delivery: Delivery,
     /// Whether its window is the one before it.
     pub same_window: bool,
     /// Whether a FIN came with it.
     pub fin: bool,
     /// What its blocks tell, where SACK was agreed.
     pub sack: Option<News>,
+}
+
+/// What an ACK tells to have reached the peer, as Proportional Rate Reduction counts it (RFC 9937, section 6). Sizes are in
+/// octets.
+#[derive(Clone, Copy)]
+pub struct Delivery {
+    /// DeliveredData: how many octets are acknowledged or SACKed that weren't before it.
+    pub delivered_data: u32,
+    /// RecoverFS, where recovery begins with it: how many octets were outstanding and not SACKed before it.
+    pub recover_fs: u32,
+    /// SafeACK: SND.UNA has advanced, and no octet counts as lost that didn't before it.
+    pub safe_ack: bool,
 }
 
 /// What the SACK blocks of an ACK tell.

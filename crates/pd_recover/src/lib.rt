@@ -9,7 +9,7 @@ mod responses;
 mod segments;
 
 pub use cong::Cong;
-pub use feedback::{Ack, News};
+pub use feedback::{Ack, Delivery, News};
 pub use laws::recovery_is_lawful;
 pub use reductions::Reduction;
 pub use responses::Then;

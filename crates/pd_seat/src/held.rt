@@ -1,5 +1,5 @@
 //! What callers share: a book, and the seat that made each of its acts.
-ghost use Rattle.std.specs.Prelude.{◌≡◌, ◌≢◌, ◌↔◌, ◌≤◌, true, [], is_some, option_map, IsTrue, IfOk, IfSome, IfNone, OnOk, OnErr, IsSomeAnd, Err, None};
+ghost use Rattle.std.specs.Prelude.{◌≡◌, ◌≢◌, ◌↔◌, ◌≤◌, true, [], length, is_some, option_map, IsTrue, IfOk, IfSome, IfNone, OnOk, OnErr, IsSomeAnd, Err, None};
 ghost use Rattle.pd_settings.specs.Keys.{key_named};
 ghost use Rattle.pd_book.specs.Acts.{next, job, present};
 ghost use Rattle.pd_book.specs.Refusals.{next_job};
@@ -301,8 +301,10 @@ impl Held {
 
     /// Whether the acts noted with the seat's number are its own, and the history is no shorter than one of which it was
     /// shown a report.
-    fn agrees(&self, seat: &Seat) -> bool
-        ensures { IsTrue result ↔ Agrees self.now seat.now }
+    pub fn agrees(&self, seat: &Seat) -> bool
+        ensures compared { IsTrue result ↔ Agrees self.now seat.now }
+        ensures legal { Legal self.now.book.story.opening self.now.book.story.past }
+        ensures noted { length self.now.notes ≡ length self.now.book.story.past }
     {
         seat.longest <= self.notes.len() && is_own(seat, self.notes.as_slice(), self.book.history())
     }

@@ -9,8 +9,8 @@ use Rattle.std.proofs.lemmas.Bool.{and_parts, and_from}
 use Rattle.pd_settings.specs.declared.fields.Settings.{Settings}
 use Rattle.pd_settings.specs.declared.initial_window.InitialWindow.{InitialWindow}
 use Rattle.pd_settings.specs.declared.initial_window.InitialWindow.TheVariants.{Rfc5681, Rfc6928}
-use Rattle.pd_settings.specs.declared.recovery_rate.RecoveryRate.{RecoveryRate}
-use Rattle.pd_settings.specs.declared.recovery_rate.RecoveryRate.TheVariants.{Pipe, Prr, PrrCrb}
+use Rattle.pd_settings.specs.declared.recovery_algorithm.RecoveryAlgorithm.{RecoveryAlgorithm}
+use Rattle.pd_settings.specs.declared.recovery_algorithm.RecoveryAlgorithm.TheVariants.{Rfc6675, Rfc9937}
 use Rattle.pd_settings.specs.declared.keys.Key.{Key}
 use Rattle.pd_settings.specs.declared.use_set.UseSet.{UseSet}
 use Rattle.pd_settings.specs.declared.values.Value.{Value}
@@ -30,10 +30,9 @@ same_window Rfc6928 Rfc6928 e = refl
 same_window Rfc5681 Rfc6928 e = absurd cc
 same_window Rfc6928 Rfc5681 e = absurd cc
 
-same_rate : (a b : RecoveryRate) → is_same_rate a b ≡ true → a ≡ b
-same_rate Pipe Pipe e = refl
-same_rate Prr Prr e = refl
-same_rate PrrCrb PrrCrb e = refl
+same_rate : (a b : RecoveryAlgorithm) → is_same_rate a b ≡ true → a ≡ b
+same_rate Rfc6675 Rfc6675 e = refl
+same_rate Rfc9937 Rfc9937 e = refl
 same_rate _ _ e = absurd cc
 
 same_value : (a b : Value) → is_same_value a b ≡ true → a ≡ b
@@ -48,10 +47,9 @@ window_same : (a : InitialWindow) → is_same_window a a ≡ true
 window_same Rfc5681 = refl
 window_same Rfc6928 = refl
 
-rate_same : (a : RecoveryRate) → is_same_rate a a ≡ true
-rate_same Pipe = refl
-rate_same Prr = refl
-rate_same PrrCrb = refl
+rate_same : (a : RecoveryAlgorithm) → is_same_rate a a ≡ true
+rate_same Rfc6675 = refl
+rate_same Rfc9937 = refl
 
 value_same : (a : Value) → is_same_value a a ≡ true
 value_same (Number a) = (Decides-eqb a a).1 refl

@@ -1,7 +1,7 @@
 -- Values are equal where what they hold is.
 use Rattle.std.proofs.Common.{◌≡◌, ℕ, Bool}
 use Rattle.pd_settings.specs.declared.initial_window.InitialWindow.{InitialWindow}
-use Rattle.pd_settings.specs.declared.recovery_rate.RecoveryRate.{RecoveryRate}
+use Rattle.pd_settings.specs.declared.recovery_algorithm.RecoveryAlgorithm.{RecoveryAlgorithm}
 use Rattle.pd_settings.specs.declared.values.Value.TheVariants.{Number, Truth, Word, Rate}
 
 pub number_of : {a b : ℕ} → Number a ≡ Number b → a ≡ b
@@ -13,5 +13,5 @@ truth_of e = cc
 pub rule_of : {a b : InitialWindow} → Word a ≡ Word b → a ≡ b
 rule_of e = cc
 
-pub rate_of : {a b : RecoveryRate} → Rate a ≡ Rate b → a ≡ b
+pub rate_of : {a b : RecoveryAlgorithm} → Rate a ≡ Rate b → a ≡ b
 rate_of e = cc

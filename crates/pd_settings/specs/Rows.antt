@@ -4,8 +4,8 @@ use Rattle.pd_settings.specs.declared.domains.Domain.{Domain}
 use Rattle.pd_settings.specs.declared.domains.Domain.TheVariants.{Numbers, Truths, Windows, Rates}
 use Rattle.pd_settings.specs.declared.initial_window.InitialWindow.TheVariants.{Rfc5681}
 use Rattle.pd_settings.specs.declared.keys.Key.{Key}
-use Rattle.pd_settings.specs.declared.keys.Key.TheVariants.{Mss, Sack, Wscale, Sndbuf, RcvWnd, InitialSsthresh, InitialWindow, MinRtoUs, MaxRtoUs, GranularityUs, Nagle, LimitedTransmit, ByteCounting, RestartAfterIdle, RecoveryRate, ToleranceUs}
-use Rattle.pd_settings.specs.declared.recovery_rate.RecoveryRate.TheVariants.{Pipe}
+use Rattle.pd_settings.specs.declared.keys.Key.TheVariants.{Mss, Sack, Wscale, Sndbuf, RcvWnd, InitialSsthresh, InitialWindow, MinRtoUs, MaxRtoUs, GranularityUs, Nagle, LimitedTransmit, AbcLimit, SlowStartAfterIdle, RecoveryAlgorithm, ToleranceUs}
+use Rattle.pd_settings.specs.declared.recovery_algorithm.RecoveryAlgorithm.TheVariants.{Rfc6675}
 use Rattle.pd_settings.specs.declared.values.Value.{Value}
 use Rattle.pd_settings.specs.declared.values.Value.TheVariants.{Number, Truth, Word, Rate}
 
@@ -18,7 +18,7 @@ pub record Row : Type 0 where
 
 -- the settings in the order of their table
 abbrev pub all_keys : List Key
-all_keys = Mss ∷ Sack ∷ Wscale ∷ Sndbuf ∷ RcvWnd ∷ InitialSsthresh ∷ InitialWindow ∷ MinRtoUs ∷ MaxRtoUs ∷ GranularityUs ∷ Nagle ∷ LimitedTransmit ∷ ByteCounting ∷ RestartAfterIdle ∷ RecoveryRate ∷ ToleranceUs ∷ []
+all_keys = Mss ∷ Sack ∷ Wscale ∷ Sndbuf ∷ RcvWnd ∷ InitialSsthresh ∷ InitialWindow ∷ MinRtoUs ∷ MaxRtoUs ∷ GranularityUs ∷ Nagle ∷ LimitedTransmit ∷ AbcLimit ∷ SlowStartAfterIdle ∷ RecoveryAlgorithm ∷ ToleranceUs ∷ []
 
 -- the row of each; docs/SETTINGS.md says what each changes
 abbrev pub row_of : Key → Row
@@ -34,7 +34,7 @@ row_of MaxRtoUs = record { name = codes "max_rto_us"; takes = Numbers 60000000 3
 row_of GranularityUs = record { name = codes "granularity_us"; takes = Numbers 1 1000000; unit = codes "microseconds"; unset = Number 1000 }
 row_of Nagle = record { name = codes "nagle"; takes = Truths; unit = []; unset = Truth true }
 row_of LimitedTransmit = record { name = codes "limited_transmit"; takes = Truths; unit = []; unset = Truth true }
-row_of ByteCounting = record { name = codes "byte_counting"; takes = Numbers 1 8; unit = codes "segments"; unset = Number 1 }
-row_of RestartAfterIdle = record { name = codes "restart_after_idle"; takes = Truths; unit = []; unset = Truth false }
-row_of RecoveryRate = record { name = codes "recovery_rate"; takes = Rates; unit = []; unset = Rate Pipe }
+row_of AbcLimit = record { name = codes "abc_limit"; takes = Numbers 1 8; unit = codes "segments"; unset = Number 1 }
+row_of SlowStartAfterIdle = record { name = codes "slow_start_after_idle"; takes = Truths; unit = []; unset = Truth false }
+row_of RecoveryAlgorithm = record { name = codes "recovery_algorithm"; takes = Rates; unit = []; unset = Rate Rfc6675 }
 row_of ToleranceUs = record { name = codes "tolerance_us"; takes = Numbers 0 1000000; unit = codes "microseconds"; unset = Number 4000 }

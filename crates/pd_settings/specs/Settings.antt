@@ -8,9 +8,9 @@ use Rattle.pd_settings.specs.declared.fields.Settings.{Settings}
 use Rattle.pd_settings.specs.declared.initial_window.InitialWindow.{InitialWindow as Window}
 use Rattle.pd_settings.specs.declared.initial_window.InitialWindow.TheVariants.{Rfc5681}
 use Rattle.pd_settings.specs.declared.keys.Key.{Key}
-use Rattle.pd_settings.specs.declared.keys.Key.TheVariants.{Mss, Sack, Wscale, Sndbuf, RcvWnd, InitialSsthresh, InitialWindow, MinRtoUs, MaxRtoUs, GranularityUs, Nagle, LimitedTransmit, ByteCounting, RestartAfterIdle, RecoveryRate, ToleranceUs}
-use Rattle.pd_settings.specs.declared.recovery_rate.RecoveryRate.{RecoveryRate as Pace}
-use Rattle.pd_settings.specs.declared.recovery_rate.RecoveryRate.TheVariants.{Pipe}
+use Rattle.pd_settings.specs.declared.keys.Key.TheVariants.{Mss, Sack, Wscale, Sndbuf, RcvWnd, InitialSsthresh, InitialWindow, MinRtoUs, MaxRtoUs, GranularityUs, Nagle, LimitedTransmit, AbcLimit, SlowStartAfterIdle, RecoveryAlgorithm, ToleranceUs}
+use Rattle.pd_settings.specs.declared.recovery_algorithm.RecoveryAlgorithm.{RecoveryAlgorithm as Pace}
+use Rattle.pd_settings.specs.declared.recovery_algorithm.RecoveryAlgorithm.TheVariants.{Rfc6675}
 use Rattle.pd_settings.specs.declared.values.Value.{Value}
 use Rattle.pd_settings.specs.declared.values.Value.TheVariants.{Number, Truth, Word, Rate}
 use Rattle.pd_settings.specs.Keys.{Takes, key_named, domain_of, default_of, value_taken}
@@ -30,7 +30,7 @@ word_in _ = Rfc5681
 
 abbrev pub rate_in : Value → Pace
 rate_in (Rate r) = r
-rate_in _ = Pipe
+rate_in _ = Rfc6675
 
 -- a value that a range takes is one of its numbers
 abbrev pub in_range : (least greatest : ℕ) (v : Value) → Takes (Numbers least greatest) v → Takes (Numbers least greatest) (Number (number_in v))
@@ -52,9 +52,9 @@ defaults = record {
   granularity_us = number_in (default_of GranularityUs);
   nagle = truth_in (default_of Nagle);
   limited_transmit = truth_in (default_of LimitedTransmit);
-  byte_counting = number_in (default_of ByteCounting);
-  restart_after_idle = truth_in (default_of RestartAfterIdle);
-  recovery_rate = rate_in (default_of RecoveryRate);
+  abc_limit = number_in (default_of AbcLimit);
+  slow_start_after_idle = truth_in (default_of SlowStartAfterIdle);
+  recovery_algorithm = rate_in (default_of RecoveryAlgorithm);
   tolerance_us = number_in (default_of ToleranceUs);
   mss_in_range = (lit≤ tt, lit≤ tt);
   wscale_in_range = (lit≤ tt, lit≤ tt);
@@ -64,7 +64,7 @@ defaults = record {
   min_rto_us_in_range = (lit≤ tt, lit≤ tt);
   max_rto_us_in_range = (lit≤ tt, lit≤ tt);
   granularity_us_in_range = (lit≤ tt, lit≤ tt);
-  byte_counting_in_range = (lit≤ tt, lit≤ tt);
+  abc_limit_in_range = (lit≤ tt, lit≤ tt);
   tolerance_us_in_range = (lit≤ tt, lit≤ tt);
 }
 
@@ -82,9 +82,9 @@ value_at s MaxRtoUs = Number s.max_rto_us
 value_at s GranularityUs = Number s.granularity_us
 value_at s Nagle = Truth s.nagle
 value_at s LimitedTransmit = Truth s.limited_transmit
-value_at s ByteCounting = Number s.byte_counting
-value_at s RestartAfterIdle = Truth s.restart_after_idle
-value_at s RecoveryRate = Rate s.recovery_rate
+value_at s AbcLimit = Number s.abc_limit
+value_at s SlowStartAfterIdle = Truth s.slow_start_after_idle
+value_at s RecoveryAlgorithm = Rate s.recovery_algorithm
 value_at s ToleranceUs = Number s.tolerance_us
 
 -- it is a value that the key takes
@@ -97,7 +97,7 @@ held s InitialSsthresh = s.initial_ssthresh_in_range
 held s MinRtoUs = s.min_rto_us_in_range
 held s MaxRtoUs = s.max_rto_us_in_range
 held s GranularityUs = s.granularity_us_in_range
-held s ByteCounting = s.byte_counting_in_range
+held s AbcLimit = s.abc_limit_in_range
 held s ToleranceUs = s.tolerance_us_in_range
 held s _ = tt
 
@@ -120,9 +120,9 @@ put s MaxRtoUs v h = record s { max_rto_us = number_in v; max_rto_us_in_range = 
 put s GranularityUs v h = record s { granularity_us = number_in v; granularity_us_in_range = in_range _ _ v h }
 put s Nagle v h = record s { nagle = truth_in v }
 put s LimitedTransmit v h = record s { limited_transmit = truth_in v }
-put s ByteCounting v h = record s { byte_counting = number_in v; byte_counting_in_range = in_range _ _ v h }
-put s RestartAfterIdle v h = record s { restart_after_idle = truth_in v }
-put s RecoveryRate v h = record s { recovery_rate = rate_in v }
+put s AbcLimit v h = record s { abc_limit = number_in v; abc_limit_in_range = in_range _ _ v h }
+put s SlowStartAfterIdle v h = record s { slow_start_after_idle = truth_in v }
+put s RecoveryAlgorithm v h = record s { recovery_algorithm = rate_in v }
 put s ToleranceUs v h = record s { tolerance_us = number_in v; tolerance_us_in_range = in_range _ _ v h }
 
 -- the same where the key takes the value; else None

@@ -6,9 +6,9 @@ use Rattle.pd_settings.specs.declared.fields.Settings.{Settings}
 use Rattle.pd_settings.specs.declared.initial_window.InitialWindow.{InitialWindow as Window}
 use Rattle.pd_settings.specs.declared.initial_window.InitialWindow.TheVariants.{Rfc5681, Rfc6928}
 use Rattle.pd_settings.specs.declared.keys.Key.{Key}
-use Rattle.pd_settings.specs.declared.keys.Key.TheVariants.{Mss, Sack, Wscale, Sndbuf, RcvWnd, InitialSsthresh, InitialWindow, MinRtoUs, MaxRtoUs, GranularityUs, Nagle, LimitedTransmit, ByteCounting, RestartAfterIdle, RecoveryRate, ToleranceUs}
-use Rattle.pd_settings.specs.declared.recovery_rate.RecoveryRate.{RecoveryRate as Pace}
-use Rattle.pd_settings.specs.declared.recovery_rate.RecoveryRate.TheVariants.{Pipe, Prr, PrrCrb}
+use Rattle.pd_settings.specs.declared.keys.Key.TheVariants.{Mss, Sack, Wscale, Sndbuf, RcvWnd, InitialSsthresh, InitialWindow, MinRtoUs, MaxRtoUs, GranularityUs, Nagle, LimitedTransmit, AbcLimit, SlowStartAfterIdle, RecoveryAlgorithm, ToleranceUs}
+use Rattle.pd_settings.specs.declared.recovery_algorithm.RecoveryAlgorithm.{RecoveryAlgorithm as Pace}
+use Rattle.pd_settings.specs.declared.recovery_algorithm.RecoveryAlgorithm.TheVariants.{Rfc6675, Rfc9937}
 use Rattle.pd_settings.specs.declared.use_set.UseSet.{UseSet}
 use Rattle.pd_settings.specs.declared.values.Value.{Value}
 use Rattle.pd_settings.specs.declared.values.Value.TheVariants.{Number, Truth, Word, Rate, Other}
@@ -29,9 +29,9 @@ has uses MaxRtoUs = uses.max_rto_us
 has uses GranularityUs = uses.granularity_us
 has uses Nagle = uses.nagle
 has uses LimitedTransmit = uses.limited_transmit
-has uses ByteCounting = uses.byte_counting
-has uses RestartAfterIdle = uses.restart_after_idle
-has uses RecoveryRate = uses.recovery_rate
+has uses AbcLimit = uses.abc_limit
+has uses SlowStartAfterIdle = uses.slow_start_after_idle
+has uses RecoveryAlgorithm = uses.recovery_algorithm
 has uses ToleranceUs = uses.tolerance_us
 
 -- no setting was consulted
@@ -49,9 +49,9 @@ no_uses = record {
   granularity_us = false;
   nagle = false;
   limited_transmit = false;
-  byte_counting = false;
-  restart_after_idle = false;
-  recovery_rate = false;
+  abc_limit = false;
+  slow_start_after_idle = false;
+  recovery_algorithm = false;
   tolerance_us = false;
 }
 
@@ -71,9 +71,8 @@ is_same_window _ _ = false
 
 -- two rules for the rate of loss recovery are
 abbrev pub is_same_rate : Pace → Pace → Bool
-is_same_rate Pipe Pipe = true
-is_same_rate Prr Prr = true
-is_same_rate PrrCrb PrrCrb = true
+is_same_rate Rfc6675 Rfc6675 = true
+is_same_rate Rfc9937 Rfc9937 = true
 is_same_rate _ _ = false
 
 -- two values are

@@ -3,8 +3,8 @@ use Rattle.std.specs.Prelude.{codes, ℕ, List, [], ◌∷◌, Option, Some, Non
 use Rattle.std.specs.Str.{bytes_eq}
 use Rattle.pd_settings.specs.declared.initial_window.InitialWindow.{InitialWindow}
 use Rattle.pd_settings.specs.declared.initial_window.InitialWindow.TheVariants.{Rfc5681, Rfc6928}
-use Rattle.pd_settings.specs.declared.recovery_rate.RecoveryRate.{RecoveryRate}
-use Rattle.pd_settings.specs.declared.recovery_rate.RecoveryRate.TheVariants.{Pipe, Prr, PrrCrb}
+use Rattle.pd_settings.specs.declared.recovery_algorithm.RecoveryAlgorithm.{RecoveryAlgorithm}
+use Rattle.pd_settings.specs.declared.recovery_algorithm.RecoveryAlgorithm.TheVariants.{Rfc6675, Rfc9937}
 use Rattle.pd_settings.specs.declared.values.Value.{Value}
 use Rattle.pd_settings.specs.declared.values.Value.TheVariants.{Word, Rate, Other}
 
@@ -18,17 +18,16 @@ abbrev pub window_named : List ℕ → Option InitialWindow
 window_named word = find (λ window. bytes_eq (word_for window) word) (Rfc5681 ∷ Rfc6928 ∷ [])
 
 -- the word that a rule for the rate of loss recovery is written by
-abbrev pub rate_word : RecoveryRate → List ℕ
-rate_word Pipe = codes "pipe"
-rate_word Prr = codes "prr"
-rate_word PrrCrb = codes "prr_crb"
+abbrev pub rate_word : RecoveryAlgorithm → List ℕ
+rate_word Rfc6675 = codes "rfc6675"
+rate_word Rfc9937 = codes "rfc9937"
 
 -- the rule of a word
-abbrev pub rate_named : List ℕ → Option RecoveryRate
-rate_named word = find (λ rate. bytes_eq (rate_word rate) word) (Pipe ∷ Prr ∷ PrrCrb ∷ [])
+abbrev pub rate_named : List ℕ → Option RecoveryAlgorithm
+rate_named word = find (λ rate. bytes_eq (rate_word rate) word) (Rfc6675 ∷ Rfc9937 ∷ [])
 
 -- what such a rule says as a value; a word that no setting takes is neither
-abbrev pub rate_for : Option RecoveryRate → Value
+abbrev pub rate_for : Option RecoveryAlgorithm → Value
 rate_for None = Other
 rate_for (Some rate) = Rate rate
 

@@ -22,9 +22,9 @@ impl Settings {
     {
         let mut same = true;
         same = (self.tolerance_us == other.tolerance_us) & same;
-        same = (self.recovery_rate == other.recovery_rate) & same;
-        same = (self.restart_after_idle == other.restart_after_idle) & same;
-        same = (self.byte_counting == other.byte_counting) & same;
+        same = (self.recovery_algorithm == other.recovery_algorithm) & same;
+        same = (self.slow_start_after_idle == other.slow_start_after_idle) & same;
+        same = (self.abc_limit == other.abc_limit) & same;
         same = (self.limited_transmit == other.limited_transmit) & same;
         same = (self.nagle == other.nagle) & same;
         same = (self.granularity_us == other.granularity_us) & same;

@@ -1,13 +1,13 @@
 //! The settings themselves.
 ghost use Rattle.std.specs.Prelude.{◌≡◌, ◌↔◌, IsSome, IfSome, MatchResult};
 ghost use Rattle.pd_settings.specs.Keys.{Takes, domain_of};
-ghost use Rattle.pd_settings.specs.declared.keys.Key.TheVariants.{Mss, Wscale, Sndbuf, RcvWnd, InitialSsthresh, MinRtoUs, MaxRtoUs, GranularityUs, ByteCounting, ToleranceUs};
+ghost use Rattle.pd_settings.specs.declared.keys.Key.TheVariants.{Mss, Wscale, Sndbuf, RcvWnd, InitialSsthresh, MinRtoUs, MaxRtoUs, GranularityUs, AbcLimit, ToleranceUs};
 ghost use Rattle.pd_settings.specs.declared.values.Value.TheVariants.{Number, Truth, Word, Rate};
 
 use crate::faults::SettingsFault;
 use crate::initial_window::InitialWindow;
 use crate::keys::Key;
-use crate::recovery_rate::RecoveryRate;
+use crate::recovery_algorithm::RecoveryAlgorithm;
 use crate::values::Value;
 use toml::Table;
 
@@ -40,11 +40,11 @@ pub struct Settings {
     /// Whether the first duplicates send new data (RFC 3042).
     pub limited_transmit: bool,
     /// L, how many segments an ACK widens the window by at most in slow start (RFC 3465, sections 2.2 and 2.3): 1 to 8.
-    pub byte_counting: u8,
+    pub abc_limit: u8,
     /// Whether an idle connection begins again with the restart window (RFC 5681, section 4.1).
-    pub restart_after_idle: bool,
-    /// What paces loss recovery with SACK (RFC 6675, section 5; RFC 6937, section 3).
-    pub recovery_rate: RecoveryRate,
+    pub slow_start_after_idle: bool,
+    /// The algorithm of loss recovery with SACK (RFC 6675, section 5; RFC 9937, section 6).
+    pub recovery_algorithm: RecoveryAlgorithm,
     /// How far a packet's time may lie outside the written one, in microseconds, where the script's header
     /// doesn't say (packetdrill's `--tolerance_usecs`): 0 to 1,000,000.
     pub tolerance_us: u64,
@@ -56,7 +56,7 @@ pub struct Settings {
     pub ghost min_rto_us_in_range: { Takes (domain_of MinRtoUs) (Number min_rto_us) },
     pub ghost max_rto_us_in_range: { Takes (domain_of MaxRtoUs) (Number max_rto_us) },
     pub ghost granularity_us_in_range: { Takes (domain_of GranularityUs) (Number granularity_us) },
-    pub ghost byte_counting_in_range: { Takes (domain_of ByteCounting) (Number byte_counting) },
+    pub ghost abc_limit_in_range: { Takes (domain_of AbcLimit) (Number abc_limit) },
     pub ghost tolerance_us_in_range: { Takes (domain_of ToleranceUs) (Number tolerance_us) },
 }
 
@@ -92,9 +92,9 @@ impl Settings {
             granularity_us: 1_000,
             nagle: true,
             limited_transmit: true,
-            byte_counting: 1,
-            restart_after_idle: false,
-            recovery_rate: RecoveryRate::Pipe,
+            abc_limit: 1,
+            slow_start_after_idle: false,
+            recovery_algorithm: RecoveryAlgorithm::Rfc6675,
             tolerance_us: 4_000,
         }
     }
@@ -125,9 +125,9 @@ impl Settings {
             Key::GranularityUs => Value::Number(self.granularity_us),
             Key::Nagle => Value::Truth(self.nagle),
             Key::LimitedTransmit => Value::Truth(self.limited_transmit),
-            Key::ByteCounting => Value::Number(u64::from(self.byte_counting)),
-            Key::RestartAfterIdle => Value::Truth(self.restart_after_idle),
-            Key::RecoveryRate => Value::Rate(self.recovery_rate),
+            Key::AbcLimit => Value::Number(u64::from(self.abc_limit)),
+            Key::SlowStartAfterIdle => Value::Truth(self.slow_start_after_idle),
+            Key::RecoveryAlgorithm => Value::Rate(self.recovery_algorithm),
             Key::ToleranceUs => Value::Number(self.tolerance_us),
         }
     }
@@ -178,13 +178,13 @@ impl Settings {
             Key::MinRtoUs => with_field!(self, min_rto_us, number),
             Key::MaxRtoUs => with_field!(self, max_rto_us, number),
             Key::GranularityUs => with_field!(self, granularity_us, number),
-            Key::ByteCounting => with_field!(self, byte_counting, number as u8),
+            Key::AbcLimit => with_field!(self, abc_limit, number as u8),
             Key::ToleranceUs => with_field!(self, tolerance_us, number),
             Key::Sack
             | Key::Nagle
             | Key::LimitedTransmit
-            | Key::RestartAfterIdle
-            | Key::RecoveryRate
+            | Key::SlowStartAfterIdle
+            | Key::RecoveryAlgorithm
             | Key::InitialWindow => None,
         }
     }
@@ -196,7 +196,7 @@ impl Settings {
             Key::Sack => with_field!(self, sack, truth),
             Key::Nagle => with_field!(self, nagle, truth),
             Key::LimitedTransmit => with_field!(self, limited_transmit, truth),
-            Key::RestartAfterIdle => with_field!(self, restart_after_idle, truth),
+            Key::SlowStartAfterIdle => with_field!(self, slow_start_after_idle, truth),
             _ => None,
         }
     }
@@ -210,11 +210,11 @@ impl Settings {
         }
     }
 
-    fn replace_rate(&self, key: Key, rate: RecoveryRate) -> Option<Settings>
+    fn replace_rate(&self, key: Key, rate: RecoveryAlgorithm) -> Option<Settings>
         ensures { result ≡ replaced self.now key (Rate rate) }
     {
         match key {
-            Key::RecoveryRate => with_field!(self, recovery_rate, rate),
+            Key::RecoveryAlgorithm => with_field!(self, recovery_algorithm, rate),
             _ => None,
         }
     }

@@ -19,9 +19,9 @@ pub enum Key {
     GranularityUs,
     Nagle,
     LimitedTransmit,
-    ByteCounting,
-    RestartAfterIdle,
-    RecoveryRate,
+    AbcLimit,
+    SlowStartAfterIdle,
+    RecoveryAlgorithm,
     ToleranceUs,
 }
 
@@ -40,9 +40,9 @@ impl Key {
         Key::GranularityUs,
         Key::Nagle,
         Key::LimitedTransmit,
-        Key::ByteCounting,
-        Key::RestartAfterIdle,
-        Key::RecoveryRate,
+        Key::AbcLimit,
+        Key::SlowStartAfterIdle,
+        Key::RecoveryAlgorithm,
         Key::ToleranceUs,
     ];
 
@@ -70,9 +70,9 @@ impl Key {
             Key::GranularityUs => b"granularity_us",
             Key::Nagle => b"nagle",
             Key::LimitedTransmit => b"limited_transmit",
-            Key::ByteCounting => b"byte_counting",
-            Key::RestartAfterIdle => b"restart_after_idle",
-            Key::RecoveryRate => b"recovery_rate",
+            Key::AbcLimit => b"abc_limit",
+            Key::SlowStartAfterIdle => b"slow_start_after_idle",
+            Key::RecoveryAlgorithm => b"recovery_algorithm",
             Key::ToleranceUs => b"tolerance_us",
         }
     }
@@ -94,9 +94,9 @@ impl Key {
             Key::GranularityUs => Domain::Numbers(1, 1_000_000),
             Key::Nagle => Domain::Truths,
             Key::LimitedTransmit => Domain::Truths,
-            Key::ByteCounting => Domain::Numbers(1, 8),
-            Key::RestartAfterIdle => Domain::Truths,
-            Key::RecoveryRate => Domain::Rates,
+            Key::AbcLimit => Domain::Numbers(1, 8),
+            Key::SlowStartAfterIdle => Domain::Truths,
+            Key::RecoveryAlgorithm => Domain::Rates,
             Key::ToleranceUs => Domain::Numbers(0, 1_000_000),
         }
     }

@@ -7,7 +7,7 @@ mod faults;
 mod fields;
 mod initial_window;
 mod keys;
-mod recovery_rate;
+mod recovery_algorithm;
 mod use_set;
 mod values;
 
@@ -16,6 +16,6 @@ pub use faults::SettingsFault;
 pub use fields::Settings;
 pub use initial_window::InitialWindow;
 pub use keys::Key;
-pub use recovery_rate::RecoveryRate;
+pub use recovery_algorithm::RecoveryAlgorithm;
 pub use use_set::UseSet;
 pub use values::Value;

@@ -31,12 +31,12 @@ pub struct UseSet {
     pub nagle: bool,
     /// `limited_transmit`, which the establishment consults.
     pub limited_transmit: bool,
-    /// `byte_counting`, which the establishment consults.
-    pub byte_counting: bool,
-    /// `restart_after_idle`, which the establishment consults.
-    pub restart_after_idle: bool,
-    /// `recovery_rate`, which the establishment consults.
-    pub recovery_rate: bool,
+    /// `abc_limit`, which the establishment consults.
+    pub abc_limit: bool,
+    /// `slow_start_after_idle`, which the establishment consults.
+    pub slow_start_after_idle: bool,
+    /// `recovery_algorithm`, which the establishment consults.
+    pub recovery_algorithm: bool,
     /// `tolerance_us`, which a packet that is expected consults, unless the header sets a tolerance.
     pub tolerance_us: bool,
 }
@@ -59,9 +59,9 @@ impl UseSet {
             granularity_us: false,
             nagle: false,
             limited_transmit: false,
-            byte_counting: false,
-            restart_after_idle: false,
-            recovery_rate: false,
+            abc_limit: false,
+            slow_start_after_idle: false,
+            recovery_algorithm: false,
             tolerance_us: false,
         }
     }
@@ -83,9 +83,9 @@ impl UseSet {
             Key::GranularityUs => self.granularity_us,
             Key::Nagle => self.nagle,
             Key::LimitedTransmit => self.limited_transmit,
-            Key::ByteCounting => self.byte_counting,
-            Key::RestartAfterIdle => self.restart_after_idle,
-            Key::RecoveryRate => self.recovery_rate,
+            Key::AbcLimit => self.abc_limit,
+            Key::SlowStartAfterIdle => self.slow_start_after_idle,
+            Key::RecoveryAlgorithm => self.recovery_algorithm,
             Key::ToleranceUs => self.tolerance_us,
         }
     }

@@ -5,7 +5,7 @@ ghost use Rattle.pd_settings.specs.Words.{rate_value, word_value};
 ghost use Rattle.toml.specs.View.{view};
 
 use crate::initial_window::InitialWindow;
-use crate::recovery_rate::RecoveryRate;
+use crate::recovery_algorithm::RecoveryAlgorithm;
 
 /// A value for a setting, as written.
 #[derive(Clone, Copy, PartialEq, Eq)]
@@ -17,7 +17,7 @@ pub enum Value {
     /// The word of a rule for the initial window.
     Word(InitialWindow),
     /// The word of a rule for the rate of loss recovery.
-    Rate(RecoveryRate),
+    Rate(RecoveryAlgorithm),
     /// Anything else, which each setting refuses.
     Other,
 }
@@ -37,7 +37,7 @@ impl Value {
     fn from_rate(word: &[u8]) -> Value
         ensures { result ≡ rate_value word.now }
     {
-        match RecoveryRate::named(word) {
+        match RecoveryAlgorithm::named(word) {
             Some(rate) => Value::Rate(rate),
             None => Value::Other,
         }

@@ -2,7 +2,7 @@
 use Rattle.std.specs.Prelude.{◌≡◌, ℕ, Bool, List, Option, Some, None, option_map, if◌then◌else◌, map, IfSome}
 use Rattle.std.specs.Borrow.{Bor}
 use Rattle.clap.specs.Words.{Text}
-use Rattle.pd_words.specs.ProgramWords.{pdregress, settings_text, worker_count, cache_size, only_names, asks_steps, asks_explain, asks_json, asks_ends}
+use Rattle.pd_words.specs.ProgramWords.{pdregress, settings_text, worker_count, cache_size, only_names, asks_steps, asks_explain, asks_json, asks_leftovers}
 use Rattle.pd_words.specs.declared.chosen.Explaining.{Explaining}
 use Rattle.pd_words.specs.declared.chosen.Options.{Options}
 
@@ -28,4 +28,4 @@ asked_of options = record { steps = options.steps; explain = option_map (λ (exp
 abbrev pub HasChosen : List Text → Options → Type 0
 HasChosen words options =
     (options.settings.now ≡ settings_text pdregress words) × (options.workers ≡ worker_count words) × (options.cache ≡ cache_size words)
-    × (asked_of options ≡ asked words) × IfSome options.explain (λ (explaining : Explaining). (explaining.json ≡ asks_json words) × (explaining.ends ≡ asks_ends words))
+    × (asked_of options ≡ asked words) × IfSome options.explain (λ (explaining : Explaining). (explaining.json ≡ asks_json words) × (explaining.leftovers ≡ asks_leftovers words))

@@ -18,10 +18,10 @@ fault_text BadValue = codes "4 BadValue"
 fault_text NotToml = codes "20 NotToml"
 fault_text (Serving fault) = serve_fault_text fault
 
--- the line on standard error that says this
-abbrev pub line_of : List ℕ → List ℕ
-line_of text = codes "pdregress: " ++ text ++ codes "\n"
+-- the line on standard error by which a program of this name says a text
+abbrev pub line_of : List ℕ → List ℕ → List ℕ
+line_of program text = program ++ (codes ": " ++ (text ++ codes "\n"))
 
--- the line of a fault
-abbrev pub fault_line : ProgramFault → List ℕ
-fault_line fault = line_of (fault_text fault)
+-- the line of a fault of a program of this name
+abbrev pub fault_line : List ℕ → ProgramFault → List ℕ
+fault_line program fault = line_of program (fault_text fault)

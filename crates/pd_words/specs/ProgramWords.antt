@@ -64,10 +64,10 @@ json_rule = record (new_rule (codes "json")) {
   action = Some SetTrue;
 }
 
--- `--ends`
-abbrev pub ends_rule : Rule
-ends_rule = record (new_rule (codes "ends")) {
-  long = Some (codes "ends");
+-- `--leftovers`
+abbrev pub leftovers_rule : Rule
+leftovers_rule = record (new_rule (codes "leftovers")) {
+  long = Some (codes "leftovers");
   action = Some SetTrue;
 }
 
@@ -75,7 +75,7 @@ ends_rule = record (new_rule (codes "ends")) {
 abbrev pub pdregress : App
 pdregress =
     with_rule (with_rule (with_rule (with_rule (with_rule (with_rule (with_rule (with_rule (new_app (codes "pdregress"))
-    settings_rule) cache_rule) workers_rule) steps_rule) explain_rule) only_rule) json_rule) ends_rule
+    settings_rule) cache_rule) workers_rule) steps_rule) explain_rule) only_rule) json_rule) leftovers_rule
 
 -- the text of an option among the words of a program, of which the first is its own name; an empty one where the program
 -- hasn't this option
@@ -128,7 +128,7 @@ is_written name words = is_some (first_of name (matches_of pdregress words))
 abbrev pub has_flag : List ℕ → List Text → Bool
 has_flag name words = bytes_eq (option_text pdregress name words) (codes "true")
 
--- words ask for each job's steps, for explanations, for these as JSON, and for the ends of scripts that pass
+-- words ask for each job's steps, for explanations, for these as JSON, and for what scripts that pass leave
 abbrev pub asks_steps : List Text → Bool
 asks_steps words = has_flag (codes "steps") words
 
@@ -138,16 +138,16 @@ asks_explain words = has_flag (codes "explain") words
 abbrev pub asks_json : List Text → Bool
 asks_json words = has_flag (codes "json") words
 
-abbrev pub asks_ends : List Text → Bool
-asks_ends words = has_flag (codes "ends") words
+abbrev pub asks_leftovers : List Text → Bool
+asks_leftovers words = has_flag (codes "leftovers") words
 
 -- `--workers`, whatever its number, is beside `--steps` or `--explain`
 abbrev pub are_in_conflict : List Text → Bool
 are_in_conflict words = is_written (codes "workers") words && (asks_steps words || asks_explain words)
 
--- `--only`, `--json` or `--ends` is without `--explain`
+-- `--only`, `--json` or `--leftovers` is without `--explain`
 abbrev pub are_lonely : List Text → Bool
-are_lonely words = not (asks_explain words) && (is_written (codes "only") words || asks_json words || asks_ends words)
+are_lonely words = not (asks_explain words) && (is_written (codes "only") words || asks_json words || asks_leftovers words)
 
 -- why words are refused together of which each may be written
 abbrev pub together_faults : List Text → Kinds

@@ -4,11 +4,10 @@ ghost use Rattle.std.specs.IoError.{error_kind};
 ghost use Rattle.pd_words.specs.ProgramFaults.{fault_line, line_of};
 ghost use Rattle.pd_words.specs.Said.{Says};
 
-use crate::endings::{FAULT, fail};
+use crate::endings::{FAULT, fail, say_line};
 use crate::exits::Exit;
 use crate::faults::ServeFault;
 use crate::program_faults::ProgramFault;
-use crate::writing::say;
 use std::env::Env;
 use std::io::{ErrorKind, Write};
 use std::{env, io};
@@ -22,18 +21,18 @@ pub fn arguments<H: Env + AllocGlobal>(rt: &H) -> io::Result<Vec<String>> {
     Ok(args.collect::<Vec<String>>(rt.alloc())?)
 }
 
-/// Says why the words of a call could not be read.
-pub fn refuse_arguments<E: Write>(error: &io::Error, err: &mut E) -> Exit
+/// Says why the words of a call of the program of this name could not be read.
+pub fn refuse_arguments<E: Write>(program: &str, error: &io::Error, err: &mut E) -> Exit
     ensures status { result.status ≡ 2 }
-    ensures memory { let line = fault_line (ProgramFault.Serving ServeFault.OutOfMemory) in
+    ensures memory { let line = fault_line program.now (ProgramFault.Serving ServeFault.OutOfMemory) in
         error_kind error.now ≡ ErrorKind.OutOfMemory → Says result.told (E.contents err.old) (E.contents err.new) line }
-    ensures unread { let line = line_of (codes "the arguments can't be read as text") in
+    ensures unread { let line = line_of program.now (codes "the arguments can't be read as text") in
         error_kind error.now ≢ ErrorKind.OutOfMemory → Says result.told (E.contents err.old) (E.contents err.new) line }
 {
     if error.kind() == ErrorKind::OutOfMemory {
-        return fail(err, ProgramFault::Serving(ServeFault::OutOfMemory));
+        return fail(program, err, ProgramFault::Serving(ServeFault::OutOfMemory));
     }
-    let told = say(err, b"pdregress: the arguments can't be read as text\n");
+    let told = say_line(program, err, "the arguments can't be read as text");
     Exit {
         status: FAULT,
         told,

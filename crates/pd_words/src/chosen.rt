@@ -23,5 +23,5 @@ pub struct Explaining<'a> {
     /// Whether explanations are JSON.
     pub json: bool,
     /// Whether it is also told what scripts that pass leave at their ends.
-    pub ends: bool,
+    pub leftovers: bool,
 }

@@ -16,10 +16,10 @@ use std::io::Write;
 /// The status at a fault.
 pub const FAULT: u8 = 2;
 
-/// Says what `clap` says of words that it refuses.
-pub fn refuse<E: Write>(alloc: Global, error: &Error, err: &mut E) -> Exit
+/// Says what `clap` says of words that it refuses to the program of this name.
+pub fn refuse<E: Write>(alloc: Global, program: &str, error: &Error, err: &mut E) -> Exit
     ensures status { result.status ≡ 2 }
-    ensures memory { let line = fault_line (ProgramFault.Serving ServeFault.OutOfMemory) in
+    ensures memory { let line = fault_line program.now (ProgramFault.Serving ServeFault.OutOfMemory) in
         kind_of error.now ≡ ErrorKind.OutOfMemory → Says result.told (E.contents err.old) (E.contents err.new) line }
 {
     if error.kind() != ErrorKind::OutOfMemory {
@@ -31,26 +31,29 @@ pub fn refuse<E: Write>(alloc: Global, error: &Error, err: &mut E) -> Exit
             };
         }
     }
-    fail(err, ProgramFault::Serving(ServeFault::OutOfMemory))
+    fail(program, err, ProgramFault::Serving(ServeFault::OutOfMemory))
 }
 
-/// Ends a run at a fault: says its line.
-pub fn fail<E: Write>(err: &mut E, fault: ProgramFault) -> Exit
+/// Ends a run of the program of this name at a fault: says its line.
+pub fn fail<E: Write>(program: &str, err: &mut E, fault: ProgramFault) -> Exit
     ensures status { result.status ≡ 2 }
-    ensures said { Says result.told (E.contents err.old) (E.contents err.new) (fault_line fault) }
+    ensures said { Says result.told (E.contents err.old) (E.contents err.new) (fault_line program.now fault) }
 {
-    let told = say_line(err, fault.text());
+    let told = say_line(program, err, fault.text());
     Exit {
         status: FAULT,
         told,
     }
 }
 
-/// Says the line of a fault.
-fn say_line<E: Write>(err: &mut E, text: &str) -> bool
-    ensures { Says result (E.contents err.old) (E.contents err.new) (line_of text.now) }
+/// Says a text after the name of a program, as a line.
+pub(crate) fn say_line<E: Write>(program: &str, err: &mut E, text: &str) -> bool
+    ensures { Says result (E.contents err.old) (E.contents err.new) (line_of program.now text.now) }
 {
-    if !say(err, b"pdregress: ") {
+    if !say(err, program.as_bytes()) {
+        return false;
+    }
+    if !say(err, b": ") {
         return false;
     }
     if !say(err, text.as_bytes()) {

@@ -1,7 +1,7 @@
 //! What the words of the program may be, and what `--help` says of them.
 ghost use Rattle.std.specs.Prelude.{false, codes, ◌≡◌, IfOk, IfErr};
 ghost use Rattle.clap.specs.Words.{app_of, kind_of, new_app, rule_of, with_rule};
-ghost use Rattle.pd_words.specs.ProgramWords.{pdregress, settings_rule, cache_rule, workers_rule, steps_rule, explain_rule, only_rule, json_rule, ends_rule};
+ghost use Rattle.pd_words.specs.ProgramWords.{pdregress, settings_rule, cache_rule, workers_rule, steps_rule, explain_rule, only_rule, json_rule, leftovers_rule};
 
 use clap::error::ErrorKind;
 use clap::{Arg, ArgAction, Command, Error, value_parser};
@@ -53,7 +53,7 @@ fn with_options<'a>(alloc: Global, command: Command<'a>) -> Result<Command<'a>, 
         .arg(explain_option(alloc))?
         .arg(only_option(alloc))?
         .arg(json_option(alloc))?
-        .arg(ends_option(alloc))
+        .arg(leftovers_option(alloc))
 }
 
 /// What each word may be beside the others. Where `--workers` may be beside all of them, `clap` asks for `--explain` beside
@@ -79,7 +79,7 @@ fn put_ruled<'a>(
     options.push(explain_option(alloc))?;
     options.push(only_option(alloc).requires_arg("explain")?)?;
     options.push(json_option(alloc).requires_arg("explain")?)?;
-    options.push(ends_option(alloc).requires_arg("explain")?)?;
+    options.push(leftovers_option(alloc).requires_arg("explain")?)?;
     Ok(())
 }
 
@@ -190,12 +190,12 @@ fn json_option<'a>(alloc: Global) -> Arg<'a>
         .action(ArgAction::SetTrue)
 }
 
-fn ends_option<'a>(alloc: Global) -> Arg<'a>
-    ensures rule { rule_of result ≡ ends_rule }
+fn leftovers_option<'a>(alloc: Global) -> Arg<'a>
+    ensures rule { rule_of result ≡ leftovers_rule }
     ensures local { result.global ≡ false }
 {
-    Arg::new(alloc, "ends")
-        .long("ends")
+    Arg::new(alloc, "leftovers")
+        .long("leftovers")
         .help(
             "Also tells of a script that passes what it leaves at its end, or that it awaits no packet",
         )

@@ -2,7 +2,7 @@
 ghost use Rattle.std.specs.Prelude.{bytes_eq, codes, ◌≡◌, ◌≢◌, ◌⊎◌, ◌≤◌, ◌||◌, List, [], IfOk, IfErr, IfSome, IsErr, map, option_map, unwrap_or};
 ghost use Rattle.clap.specs.Words.{HasMatchesOf, Text, found_of, kind_of, matched_of, raw_values};
 ghost use Rattle.pd_words.specs.Chosen.{names_of, asked, HasChosen};
-ghost use Rattle.pd_words.specs.ProgramWords.{pdregress, without_sign, workers_in, cache_in, is_written, has_flag, asks_json, asks_ends, are_in_conflict, are_lonely, refusals};
+ghost use Rattle.pd_words.specs.ProgramWords.{pdregress, without_sign, workers_in, cache_in, is_written, has_flag, asks_json, asks_leftovers, are_in_conflict, are_lonely, refusals};
 
 use crate::chosen::{Explaining, Options};
 use crate::numbers::number;
@@ -87,7 +87,9 @@ fn is_lonely(matches: &ArgMatches<'_>) -> bool
     ensures { (words : List Text) → HasMatchesOf pdregress words matches.now → result ≡ are_lonely words }
 {
     !has_flag(matches, "explain")
-        && (is_written(matches, "only") || has_flag(matches, "json") || has_flag(matches, "ends"))
+        && (is_written(matches, "only")
+            || has_flag(matches, "json")
+            || has_flag(matches, "leftovers"))
 }
 
 /// Whether an option without a default value is written.
@@ -127,7 +129,7 @@ fn explaining<'a>(
     matches: &ArgMatches<'a>,
 ) -> Result<Option<Explaining<'a>>, AllocError>
     ensures only { (words : List Text) → HasMatchesOf pdregress words matches.now → IfOk result (λ explain. option_map (λ e. names_of e.only.items) explain ≡ (asked words).explain) }
-    ensures how { (words : List Text) → HasMatchesOf pdregress words matches.now → IfOk result (λ explain. IfSome explain (λ e. (e.json ≡ asks_json words) × (e.ends ≡ asks_ends words))) }
+    ensures how { (words : List Text) → HasMatchesOf pdregress words matches.now → IfOk result (λ explain. IfSome explain (λ e. (e.json ≡ asks_json words) × (e.leftovers ≡ asks_leftovers words))) }
 {
     if !has_flag(matches, "explain") {
         return Ok(None);
@@ -135,7 +137,7 @@ fn explaining<'a>(
     Ok(Some(Explaining {
         only: names_in(alloc, matches)?,
         json: has_flag(matches, "json"),
-        ends: has_flag(matches, "ends"),
+        leftovers: has_flag(matches, "leftovers"),
     }))
 }
 

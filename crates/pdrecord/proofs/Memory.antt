@@ -1,5 +1,5 @@
 -- Want of memory before anything is read.
-use Rattle.std.proofs.Common.{◌≡◌, ℕ, List, Option, Some, None, Result, Ok, Err, IfSome, ◌⊎◌, inl, inr, refl}
+use Rattle.std.proofs.Common.{◌≡◌, ℕ, List, Option, Some, None, Result, Ok, Err, IfSome, ◌⊎◌, inl, inr, refl, codes}
 use Rattle.pd_settings.specs.declared.fields.Settings.{Settings}
 use Rattle.pd_words.specs.declared.faults.ServeFault.TheVariants.{OutOfMemory}
 use Rattle.pd_words.specs.declared.program_faults.ProgramFault.{ProgramFault}
@@ -11,7 +11,6 @@ use Rattle.pd_words.proofs.Known.{appends_none}
 use Rattle.pdrecord.specs.declared.ways.Way.{Way}
 use Rattle.pdrecord.specs.RecordProgram.{Comes}
 use Rattle.pdrecord.specs.FileSections.{FinishesFiles}
-use Rattle.pdrecord.proofs.Sections.{writes_none}
 
 pub memory_comes : (failed : Type 0) (settings : Result Settings ProgramFault) (tr : Way) (all : Option (List ℕ)) → IfSome all (Comes failed settings tr (Err (Serving OutOfMemory)))
 memory_comes failed settings tr None = tt
@@ -19,12 +18,12 @@ memory_comes failed (Ok settings) tr (Some input) = (tt, tt)
 memory_comes failed (Err fault) tr (Some input) = inr refl
 
 -- the same where files are named
-pub memory_files : (settings : Result Settings ProgramFault) (tr : Way) (held : List ℕ → Option (List ℕ)) (names : List (List ℕ)) (exit : Exit) (w v u : Option (List ℕ)) → exit.status ≡ 2 → Says exit.told v u (fault_line (Serving OutOfMemory)) → FinishesFiles settings tr held names exit w w v u
-memory_files (Ok settings) tr held names exit w v u s t = (Err OutOfMemory, writes_none settings tr held names OutOfMemory w tt, (s, t))
-memory_files (Err fault) tr held names exit w v u s t = (s, appends_none w, inr t)
+pub memory_files : (settings : Result Settings ProgramFault) (tr : Way) (held : List ℕ → Option (List ℕ)) (names : List (List ℕ)) (exit : Exit) (w v u : Option (List ℕ)) → exit.status ≡ 2 → Says exit.told v u (fault_line (codes "pdrecord") (Serving OutOfMemory)) → FinishesFiles settings tr held names exit w w v u
+memory_files (Ok settings) tr held names exit w v u s t = inr (s, appends_none w, t)
+memory_files (Err fault) tr held names exit w v u s t = inr (s, appends_none w, t)
 
 -- settings that are no good, where files are named
-pub fault_files : (settings : Result Settings ProgramFault) (tr : Way) (held : List ℕ → Option (List ℕ)) (names : List (List ℕ)) (f : ProgramFault) (exit : Exit) (w v u : Option (List ℕ)) → (settings ≡ Err f) ⊎ (f ≡ Serving OutOfMemory) → exit.status ≡ 2 → Says exit.told v u (fault_line f) → FinishesFiles settings tr held names exit w w v u
+pub fault_files : (settings : Result Settings ProgramFault) (tr : Way) (held : List ℕ → Option (List ℕ)) (names : List (List ℕ)) (f : ProgramFault) (exit : Exit) (w v u : Option (List ℕ)) → (settings ≡ Err f) ⊎ (f ≡ Serving OutOfMemory) → exit.status ≡ 2 → Says exit.told v u (fault_line (codes "pdrecord") f) → FinishesFiles settings tr held names exit w w v u
 fault_files settings tr held names f exit w v u (inr e) s t = memory_files settings tr held names exit w v u s (rw e at t)
 fault_files (Ok settings) tr held names f exit w v u (inl e) s t = absurd cc
-fault_files (Err fault) tr held names f exit w v u (inl e) s t = let same : fault ≡ f = cc in (s, appends_none w, inl (rw same t))
+fault_files (Err fault) tr held names f exit w v u (inl e) s t = let same : fault ≡ f = cc in inl (s, appends_none w, rw same t)

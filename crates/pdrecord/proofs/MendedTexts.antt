@@ -4,8 +4,7 @@ use Rattle.std.specs.declared.vec.Vec.{Vec}
 use Rattle.std.specs.declared.alloc.Global.{Global}
 use Rattle.pd_settings.specs.declared.fields.Settings.{Settings}
 use Rattle.pd_run.specs.Run.{verdict_of}
-use Rattle.pd_run.specs.declared.verdicts.Verdict.TheVariants.{Pass}
-use Rattle.pd_least.specs.Mended.{IsMended, RefusesToMend}
+use Rattle.pd_least.specs.Mended.{IsFinished, IsMended, RefusesToMend}
 use Rattle.pd_least.specs.declared.refusals.NotMended.{NotMended}
 use Rattle.pd_least.specs.declared.refusals.NotMended.TheVariants.{Stopped, TooLarge}
 use Rattle.pd_least.specs.declared.refusals.Stuck.{Stuck}
@@ -15,7 +14,7 @@ use Rattle.pdrecord.specs.Written.{IsWritten}
 use Rattle.pdrecord.specs.declared.outcomes.Outcome.{Outcome}
 use Rattle.pdrecord.specs.declared.outcomes.Outcome.TheVariants.{Recorded, Refused}
 
-pub is_mended_text : (settings : Settings) (text mended : List (List ℕ)) (count : ℕ) (octets : Vec ℕ Global) → IsMended settings text mended count → ((n : ℕ) → verdict_of text settings ≡ Pass n → mended ≡ text) → IsWritten false mended octets.items → IsMendedText settings text (Recorded octets)
+pub is_mended_text : (settings : Settings) (text mended : List (List ℕ)) (count : ℕ) (octets : Vec ℕ Global) → IsMended settings text mended count → (IsFinished settings text → mended ≡ text) → IsWritten false mended octets.items → IsMendedText settings text (Recorded octets)
 is_mended_text settings text mended count octets is stays written = (mended, count, is, stays, written)
 
 pub is_unmended_text : (settings : Settings) (text : List (List ℕ)) (refusal : NotMended) (outcome : Outcome) → RefusesToMend settings text refusal → IsRefused (unmended refusal) outcome → IsMendedText settings text outcome

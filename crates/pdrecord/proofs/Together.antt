@@ -5,7 +5,7 @@ use Rattle.clap.specs.Words.{Kinds, Text}
 use Rattle.clap.specs.declared.error.kind.ErrorKind.{ErrorKind}
 use Rattle.clap.specs.declared.error.kind.ErrorKind.TheVariants.{ArgumentConflict, MissingRequiredArgument}
 use Rattle.pd_words.specs.ProgramWords.{word_faults}
-use Rattle.pdrecord.specs.RecordWords.{pdrecord, is_trace_of_least, is_drop_alone, together_faults, refusals}
+use Rattle.pdrecord.specs.RecordWords.{pdrecord, is_trace_of_minimal, is_drop_alone, together_faults, refusals}
 
 -- a fault of one kind is one
 one_kind : (kind : ErrorKind) (kinds : Kinds) → (kind ∷ kinds) ≢ []
@@ -33,14 +33,14 @@ none_is : (a b : Kinds) → a ≡ [] → b ≡ [] → or_else a b ≡ []
 none_is a b e f = rw (e, f) refl
 
 -- words that are refused together are refused
-pub refused_together : (words : List Text) → (is_trace_of_least words || is_drop_alone words) ≡ true → refusals words ≢ []
+pub refused_together : (words : List Text) → (is_trace_of_minimal words || is_drop_alone words) ≡ true → refusals words ≢ []
 refused_together words t =
-    second_is (word_faults pdrecord words) (together_faults words) (by_both (is_trace_of_least words) (is_drop_alone words) ArgumentConflict MissingRequiredArgument t)
+    second_is (word_faults pdrecord words) (together_faults words) (by_both (is_trace_of_minimal words) (is_drop_alone words) ArgumentConflict MissingRequiredArgument t)
 
 -- words that are refused neither one by one nor together are taken
-pub not_refused : (words : List Text) → word_faults pdrecord words ≡ [] → (is_trace_of_least words || is_drop_alone words) ≡ false → refusals words ≡ []
+pub not_refused : (words : List Text) → word_faults pdrecord words ≡ [] → (is_trace_of_minimal words || is_drop_alone words) ≡ false → refusals words ≡ []
 not_refused words e t =
-    none_is (word_faults pdrecord words) (together_faults words) e (by_none (is_trace_of_least words) (is_drop_alone words) ArgumentConflict MissingRequiredArgument t)
+    none_is (word_faults pdrecord words) (together_faults words) e (by_none (is_trace_of_minimal words) (is_drop_alone words) ArgumentConflict MissingRequiredArgument t)
 
 -- words that are refused one by one are refused
 pub alone_too : (words : List Text) (memory : Type 0) → memory ⊎ (word_faults pdrecord words ≢ []) → memory ⊎ (refusals words ≢ [])

@@ -11,6 +11,7 @@ use Rattle.pd_words.specs.declared.faults.ServeFault.TheVariants.{Differs, Read,
 use Rattle.pd_words.specs.declared.program_faults.ProgramFault.{ProgramFault}
 use Rattle.pd_words.specs.declared.program_faults.ProgramFault.TheVariants.{Serving}
 use Rattle.pdrecord.specs.RecordProgram.{IsOutcome}
+use Rattle.pdrecord.specs.declared.file_sections.FileFault.{FileFault}
 use Rattle.pdrecord.specs.ScriptInput.{script_in}
 use Rattle.pdrecord.specs.declared.ways.Way.{Way}
 use Rattle.pdrecord.specs.declared.outcomes.Outcome.{Outcome}
@@ -48,6 +49,11 @@ AreSections settings way held (name ∷ names) done octets =
     × IsSection settings way name (held name) first front × AreSections settings way held names others rest
     × (done ≡ (first && others)) × (octets ≡ front ++ rest)
 
+-- these octets begin what is written of a file of this name, which holds an input: none of them, or some first ones
+abbrev pub BeginsSection : Settings → Way → List ℕ → Option (List ℕ) → List ℕ → Type 0
+BeginsSection settings way name input octets =
+    (octets ≡ []) ⊎ ((done : Bool) × (whole : List ℕ) × (n : ℕ) × IsSection settings way name input done whole × (octets ≡ take n whole))
+
 -- a fault that ends the recording of files
 abbrev pub EndsFiles : ServeFault → Type 0
 EndsFiles Read = Unit {0}
@@ -56,29 +62,46 @@ EndsFiles OutOfMemory = Unit {0}
 EndsFiles Differs = Unit {0}
 EndsFiles fault = ⊥
 
--- that was written of all these files, and whether all their scripts were recorded; or at a fault some first octets of what is
--- written of the first of them
-abbrev pub Writes : Settings → Way → (List ℕ → Option (List ℕ)) → List (List ℕ) → Result Bool ServeFault → Option (List ℕ) → Option (List ℕ) → Type 0
+-- that was written of the file of a name, and whether its script was recorded; or at a fault what begins it
+abbrev pub WritesOne : Settings → Way → (List ℕ → Option (List ℕ)) → List ℕ → Result Bool ServeFault → Option (List ℕ) → Option (List ℕ) → Type 0
+WritesOne settings way held name (Ok done) before after =
+    (octets : List ℕ) × IsSection settings way name (held name) done octets × Appends before after octets
+WritesOne settings way held name (Err fault) before after =
+    (octets : List ℕ) × EndsFiles fault × BeginsSection settings way name (held name) octets × Appends before after octets
+
+-- that was written of all these files, and whether all their scripts were recorded; or at a fault with one of them what is
+-- written of those before it, and what begins its own
+abbrev pub Writes : Settings → Way → (List ℕ → Option (List ℕ)) → List (List ℕ) → Result Bool FileFault → Option (List ℕ) → Option (List ℕ) → Type 0
 Writes settings way held names (Ok done) before after =
     (octets : List ℕ) × AreSections settings way held names done octets × Appends before after octets
-Writes settings way held names (Err fault) before after =
-    (first : List (List ℕ)) × (others : List (List ℕ)) × (done : Bool) × (octets : List ℕ) × (n : ℕ)
-    × EndsFiles fault × (names ≡ first ++ others) × AreSections settings way held first done octets × Appends before after (take n octets)
+Writes settings way held names (Err stop) before after =
+    (whole : List (List ℕ)) × (others : List (List ℕ)) × (done : Bool) × (octets : List ℕ) × (part : List ℕ)
+    × EndsFiles stop.fault × (names ≡ whole ++ stop.name.now ∷ others) × AreSections settings way held whole done octets
+    × BeginsSection settings way stop.name.now (held stop.name.now) part × Appends before after (octets ++ part)
 
 -- the status after files: 0 where all their scripts were recorded, else 1
 abbrev pub status_after : Bool → ℕ
 status_after done = if done then 0 else 1
 
--- a run over files ends: with their status, or at a fault with 2 and its line on standard error
-abbrev pub EndsAfter : Result Bool ServeFault → Exit → Option (List ℕ) → Option (List ℕ) → Type 0
+-- the line of a fault with the file of a name
+abbrev pub file_fault_line : List ℕ → ServeFault → List ℕ
+file_fault_line name fault = codes "pdrecord: " ++ fault_line name (Serving fault)
+
+-- a run over files ends: with their status, or at a fault with 2 and, on standard error, its line with the file
+abbrev pub EndsAfter : Result Bool FileFault → Exit → Option (List ℕ) → Option (List ℕ) → Type 0
 EndsAfter (Ok done) exit before after = (exit.status ≡ status_after done) × (exit.told ≡ true) × Appends before after []
-EndsAfter (Err fault) exit before after = (exit.status ≡ 2) × Says exit.told before after (fault_line (Serving fault))
+EndsAfter (Err stop) exit before after = (exit.status ≡ 2) × Says exit.told before after (file_fault_line stop.name.now stop.fault)
+
+-- a run ends at a fault before anything is written
+abbrev pub EndsBefore : ProgramFault → Exit → Option (List ℕ) → Option (List ℕ) → Option (List ℕ) → Option (List ℕ) → Type 0
+EndsBefore fault exit out_before out_after err_before err_after =
+    (exit.status ≡ 2) × Appends out_before out_after [] × Says exit.told err_before err_after (fault_line (codes "pdrecord") fault)
 
 -- a run over files of these names, under settings that were read, came to an end with what belongs to what the files hold;
--- settings that are no good end it with their fault or for want of memory, and nothing is written of files
+-- settings that are no good end it with their fault, and nothing is written of files; so does want of memory before the first
 abbrev pub FinishesFiles : Result Settings ProgramFault → Way → (List ℕ → Option (List ℕ)) → List (List ℕ) → Exit → Option (List ℕ) → Option (List ℕ) → Option (List ℕ) → Option (List ℕ) → Type 0
 FinishesFiles (Ok settings) way held names exit out_before out_after err_before err_after =
-    ((end : Result Bool ServeFault) × Writes settings way held names end out_before out_after × EndsAfter end exit err_before err_after)
+    ((end : Result Bool FileFault) × Writes settings way held names end out_before out_after × EndsAfter end exit err_before err_after)
+    ⊎ EndsBefore (Serving OutOfMemory) exit out_before out_after err_before err_after
 FinishesFiles (Err fault) way held names exit out_before out_after err_before err_after =
-    (exit.status ≡ 2) × Appends out_before out_after []
-    × (Says exit.told err_before err_after (fault_line fault) ⊎ Says exit.told err_before err_after (fault_line (Serving OutOfMemory)))
+    EndsBefore fault exit out_before out_after err_before err_after ⊎ EndsBefore (Serving OutOfMemory) exit out_before out_after err_before err_after

@@ -8,8 +8,7 @@ use Rattle.pd_record.specs.Recording.{recording_of}
 use Rattle.pd_record.specs.Answered.{IsRecording, Refuses}
 use Rattle.pd_record.specs.declared.refusals.NotRecorded.{NotRecorded}
 use Rattle.pd_record.specs.declared.refusals.NotRecorded.TheVariants as unrecorded
-use Rattle.pd_run.specs.Run.{verdict_of}
-use Rattle.pd_least.specs.Mended.{IsMended, RefusesToMend}
+use Rattle.pd_least.specs.Mended.{IsFinished, IsMended, RefusesToMend}
 use Rattle.pd_least.specs.declared.refusals.NotMended.{NotMended}
 use Rattle.pd_least.specs.declared.refusals.NotMended.TheVariants as not_mended
 use Rattle.pd_explain.specs.BlockLines.{AreIndented}
@@ -76,12 +75,12 @@ unmended (not_mended.Stopped stuck) = unrecorded.Stopped stuck.verdict
 unmended not_mended.TooLarge = unrecorded.TooLarge
 unmended not_mended.OutOfMemory = unrecorded.OutOfMemory
 
--- this comes of a text that is recorded by the least change: the octets of what it is mended to, which is the text itself where it
--- passes, or the lines that tell why it isn't mended
+-- this comes of a text that is recorded by the least change: the octets of what it is mended to, which is the text itself where that
+-- passes and takes all packets, or the lines that tell why it isn't mended
 abbrev pub IsMendedText : Settings → List (List ℕ) → Outcome → Type 0
 IsMendedText settings text (Recorded octets) =
     (mended : List (List ℕ)) × (count : ℕ) × IsMended settings text mended count
-    × ((n : ℕ) → verdict_of text settings ≡ Pass n → mended ≡ text) × IsWritten false mended octets.items
+    × (IsFinished settings text → mended ≡ text) × IsWritten false mended octets.items
 IsMendedText settings text (Refused said) =
     (refusal : NotMended) × RefusesToMend settings text refusal × IsRefused (unmended refusal) (Refused said)
 
@@ -119,11 +118,11 @@ Comes failed (Err fault) way end input = (end ≡ Err fault) ⊎ (end ≡ Err (S
 abbrev pub Ends : Result Outcome ProgramFault → Exit → Option (List ℕ) → Option (List ℕ) → Option (List ℕ) → Option (List ℕ) → Type 0
 Ends (Ok (Recorded whole)) exit out_before out_after err_before err_after =
     ((exit.status ≡ 0) × (exit.told ≡ true) × Appends out_before out_after whole.items × Appends err_before err_after [])
-    ⊎ ((exit.status ≡ 2) × Says exit.told err_before err_after (fault_line (Serving Write)) × ((n : ℕ) × Appends out_before out_after (take n whole.items)))
+    ⊎ ((exit.status ≡ 2) × Says exit.told err_before err_after (fault_line (codes "pdrecord") (Serving Write)) × ((n : ℕ) × Appends out_before out_after (take n whole.items)))
 Ends (Ok (Refused said)) exit out_before out_after err_before err_after =
     (exit.status ≡ 1) × Says exit.told err_before err_after said.items × Appends out_before out_after []
 Ends (Err fault) exit out_before out_after err_before err_after =
-    (exit.status ≡ 2) × Says exit.told err_before err_after (fault_line fault) × Appends out_before out_after []
+    (exit.status ≡ 2) × Says exit.told err_before err_after (fault_line (codes "pdrecord") fault) × Appends out_before out_after []
 
 -- a run with this settings text, in a way of recording, came to an end with what belongs to its input
 abbrev pub FinishesRecording : Type 0 → Exit → List ℕ → Way → Option (List ℕ) → Option (List ℕ) → Option (List ℕ) → Option (List ℕ) → Option (List ℕ) → Type 0

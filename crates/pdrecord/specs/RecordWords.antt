@@ -17,17 +17,17 @@ trace_rule = record (new_rule (codes "trace")) {
   action = Some SetTrue;
 }
 
--- `--least`
-abbrev pub least_rule : Rule
-least_rule = record (new_rule (codes "least")) {
-  long = Some (codes "least");
+-- `--minimal`
+abbrev pub minimal_rule : Rule
+minimal_rule = record (new_rule (codes "minimal")) {
+  long = Some (codes "minimal");
   action = Some SetTrue;
 }
 
--- `--drop`
-abbrev pub drop_rule : Rule
-drop_rule = record (new_rule (codes "drop")) {
-  long = Some (codes "drop");
+-- `--drop-missing`
+abbrev pub drop_missing_rule : Rule
+drop_missing_rule = record (new_rule (codes "drop-missing")) {
+  long = Some (codes "drop-missing");
   action = Some SetTrue;
 }
 
@@ -41,23 +41,23 @@ file_rule = record (new_rule (codes "file")) {
 -- the program that records
 abbrev pub pdrecord : App
 pdrecord =
-    with_rule (with_rule (with_rule (with_rule (with_rule (new_app (codes "pdrecord")) settings_rule) trace_rule) least_rule) drop_rule) file_rule
+    with_rule (with_rule (with_rule (with_rule (with_rule (new_app (codes "pdrecord")) settings_rule) trace_rule) minimal_rule) drop_missing_rule) file_rule
 
 -- words have a flag of this name
 abbrev pub asks : List ℕ → List Text → Bool
 asks name words = bytes_eq (option_text pdrecord name words) (codes "true")
 
--- `--trace` is beside `--least`
-abbrev pub is_trace_of_least : List Text → Bool
-is_trace_of_least words = asks (codes "trace") words && asks (codes "least") words
+-- `--trace` is beside `--minimal`
+abbrev pub is_trace_of_minimal : List Text → Bool
+is_trace_of_minimal words = asks (codes "trace") words && asks (codes "minimal") words
 
--- `--drop` is without `--least`
+-- `--drop-missing` is without `--minimal`
 abbrev pub is_drop_alone : List Text → Bool
-is_drop_alone words = asks (codes "drop") words && not (asks (codes "least") words)
+is_drop_alone words = asks (codes "drop-missing") words && not (asks (codes "minimal") words)
 
 -- why words are refused together of which each may be written
 abbrev pub together_faults : List Text → Kinds
-together_faults words = if is_trace_of_least words then ArgumentConflict ∷ [] else (if is_drop_alone words then MissingRequiredArgument ∷ [] else [])
+together_faults words = if is_trace_of_minimal words then ArgumentConflict ∷ [] else (if is_drop_alone words then MissingRequiredArgument ∷ [] else [])
 
 -- why the program refuses words: the first fault of one by itself, or else of some together
 abbrev pub refusals : List Text → Kinds
@@ -69,7 +69,7 @@ way_by least drop trace = if least then Least drop else (if trace then Traced el
 
 -- how words ask for scripts to be recorded
 abbrev pub way_asked : List Text → Way
-way_asked words = way_by (asks (codes "least") words) (asks (codes "drop") words) (asks (codes "trace") words)
+way_asked words = way_by (asks (codes "minimal") words) (asks (codes "drop-missing") words) (asks (codes "trace") words)
 
 -- the files that words name
 abbrev pub files_named : List Text → List Text

@@ -1,8 +1,8 @@
 //! Records the scripts of files: of each a title, and its recording or why there is none.
-ghost use Rattle.std.specs.Prelude.{◌≡◌, ◌++◌, ◌∷◌, [], IfOk, IfErr};
+ghost use Rattle.std.specs.Prelude.{◌≡◌, ◌++◌, IfOk, IfErr};
 ghost use Rattle.pd_words.specs.Chosen.{names_of};
 ghost use Rattle.pdrecord.specs.RecordProgram.{IsStop};
-ghost use Rattle.pdrecord.specs.FileSections.{IsSection, Writes, lines_in, title};
+ghost use Rattle.pdrecord.specs.FileSections.{IsSection, Writes, WritesOne, lines_in, title};
 
 use crate::outcomes::Outcome;
 use crate::record_program::outcome_of;
@@ -22,30 +22,42 @@ struct Section {
     is_recorded: bool,
 }
 
+/// Why recording files stops, and with which of them.
+#[derive(Clone, Copy)]
+pub struct FileFault<'a> {
+    pub name: &'a str,
+    pub fault: ServeFault,
+}
+
 /// Records the scripts of files one after the other, and writes what came of each as soon as it is known; whether all were
 /// recorded.
 ///
 /// # Errors
-/// `Read` where a file can't be opened or read, `Write` where a write fails, `Differs` and `OutOfMemory`.
-pub fn put_sections<R: InputStream + Drop, F: Shelf<R>, W: Write>(
+/// The first file with `Read` where it can't be opened or read, `Write` where a write fails, `Differs` or `OutOfMemory`.
+pub fn put_sections<'a, R: InputStream + Drop, F: Shelf<R>, W: Write>(
     alloc: Global,
     settings: &Settings,
     way: Way,
-    names: &[&str],
+    names: &[&'a str],
     files: &F,
     out: &mut W,
-) -> Result<bool, ServeFault>
+) -> Result<bool, FileFault<'a>>
     ensures { Writes settings.now way (F.held files.now) (names_of names.now) result (W.contents out.old) (W.contents out.new) }
 {
     let mut is_all = true;
     for name in names {
-        let is_recorded = put_section(alloc, settings, way, name, files, out)?;
-        is_all &= is_recorded;
+        match put_section(alloc, settings, way, name, files, out) {
+            Ok(is_recorded) => is_all &= is_recorded,
+            Err(fault) => return Err(FileFault { name: *name, fault }),
+        }
     }
     Ok(is_all)
 }
 
 /// Records the script of a file, and writes what came of it; whether it was recorded.
+///
+/// # Errors
+/// As those of `put_sections`.
 fn put_section<R: InputStream + Drop, F: Shelf<R>, W: Write>(
     alloc: Global,
     settings: &Settings,
@@ -54,7 +66,7 @@ fn put_section<R: InputStream + Drop, F: Shelf<R>, W: Write>(
     files: &F,
     out: &mut W,
 ) -> Result<bool, ServeFault>
-    ensures { Writes settings.now way (F.held files.now) (name.now ∷ []) result (W.contents out.old) (W.contents out.new) }
+    ensures { WritesOne settings.now way (F.held files.now) name.now result (W.contents out.old) (W.contents out.new) }
 {
     let section = section_of(alloc, settings, way, name, files)?;
     put_all(out, section.octets.as_slice())?;

@@ -15,7 +15,7 @@ mod ways;
 
 use host_files::HostFiles;
 use pd_words::{arguments, refuse_arguments};
-use record_program::run_with_files;
+use record_program::{PROGRAM, run_with_files};
 use std::process::ExitCode;
 
 fn main(rt: HostRuntime) -> ExitCode {
@@ -31,7 +31,7 @@ fn main(rt: HostRuntime) -> ExitCode {
                 &mut rt.stderr(),
             )
         }
-        Err(error) => refuse_arguments(&error, &mut rt.stderr()),
+        Err(error) => refuse_arguments(PROGRAM, &error, &mut rt.stderr()),
     };
     ExitCode::from(exit.status)
 }

@@ -3,14 +3,13 @@ ghost use Rattle.std.specs.Prelude.{◌≡◌, ◌≢◌, ◌⊎◌, ℕ, List, 
 ghost use Rattle.std.specs.Io.KnownBytes.{Appends};
 ghost use Rattle.pd_words.specs.SettingsText.{settings_in};
 ghost use Rattle.pd_words.specs.Said.{Refuses, Says};
-ghost use Rattle.pd_words.specs.ProgramFaults.{fault_line};
 ghost use Rattle.pd_words.specs.ProgramWords.{settings_text};
 ghost use Rattle.pdrecord.specs.RecordProgram.{Comes, Ends, FinishesRecording, IsOutcome, IsUnmade, IsWhole};
 ghost use Rattle.pdrecord.specs.RecordWords.{pdrecord, way_asked, files_named, refusals};
-ghost use Rattle.pdrecord.specs.FileSections.{EndsAfter, FinishesFiles};
+ghost use Rattle.pdrecord.specs.FileSections.{EndsAfter, FinishesFiles, file_fault_line};
 ghost use Rattle.pd_words.specs.Chosen.{names_of};
 
-use crate::file_sections::put_sections;
+use crate::file_sections::{FileFault, put_sections};
 use crate::mending::mended;
 use crate::outcomes::{Outcome, refusal_of};
 use crate::record_words::{RecordOptions, record_options};
@@ -22,11 +21,14 @@ use pd_record::{NotRecorded, record};
 use pd_settings::Settings;
 use pd_text::Lines;
 use pd_words::{
-    Exit, InputStream, ProgramFault, ServeFault, fail, put_all, refuse, say, settings_of,
+    Exit, FAULT, InputStream, ProgramFault, ServeFault, fail, put_all, refuse, say, settings_of,
 };
 use std::alloc::Global;
 use std::convert::AsStr;
 use std::io::Write;
+
+/// The program's own name, by which it says its faults.
+pub const PROGRAM: &str = "pdrecord";
 
 /// The status where the script isn't recorded.
 const NOT_RECORDED: u8 = 1;
@@ -66,7 +68,7 @@ pub fn run_with_files<
 {
     match record_options(alloc, words) {
         Ok(options) => run_chosen(alloc, &options, reader, files, out, err),
-        Err(error) => refuse(alloc, &error, err),
+        Err(error) => refuse(alloc, PROGRAM, &error, err),
     }
 }
 
@@ -121,21 +123,35 @@ fn run_files<R: InputStream + Drop, F: Shelf<R>, W: Write, E: Write>(
             let end = put_sections(alloc, &settings, options.way, names, files, out);
             end_after(end, err)
         }
-        Err(fault) => fail(err, fault),
+        Err(fault) => fail(PROGRAM, err, fault),
     }
 }
 
 /// Ends a run over files.
-fn end_after<E: Write>(end: Result<bool, ServeFault>, err: &mut E) -> Exit
-    ensures { EndsAfter end result (E.contents err.old) (E.contents err.new) }
+fn end_after<E: Write>(end: Result<bool, FileFault<'_>>, err: &mut E) -> Exit
+    ensures { EndsAfter end.entry result (E.contents err.old) (E.contents err.new) }
 {
     match end {
         Ok(is_all) => Exit {
             status: if is_all { 0 } else { NOT_RECORDED },
             told: true,
         },
-        Err(fault) => fail(err, ProgramFault::Serving(fault)),
+        Err(stop) => fail_with_file(stop, err),
     }
+}
+
+/// Ends a run at a fault with a file: says its line.
+fn fail_with_file<E: Write>(stop: FileFault<'_>, err: &mut E) -> Exit
+    ensures status { result.status ≡ 2 }
+    ensures said { Says result.told (E.contents err.old) (E.contents err.new) (file_fault_line stop.entry.name.now stop.entry.fault) }
+{
+    if !say(err, b"pdrecord: ") {
+        return Exit {
+            status: FAULT,
+            told: false,
+        };
+    }
+    fail(stop.name, err, ProgramFault::Serving(stop.fault))
 }
 
 /// Ends a run: writes a recording, or says why there is none.
@@ -148,13 +164,13 @@ fn finish<W: Write, E: Write>(end: Result<Outcome, ProgramFault>, out: &mut W, e
                 status: 0,
                 told: true,
             },
-            Err(fault) => fail(err, ProgramFault::Serving(fault)),
+            Err(fault) => fail(PROGRAM, err, ProgramFault::Serving(fault)),
         },
         Ok(Outcome::Refused(line)) => Exit {
             status: NOT_RECORDED,
             told: say(err, line.as_slice()),
         },
-        Err(fault) => fail(err, fault),
+        Err(fault) => fail(PROGRAM, err, fault),
     }
 }
 

@@ -2,7 +2,7 @@
 ghost use Rattle.std.specs.Prelude.{false, ◌≡◌, ◌≢◌, ◌⊎◌, ◌||◌, List, [], IfOk, IfErr, IsErr, codes, map, option_map, unwrap_or};
 ghost use Rattle.clap.specs.Words.{HasMatchesOf, Text, app_of, found_of, kind_of, matched_of, raw_values, rule_of};
 ghost use Rattle.pd_words.specs.Chosen.{names_of};
-ghost use Rattle.pdrecord.specs.RecordWords.{pdrecord, trace_rule, least_rule, drop_rule, file_rule, asks, is_trace_of_least, is_drop_alone, refusals, way_by, HasChosenToRecord};
+ghost use Rattle.pdrecord.specs.RecordWords.{pdrecord, trace_rule, minimal_rule, drop_missing_rule, file_rule, asks, is_trace_of_minimal, is_drop_alone, refusals, way_by, HasChosenToRecord};
 
 use crate::ways::Way;
 use clap::error::ErrorKind;
@@ -57,12 +57,12 @@ pub fn record_options<'a, S: AsStr>(
     let command = free_command(alloc)?;
     let matches = command.try_get_matches_from(words)?;
     if are_refused_together(&matches) {
-        return refuse_together(alloc, words, is_trace_of_least(&matches));
+        return refuse_together(alloc, words, is_trace_of_minimal(&matches));
     }
     Ok(chosen(alloc, &matches)?)
 }
 
-/// Has `clap` refuse words of which it takes each by itself, for `--trace` beside `--least` or for a `--drop` that is alone.
+/// Has `clap` refuse words of which it takes each by itself, for `--trace` beside `--minimal` or for a `--drop-missing` that is alone.
 ///
 /// # Errors
 /// Always: what `clap` says of the words.
@@ -100,23 +100,23 @@ fn conflict_in(command: &mut Command<'_>) -> Error {
 
 /// Whether words are refused together of which each may be written.
 fn are_refused_together(matches: &ArgMatches<'_>) -> bool
-    ensures { (words : List Text) → HasMatchesOf pdrecord words matches.now → result ≡ (is_trace_of_least words || is_drop_alone words) }
+    ensures { (words : List Text) → HasMatchesOf pdrecord words matches.now → result ≡ (is_trace_of_minimal words || is_drop_alone words) }
 {
-    is_trace_of_least(matches) || is_drop_alone(matches)
+    is_trace_of_minimal(matches) || is_drop_alone(matches)
 }
 
-/// Whether `--trace` is beside `--least`, of which there is no trace.
-fn is_trace_of_least(matches: &ArgMatches<'_>) -> bool
-    ensures { (words : List Text) → HasMatchesOf pdrecord words matches.now → result ≡ is_trace_of_least words }
+/// Whether `--trace` is beside `--minimal`, of which there is no trace.
+fn is_trace_of_minimal(matches: &ArgMatches<'_>) -> bool
+    ensures { (words : List Text) → HasMatchesOf pdrecord words matches.now → result ≡ is_trace_of_minimal words }
 {
-    asks(matches, "trace") && asks(matches, "least")
+    asks(matches, "trace") && asks(matches, "minimal")
 }
 
-/// Whether `--drop` is without `--least`, to which it belongs.
+/// Whether `--drop-missing` is without `--minimal`, to which it belongs.
 fn is_drop_alone(matches: &ArgMatches<'_>) -> bool
     ensures { (words : List Text) → HasMatchesOf pdrecord words matches.now → result ≡ is_drop_alone words }
 {
-    asks(matches, "drop") && !asks(matches, "least")
+    asks(matches, "drop-missing") && !asks(matches, "minimal")
 }
 
 /// Whether a flag is written.
@@ -131,22 +131,22 @@ fn chosen<'a>(alloc: Global, matches: &ArgMatches<'a>) -> Result<RecordOptions<'
     ensures { (words : List Text) → HasMatchesOf pdrecord words matches.now → IfOk result (λ options. HasChosenToRecord words options) }
 {
     let files = files_in(alloc, matches)?;
-    let is_least = asks(matches, "least");
-    let drops = asks(matches, "drop");
+    let is_minimal = asks(matches, "minimal");
+    let drops_missing = asks(matches, "drop-missing");
     let with_trace = asks(matches, "trace");
     Ok(RecordOptions {
         settings: matches.get_str("settings").unwrap_or(""),
-        way: way_by(is_least, drops, with_trace),
+        way: way_by(is_minimal, drops_missing, with_trace),
         files,
     })
 }
 
 /// How scripts are recorded, by whether the least change, one without comments, and a trace are asked for.
-fn way_by(is_least: bool, drops: bool, with_trace: bool) -> Way
-    ensures { result ≡ way_by is_least drops with_trace }
+fn way_by(is_minimal: bool, drops_missing: bool, with_trace: bool) -> Way
+    ensures { result ≡ way_by is_minimal drops_missing with_trace }
 {
-    if is_least {
-        Way::Least(drops)
+    if is_minimal {
+        Way::Least(drops_missing)
     } else if with_trace {
         Way::Traced
     } else {
@@ -181,16 +181,16 @@ fn command_with_options<'a>(alloc: Global) -> Result<Command<'a>, AllocError>
             .bin_name("pdrecord")?
             .arg(settings_option(alloc))?
             .arg(trace_option(alloc))?
-            .arg(least_option(alloc))?
-            .arg(drop_option(alloc))?
+            .arg(minimal_option(alloc))?
+            .arg(drop_missing_option(alloc))?
             .arg(file_option(alloc))?
             .about(ABOUT)
             .after_help(AFTER),
     )
 }
 
-/// What each word may be beside the others. Where `--trace` may never be beside `--least`, `clap` doesn't ask for `--least` beside
-/// `--drop` and `--trace`.
+/// What each word may be beside the others. Where `--trace` may never be beside `--minimal`, `clap` doesn't ask for `--minimal` beside
+/// `--drop-missing` and `--trace`.
 fn ruled_command<'a>(alloc: Global, is_trace_apart: bool) -> Result<Command<'a>, AllocError> {
     let mut options = Vec::new(alloc);
     put_ruled(alloc, &mut options, is_trace_apart)?;
@@ -208,8 +208,8 @@ fn put_ruled<'a>(
 ) -> Result<(), AllocError> {
     options.push(settings_option(alloc))?;
     options.push(ruled_trace(alloc, is_trace_apart)?)?;
-    options.push(least_option(alloc))?;
-    options.push(drop_option(alloc).requires_arg("least")?)?;
+    options.push(minimal_option(alloc))?;
+    options.push(drop_missing_option(alloc).requires_arg("minimal")?)?;
     options.push(file_option(alloc))?;
     Ok(())
 }
@@ -218,7 +218,7 @@ fn put_ruled<'a>(
 fn ruled_trace<'a>(alloc: Global, is_trace_apart: bool) -> Result<Arg<'a>, AllocError> {
     let trace = trace_option(alloc);
     if is_trace_apart {
-        trace.conflicts_with("least")
+        trace.conflicts_with("minimal")
     } else {
         Ok(trace)
     }
@@ -236,23 +236,23 @@ fn trace_option<'a>(alloc: Global) -> Arg<'a>
         .action(ArgAction::SetTrue)
 }
 
-fn least_option<'a>(alloc: Global) -> Arg<'a>
-    ensures rule { rule_of result ≡ least_rule }
+fn minimal_option<'a>(alloc: Global) -> Arg<'a>
+    ensures rule { rule_of result ≡ minimal_rule }
     ensures local { result.global ≡ false }
 {
-    Arg::new(alloc, "least")
-        .long("least")
+    Arg::new(alloc, "minimal")
+        .long("minimal")
         .help("Changes as little of a script as makes it pass; no trace is written")
         .action(ArgAction::SetTrue)
 }
 
-fn drop_option<'a>(alloc: Global) -> Arg<'a>
-    ensures rule { rule_of result ≡ drop_rule }
+fn drop_missing_option<'a>(alloc: Global) -> Arg<'a>
+    ensures rule { rule_of result ≡ drop_missing_rule }
     ensures local { result.global ≡ false }
 {
-    Arg::new(alloc, "drop")
-        .long("drop")
-        .help("With --least, leaves no comments of packets that aren't sent")
+    Arg::new(alloc, "drop-missing")
+        .long("drop-missing")
+        .help("With --minimal, leaves no comments of packets that aren't sent")
         .action(ArgAction::SetTrue)
 }
 

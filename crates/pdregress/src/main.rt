@@ -1,7 +1,7 @@
 //! The program: hands the real words and streams to the whole program of `pd_cli`.
 #![tactic(auto)]
 
-use pd_cli::{arguments, refuse_arguments, run};
+use pd_cli::{PROGRAM, arguments, refuse_arguments, run};
 use std::process::ExitCode;
 
 fn main(rt: HostRuntime) -> ExitCode {
@@ -17,7 +17,7 @@ fn main(rt: HostRuntime) -> ExitCode {
                 &mut rt.stderr(),
             )
         }
-        Err(error) => refuse_arguments(&error, &mut rt.stderr()),
+        Err(error) => refuse_arguments(PROGRAM, &error, &mut rt.stderr()),
     };
     ExitCode::from(exit.status)
 }

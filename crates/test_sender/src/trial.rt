@@ -3,7 +3,7 @@ ghost use Rattle.pd_recover.specs.Acks.{IsAck};
 
 use crate::rows::{NO_MEMORY, Row};
 use pd_board::Board;
-use pd_recover::{Ack, Cong, News, NextSegment, Then};
+use pd_recover::{Ack, Cong, Delivery, News, NextSegment, Then};
 use pd_seg::Span;
 use pd_settings::{Settings, Value};
 use std::alloc::Global;
@@ -19,6 +19,10 @@ pub struct Trial {
     window: Cong,
     /// How many octets were SACKed before the last ACK.
     sacked: u32,
+    /// How many were outstanding and not SACKed before it.
+    undelivered: u32,
+    /// The number after the last lost octet before it.
+    lost_edge: u32,
 }
 
 /// The settings with another value, if the key takes it.
@@ -26,20 +30,20 @@ fn with(settings: Settings, key: &[u8], value: Value) -> Settings {
     settings.with(key, value).unwrap_or(settings)
 }
 
-/// The settings with a threshold of slow start, the L of byte counting, the restart after an idle time, and the rate of
+/// The settings with a threshold of slow start, the L of byte counting, the restart after an idle time, and the algorithm of
 /// recovery of a word.
-fn settings(ssthresh: u64, limit: u64, rate: &str) -> Settings {
+fn settings(ssthresh: u64, limit: u64, algorithm: &str) -> Settings {
     let begun = with(
         Settings::new(),
         b"initial_ssthresh",
         Value::Number(ssthresh),
     );
-    let counting = with(begun, b"byte_counting", Value::Number(limit));
-    let restarting = with(counting, b"restart_after_idle", Value::Truth(true));
+    let counting = with(begun, b"abc_limit", Value::Number(limit));
+    let restarting = with(counting, b"slow_start_after_idle", Value::Truth(true));
     with(
         restarting,
-        b"recovery_rate",
-        Value::from_word(rate.as_bytes()),
+        b"recovery_algorithm",
+        Value::from_word(algorithm.as_bytes()),
     )
 }
 
@@ -74,6 +78,8 @@ impl Trial {
             board: Board::new(alloc, 1_000),
             window: Cong::new(&Settings::new(), 1_000, false),
             sacked: 0,
+            undelivered: 0,
+            lost_edge: 0,
         }
     }
 
@@ -124,6 +130,8 @@ impl Trial {
         let limit = row.number();
         self.window = Cong::new(&settings(ssthresh, limit, row.word()), smss, is_resent);
         self.sacked = 0;
+        self.undelivered = 0;
+        self.lost_edge = 0;
     }
 
     /// Octets are queued, up to a limit.
@@ -151,6 +159,8 @@ impl Trial {
     fn acknowledge(&mut self, row: &mut Row<'_>) {
         let number = row.octets().clamp(self.board.una(), self.board.top());
         self.sacked = self.board.sacked_octets();
+        self.undelivered = self.board.undelivered();
+        self.lost_edge = self.board.lost_edge();
         self.board.take_ack(number);
     }
 
@@ -184,12 +194,21 @@ impl Trial {
             end: self.board.end(),
             rwnd,
             acked,
-            delivered: acked
-                .saturating_add(self.board.sacked_octets())
-                .saturating_sub(self.sacked),
+            delivery: self.delivery(acked),
             same_window,
             fin: false,
             sack: self.news(row.word()),
+        }
+    }
+
+    /// What an ACK of so many octets delivered, by the scoreboard before it.
+    fn delivery(&self, acked: u32) -> Delivery {
+        Delivery {
+            delivered_data: acked
+                .saturating_add(self.board.sacked_octets())
+                .saturating_sub(self.sacked),
+            recover_fs: self.undelivered,
+            safe_ack: acked > 0 && self.board.lost_edge() <= self.lost_edge,
         }
     }
 
@@ -260,6 +279,7 @@ impl Trial {
         self.compare_octet(row);
         self.compare_after(row);
         row.expect_segment("the rescue", self.board.rescue());
+        row.expect("the last lost octet", self.board.lost_edge());
     }
 
     /// Compares how many octets are free and SACKed in turns, from `una` on, up to the last SACKed one and a dot.

@@ -1,16 +1,16 @@
 //! What an acceptable ACK changes on a connection.
-ghost use Rattle.std.specs.Prelude.{◌≡◌, ◌+◌, ◌-◌, ◌≤◌, ◌<◌, ◌^◌, false, Some, IfOk, OnOk, IfSome};
+ghost use Rattle.std.specs.Prelude.{◌≡◌, ◌+◌, ◌-◌, ◌≤◌, ◌<◌, ◌^◌, ◌&&◌, nat_lt, nat_le, false, Some, IfOk, OnOk, IfSome};
 ghost use Rattle.pd_board.specs.Choice.{run_at};
-ghost use Rattle.pd_board.specs.Loss.{sacked_octets};
+ghost use Rattle.pd_board.specs.Loss.{sacked_octets, undelivered, lost_edge};
 ghost use Rattle.pd_recover.specs.Choice.{IsSendable, segment_of};
-ghost use Rattle.pd_host.specs.Acknowledgments.{told_block, told_blocks, blocks_in, blocks_of, with_blocks, scored, with_timing, with_new_window, news_of, paced_on, with_ack, ack_of_segment, responding, taking, next_found, sent_as, noted_by, noted_on, octets_of, pipe_of, entered_on};
+ghost use Rattle.pd_host.specs.Acknowledgments.{told_block, told_blocks, blocks_in, blocks_of, with_blocks, scored, with_timing, with_new_window, news_of, paced_on, window_after, with_ack, ack_of_segment, responding, taking, next_found, sent_as, noted_by, noted_on, octets_of, pipe_of, entered_on};
 ghost use Rattle.pd_host.specs.Handshake.{looked_at};
 ghost use Rattle.pd_host.specs.Steps.{FollowsQueued};
 
 use super::Connection;
 use crate::established::Established;
 use pd_board::Board;
-use pd_recover::{Ack, Cong, News, NextSegment, Then};
+use pd_recover::{Ack, Cong, Delivery, News, NextSegment, Then};
 use pd_seg::{SegOption, Segment, Span};
 use std::alloc::AllocError;
 
@@ -21,6 +21,41 @@ pub enum Filling {
     NextSeg,
     /// By limited transmit: new octets alone (RFC 6675, section 5, step 3; RFC 3042).
     NewData,
+}
+
+/// What the scoreboard says before an ACK, by which PRR counts what the ACK delivers (RFC 9937, section 6).
+#[derive(Clone, Copy)]
+struct Before {
+    /// How many octets are SACKed.
+    sacked: u32,
+    /// How many octets are outstanding and not SACKed.
+    undelivered: u32,
+    /// The number after the highest octet that is lost.
+    lost_edge: u32,
+}
+
+impl Before {
+    fn of(board: &Board) -> Before
+        ensures { result ≡ record { sacked = sacked_octets board.now; undelivered = undelivered board.now; lost_edge = lost_edge board.now } }
+    {
+        Before {
+            sacked: board.sacked_octets(),
+            undelivered: board.undelivered(),
+            lost_edge: board.lost_edge(),
+        }
+    }
+
+    /// What the ACK delivers, by the scoreboard after it and how many octets it acknowledges.
+    fn delivery(self, acked: u32, board: &Board) -> Delivery
+        requires { acked < 2 ^ 31 }
+        ensures { result ≡ record { delivered_data = acked + sacked_octets board.now - self.sacked; recover_fs = self.undelivered; safe_ack = nat_lt 0 acked && nat_le (lost_edge board.now) self.lost_edge } }
+    {
+        Delivery {
+            delivered_data: (acked + board.sacked_octets()).saturating_sub(self.sacked),
+            recover_fs: self.undelivered,
+            safe_ack: acked > 0 && board.lost_edge() <= self.lost_edge,
+        }
+    }
 }
 
 /// One block more is SACKed, if all its octets were sent: whether a block told a new octet, as far as `told` says it of
@@ -106,10 +141,10 @@ impl Connection {
         };
         let rwnd = established.rwnd;
         let acked = segment.ack - self.board.una();
-        let sacked = self.board.sacked_octets();
+        let before = Before::of(&self.board);
         let fresh = self.take_ack(segment, &mut established, now)?;
-        let delivered = self.delivered(acked, sacked);
-        Ok(self.answer(segment, acked, delivered, fresh, rwnd, established))
+        let delivery = before.delivery(acked, &self.board);
+        Ok(self.answer(segment, acked, delivery, fresh, rwnd, established))
     }
 
     /// The number, the blocks, the timer and the window of a segment are taken: whether the blocks told a new octet.
@@ -132,14 +167,6 @@ impl Connection {
         self.time(acked, established.granularity_us, now);
         self.renew_window(segment, established);
         Ok(fresh)
-    }
-
-    /// DeliveredData of an ACK of so many new octets, before which so many were SACKed (RFC 6937, section 3).
-    fn delivered(&self, acked: u32, sacked: u32) -> u32
-        requires { acked < 2 ^ 31 }
-        ensures { result ≡ acked + sacked_octets self.now.board - sacked }
-    {
-        (acked + self.board.sacked_octets()).saturating_sub(sacked)
     }
 
     /// Marks the octets of the blocks, where SACK was agreed: whether they told a new octet.
@@ -194,13 +221,13 @@ impl Connection {
         &mut self,
         segment: &Segment,
         acked: u32,
-        delivered: u32,
+        delivery: Delivery,
         fresh: bool,
         rwnd: u32,
         mut after: Established,
     ) -> Then
-        ensures told { self.new ≡ (responding self.old after (ack_of_segment segment.now acked delivered fresh rwnd after self.old)).0 }
-        ensures next { result ≡ (responding self.old after (ack_of_segment segment.now acked delivered fresh rwnd after self.old)).1 }
+        ensures told { self.new ≡ (responding self.old after (ack_of_segment segment.now acked delivery fresh rwnd after self.old)).0 }
+        ensures next { result ≡ (responding self.old after (ack_of_segment segment.now acked delivery fresh rwnd after self.old)).1 }
         ensures queued { FollowsQueued result self.new }
     {
         let ack = Ack {
@@ -210,20 +237,28 @@ impl Connection {
             end: self.board.end(),
             rwnd: after.rwnd,
             acked,
-            delivered,
+            delivery,
             same_window: self.window_in(segment) == rwnd,
             fin: segment.flags.fin,
             sack: self.news(fresh),
         };
         let next = after.congestion.on_ack(ack);
-        if let Then::StepC = next {
-            self.pace(&mut after.congestion);
-        }
+        self.pace_before(next, &mut after.congestion);
         self.established = Some(after);
         next
     }
 
-    /// By PRR the pipe sets the window (RFC 6937, section 3).
+    /// The window of what follows: by PRR it is set before anything is sent.
+    fn pace_before(&self, next: Then, congestion: &mut Cong)
+        ensures { congestion.new ≡ record congestion.old { cwnd = window_after next self.now congestion.old } }
+    {
+        match next {
+            Then::StepC | Then::Entry => self.pace(congestion),
+            _ => {}
+        }
+    }
+
+    /// By PRR the pipe sets the window (RFC 9937, section 6).
     fn pace(&self, congestion: &mut Cong)
         ensures { congestion.new ≡ paced_on self.now congestion.old }
     {
@@ -250,7 +285,7 @@ impl Connection {
         self.board.run_at(self.board.una())
     }
 
-    /// Recovery has begun with this segment: HighRxt and RescueRxt, and PRR's window.
+    /// Recovery has begun with this segment: HighRxt and RescueRxt, and by PRR what was sent.
     pub fn enter(&mut self, segment: Span)
         ensures { self.new ≡ entered_on segment self.old self.old.established }
     {
@@ -258,7 +293,6 @@ impl Connection {
             return;
         };
         established.congestion.enter(segment);
-        self.pace(&mut established.congestion);
         self.established = Some(established);
     }
 

@@ -1,7 +1,7 @@
 //! What an ACK does to the congestion window and to loss recovery, and what it leads to.
 ghost use Rattle.std.specs.Prelude.{◌≡◌, false, ◌+◌, ◌<◌, ◌≤◌, ◌^◌, IfSome};
 ghost use Rattle.std.specs.Bool.{OnTrue};
-ghost use Rattle.pd_recover.specs.Acks.{IsAck, IsNamed, acked, is_duplicate, grown_by, half_of, counted, recovered, reduction_begun, with_delivered, new_segment, first_outstanding, told_by_sack, told_by_number, selective_duplicate, plain_duplicate, limited_transmit, advanced};
+ghost use Rattle.pd_recover.specs.Acks.{IsAck, IsNamed, acked, is_duplicate, grown_by, half_of, counted, recovered, reduction_begun, with_delivered, gone_on, new_segment, first_outstanding, told_by_sack, told_by_number, selective_duplicate, plain_duplicate, limited_transmit, advanced};
 ghost use Rattle.pd_recover.specs.Cong.{growth, limit_of, widened};
 ghost use Rattle.pd_recover.specs.Prr.{IsReduction};
 
@@ -84,8 +84,7 @@ impl Cong {
             return Then::Ordinary;
         }
         if self.recovering {
-            self.count_delivered(ack);
-            return Then::StepC;
+            return self.go_on(ack);
         }
         self.grow(ack);
         if !news.fresh {
@@ -108,23 +107,35 @@ impl Cong {
         self.reduction = Reduction::NONE;
     }
 
+    /// An ACK in recovery with SACK that doesn't end it. By PRR one that delivers nothing changes nothing.
+    fn go_on(&mut self, ack: Ack) -> Then
+        ensures state { self.new ≡ (gone_on ack self.old).0 }
+        ensures then { result ≡ (gone_on ack self.old).1 }
+        ensures named { IsNamed ack result }
+    {
+        if self.is_proportional() && ack.delivery.delivered_data == 0 {
+            return Then::Nothing;
+        }
+        self.count_delivered(ack);
+        Then::StepC
+    }
+
     /// An ACK in recovery with SACK has told what reached the peer.
     fn count_delivered(&mut self, ack: Ack)
         ensures { self.new ≡ with_delivered ack self.old }
     {
         if self.is_proportional() {
-            self.reduction = self.reduction.tell(ack.delivered);
+            self.reduction = self.reduction.tell(ack.delivery);
         }
     }
 
     /// What PRR keeps where recovery with SACK begins.
     fn begun_reduction(&self, ack: Ack) -> Reduction
-        requires { IsAck ack }
         ensures value { result ≡ reduction_begun ack self.now }
         ensures known { IsReduction result }
     {
         if self.is_proportional() {
-            Reduction::begin(ack.top - ack.una).tell(ack.delivered)
+            Reduction::begin(ack.delivery.recover_fs).tell(ack.delivery)
         } else {
             self.reduction
         }
@@ -153,6 +164,7 @@ impl Cong {
         self.ssthresh = half;
         self.recovering = true;
         self.recovery_point = ack.top;
+        self.high_rxt = ack.una;
         Then::Entry
     }
 

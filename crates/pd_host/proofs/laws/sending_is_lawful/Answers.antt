@@ -36,7 +36,7 @@ pub returns-clause-room : goal.returns-clause-room
 returns-clause-room c = keeps_to_window
 
 pub returns-clause-proportion : goal.returns-clause-proportion
-returns-clause-proportion c = recovers_in_proportion c.recovery_is_lawful.ensures.proportion
+returns-clause-proportion c = recovers_in_proportion c.recovery_is_lawful.ensures.proportion c.recovery_is_lawful.ensures.counts c.recovery_is_lawful.ensures.sacked
 
 pub returns-clause-all : goal.returns-clause-all
 returns-clause-all c = sends_all_that_may

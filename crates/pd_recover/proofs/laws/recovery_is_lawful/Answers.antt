@@ -1,6 +1,7 @@
 -- The laws hold.
 use Rattle.pd_recover.proofs.Begun.{begins_by_uses}
 use Rattle.pd_recover.proofs.Proportion.{lets_out_in_proportion, counts_recovery, is_by_pipe}
+use Rattle.pd_recover.proofs.Rests.{rests_in_recovery}
 use Rattle.pd_recover.proofs.Sendable.{data_sendable, next_sendable}
 use Rattle.pd_recover.proofs.SlowStart.{counts_octets, keeps_slow_start, restarts_when_idle, is_as_before}
 use Rattle.pd_recover.proofs.Spared.{spares_sacked}
@@ -33,6 +34,9 @@ returns-clause-counts c = counts_recovery
 
 pub returns-clause-pipe : goal.returns-clause-pipe
 returns-clause-pipe c = is_by_pipe
+
+pub returns-clause-rests : goal.returns-clause-rests
+returns-clause-rests c = rests_in_recovery
 
 pub returns-clause-sacked : goal.returns-clause-sacked
 returns-clause-sacked c = spares_sacked

@@ -12,5 +12,5 @@ returns c =
     let explain = c.in_ok-arg-3.ensures.shape c.explain_option.ensures.local ∙ ap₂ with_rule steps c.explain_option.ensures.rule in
     let only = c.in_ok-arg-4.ensures.shape c.only_option.ensures.local ∙ ap₂ with_rule explain c.only_option.ensures.rule in
     let json = c.in_ok-arg-5.ensures.shape c.json_option.ensures.local ∙ ap₂ with_rule only c.json_option.ensures.rule in
-    IfOk-weaker c.arg-6.result (AddsArg c.in_ok-arg-5.field-0 c.ends_option.result) (λ (whole : Command). app_of whole ≡ pdregress)
-    (λ whole added. added.shape c.ends_option.ensures.local ∙ ap₂ with_rule json c.ends_option.ensures.rule) c.arg-6.ensures
+    IfOk-weaker c.arg-6.result (AddsArg c.in_ok-arg-5.field-0 c.leftovers_option.result) (λ (whole : Command). app_of whole ≡ pdregress)
+    (λ whole added. added.shape c.leftovers_option.ensures.local ∙ ap₂ with_rule json c.leftovers_option.ensures.rule) c.arg-6.ensures

@@ -1,10 +1,9 @@
-use Rattle.std.proofs.Common.{◌∷◌, []}
-use Rattle.pdrecord.proofs.Sections.{writes_failed, writes_one, writes_stopped}
+use Rattle.pdrecord.proofs.Sections.{writes_failed, writes_stopped}
 use Rattle.pdrecord.proofs.file_sections.put_section.Goals as goal
 
 pub returns-in_err-section : goal.returns-in_err-section
 returns-in_err-section g c =
-    writes_stopped c.args.settings.now c.args.way (g.F.Shelf.held c.args.files.now) (c.args.name.now ∷ []) c.from_residual.result c.in_err-section.field-0.0 (g.W.Write.contents c.args.out.now)
+    writes_stopped c.args.settings.now c.args.way (g.F.Shelf.held c.args.files.now) c.args.name.now c.from_residual.result c.in_err-section.field-0.0 (g.W.Write.contents c.args.out.now)
     c.from_residual.ensures.1 c.in_err-section.ensures.only
 
 pub returns-in_err-put_all : goal.returns-in_err-put_all
@@ -14,5 +13,4 @@ returns-in_err-put_all g c =
 
 pub returns : goal.returns
 returns g c =
-    writes_one c.args.settings.now c.args.way (g.F.Shelf.held c.args.files.now) c.args.name.now c.in_ok-section.section.is_recorded c.in_ok-section.section.octets.items (g.W.Write.contents c.args.out.now) (g.W.Write.contents c.put_all.new.writer)
-    c.in_ok-section.ensures.section (rw c.as_slice.ensures.value at c.in_ok-put_all.ensures.ok)
+    (c.in_ok-section.section.octets.items, c.in_ok-section.ensures.section, rw c.as_slice.ensures.value at c.in_ok-put_all.ensures.ok)

@@ -5,7 +5,7 @@ use Rattle.clap.specs.declared.error.kind.ErrorKind.TheVariants.{OutOfMemory}
 use Rattle.pd_words.specs.ProgramWords.{word_faults}
 use Rattle.pd_words.proofs.SettingsText.{has_kind, passed_on}
 use Rattle.pd_words.proofs.Together.{if_err}
-use Rattle.pdrecord.specs.RecordWords.{is_trace_of_least, is_drop_alone, refusals}
+use Rattle.pdrecord.specs.RecordWords.{is_trace_of_minimal, is_drop_alone, refusals}
 use Rattle.pdrecord.proofs.Words.{free_pdrecord}
 use Rattle.pdrecord.proofs.Together.{alone_too, refused_together, not_refused}
 use Rattle.pdrecord.proofs.record_words.record_options.Goals as goal
@@ -23,7 +23,7 @@ pub returns-then-are_refused_together-clause-refused : goal.returns-then-are_ref
 returns-then-are_refused_together-clause-refused g c =
     let words = map g.S.AsStr.text c.args.words.now in
     let matched = subst (λ (a : App). HasMatchesOf a words c.in_ok-matches.matches) c.in_ok-command.ensures.words c.in_ok-matches.ensures.matches in
-    let together : (is_trace_of_least words || is_drop_alone words) ≡ true = sym (c.are_refused_together.ensures words matched) ∙ c.if-are_refused_together.true in
+    let together : (is_trace_of_minimal words || is_drop_alone words) ≡ true = sym (c.are_refused_together.ensures words matched) ∙ c.if-are_refused_together.true in
     if_err c.refuse_together.result (λ (e : Error). kind_of e ≡ OutOfMemory) (refusals words ≢ []) (refused_together words together)
 
 pub returns-clause-chosen : goal.returns-clause-chosen
@@ -36,5 +36,5 @@ returns-clause-taken g c =
     let words = map g.S.AsStr.text c.args.words.now in
     let free = subst (λ (a : App). is_simple_and_free a ≡ true) (sym c.in_ok-command.ensures.words) free_pdrecord in
     let matched = subst (λ (a : App). HasMatchesOf a words c.in_ok-matches.matches) c.in_ok-command.ensures.words c.in_ok-matches.ensures.matches in
-    let apart : (is_trace_of_least words || is_drop_alone words) ≡ false = sym (c.are_refused_together.ensures words matched) ∙ c.if-are_refused_together.false in
+    let apart : (is_trace_of_minimal words || is_drop_alone words) ≡ false = sym (c.are_refused_together.ensures words matched) ∙ c.if-are_refused_together.false in
     not_refused words (subst (λ (a : App). word_faults a words ≡ []) c.in_ok-command.ensures.words (c.in_ok-matches.ensures.kinds free)) apart

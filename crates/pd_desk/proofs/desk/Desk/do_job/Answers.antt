@@ -1,14 +1,12 @@
--- How a job ends.
-use Rattle.std.proofs.Common.{refl}
-use Rattle.pd_desk.proofs.Jobs.{ends_job, abandons_job}
+-- How a job ends: the result that is handed in is that of the job's task.
+use Rattle.std.proofs.Common.{◌≡◌, true, OnOk, subst, sym}
+use Rattle.pd_track.specs.declared.task.Task.{Task}
+use Rattle.pd_seat.specs.Seats.{is_unended}
+use Rattle.pd_desk.specs.Inner.{EndsJob}
 use Rattle.pd_desk.proofs.desk.Desk.do_job.Goals as goal
 
-pub returns-in-Ok-clause-finished : goal.returns-in-Ok-clause-finished
-returns-in-Ok-clause-finished g c =
-    ends_job c.finish.result c.args.job.task c.in-Ok.done c.args.seat.now c.finish.new.seat c.in-Ok.ensures.done c.finish.ensures.gives c.finish.ensures.records c.finish.ensures.room c.requires.started c.finish.ensures.refuses
+pub hand_in-requires : goal.hand_in-requires
+hand_in-requires g c = record { started = subst (λ (t : Task). is_unended c.args.seat.now.own t.number ≡ true) (sym c.in-Ok.ensures.done) c.requires.started }
 
-pub returns-in-Err-clause-abandoned : goal.returns-in-Err-clause-abandoned
-returns-in-Err-clause-abandoned g c = (
-  refl,
-  abandons_job c.abandon.result c.args.job.task.number c.number-number.result c.args.seat.now c.abandon.new.seat c.number-number.ensures c.abandon.ensures.gives c.abandon.ensures.records c.abandon.ensures.room c.requires.started c.abandon.ensures.refuses,
-)
+pub returns-in-Ok-clause-finished : goal.returns-in-Ok-clause-finished
+returns-in-Ok-clause-finished g c = subst (λ (t : Task). OnOk c.hand_in.result (EndsJob t c.args.seat.now c.hand_in.new.seat)) c.in-Ok.ensures.done c.hand_in.ensures.finished

@@ -4,7 +4,7 @@ use Rattle.pd_book.specs.declared.act.Act.TheVariants.{Start}
 use Rattle.pd_book.specs.Story.{JobView}
 use Rattle.pd_seat.specs.Seats.{with_act}
 use Rattle.pd_desk.specs.Work.{Works}
-use Rattle.pd_desk.proofs.Jobs.{is_started, worked_none, worked_more, worked_on, left_more, works_want, works_left, of_given}
+use Rattle.pd_desk.proofs.Jobs.{is_started, worked_none, worked_more, worked_on, works_given_up, works_want, of_given}
 use Rattle.pd_desk.proofs.desk.Desk.run_jobs.Goals as goal
 
 pub loop-init : goal.loop-init
@@ -23,8 +23,8 @@ returns-in_err-do_job-clause-works g c =
     let failed : c.from_residual-in_err-do_job.result ≡ Err fault = search rules in
     let task = c.in-Some.job.task in
     let begun = of_given (λ (job : JobView). c.next_job.new.seat ≡ with_act c.loop.seat (Start job.task.number job.task.name)) c.in_ok-job.field-0 c.in-Some.job c.in-Some.is c.in_ok-job.ensures.records in
-    let left = left_more c.args.seat.now c.loop.seat c.next_job.new.seat c.do_job.new.seat task.number task.name c.loop.invariant.jobs begun c.in_err-do_job.ensures.abandoned.1 in
-    subst (λ r. Works c.args.seat.now r c.do_job.new.seat) (sym failed) (works_left c.args.seat.now c.do_job.new.seat fault c.in_err-do_job.ensures.abandoned.0 left)
+    let left = works_given_up c.args.seat.now c.loop.seat c.next_job.new.seat c.do_job.new.seat task.number task.name fault c.loop.invariant.jobs begun c.in_err-do_job.ensures.given_up in
+    subst (λ r. Works c.args.seat.now r c.do_job.new.seat) (sym failed) left
 
 pub do_job-requires-clause-started : goal.do_job-requires-clause-started
 do_job-requires-clause-started g c =

@@ -13,7 +13,7 @@ returns-clause-is_shown c =
       record {
         legal = c.self.invariant.legal;
         noted = length-reverse c.self.inside.notes.items ∙ c.self.invariant.noted;
-        agrees = subst (λ (x : HeldView). Agrees x c.args.seat.now) (sym c.self.view_is) (c.agrees.ensures.0 c.if-not-agrees.false);
+        agrees = subst (λ (x : HeldView). Agrees x c.args.seat.now) (sym c.self.view_is) (c.agrees.ensures.compared.0 c.if-not-agrees.false);
         rows = c.in_ok-report.ensures.shown;
         remembered = ap (λ (n : ℕ). record { number = c.seat.inside.number; own = reverse c.seat.inside.own.items; longest = n }) len
             ∙ ap (λ (s : SeatView). record { number = s.number; own = s.own; longest = length past }) c.seat.view_is;

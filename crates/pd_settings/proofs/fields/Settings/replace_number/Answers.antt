@@ -1,6 +1,6 @@
 -- Each key's branch gives the settings with its field replaced by a number that the key takes.
 use Rattle.std.proofs.Common.{refl}
-use Rattle.pd_settings.specs.declared.keys.Key.TheVariants.{Mss, Wscale, Sndbuf, RcvWnd, InitialSsthresh, MinRtoUs, MaxRtoUs, GranularityUs, ByteCounting, ToleranceUs}
+use Rattle.pd_settings.specs.declared.keys.Key.TheVariants.{Mss, Wscale, Sndbuf, RcvWnd, InitialSsthresh, MinRtoUs, MaxRtoUs, GranularityUs, AbcLimit, ToleranceUs}
 use Rattle.pd_settings.specs.declared.values.Value.TheVariants.{Number}
 use Rattle.pd_settings.proofs.Changes.{answered}
 use Rattle.pd_settings.proofs.fields.Settings.replace_number.Goals as goal
@@ -29,8 +29,8 @@ returns-in-MaxRtoUs c = rw c.in-MaxRtoUs.is (answered c.args.self.now _ MaxRtoUs
 pub returns-in-GranularityUs : goal.returns-in-GranularityUs
 returns-in-GranularityUs c = rw c.in-GranularityUs.is (answered c.args.self.now _ GranularityUs (Number c.args.number) (rw c.in-GranularityUs.is at c.requires) refl)
 
-pub returns-in-ByteCounting : goal.returns-in-ByteCounting
-returns-in-ByteCounting c = rw c.in-ByteCounting.is (answered c.args.self.now _ ByteCounting (Number c.args.number) (rw c.in-ByteCounting.is at c.requires) refl)
+pub returns-in-AbcLimit : goal.returns-in-AbcLimit
+returns-in-AbcLimit c = rw c.in-AbcLimit.is (answered c.args.self.now _ AbcLimit (Number c.args.number) (rw c.in-AbcLimit.is at c.requires) refl)
 
 pub returns-in-ToleranceUs : goal.returns-in-ToleranceUs
 returns-in-ToleranceUs c = rw c.in-ToleranceUs.is (answered c.args.self.now _ ToleranceUs (Number c.args.number) (rw c.in-ToleranceUs.is at c.requires) refl)

@@ -1,6 +1,6 @@
 -- Each key's branch gives the replaced settings.
 use Rattle.std.proofs.Common.{refl}
-use Rattle.pd_settings.specs.declared.keys.Key.TheVariants.{Sack, Nagle, LimitedTransmit, RestartAfterIdle}
+use Rattle.pd_settings.specs.declared.keys.Key.TheVariants.{Sack, Nagle, LimitedTransmit, SlowStartAfterIdle}
 use Rattle.pd_settings.specs.declared.values.Value.TheVariants.{Truth}
 use Rattle.pd_settings.proofs.Changes.{answered}
 use Rattle.pd_settings.proofs.fields.Settings.replace_truth.Goals as goal
@@ -14,5 +14,5 @@ returns-in-Nagle c = rw c.in-Nagle.is (answered c.args.self.now _ Nagle (Truth c
 pub returns-in-LimitedTransmit : goal.returns-in-LimitedTransmit
 returns-in-LimitedTransmit c = rw c.in-LimitedTransmit.is (answered c.args.self.now _ LimitedTransmit (Truth c.args.truth) tt refl)
 
-pub returns-in-RestartAfterIdle : goal.returns-in-RestartAfterIdle
-returns-in-RestartAfterIdle c = rw c.in-RestartAfterIdle.is (answered c.args.self.now _ RestartAfterIdle (Truth c.args.truth) tt refl)
+pub returns-in-SlowStartAfterIdle : goal.returns-in-SlowStartAfterIdle
+returns-in-SlowStartAfterIdle c = rw c.in-SlowStartAfterIdle.is (answered c.args.self.now _ SlowStartAfterIdle (Truth c.args.truth) tt refl)
