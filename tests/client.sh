@@ -60,9 +60,9 @@ tests() { # [--unproved]
 
 unproved=
 [ "${1:-}" != --unproved ] || { unproved=$1; shift; }
-tools=$(cd "$top/client" && ls -d ../tools/*prove*.py ../tools/building.py ../tools/built.py ../tools/changed_rules.py ../tools/copies.py ../tools/crate_graph.py ../tools/fault_places.py ../tools/kept_*.py ../tools/gate.py ../tools/kit*.py ../tools/kernel \
-    ../tools/lanes.py ../tools/owed*.py ../tools/source_sums.py ../tools/stamps.py ../tools/stopping.py ../tools/tell_fault.py ../tools/try*.py ../tools/repeated_rules.py ../tools/settings_table.py ../tools/walk_tutorial.py ../tools/edit*.py ../tools/gate_times.py \
-    ../tools/planting.py ../tools/plain_planting.py ../tools/refusing.py ../tools/side_by_side.py ../tests/conftest.py ../tests/documents ../tests/model ../tests/rows \
+tools=$(cd "$top/client" && ls -d ../tools/*prove*.py ../tools/building.py ../tools/built.py ../tools/changed_rules.py ../tools/cited.py ../tools/copies.py ../tools/crate_graph.py ../tools/fault_places.py ../tools/kept_*.py ../tools/gate.py ../tools/kit*.py ../tools/kernel \
+    ../tools/owed*.py ../tools/source_sums.py ../tools/stamps.py ../tools/stopping.py ../tools/tell_fault.py ../tools/try*.py ../tools/repeated_rules.py ../tools/settings_table.py ../tools/walk_tutorial.py ../tools/edit*.py ../tools/proofs.py \
+    ../tools/planting.py ../tools/plain_planting.py ../tools/refusing.py ../tools/side_by_side.py ../tests/conftest.py ../tests/documents ../tests/drawn ../tests/model ../tests/rows ../tests/store_rows.py \
     ../tests/test_*.py)
 if ! "$top/tests/packages.sh" "$@"; then
     failed=1
@@ -73,7 +73,7 @@ check layout black -q --check --config pyproject.toml . ../pdsuite $tools
 # shellcheck disable=SC2086
 check style flake8 . ../pdsuite $tools
 check types mypy --config-file pyproject.toml pdsuite tests ../pdsuite
-export MYPYPATH=../tools:../tests
+export MYPYPATH=../tools:../tests:../bench
 # shellcheck disable=SC2086
 check types-of-tools mypy --config-file pyproject.toml $tools
 unset MYPYPATH

@@ -13,6 +13,8 @@ from _pytest.terminal import TerminalReporter
 
 from rows.comparing import Case, Finding
 from rows.kinds import Group, groups_of
+from rows.plain import at_least
+from rows.tables import Chance
 from rows.telling import PROGRAMS, Programs, heed_signals, programs_in, proved_programs, tell, tell_in_step
 
 NEEDS_BUILT = "needs a built program"
@@ -26,7 +28,7 @@ class RowFile(pytest.File):
     """A file of rows."""
 
     def collect(self) -> Iterator["RowTable"]:
-        for group in groups_of(self.path):
+        for group in groups_of(self.path, chance_of(self.config)):
             yield RowTable.from_parent(self, name=group.name, group=group)
 
 
@@ -133,6 +135,12 @@ def pytest_addoption(parser: pytest.Parser, pluginmanager: pytest.PytestPluginMa
     group.addoption("--proved", action="store_true", help="the proved programs alone; if one isn't built, that fails")
     group.addoption("--unproved", action="store_true", help="the sources as they stand, without proofs")
     group.addoption("--programs", metavar="FOLDER", type=Path, help="those of a folder, and the sources of others")
+    group.addoption("--seed", metavar="N", type=at_least(0), help="draws random rows and recoveries from this seed")
+    group.addoption("--rows", metavar="N", type=at_least(1), help="draws so many rows at least, or recoveries, a table")
+
+
+def chance_of(config: pytest.Config) -> Chance:
+    return Chance(config.getoption("--seed"), config.getoption("--rows"))
 
 
 def teller_of(config: pytest.Config) -> Teller:

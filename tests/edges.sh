@@ -13,9 +13,9 @@ passed=0
 failed=0
 . "$top/tests/edges/common.sh"
 case ${1:-} in
-    '') set -- adding harness links launching memory proving rows faults ;;
+    '') set -- adding harness links launching memory proving faults ;;
     --unproved)
-        set -- adding harness links launching memory proving rows
+        set -- adding harness links launching layout memory proving
         echo 'not told, needs a built program: tests/edges/faults.sh'
         ;;
 esac

@@ -75,6 +75,9 @@ CHANGES = {
     "checksums without a kit": f"sed -i '$d' {PROGRAM}.sums",
     "checksums that end early": f"head -n -3 {PROGRAM}.sums >x && cat x >{PROGRAM}.sums",
     "what decides is another": "printf '\\n\\ndef is_proved(*_):\\n    return False\\n' >>tools/kept_sums.py",
+    "what says which crates count is another": (
+        "printf '\\n\\ndef libraries_below(*_):\\n    return []\\n' >>tools/crate_graph.py"
+    ),
     "another kit": 'echo "kit 2" >"$KIT/KIT-ID"',
     "a command of no kit": 'rm "$KIT/KIT-ID"',
     "another kit first on the PATH": 'mkdir -p "$KIT/../first/bin" && cp -p "$KIT/bin/rt" "$KIT/../first/bin"',

@@ -1,12 +1,16 @@
 """Tests of what tests the documents: commands that print something else, programs that aren't built, the last line."""
 
+import re
 from pathlib import Path
 
 import pytest
 
 from documents import main
 from documents.pages import Page
+from documents.shown import shown_in
+from documents.walking import walk
 
+TOP = Path(__file__).resolve().parents[1]
 PAGE = "# a\n\n```console\n$ echo a\na\n$ echo b\nc\n```\n\n```console slow\n$ echo d\n```\n"
 
 
@@ -31,6 +35,13 @@ def test_commands_fail_where_a_program_is_not_built(monkeypatch: pytest.MonkeyPa
     assert commands_of(PAGE, "pdregress isn't built", monkeypatch) == [("commands of a.md", "pdregress isn't built")]
 
 
+def test_what_watch_prints_of_a_build_is_left_to_who_walks_without_proofs(tmp_path: Path) -> None:
+    page = "```console follow\n$ sh -c 'echo a; sleep 60'\na\n```\n\n```console follow\nb\n```\n"
+    steps = list(shown_in(page))
+    assert list(walk(steps, tmp_path, 0.5, is_proved=True)) == []
+    assert [it.said for it in walk(steps, tmp_path, 0.5, is_proved=False)] == [None, ""]
+
+
 def test_a_block_of_an_unknown_kind_fails(monkeypatch: pytest.MonkeyPatch) -> None:
     ((name, why),) = commands_of(PAGE.replace("slow", "fast"), None, monkeypatch)
     assert (name, why) == ("blocks of a.md", "a.md:11: a block of an unknown kind fast")
@@ -52,3 +63,10 @@ def test_the_last_line_counts(
     monkeypatch.setattr(main, "test_pages", lambda files, pages: iter(tests))
     assert main.main([]) == status
     assert capsys.readouterr().out.splitlines()[-1] == last
+
+
+@pytest.mark.parametrize("folder", ["bench", "tools"])
+def test_a_page_names_each_file_of_its_folder(folder: str) -> None:
+    page = (TOP / folder / "README.md").read_text()
+    named = set(re.findall(r"`([\w.]+)", page))
+    assert [it.name for it in (TOP / folder).iterdir() if it.is_file() and it.name not in {"README.md", *named}] == []

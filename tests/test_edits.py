@@ -231,7 +231,13 @@ def test_a_bug_is_taken_away_again(tmp_path: Path) -> None:
     assert path.read_text() == "a b\n"
 
 
-@pytest.mark.parametrize("edit", read_text((TOP / "bench/planted.edits").read_text(), folders=()))
+@pytest.mark.parametrize(
+    "edit",
+    [
+        *read_text((TOP / "bench/planted.edits").read_text(), folders=()),
+        *read_text((TOP / "bench/search.edits").read_text(), are_bugs=True, folders=()),
+    ],
+)
 def test_changes_of_the_sender_that_are_measured_can_be_planted(edit: Edit) -> None:
     assert list(planted(edit, TOP))
 

@@ -21,6 +21,7 @@ from kernel.run import Outcome
 from kernel.script import Refused, read_script
 from kernel.settings import Settings, Tuning, settings_of, tuning_of
 from kernel.wire import PEER_ISN, Seen, decode, encode
+from pdsuite.faults import Fault
 from pdsuite.packetdrill.items import Call, Packet, TcpOption, Time
 
 OPENING = """0 socket(..., SOCK_STREAM, IPPROTO_TCP) = 3
@@ -31,6 +32,7 @@ OPENING = """0 socket(..., SOCK_STREAM, IPPROTO_TCP) = 3
 +0.05 < . 1:1(0) ack 1 win 257
 +0 accept(3, ..., ...) = 4
 """
+OLD = "restart_after_idle: UnknownKey{}: its name is slow_start_after_idle"
 
 
 class Examples(unittest.TestCase):
@@ -115,6 +117,26 @@ class Setup(unittest.TestCase):
             other = settings_of(top / "in" / "b.pkt", "// set wscale 5\n")
         self.assertEqual((got.mss, got.wscale, got.sack), (700, 3, True))
         self.assertEqual((other.mss, other.wscale, other.sack), (600, 5, False))
+
+    def test_an_old_name_is_refused_with_its_place(self) -> None:
+        with tempfile.TemporaryDirectory() as name:
+            path, toml = (Path(name).resolve() / it for it in ("a.pkt", "pdsuite.toml"))
+            toml.write_text("root = true\nrestart_after_idle = true\n")
+            self.assertEqual(self.refused(path), f"{toml}:2: {OLD.format('')}")
+            toml.write_text('root = true\n["a.pkt"]\nrestart_after_idle = true\n')
+            beside = ' (["a.pkt"])'
+            self.assertEqual(self.refused(path), f"{toml}:3: {OLD.format(beside)}")
+            toml.write_text("root = true\n")
+            text = "// Why.\n// set restart_after_idle true\n"
+            self.assertEqual(self.refused(path, text), f"{path}:2: {OLD.format('')}")
+            self.assertEqual(self.refused(path, "", "restart_after_idle = true"), f"--settings: {OLD.format('')}")
+            self.assertIsNone(settings_of(path, "", "").slow_start_after_idle)
+
+    def refused(self, path: Path, text: str = "", words: str = "") -> str:
+        """The fault of the settings of a script."""
+        with self.assertRaises(Fault) as raised:
+            settings_of(path, text, words)
+        return str(raised.exception)
 
     def test_settings_become_switches_and_a_route(self) -> None:
         tuning = tuning_of(read_script(OPENING), Settings(min_rto_us=300_000), {"net.ipv4.tcp_frto": "0"})

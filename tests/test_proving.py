@@ -6,7 +6,7 @@ from pathlib import Path
 import pytest
 
 import changed_rules
-import prove_times
+import proofs
 
 
 def crate_of(top: Path, name: str) -> Path:
@@ -31,22 +31,22 @@ def test_definitions_are_kept_beside_another_link_of_the_file(tmp_path: Path) ->
 
 
 def test_a_proof_reads_what_was_written_in_each_folder(tmp_path: Path, monkeypatch: pytest.MonkeyPatch) -> None:
-    monkeypatch.setattr(prove_times, "TOP", tmp_path)
+    monkeypatch.setattr(proofs, "TOP", tmp_path)
     crate = crate_of(tmp_path, "low")
-    found = sorted(str(it.relative_to(crate)) for it in prove_times.sources("low"))
+    found = sorted(str(it.relative_to(crate)) for it in proofs.sources("low"))
     assert found == ["proofs/in/Lib.antt", "specs/Rule.antt", "src/in/more.rt", "src/lib.rt"]
 
 
 def test_a_crate_that_changed_takes_longer(tmp_path: Path, monkeypatch: pytest.MonkeyPatch) -> None:
     """What was measured counts for it and for what stands on it; one that stands takes next to nothing."""
-    monkeypatch.setattr(prove_times, "TOP", tmp_path)
+    monkeypatch.setattr(proofs, "TOP", tmp_path)
     for name in ("low", "high", "apart"):
         crate = crate_of(tmp_path, name)
         (crate / "out").mkdir()
         (crate / "out" / name).touch()
         os.utime(crate / "out" / name, (9_000_000_000, 9_000_000_000))
     uses: dict[str, list[str]] = {"low": [], "high": ["low"], "apart": []}
-    times = prove_times.Times({"low": 100.0, "high": 200.0})
+    times = proofs.Times({"low": 100.0, "high": 200.0})
     assert times.expected(uses) == {"low": 2.0, "high": 2.0, "apart": 2.0}
     later = (9_000_000_001, 9_000_000_001)
     os.utime(tmp_path / "crates/low/proofs/in/Lib.antt", later)

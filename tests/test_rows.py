@@ -8,14 +8,14 @@ from typing import Any, Optional
 
 import pytest
 
-from model.scenarios import Transfer
 from rows.accepting import accept_all
 from rows.asking import Call, Said, run
 from rows.comparing import Finding, report_of
-from rows.kinds import groups_of
+from rows.kinds import KINDS, groups_of
+from rows.owed import owed
 from rows.random_scripts import Script
 from rows.recordings import tell_recordings
-from rows.recoveries import Draw
+from rows.turned import asked_in
 
 Program = Callable[[Call], Optional[Said]]
 EMPTY = report_of({})
@@ -154,17 +154,19 @@ def test_words_are_refused_before_anything_is_read(teller: Teller) -> None:
         b"-g": replace(refused, output=b"total 0\n"),
         b"-h": replace(refused, read=None),
     }
-    assert teller.faults("[a] bad words\n-a b | no such word\n", lambda _: refused) == {}
+    assert teller.faults("[a] refusals\nno such word | $ -a b\n", lambda _: refused) == {}
     assert teller.calls[-1].words == (b"-a", b"b")
-    rows = "".join(f"{word.decode()} | no such word\n" for word in wrong)
-    faults = teller.faults(f"[a] bad words\n{rows}", lambda call: wrong[call.words[0]])
+    rows = "".join(f"no such word | $ {word.decode()}\n" for word in wrong)
+    faults = teller.faults(f"[a] refusals\n{rows}", lambda call: wrong[call.words[0]])
     assert list(faults) == [f"line-{number}" for number in range(2, 9)]
     assert [it for it, fault in faults.items() if fault == "untold"] == ["line-4", "line-8"]
 
 
-def test_settings_lines_and_ends(teller: Teller) -> None:
-    text = "[a] settings\nok: mss 500\n[b] bad commands\nbye\n[c] ends\npass 1 | add a 1\\n\n16 Truncated | 0\n"
-    assert list(teller.faults(text, says("", "pdregress: 16 Truncated\n", 2))) == ["line-2", "line-4", "line-6"]
+def test_settings_lines_and_cut_inputs(teller: Teller) -> None:
+    rows = "ok | < set mss 500\n4 BadValue | < set mss 500\n15 BadCommand | < bye\n"
+    text = f"[a] refusals\n{rows}[c] cuts\npass 1 | add a 1\\n\n16 Truncated | 0\n"
+    faults = teller.faults(text, says("", "pdregress: 16 Truncated\n", 2))
+    assert list(faults) == ["line-2", "line-3", "line-4", "line-6"]
     assert teller.calls[:2] == [
         Call("pdregress", (), b"set mss 500\n"),
         Call("pdregress", (b"--settings", b"mss = 500")),
@@ -209,9 +211,9 @@ def test_an_explanation_of_a_limit_has_its_number(teller: Teller) -> None:
 
 
 def test_octets_and_cuts(teller: Teller) -> None:
-    text = "[a] octets\n= pass 1: 0@\n- fail 1 result: x\n[b] cuts\nfail 1 result | $x^y\npass 1 | x\n"
+    text = "[a] octets\n= pass 1: 0@\n- fail 1 result: x\n[b] cuts\nsyntax 1 | x\nfail 1 result | y\\n\npass 1 | x\n"
     faults = teller.faults(text, judge)
-    assert list(faults) == ["line-5", "line-6"] and "syntax 1" in faults["line-5"]
+    assert list(faults) == ["line-5", "line-7"] and "syntax 1" in faults["line-5"]
     assert len(scripts_of(teller.calls[0])) == 255
 
 
@@ -243,51 +245,22 @@ def test_what_holds_of_each_recording(change: Callable[[bytes], bytes], fault: s
     assert [it.is_untold for it in untold] == [True, True]
 
 
-def trace_of(transfer: Transfer) -> str:
-    """A transfer as the recorder is to play it, after one event of its opening."""
-    events = [f"+0.1 {it.line}\n//= at {it.at / 1_000_000:.6f} {it.state}\n" for it in transfer.expected]
-    return "".join(["+0 accept(3, ..., ...) = 4\n//= at 0.000000 CLOSED\n", *events])
-
-
 @pytest.mark.parametrize(
-    "change, fault",
-    [
-        (lambda trace: trace, ""),
-        (lambda trace: re.sub(r"ssthresh:\d+", "ssthresh:9", trace, count=1), "after 0.000000 accept(3"),
-        (lambda trace: trace.rpartition("+0.1")[0], "  played   nothing more"),
-        (lambda trace: trace.replace(" > P. ", " > . ", 1), "  expected"),
-        (lambda trace: trace.replace("at 0.", "at 1."), "after 1.000000 accept(3"),
-        (lambda trace: trace + "+0 more\n//= at 9.000000 CLOSED\n", "  expected nothing more"),
-    ],
+    "row, fault",
+    [("pass 1", ""), ("pass 2", "a: pass 2, with 1 events"), ("fail 1 seq", "a: fail 1 seq, with 1 events")],
 )
-def test_recoveries_are_played_as_the_second_reading_has_it(
-    change: Callable[[str], str], fault: str, teller: Teller
-) -> None:
-    traces = {it.script.encode(): trace_of(it) for it in Draw(5, "pipe", 3).transfers()}
-    found = teller.faults(
-        "[a] recoveries\n5 by pipe from 3\n", lambda it: Said(change(traces[it.given]).encode(), b"", 0)
-    )
-    assert len(teller.calls) == len(traces) > 1
-    assert [it.partition("under")[0] for it in found] == (["5-by-pipe-from-3"] if fault else [])
-    assert fault in "".join(found.values())
-    refused = teller.faults("[a] recoveries\n5 by pipe from 3\n", lambda it: Said(b"", b"17 Read\n", 2))
-    assert "status 2: 17 Read" in refused["5-by-pipe-from-3"]
+def test_a_recording_passes_with_all_of_its_events(row: str, fault: str) -> None:
+    def answer(call: Call) -> Said:
+        if call.program == "pdregress":
+            return report_of({name: row for name in scripts_of(call)})
+        trace = b"//= at 0.000000 CLOSED\n" if b"--trace" in call.words else b""
+        return Said(call.given.split(b"//=")[0] + trace, b"", 0)
+
+    (found,) = run(tell_recordings([Script("a", "", b"0 b\n")]), lambda calls: [answer(it) for it in calls])
+    assert found == Finding(fault)
 
 
-def test_a_seed_draws_the_same_recoveries_under_many_settings() -> None:
-    first, again, other = (list(Draw(200, "pipe", seed).transfers()) for seed in (7, 7, 8))
-    assert first == again != other and 200 <= sum(it.recoveries for it in first) < 210
-    told = "\n".join(it.settings for it in first)
-    keys = (
-        "byte_counting",
-        "initial_ssthresh",
-        "initial_window",
-        "limited_transmit",
-        "min_rto_us",
-        "restart_after_idle",
-    )
-    assert all(f"{key} = " in told for key in keys) and "recovery_rate" not in told
-    assert any("sackOK" not in it.script for it in first) and any("wscale" not in it.script for it in first)
+REFUSED = "what is refused is `$ WORDS`, `< set KEY VALUE`, or with 15 BadCommand any `< LINE`"
 
 
 @pytest.mark.parametrize(
@@ -297,9 +270,14 @@ def test_a_seed_draws_the_same_recoveries_under_many_settings() -> None:
         ("[a] scripts\nno\n", "2: no: a row has a colon after its verdict"),
         ("[a] scripts\npass 1: \\q\n", "2: pass 1: \\q: there is no such escape"),
         ("[a] scripts after b\npass 0:\n", "1: [a] scripts after b: there is no such opening"),
+        ("[a] refusals\nok | mss 64\n", f"2: ok | mss 64: {REFUSED}"),
+        ("[a] refusals\n4 BadValue | < bye\n", f"2: 4 BadValue | < bye: {REFUSED}"),
         ("[a] scripts\n# b\n", "1: [a] scripts: a table has a row at least"),
         ("[a] stories\n# b\n> c\n", "3: > c: the last story has no status"),
-        ("[a] recoveries\n3 by reno\n", "2: 3 by reno: a row is `COUNT by RATE`, and perhaps ` from SEED`"),
+        (
+            "[a] random rows of pdrecord\n3 by reno\n",
+            "2: 3 by reno: a row is `COUNT WHAT from SEED`, and WHAT is drawn for the program",
+        ),
         ("[a] stories\n= 3\n", "2: = 3: a status is 0, 1 or 2"),
         ("pass 0:\n", "1: pass 0:: a row stands in a table"),
         ("", "a file has a table at least"),
@@ -414,8 +392,34 @@ def test_what_a_row_does_not_write_is_not_taken(answer: Program, why: str, accep
     assert (accepting.refused, accepting.taken) == ([f"a.cases:5: not taken: {why}"], [])
 
 
+def test_a_row_of_which_a_part_was_not_heard_is_not_taken(accepting: Accepting) -> None:
+    text = "[a] cuts\npass 1 | xy\n"
+    assert accepting.text(text, lambda _: Said(b"a1 pass 1\n", b"", 2)) == text
+    unheard = "the program came to no end, by this row or by one that is told with it"
+    assert (accepting.taken, accepting.refused) == ([], [f"a.cases:2: not taken: {unheard}"])
+
+
+@pytest.mark.parametrize(
+    "before, after, lines",
+    [
+        ("pass 1", "pass 1", []),
+        ("pass 1", "fail 1 result", [2]),
+        ("fail 1 result", "pass 1", []),
+        ("fail 1 result", "fail 1 result", []),
+        ("fail 1 result", "fail 2 seq", [2]),
+        ("pass 1", "", []),
+    ],
+)
+def test_a_row_is_owed_that_is_answered_wrongly_and_otherwise_than_before(
+    before: str, after: str, lines: list[int], teller: Teller
+) -> None:
+    teller.file.write_text("[a] scripts\npass 1: 0\n")
+    said: list[list[Optional[Said]]] = [[report_of({"a1": it}) if it else None] for it in (before, after)]
+    assert [it.line for it in owed(list(asked_in(teller.file)), *said)] == lines
+
+
 def test_a_row_of_another_kind_is_changed_by_hand(accepting: Accepting) -> None:
-    text = "[a] cuts\npass 1 | x\n[b] settings\n4 BadValue: mss 500\n[c] bad words\n-a | no\n"
+    text = "[a] cuts\npass 1 | x\n[b] refusals\n4 BadValue | < set mss 500\n"
     assert accepting.text(text, judge) == text
     by_hand = "not taken: a row of this kind is changed by hand"
     assert (accepting.taken, accepting.refused) == ([], [f"a.cases:2: {by_hand}", f"a.cases:4: {by_hand}"])
@@ -448,3 +452,9 @@ def test_an_explanation_stands_before_the_scripts_of_which_it_is_said(
         return "[a] explained\n" + rows.replace("> A", "> syntax 1 end: a").replace("> B", "> syntax 1 end: b")
 
     assert accepting.text(table(before), explain) == table(after)
+
+
+def test_the_page_of_forms_has_each_kind() -> None:
+    page = Path(__file__).with_name("FORMS.md").read_text()
+    kinds = re.findall(r"^\| `([a-z ]+?)(?: of PROGRAM| \[of PROGRAM\])?` \|", page, re.MULTILINE)
+    assert sorted(kinds) == sorted([*KINDS, "opening"])

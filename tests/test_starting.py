@@ -15,7 +15,7 @@ from rows.starting import is_startable, part, sayings_in, starts_of
     ("program", "words"),
     [
         ("pdregress", ""),
-        ("pdregress", "--settings|mss = 700|--explain|--json|--ends"),
+        ("pdregress", "--settings|mss = 700|--explain|--json|--leftovers"),
         ("pdregress", "--explain|--settings|mss = 700\nsack = false"),
         ("pdrecord", "--trace|--settings|"),
     ],
@@ -30,7 +30,7 @@ def test_words_that_both_programs_take_in_memory(program: str, words: str) -> No
         ("pdregress", "--workers|2"),
         ("pdregress", "--explain|--explain"),
         ("pdregress", "--json"),
-        ("pdregress", "--ends"),
+        ("pdregress", "--leftovers"),
         ("pdregress", "--settings"),
         ("pdregress", "--settings|--explain"),
         ("pdregress", "--settings=mss = 700"),

@@ -13,7 +13,7 @@ from edit_files import read_crates  # noqa: E402
 from reading_list import LISTS, Unknown, read_index, reached  # noqa: E402
 
 FUNCTION = re.compile(r"`(\w+::\w+)`")
-EDITS = re.compile(r"\bEdits? (?:in )?(.*)$", re.MULTILINE)
+MUTANTS = re.compile(r"\bMutants? (?:in )?(.*)$", re.MULTILINE)
 NAME = re.compile(r"`([\w-]+)`")
 
 
@@ -27,7 +27,7 @@ def unknown_functions(page: Page) -> Iterator[str]:
 def wrong_edits(page: Page, files: list[Path]) -> Iterator[str]:
     """A line for each edit that the page names and that isn't there, and for each of the gate that it doesn't name."""
     crates = {path.parts[1] for path in files if path.parts[0] == "crates"}
-    named = {name for line in EDITS.findall(page.text) for name in NAME.findall(line)} - crates
+    named = {name for line in MUTANTS.findall(page.text) for name in NAME.findall(line)} - crates
     tried = {path.stem for path in files if path.suffix == ".edit"}
     more = {edit.name for edits in read_crates(page.top, "more").values() for edit in edits}
     for name in sorted(named - tried - more):

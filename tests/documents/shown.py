@@ -13,11 +13,16 @@ SECONDS = re.compile(r"\bin\\? \d+\\?\.\d+\\? s\b")
 # What a program says first where it runs without its proofs.
 UNPROVED = re.compile(r"^pd[a-z]+: unproved: ")
 
-# Kinds of blocks: what the gate runs, what takes the prover or runs without proofs, what `watch` prints.
+# Kinds of blocks: what the gate runs, what takes the prover or runs without proofs, what `watch` prints, and what it
+# prints without proofs.
 PLAIN = ""
 SLOW = "slow"
 WATCH = "watch"
-KINDS = (PLAIN, SLOW, WATCH)
+FOLLOW = "follow"
+KINDS = (PLAIN, SLOW, WATCH, FOLLOW)
+# The kinds that are left to who walks without proofs, and those of what `watch` prints.
+UNHURRIED = (SLOW, FOLLOW)
+WATCHED = (WATCH, FOLLOW)
 
 
 @dataclass(frozen=True)
@@ -31,7 +36,7 @@ class Shown:
 
 
 def shown_in(text: str) -> Iterator[Shown]:
-    """The commands of a page. Lines of a `watch` block before any command are what one that runs prints next."""
+    """The commands of a page. Lines before any command of what `watch` prints are what one that runs prints next."""
     for block in BLOCK.finditer(text):
         line = text.count("\n", 0, block.start()) + 2
         yield from _commands(block[1], line, block[2].split("\n")[:-1])

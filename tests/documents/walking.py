@@ -6,8 +6,8 @@ from contextlib import ExitStack
 from dataclasses import dataclass
 from pathlib import Path
 
-from documents.shell import Shell, Watching
-from documents.shown import SLOW, WATCH, Shown, fits, form_of
+from documents.shell import MINUTE, Shell, Watching
+from documents.shown import UNHURRIED, WATCH, WATCHED, Shown, fits, form_of
 
 
 @dataclass(frozen=True)
@@ -25,14 +25,15 @@ def walk(steps: list[Shown], tree: Path, seconds: float, is_proved: bool) -> Ite
     with ExitStack() as stack:
         watching: Watching | None = None
         for shown in steps:
-            if shown.kind == SLOW and is_proved:
+            if shown.kind in UNHURRIED and is_proved:
                 continue
             begin = time.monotonic()
-            if shown.kind == WATCH:
+            if shown.kind in WATCHED:
                 if shown.command:
                     watching = Watching(shown.command, shell.folder)
                     stack.callback(watching.end)
-                said = watching.next(form_of(shown.wanted)) if watching else "nothing is watched"
+                patience = MINUTE if shown.kind == WATCH else seconds
+                said = watching.next(form_of(shown.wanted), patience) if watching else "nothing is watched"
             else:
                 printed = shell.run(shown.command, seconds)
                 said = None if fits(shown, printed, is_proved) else printed

@@ -1,10 +1,10 @@
 # Tests the built programs where what they need is refused from outside, words that aren't UTF-8 and room for threads; how many
 # threads they start; and the scripts of files.
 
-# Each program says the same line of words that can't be read.
+# Each program says, by its own name, the same of words that can't be read.
 test_words() {
     for program in pdregress pdrecord; do
-        expect "$program-words-that-are-no-text" "$(printf "! pdregress: the arguments can't be read as text\nstatus 2")" "$("$top/tools/built.sh" "$program")" "$(printf '\377')"
+        expect "$program-words-that-are-no-text" "$(printf "! $program: the arguments can't be read as text\nstatus 2")" "$("$top/tools/built.sh" "$program")" "$(printf '\377')"
     done
 }
 
@@ -14,7 +14,7 @@ test_reads() {
         for words in '' --explain --trace; do
             case $program$words in pdregress--trace | pdrecord--explain) continue ;; esac
             # shellcheck disable=SC2086
-            expect "$program-input-that-cannot-be-read$words" "$(printf '! pdregress: 17 Read\nstatus 2')" from_folder "$("$top/tools/built.sh" "$program")" $words
+            expect "$program-input-that-cannot-be-read$words" "$(printf "! $program: 17 Read\nstatus 2")" from_folder "$("$top/tools/built.sh" "$program")" $words
         done
     done
 }
@@ -73,8 +73,8 @@ test_files() {
     large=$(printf 'refused 1 large.pkt\npdrecord: 2 TooLarge')
     expect a-file "$(printf '%s\nstatus 0' "$one")" in_folder "$work/files" "$record" 'a b.pkt'
     expect files "$(printf '%s\n%s\n%s\nstatus 1' "$large" "$one" "$large")" in_folder "$work/files" "$record" large.pkt 'a b.pkt' large.pkt
-    expect no-file "$(printf '%s\n! pdregress: 17 Read\nstatus 2' "$one")" in_folder "$work/files" "$record" 'a b.pkt' none.pkt large.pkt
-    expect files-under-settings-that-are-none "$(printf '! pdregress: 20 NotToml\nstatus 2')" in_folder "$work/files" "$record" --settings mss -- 'a b.pkt'
+    expect no-file "$(printf '%s\n! pdrecord: none.pkt: 17 Read\nstatus 2' "$one")" in_folder "$work/files" "$record" 'a b.pkt' none.pkt large.pkt
+    expect files-under-settings-that-are-none "$(printf '! pdrecord: 20 NotToml\nstatus 2')" in_folder "$work/files" "$record" --settings mss -- 'a b.pkt'
 }
 
 test_words

@@ -4,18 +4,18 @@ small=$work/small
 
 make_small_tree() {
     mkdir -p "$small/tests/edges" "$small/tools" "$small/client" "$small/tests/cases/empty" "$small/one" "$small/all"
-    cp -R "$top/tests/run" "$top/tests/conftest.py" "$top/tests/pytest.ini" "$top/tests/rows" "$top/tests/model" "$top/tests/client.sh" "$small/tests"
+    cp -R "$top/tests/run" "$top/tests/conftest.py" "$top/tests/pytest.ini" "$top/tests/rows" "$top/tests/model" "$top/tests/drawn" "$top/tests/client.sh" "$small/tests"
     copy_built "$small"
     printf '[a] opening\n< 0\n' >"$small/tests/cases/openings.cases"
     printf '#!/bin/sh\necho a1 pass 1\necho total 1 pass 1 fail 0 syntax 0 unsupported 0 limit 0 pending 0\n' >"$small/one/pdregress"
     chmod +x "$small/one/pdregress"
-    for program in pdregress pdrecord test_desk; do cp "$small/one/pdregress" "$small/all/$program"; done
+    for program in pdregress pdrecord test_desk test_book test_sender; do cp "$small/one/pdregress" "$small/all/$program"; done
     rows passes '[a] scripts\npass 1: 0'
     rows fails '[a] scripts\npass 2: 0\npass 1: 1'
     rows no_table 'a row'
     rows no_text '[a] scripts\npass 1: \377'
-    rows untold '[a] bad words\n{} | no'
-    rows untold_and_marked '[a] bad words\n#? taken\n{} | no'
+    rows untold '[a] refusals\nno | $ {}'
+    rows untold_and_marked '[a] refusals\n#? taken\nno | $ {}'
     echo 'import nothing_of_this_name' >"$small/tests/cases/test_no_import.py"
     printf 'import pytest\n\n\ndef test_passes():\n    pass\n\n\ndef test_exits():\n    pytest.exit("a")\n' >"$small/tests/cases/test_exits.py"
 }
@@ -56,7 +56,7 @@ test_rows() {
     expect harness-a-run-that-is-left "$(printf '1 passed, 1 failed\nstatus 2')" run_rows test_exits.py
     expect harness-untold "$(printf '0 passed, 0 failed\nstatus 0')" run_rows untold.cases --unproved
     expect harness-untold-and-marked "$(printf '0 passed, 1 failed\nstatus 1')" run_rows untold_and_marked.cases --unproved
-    expect harness-nothing-is-proved "$(printf '0 passed, 3 failed\nstatus 1')" run_rows untold.cases --proved
+    expect harness-nothing-is-proved "$(printf '0 passed, 5 failed\nstatus 1')" run_rows untold.cases --proved
 }
 
 test_rows_plainly() {
@@ -65,7 +65,7 @@ test_rows_plainly() {
     expect plain-no-row-is-there "$(printf '0 passed, 1 failed\nstatus 1')" run_plainly empty --programs ../../one
     expect plain-a-test-of-pytest "$(printf '1 passed, 1 failed\nstatus 1')" run_plainly passes.cases test_exits.py --programs ../../one
     expect plain-untold-and-marked "$(printf '0 passed, 1 failed\nstatus 1')" run_plainly untold_and_marked.cases --unproved
-    expect plain-nothing-is-proved "$(printf '0 passed, 3 failed\nstatus 1')" run_plainly untold.cases --proved
+    expect plain-nothing-is-proved "$(printf '0 passed, 5 failed\nstatus 1')" run_plainly untold.cases --proved
 }
 
 step() { # PATH TEXT: a step of the small tree, a shell program
@@ -81,9 +81,9 @@ check_small() { # TEXT COUNT: the last lines of ./check, of which one step is th
 }
 
 check_words() { # COUNT WORD..: the last lines of ./check, whose steps each pass so many tests
-    printf '%s\n' 1:run 10:edges.sh 100:client.sh 1000:documents.py | while IFS=: read -r number file; do
-        step "checked/tests/$file" "echo $number passed, 0 failed"
-    done
+    mkdir -p "$small/checked/tools"
+    printf '%s\n' 1:tests/run 10:tests/edges.sh 100:tests/client.sh 1000:tests/documents.py 10000:tools/gate.py 100000:tools/fail_alloc.sh |
+        while IFS=: read -r number file; do step "checked/$file" "echo $number passed, 0 failed"; done
     step checked/tests/packages.sh 'exit 1'
     count=$1
     shift
@@ -110,19 +110,28 @@ test_check() {
     expect check-no-step "$(stepped 'came to no end' 0 1)" check_small 'exec /none' 2
     expect check-steps-are-added "$(printf '1101 passed, 0 failed\nstatus 0')" check_words 1 runs client documents
     expect check-tests-runs-each-step "$(printf '1112 passed, 0 failed\nstatus 0')" check_words 1 tests
+    expect check-runs-each-step "$(printf '111112 passed, 0 failed\nstatus 0')" check_words 1
     expect check-a-step-is-none "$(printf 'status 2')" check_words 0 runs none
     expect check-no-word "$(printf '0 passed, 1 failed\nstatus 1')" check_words 1 ''
 }
 
 client_small() { # TEXT: the last lines of tests/client.sh, where pytest is this and all other tools pass
     step tests/packages.sh :
-    step python "case \$* in *pytest*) $1 ;; esac"
+    step python "echo \$* >>'$work/tools'; case \$* in *pytest*) $1 ;; esac"
     step ls :
     sed -i "s,^python=.*,python=$small/python," "$small/tests/client.sh"
     (PATH="$small:$PATH" counted 1 "$small/tests/client.sh")
 }
 
+looked_at() { # the words of the tools that tests/client.sh calls before pytest, but for those of tools/
+    rm -f "$work/tools"
+    client_small 'echo "1 passed in 1s"' >/dev/null
+    sed -n '/pytest/!s/^-I -m //p' "$work/tools"
+}
+
 test_client() {
+    expect client-what-is-looked-at "$(printf '%s\n' 'black -q --check --config pyproject.toml . ../pdsuite' 'flake8 . ../pdsuite' \
+        'mypy --config-file pyproject.toml pdsuite tests ../pdsuite' 'mypy --config-file pyproject.toml'; echo status 0)" looked_at
     expect client-tests-pass "$(printf '7 passed, 0 failed\nstatus 0')" client_small 'echo "3 passed, 1 warning in 1s"'
     expect client-tests-fail "$(printf '7 passed, 2 failed\nstatus 1')" client_small 'echo "1 failed, 3 passed, 1 error in 1s"; exit 1'
     expect client-tests-are-left "$(printf '7 passed, 1 failed\nstatus 1')" client_small 'echo "3 passed in 1s"; exit 2'

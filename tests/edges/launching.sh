@@ -52,6 +52,7 @@ test_streams() {
     expect closed-output "$(unproved pdregress; printf '! said\n! pdregress: 18 Write\nstatus 2')" given '"$1" >&-'
     expect full-output "$(unproved pdregress; printf '! said\n! pdregress: 18 Write\nstatus 2')" given '"$1" >/dev/full'
     expect closed-errors "$(printf 'pdregress  octets=0\nstatus 0')" given '"$1" </dev/null 2>&-'
+    expect full-errors "status 2" given '"$1" --proved </dev/null 2>/dev/full'
     expect all-closed "status 2" given '"$1" <&- >&- 2>&-'
     expect reader-that-leaves "$(printf 'line\n2\n'; unproved pdregress; printf '! pdregress: 18 Write\nstatus 0')" given '{ "$1" lines 50000 </dev/null; echo $? >"$NOTES/left"; } | head -n 1; cat "$NOTES/left"'
     expect a-pipe "$(printf '3\n'; unproved pdregress; echo status 0)" given '"$1" lines 3 </dev/null | wc -l'

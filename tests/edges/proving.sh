@@ -113,6 +113,7 @@ test_kits() {
     quietly pdregress
     broken=$work/broken/bin/rt
     expect kit-that-fails "$(printf '! prove: %s --version ends with status 3\nstatus 2' "$broken")" broken_kit 'a kit' 'exit 3'
+    expect another-kit-that-fails "$(printf '! prove: %s --version ends with status 3\nstatus 2' "$broken")" broken_kit 'kit 2' 'exit 3'
     expect kit-that-says-another-name "$(printf "! prove: %s --version prints 'kit 2', and %s has 'a kit'\nstatus 2" "$broken" "$work/broken/KIT-ID")" broken_kit 'a kit' 'echo kit 2'
     expect kit-without-a-name "$(printf "! prove: %s is of no kit: %s doesn't say which\nstatus 2" "$broken" "$work/broken/KIT-ID")" broken_kit '' 'echo a kit'
     expect kit-that-only-says-its-name "$(printf "! prove: proving low; 5 crates and less than a minute are left\n! prove: low isn't proved, or wasn't built:\n! \n! prove: the whole log: %s\nstatus 2" "$build/crates/low/out/build.log")" broken_kit 'kit 2' '[ "$1" = --version ] && echo kit 2'
@@ -201,6 +202,14 @@ test_gate() {
     meanwhile "high) echo 'kit 2' >'$kit/KIT-ID' ;;"
     expect gate-beside-another-kit "$(printf 'gate: the kit of %s/bin/rt has changed while it proved: run this again\n6 passed, 1 failed\nstatus 1' "$kit")" gate
     echo 'a kit' >"$kit/KIT-ID"
+    expect gate-beside-another-kit-keeps-nothing "$(printf "1\n! pdregress isn't proved and built, or has changed since: run ./prove pdregress\nstatus 2")" after_another_kit
+}
+
+after_another_kit() { # the status of a gate beside which the kit was another one, and what counts as proved once it is as it was
+    meanwhile "high) echo 'kit 2' >'$kit/KIT-ID' ;;"
+    gate >/dev/null || echo "$?"
+    echo 'a kit' >"$kit/KIT-ID"
+    source_of
 }
 
 in_a_lane() { # WORD.. what is said, with a name for the folder of the copies
@@ -240,10 +249,46 @@ quick() { # COMMAND.. on a machine that took next to no time for each crate
     "$@"
 }
 
-three() { # NUMBER: a definition of low, which a law of right names
+three() { # NUMBER: a definition of low, which a law of right names, and another one through `four`
     mkdir -p "$build/crates/low/specs" "$build/crates/right/specs"
-    printf -- '-- A rule.\n\n-- so many\nabbrev pub three : N\nthree = %s\n' "$1" >"$build/crates/low/specs/Rule.antt"
+    printf -- '-- A rule.\n\n-- so many\nabbrev pub three : N\nthree = %s\n\nabbrev pub four : N\nfour = suc three\n' "$1" >"$build/crates/low/specs/Rule.antt"
     printf 'use Rattle.low.specs.Rule.{three}\n\nabbrev pub IsOdd : Type 0\nIsOdd = odd three\n' >"$build/crates/right/specs/Laws.antt"
+    printf 'use Rattle.low.specs.Rule.{four}\n\nabbrev pub IsEven : Type 0\nIsEven = even four\n' >"$build/crates/right/specs/MoreLaws.antt"
+}
+
+# What a log says of a function, which stands in it too.
+log_with_a_contract() {
+    cat <<'LOG'
+ghost use Rattle.low.specs.Rule.{four}
+
+pub fn f(a: u8) -> u8
+    requires { a < four }
+    ensures { result ≡ four }
+{
+note: src/lib.rt:3:1: it is not proved that what the function ensures holds when it returns (`returns-then`)
+note: src/lib.rt:5:9: it is not proved that what the function ensures holds when it returns (`returns-else`)
+fn right::f: no proof: expected answers in ./proofs/f/Answers.antt; `search` did not prove each goal
+src/lib.rt:9:5: error[mismatched-types]: expected `u32`, found `u64`
+LOG
+}
+
+contract_told() { # FOLDER of the definitions
+    printf '! %s\n' "prove: right isn't proved, or wasn't built:" \
+        'crates/right/src/lib.rt:3:1: it is not proved that what the function ensures holds when it returns (`returns-then`)' \
+        'crates/right/src/lib.rt:5:9: it is not proved that what the function ensures holds when it returns (`returns-else`)' \
+        'fn right::f: no proof: expected answers in ./proofs/f/Answers.antt; `search` did not prove each goal' \
+        '  the contract of f:' '    requires { a < four }' '    ensures { result ≡ four }' \
+        '  cites' "    four ($1/specs/Rule.antt:7)" "    three ($1/specs/Rule.antt:4)" \
+        'crates/right/src/lib.rt:9:5: error[mismatched-types]: expected `u32`, found `u64`' \
+        "prove: the whole log: $build/crates/right/out/build.log"
+}
+
+refused_is_gone() { # what is left of a refusal once all is proved
+    echo 'a goal' >"$build/crates/right/src/lib.rt"
+    quietly pdregress || ls "$build/crates/pdregress/out/refused" >/dev/null
+    echo 'fn f() {}' >"$build/crates/right/src/lib.rt"
+    quietly pdregress
+    [ -e "$build/crates/pdregress/out/refused" ] || echo proved
 }
 
 test_changes() {
@@ -254,9 +299,14 @@ test_changes() {
     echo 'a goal' >"$build/crates/right/src/lib.rt"
     expect what-changed-since "$(printf '! %s\n' "prove: right isn't proved, or wasn't built:" 'a goal' \
         "crates/low/specs/Rule.antt:4: \`three\` isn't as it was when this was proved last" \
-        '  laws that name it: IsOdd (crates/right/specs/Laws.antt:3)' \
+        '  laws that name it: IsOdd (crates/right/specs/Laws.antt:3), IsEven (crates/right/specs/MoreLaws.antt:3)' \
         "prove: the whole log: $build/crates/right/out/build.log"; echo status 2)" without_progress --lanes 1 pdregress
+    log_with_a_contract >"$build/crates/right/src/lib.rt"
+    three 3
+    expect what-a-refused-contract-cites "$(contract_told crates/low; echo status 2)" without_progress --lanes 1 pdregress
+    expect what-watch-reads "$(contract_told "$build/crates/low" | sed "s,^! crates,$build/crates,; s/^! //"; echo status 0)" cat "$build/crates/pdregress/out/refused"
     echo 'fn f() {}' >"$build/crates/right/src/lib.rt"
+    expect what-watch-reads-goes "$(printf 'proved\nstatus 0')" refused_is_gone
     rm -r "$build/crates/low/specs" "$build/crates/right/specs"
 }
 
@@ -322,7 +372,7 @@ test_times() {
 }
 
 test_words() {
-    expect words-of-times-and-errors "status 0" in_folder "$top/tools" python3 -B -m doctest changed_rules.py crate_graph.py owed.py owed_sections.py prove_times.py prove_errors.py refusing.py source_sums.py copies.py
+    expect words-of-times-and-errors "status 0" in_folder "$top/tools" python3 -B -m doctest changed_rules.py cited.py crate_graph.py owed.py owed_sections.py proofs.py prove_errors.py refusing.py source_sums.py copies.py
 }
 
 test_lanes

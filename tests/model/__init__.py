@@ -1,1 +1,1 @@
-"""A second reading of the RFCs: a sender, a peer and a network. It shares nothing with the programs or models."""
+"""Models that share nothing with the programs: a second reading of the RFCs, a peer, a network, and a book."""

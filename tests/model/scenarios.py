@@ -7,7 +7,8 @@ from dataclasses import dataclass, field
 from itertools import count
 
 from model.network import MILLISECOND, Ack, Network, Path, Peer
-from model.sender import DUP_THRESH, MOST_WINDOW, PIPE, RFC6928, SECOND, Rules, Segment, Sender, Start
+from model.rules import DUP_THRESH, MOST_WINDOW, RFC6675, RFC6928, RFC9937, SECOND, Rules
+from model.sender import Segment, Sender, Start
 from model.spans import Span
 
 SYN_AT = 100_000
@@ -39,13 +40,18 @@ class Expected:
 
 @dataclass(frozen=True, slots=True)
 class Transfer:
-    """The settings and the inputs of a transfer, what is expected, and how many recoveries there are."""
+    """The settings and the inputs of a transfer, what is expected, and how many recoveries there are.
+
+    Of these, how many an ACK of new octets began; and how many segments were lost that recovery sent again.
+    """
 
     seed: int
     settings: str
     script: str
     expected: tuple[Expected, ...]
     recoveries: int
+    acknowledging: int
+    lost_again: int
 
 
 @dataclass(frozen=True, slots=True)
@@ -64,18 +70,18 @@ class Due:
     what: "Write | Span | Ack | None" = field(compare=False)
 
 
-def transfers(rate: str, first_seed: int) -> Iterator[Transfer]:
+def transfers(algorithm: str, first_seed: int) -> Iterator[Transfer]:
     """Transfers one after the other, by these seeds from the first on."""
     for seed in count(first_seed):
-        yield _Game(random.Random(f"{rate} {seed}"), rate).play(seed)
+        yield _Game(random.Random(f"{algorithm} {seed}"), algorithm).play(seed)
 
 
 class _Game:
     """A transfer that is drawn and played."""
 
-    def __init__(self, dice: random.Random, rate: str) -> None:
+    def __init__(self, dice: random.Random, algorithm: str) -> None:
         self._dice = dice
-        self._rules = _rules(dice, rate)
+        self._rules = _rules(dice, algorithm)
         self._path = _path(dice)
         self._has_scale = dice.random() < 0.8
         self._peer = Peer(dice.choice((1, 1, 2, 2, 3, 4, 8)), self._windows(), self._rules.has_sack)
@@ -85,6 +91,8 @@ class _Game:
         self._lines: list[str] = list(OPENING)
         self._input_at = 0
         self._expected: list[Expected] = []
+        self._sent_to = 1
+        self._lost_again = 0
         takes = self._path.round_trip
         least = max(SECOND, self._rules.least_rto)
         if dice.random() < 0.1:
@@ -105,7 +113,11 @@ class _Game:
         self._settle(now + 1)
         self._input(now + 1, TICK, [])
         script = "".join(f"{it}\n" for it in self._lines)
-        return Transfer(seed, self._settings(), script, tuple(self._expected), self._sender.recoveries)
+        sender = self._sender
+        expected = tuple(self._expected)
+        return Transfer(
+            seed, self._settings(), script, expected, sender.recoveries, sender.acknowledging, self._lost_again
+        )
 
     def _open(self) -> None:
         """The handshake, which is no part of what is compared."""
@@ -119,14 +131,14 @@ class _Game:
         """The settings as TOML has them, where they aren't the defaults."""
         rules = self._rules
         told: dict[str, tuple[object, object]] = {
-            "byte_counting": (rules.limit, 1),
+            "abc_limit": (rules.limit, 1),
             "initial_ssthresh": (rules.first_ssthresh, MOST_WINDOW),
             "initial_window": (rules.window_rule, "rfc5681"),
             "limited_transmit": (rules.transmits_early, True),
             "min_rto_us": (rules.least_rto, SECOND),
             "mss": (max(rules.smss, DEFAULT_MSS), DEFAULT_MSS),
-            "recovery_rate": (rules.rate, PIPE),
-            "restart_after_idle": (rules.restarts, False),
+            "recovery_algorithm": (rules.algorithm, RFC6675),
+            "slow_start_after_idle": (rules.restarts, False),
         }
         return "\n".join(f"{key} = {_toml(value)}" for key, (value, default) in told.items() if value != default)
 
@@ -145,7 +157,7 @@ class _Game:
             return
         what = heapq.heappop(self._due).what
         if isinstance(what, Write):
-            taken = min(what.octets, SNDBUF - (self._sender.end - self._sender.una))
+            taken = min(what.octets, SNDBUF - (self._sender.board.end - self._sender.board.una))
             if taken > 0:
                 sent = self._sender.write(now, taken)
                 self._input(now, f"write(4, ..., {taken}) = {taken}", sent)
@@ -189,6 +201,9 @@ class _Game:
             self._expected.append(Expected(it.at, line, state))
             if (at := self._network.arrival(it)) is not None:
                 self._put(at, (it.start, it.end))
+            elif it.start < self._sent_to and self._sender.window.is_recovering:
+                self._lost_again += 1
+            self._sent_to = max(self._sent_to, it.end)
 
     def _line(self, now: int, line: str) -> None:
         gap = now - self._input_at
@@ -231,12 +246,12 @@ class _Game:
         return min(whole + self._dice.choice((0, 0, 1, self._rules.smss // 2)), 200_000)
 
 
-def _rules(dice: random.Random, rate: str) -> Rules:
+def _rules(dice: random.Random, algorithm: str) -> Rules:
     smss = dice.choice((64, 100, 100, 100, 536, 1_000, 1_000, 1_095, 1_096, 1_460, 2_190, 2_191))
     return Rules(
         smss,
-        has_sack=dice.random() < (0.8 if rate == PIPE else 0.97),
-        rate=rate,
+        has_sack=dice.random() < (0.8 if algorithm == RFC6675 else 0.97),
+        algorithm=algorithm,
         limit=dice.choice((1, 1, 2, 2, 3, 8, dice.randrange(1, 9))),
         restarts=dice.random() < 0.5,
         transmits_early=dice.random() < 0.8,
@@ -251,7 +266,7 @@ def _path(dice: random.Random) -> Path:
     first = dice.randrange(2, 40)
     burst = range(first, first + dice.choice((0, 1, 1, 1, 2, 3, 6)))
     loss = dice.choice((0.0, 0.0, 0.02, 0.05, 0.1, 0.2))
-    return Path(trip, loss, dice.choice((0.0, 0.0, 0.05, 0.3)), dice.choice((0.0, 0.0, 0.05, 0.2)), burst)
+    return Path(trip, loss, dice.choice((0.0, 0.0, 0.05, 0.3, 0.6)), dice.choice((0.0, 0.0, 0.05, 0.2)), burst)
 
 
 def _toml(value: object) -> str:
@@ -266,16 +281,16 @@ def _seconds(moment: int) -> str:
 
 def state_of(it: Sender) -> str:
     """The sender's state as a trace has it."""
-    facts: dict[str, object] = {"una": it.una, "next": it.next, "top": it.top, "end": it.end}
-    facts |= {"cwnd": it.cwnd, "ssthresh": it.ssthresh, "rwnd": it.rwnd, "FlightSize": it.top - it.una}
-    if it.is_recovering and it.rules.has_sack:
+    board, window = it.board, it.window
+    facts: dict[str, object] = {"una": board.una, "next": board.next, "top": board.top, "end": board.end}
+    facts |= {"cwnd": window.cwnd, "ssthresh": window.ssthresh, "rwnd": it.rwnd, "FlightSize": board.flight}
+    if window.is_recovering and it.rules.has_sack:
         facts["pipe"] = it.pipe()
-    if it.rules.rate != PIPE:
-        facts["prr_delivered"] = 0 if it.reduction is None else it.reduction.delivered
-        facts["prr_out"] = 0 if it.reduction is None else it.reduction.out
-    facts["DupAcks"] = min(it.duplicates, DUP_THRESH + 1)
+    if it.rules.algorithm == RFC9937:
+        facts |= {"prr_delivered": window.prr_delivered, "prr_out": window.prr_out}
+    facts["DupAcks"] = min(window.duplicates, DUP_THRESH + 1)
     facts["RTO"] = _seconds(it.rto)
     facts["expiry"] = "none" if it.expiry is None else _seconds(it.expiry)
     name = "RFC6675" if it.rules.has_sack else "RFC5681"
-    facts["recovery"] = name if it.is_recovering else "none"
+    facts["recovery"] = name if window.is_recovering else "none"
     return " ".join(["ESTABLISHED", *(f"{key}:{value}" for key, value in facts.items())])

@@ -6,7 +6,8 @@ from pathlib import Path
 from typing import Any
 
 from kernel.settings import tables_of
-from model.sender import Rules, Segment, Sender, Start
+from model.rules import Rules
+from model.sender import Segment, Sender, Start
 from model.spans import Span
 from pdsuite.packetdrill.items import SECOND, Call, Item, Packet
 from pdsuite.packetdrill.reader import read
@@ -83,7 +84,7 @@ class Player:
             raise Unplayed("another packet than an ACK")
         elif self.sender is None:
             self._establish(packet.ack, packet.win)
-        elif packet.ack > self.sender.top:
+        elif packet.ack > self.sender.board.top:
             raise Unplayed("an ACK of what wasn't sent")
         else:
             blocks = list(_blocks(packet))
@@ -98,9 +99,9 @@ class Player:
         rules = Rules(
             min(told("mss", 1_460), options.get("mss", (NO_MSS,))[0]),
             has_sack="sackOK" in options and told("sack", True),
-            rate=told("recovery_rate", "pipe"),
-            limit=told("byte_counting", 1),
-            restarts=told("restart_after_idle", False),
+            algorithm=told("recovery_algorithm", "rfc6675"),
+            limit=told("abc_limit", 1),
+            restarts=told("slow_start_after_idle", False),
             transmits_early=told("limited_transmit", True),
             window_rule=told("initial_window", "rfc5681"),
             first_ssthresh=told("initial_ssthresh", 1 << 30),

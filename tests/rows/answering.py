@@ -43,6 +43,8 @@ def told(command: Sequence[str | Path], call: Call) -> Said:
     try:
         if call.asks_what_was_read:
             return told_by_file(words, call.given)
+        if call.files:
+            return told_in_folder(words, call)
         done = subprocess.run(words, input=call.given, capture_output=True, timeout=SECONDS)
     except subprocess.TimeoutExpired:
         return Said(b"", b"came to no end", NO_STATUS)
@@ -58,8 +60,21 @@ def told_by_file(words: Sequence[bytes], given: bytes) -> Said:
         return Said(done.stdout, done.stderr, done.returncode, os.lseek(file.fileno(), 0, os.SEEK_CUR))
 
 
+def told_in_folder(words: Sequence[bytes], call: Call) -> Said:
+    """The same in a folder that has the files of a call."""
+    with tempfile.TemporaryDirectory() as folder:
+        for name, octets in call.files:
+            Path(folder, name).write_bytes(octets)
+        done = subprocess.run(
+            [os.path.abspath(words[0]), *words[1:]], input=call.given, capture_output=True, timeout=SECONDS, cwd=folder
+        )
+        return Said(done.stdout, done.stderr, done.returncode)
+
+
 def is_tellable(call: Call) -> bool:
-    """Whether a case of `rt try` can have these words."""
+    """Whether a case of `rt try` can have these words, and no files."""
+    if call.files:
+        return False
     try:
         words = [word.decode() for word in call.words]
     except UnicodeDecodeError:

@@ -15,12 +15,16 @@ NO_STATUS = -1
 
 @dataclass(frozen=True)
 class Call:
-    """The name of a program, the words after it, its input, and whether it is asked how much of that was read."""
+    """The name of a program, the words after it, its input, and whether it is asked how much of that was read.
+
+    Where there are files, each a name and octets, it is run in a folder that has these alone.
+    """
 
     program: str
     words: tuple[bytes, ...]
     given: bytes = b""
     asks_what_was_read: bool = False
+    files: tuple[tuple[str, bytes], ...] = ()
 
 
 @dataclass(frozen=True)

@@ -24,7 +24,11 @@ Answer = Union[str, Said]
 
 @dataclass(frozen=True)
 class Run:
-    """What a program is told, and what it is to say; `is_short` leaves out the lines of blocks."""
+    """What a program is told, and what it is to say.
+
+    `is_short` leaves out the lines of blocks. With `is_refusal` its words are refused before anything is read: the file
+    that is the input stands where it stood, and of the text that refuses them the first line is compared.
+    """
 
     row: Row
     program: str
@@ -32,6 +36,11 @@ class Run:
     given: bytes
     wanted: Said
     is_short: bool = False
+    is_refusal: bool = False
+    files: tuple[tuple[str, bytes], ...] = ()
+
+    def call(self) -> Call:
+        return Call(self.program, self.words, self.given, self.is_refusal, self.files)
 
 
 @dataclass(frozen=True)
@@ -226,22 +235,33 @@ def shortened(text: bytes) -> bytes:
 
 def as_wanted(run: Run, said: Said) -> Said:
     """What is said in a run, as far as it is compared."""
+    if run.is_refusal:
+        first, newline, _ = said.errors.partition(b"\n")
+        return replace(said, errors=first + newline, read=None)
     return replace(said, errors=shortened(said.errors)) if run.is_short else said
 
 
 def run_fault(run: Run, said: Said) -> str:
     """How what is said in a run differs from what is wanted; empty where it doesn't."""
-    said = as_wanted(run, said)
-    return difference(run.row, run.wanted, said) if said != run.wanted else ""
+    short = as_wanted(run, said)
+    fault = difference(run.row, run.wanted, short) if short != run.wanted else ""
+    return f"{fault or run.row}\n{said.read} octets read, none at most" if said.read else fault
+
+
+def run_finding(run: Run, said: Optional[Said]) -> Finding:
+    """What is found of a run. How much of its input is read only a built program shows."""
+    if said is None:
+        return Finding(is_untold=True)
+    return Finding(run_fault(run, said), run.is_refusal and said.read is None)
 
 
 def tell_runs(runs: Sequence[Run]) -> Asking[list[Finding]]:
     """Compares what is said in runs."""
-    said = yield [Call(run.program, run.words, run.given) for run in runs]
-    return [Finding(is_untold=True) if it is None else Finding(run_fault(run, it)) for run, it in zip(runs, said)]
+    said = yield [run.call() for run in runs]
+    return [run_finding(run, it) for run, it in zip(runs, said)]
 
 
 def run_answers(runs: Sequence[Run]) -> Asking[list[Optional[Answer]]]:
     """What is said in each run; none where it wasn't told."""
-    said = yield [Call(run.program, run.words, run.given) for run in runs]
+    said = yield [run.call() for run in runs]
     return [None if it is None or it.status == NO_STATUS else as_wanted(run, it) for run, it in zip(runs, said)]

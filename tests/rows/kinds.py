@@ -6,28 +6,26 @@ from pathlib import Path
 from typing import Any
 
 from rows.comparing import Case, Kind
+from rows.cuts import CUTS
 from rows.explained import BEGINNINGS, EXPLAINED
+from rows.random_rows import RANDOM_ROWS
 from rows.recordings import RECORDINGS
-from rows.recoveries import RECOVERIES
-from rows.runs import BAD_COMMANDS, BAD_WORDS, ENDS, SETTINGS
-from rows.scripts import CUTS, PLACES, SCRIPTS
+from rows.refusals import REFUSALS
+from rows.scripts import PLACES, SCRIPTS
 from rows.stories import STORIES, TITLED_STORIES
-from rows.tables import Row, Table, Unread, place_in_tree, read_tables
+from rows.tables import Chance, Row, Table, Unread, place_in_tree, read_tables
 
 KINDS: dict[str, Kind[Any]] = {
     "scripts": SCRIPTS,
     "cuts": CUTS,
     "octets": PLACES,
-    "settings": SETTINGS,
-    "bad words": BAD_WORDS,
-    "bad commands": BAD_COMMANDS,
+    "refusals": REFUSALS,
     "stories": STORIES,
     "titled stories": TITLED_STORIES,
-    "ends": ENDS,
     "explained": EXPLAINED,
     "beginnings": BEGINNINGS,
     "recordings": RECORDINGS,
-    "recoveries": RECOVERIES,
+    "random rows": RANDOM_ROWS,
 }
 
 
@@ -78,9 +76,9 @@ def group_of(table: Table) -> Group:
         return unread_group(table.name, table.heading, str(why))
 
 
-def groups_of(file: Path) -> Iterator[Group]:
+def groups_of(file: Path, chance: Chance = Chance()) -> Iterator[Group]:
     """What is read of a file."""
     try:
-        yield from (group_of(table) for table in read_tables(file))
+        yield from (group_of(replace(table, chance=chance)) for table in read_tables(file))
     except Unread as why:
         yield unread_group("file", Row(place_in_tree(file), 1, ""), str(why))

@@ -30,8 +30,12 @@ def asked_tables() -> list[Asked]:
 
 
 def is_left_out(case: Case[Any]) -> bool:
-    """Whether a case is a run beside workers, which is told alone, too, or a long one, about limits of inputs."""
-    return any(isinstance(it, Run) and (WORKERS in it.words or len(it.given) > LONG) for it in case.tries)
+    """Whether a case says nothing of the sender.
+
+    That is a refusal of words, a run beside workers, which is told alone, too, or a long one, about limits of inputs.
+    """
+    runs = [it for it in case.tries if isinstance(it, Run)]
+    return any(it.is_refusal or WORKERS in it.words or len(it.given) > LONG for it in runs)
 
 
 def calls_of(tables: Sequence[Asked]) -> list[Call]:

@@ -6,14 +6,14 @@ Other tests fail, and so does want of any row.
 
 import argparse
 import sys
-from collections.abc import Iterator, Sequence
+from collections.abc import Callable, Iterator, Sequence
 from pathlib import Path
 
 sys.path.insert(0, str(Path(__file__).resolve().parents[1]))
 
 from rows.comparing import Finding  # noqa: E402
 from rows.kinds import Group, groups_of, unread_group  # noqa: E402
-from rows.tables import Row, place_in_tree  # noqa: E402
+from rows.tables import Chance, Row, place_in_tree  # noqa: E402
 from rows.telling import Programs, Told, heed_signals, programs_in, proved_programs, tell, tell_in_step  # noqa: E402
 
 
@@ -22,11 +22,11 @@ def files_in(path: Path) -> list[Path]:
     return sorted(path.rglob("*.cases")) if path.is_dir() else [path]
 
 
-def groups_in(path: Path) -> Iterator[Group]:
+def groups_in(path: Path, chance: Chance) -> Iterator[Group]:
     """The tables of a path, which is a folder, a file of rows, or one of tests that pytest alone makes."""
     for file in files_in(path):
         if file.suffix == ".cases":
-            yield from groups_of(file)
+            yield from groups_of(file, chance)
         else:
             yield unread_group(file.name, Row(place_in_tree(file.absolute()), 1, ""), "python3-pytest is missing")
 
@@ -54,14 +54,37 @@ def parser_of(what: str | None) -> argparse.ArgumentParser:
     return parser
 
 
+def at_least(least: int) -> Callable[[str], int]:
+    """What reads a number that isn't below this one."""
+
+    def number(word: str) -> int:
+        if not word.isascii() or not word.isdigit() or int(word) < least:
+            raise argparse.ArgumentTypeError(f"{word}: a number of {least} or more is wanted")
+        return int(word)
+
+    return number
+
+
+def add_chance(parser: argparse.ArgumentParser) -> None:
+    """The words that choose what is drawn."""
+    parser.add_argument("--seed", metavar="N", type=at_least(0), help="draws random rows and recoveries from this seed")
+    parser.add_argument(
+        "--rows", metavar="N", type=at_least(1), help="draws so many rows at least, or recoveries, a table"
+    )
+
+
 def main(words: Sequence[str]) -> int:
-    chosen = parser_of(__doc__).parse_args(words)
+    parser = parser_of(__doc__)
+    add_chance(parser)
+    chosen = parser.parse_args(words)
     heed_signals()
     programs = chosen_programs(chosen)
     if programs.unbuilt and chosen.proved:
         print(*(f"FAILED {it}" for it in programs.unbuilt), f"0 passed, {len(programs.unbuilt)} failed", sep="\n")
         return 1
-    told = [(group, group.cases) for path in chosen.paths for group in groups_in(path)]
+    told = [
+        (group, group.cases) for path in chosen.paths for group in groups_in(path, Chance(chosen.seed, chosen.rows))
+    ]
     passed = failed = untold = 0
     for (group, cases), found in zip(told, findings(told, programs)):
         for case, it in zip(cases, found):

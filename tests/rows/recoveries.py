@@ -1,54 +1,29 @@
-"""Tables of recoveries: random transfers, of which a second reading of the RFCs says how they are played."""
+"""Recoveries of random transfers, of which a second reading of the RFCs says how they are played."""
 
 import re
 from collections.abc import Iterator, Sequence
-from dataclasses import dataclass
 from itertools import dropwhile, zip_longest
 
 from model.scenarios import Expected, Transfer, transfers
 from rows.asking import Asking, Said
-from rows.comparing import MAX_FAULTS, Case, Finding, Kind, case_of
+from rows.comparing import MAX_FAULTS, Finding
 from rows.random_scripts import Script
-from rows.recordings import RECORDS, recording
-from rows.tables import Row, Table, Unread
+from rows.recordings import recording
 
-ROW = re.compile(r"([1-9]\d*) by (pipe|prr|prr_crb)(?: from (\d+))?")
 STATE = re.compile(r"//= at (\d+)\.(\d{6}) (.+?)(?: sent_by:\w+)?")
 TIME = re.compile(r"\+[0-9.]+ ")
 LAST_OF_OPENING = "accept("
 SECOND = 1_000_000
 
 
-@dataclass(frozen=True)
-class Draw:
-    """So many recoveries are drawn, by a rate, from a seed on."""
-
-    count: int
-    rate: str
-    seed: int
-
-    def transfers(self) -> Iterator[Transfer]:
-        """Transfers until there are as many recoveries."""
-        count = 0
-        for it in transfers(self.rate, self.seed):
-            if count >= self.count:
-                return
-            count += it.recoveries
-            yield it
-
-
-def draw_of(row: Row) -> Draw:
-    """What a row draws."""
-    found = ROW.fullmatch(row.text)
-    if not found:
-        raise Unread("a row is `COUNT by RATE`, and perhaps ` from SEED`")
-    return Draw(int(found[1]), found[2], int(found[3] or 0))
-
-
-def recoveries(table: Table) -> Iterator[Case[Draw]]:
-    """A case for each row."""
-    for row in table.rows:
-        yield case_of(row, lambda: [draw_of(row)], re.sub(r"\W+", "-", row.text))
+def drawn_transfers(count: int, algorithm: str, seed: int) -> Iterator[Transfer]:
+    """Transfers by an algorithm, from a seed on, until there are so many recoveries."""
+    found = 0
+    for it in transfers(algorithm, seed):
+        if found >= count:
+            return
+        found += it.recoveries
+        yield it
 
 
 def script_of(it: Transfer) -> Script:
@@ -89,9 +64,8 @@ def fault_of(it: Transfer, said: Said) -> str:
     return why and f"seed {it.seed} under {it.settings!r}: {why}"
 
 
-def tell_recoveries(draws: Sequence[Draw]) -> Asking[list[Finding]]:
+def tell_transfers(drawn: Sequence[Sequence[Transfer]]) -> Asking[list[Finding]]:
     """Records the transfers of each draw, and holds what is played beside what is expected."""
-    drawn = [list(it.transfers()) for it in draws]
     said = iter((yield [recording(script_of(it), b"--trace") for each in drawn for it in each]))
     return [finding_of([(it, next(said)) for it in each]) for each in drawn]
 
@@ -100,6 +74,3 @@ def finding_of(told: Sequence[tuple[Transfer, Said | None]]) -> Finding:
     faults = [fault for it, said in told if said is not None and (fault := fault_of(it, said))]
     more = [f"{len(faults)} of {len(told)} transfers are played otherwise"] if faults else []
     return Finding("\n".join([*faults[:MAX_FAULTS], *more]), any(said is None for _, said in told))
-
-
-RECOVERIES = Kind(recoveries, tell_recoveries, (RECORDS,))

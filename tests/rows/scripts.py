@@ -1,4 +1,4 @@
-"""Tables of scripts that are compared by their verdicts: whole ones, cut ones, and those with each octet at a place."""
+"""Tables of scripts that are compared by their verdicts: whole ones, and those with each octet at a place."""
 
 from collections.abc import Iterator
 from dataclasses import dataclass, replace
@@ -33,33 +33,6 @@ def scripts(table: Table) -> Iterator[Case[Script]]:
     """A script a row."""
     for row in table.rows:
         yield case_of(row, lambda: script_try(table, row))
-
-
-@dataclass
-class Cut:
-    """A script that grows octet by octet, a line a row: `VERDICT | LINE`. From a `$` to a `^` it isn't read."""
-
-    grown: bytes = b""
-    line: int = 0
-
-    def tries(self, row: Row) -> Iterator[Script]:
-        self.line += 1
-        verdict, line = parted(row.text, " | ", "a row has a verdict and a |")
-        wanted = verdict_of(verdict)
-        for octet in line.encode():
-            if octet in b"$^":
-                wanted = verdict if octet == ord("^") else f"syntax {self.line}"
-            else:
-                self.grown += bytes([octet])
-                yield Script(replace(row, part=f", at {len(self.grown)}"), "", self.grown, wanted)
-        self.grown += b"\n"
-
-
-def cuts(table: Table) -> Iterator[Case[Script]]:
-    """A script cut after each octet, a line a row."""
-    cut = Cut()
-    for row in table.rows:
-        yield case_of(row, lambda: cut.tries(row))
 
 
 @dataclass(frozen=True)
@@ -121,5 +94,4 @@ def places(table: Table) -> Iterator[Case[Script]]:
 
 
 SCRIPTS = Kind(scripts, tell_scripts, answer=script_answers)
-CUTS = Kind(cuts, tell_scripts, answer=script_answers)
 PLACES = Kind(places, tell_scripts, answer=script_answers)

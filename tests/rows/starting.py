@@ -10,8 +10,8 @@ from rows.tables import PROGRAM
 SETTINGS = b"--settings"
 EXPLAIN = b"--explain"
 # The words that tools/both.rattle takes without a value, and those of them that go with --explain alone.
-ALONE = {PROGRAM: {EXPLAIN, b"--json", b"--ends"}, RECORDS: {b"--trace"}}
-WITH_EXPLAIN = {b"--json", b"--ends"}
+ALONE = {PROGRAM: {EXPLAIN, b"--json", b"--leftovers"}, RECORDS: {b"--trace"}}
+WITH_EXPLAIN = {b"--json", b"--leftovers"}
 NUMBER = re.compile(rb"(\d{1,12})\n")
 
 

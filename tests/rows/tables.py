@@ -55,6 +55,14 @@ class Opening:
 
 
 @dataclass(frozen=True)
+class Chance:
+    """What a run chooses of what is drawn: the seed of each table, and how many rows, at least, or recoveries."""
+
+    seed: int | None = None
+    rows: int | None = None
+
+
+@dataclass(frozen=True)
 class Table:
     """A table: its heading, its name and kind, the program that is told, and its lines, comments among them."""
 
@@ -66,6 +74,7 @@ class Table:
     before: Opening = Opening()
     openings: Mapping[str, Opening] = field(default_factory=dict)
     lines: list[Row] = field(default_factory=list)
+    chance: Chance = Chance()
 
     @property
     def rows(self) -> list[Row]:
@@ -120,8 +129,8 @@ def heading_of(row: Row) -> Table:
     found = HEADING.fullmatch(row.text)
     if not found:
         raise Unread("a heading is [NAME] KIND")
-    if found[3] and not found[2].endswith("stories"):
-        raise Unread("only stories are of a program")
+    if found[3] and not found[2].endswith(("stories", "random rows")):
+        raise Unread("only stories and random rows are of a program")
     if found[4] and found[2] not in OPENED:
         raise Unread("only openings, scripts and what is explained stand after one")
     return Table(row, found[1], found[2], found[3] or PROGRAM, found[4] or "")

@@ -18,7 +18,7 @@ from rows.tables import PROGRAM, TOP
 
 # Those that have a launcher at the top, and all.
 LAUNCHED = (PROGRAM, RECORDS)
-PROGRAMS = (*LAUNCHED, "test_desk")
+PROGRAMS = (*LAUNCHED, "test_desk", "test_book", "test_sender")
 Told = tuple[Group, Sequence[Case[Any]]]
 
 

@@ -1,0 +1,64 @@
+#!/usr/bin/env -S python3 -B
+"""Draws the random rows anew that are stored beside test_sender and test_book, for `rt ci`, and what these say of them.
+
+    tests/store_rows.py
+
+They are the first of those that tests/run draws. Run it after a change of the models in tests/model.
+"""
+
+import sys
+from collections.abc import Iterator
+from dataclasses import dataclass
+from pathlib import Path
+
+sys.path.insert(0, str(Path(__file__).resolve().parent))
+
+from drawn.drawing import Amount  # noqa: E402
+from rows.random_rows import PROGRAMS, Lists, joined, with_said  # noqa: E402
+from rows.tables import TOP  # noqa: E402
+
+
+@dataclass(frozen=True)
+class Stored:
+    """So many lists of a kind that are stored beside a program, from a seed."""
+
+    program: str
+    kind: str
+    count: int
+    seed: int
+
+    @property
+    def lists(self) -> Lists:
+        return PROGRAMS[self.program][self.kind]
+
+    @property
+    def path(self) -> Path:
+        return TOP / "crates" / self.program / "data" / self.lists.file
+
+    @property
+    def output(self) -> Path:
+        """The file that has all that the program is to say."""
+        return TOP / "crates" / self.program / "stdout"
+
+    def rows(self) -> Iterator[str]:
+        return self.lists.drawn(self.seed, Amount(self.count))
+
+
+STORED = (
+    Stored("test_sender", "packets", 200, 20_261_124),
+    Stored("test_sender", "short boards", 12, 20_261_122),
+    Stored("test_book", "books", 17, 20_261_122),
+)
+
+
+def store(it: Stored) -> None:
+    """Writes the rows, and puts what is said of them where that of the rows before stood."""
+    before, after = it.path.read_text().splitlines(), list(it.rows())
+    said = with_said(it.output.read_bytes(), joined(it.lists.says(before)), joined(it.lists.says(after)))
+    it.path.write_bytes(joined(after))
+    it.output.write_bytes(said)
+
+
+if __name__ == "__main__":
+    for each in STORED:
+        store(each)

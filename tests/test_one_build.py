@@ -1,0 +1,81 @@
+"""Tests of what puts many bugs into one build: where functions are, their bodies side by side, and the number."""
+
+import sys
+from pathlib import Path
+
+import pytest
+
+TOP = Path(__file__).resolve().parents[1]
+sys.path[:0] = [str(TOP / "tools"), str(TOP / "bench")]
+
+from edit_files import Change, Edit  # noqa: E402
+from one_build import Unplanted, bodies_in, choose, plant_all  # noqa: E402
+
+SOURCE = """//! A crate.
+const LEAST: u32 = 3;
+
+/// The sum.
+pub fn sum(a: u32, b: u32) -> u32
+    ensures { result ≡ a + b }
+{
+    a + b
+}
+
+impl Pair {
+    pub(super) fn least(&self) -> u32 {
+        if self.a < self.b {
+            return self.a;
+        }
+        self.b
+    }
+
+    fn both(
+        &self,
+        more: u32,
+    ) -> u32
+        requires { small more }
+    {
+        self.a + self.b + more
+    }
+}
+"""
+FILE = "crates/a/src/pairs.rt"
+
+
+def edit(name: str, *changes: "tuple[str, str]") -> Edit:
+    return Edit(name, test="search", changes=[Change(FILE, old, new) for old, new in changes])
+
+
+def tree_in(folder: Path) -> Path:
+    (folder / "crates/a/src").mkdir(parents=True)
+    (folder / FILE).write_text(SOURCE)
+    (folder / "crates/a/src/lib.rt").write_text("//! A crate.\nmod pairs;\n")
+    return folder
+
+
+def test_bodies_are_found_whatever_stands_before_them() -> None:
+    found = [SOURCE[begin:end] for begin, end in bodies_in(SOURCE)]
+    assert [found[0], found[2]] == ["    a + b\n", "        self.a + self.b + more\n"]
+    assert found[1].startswith("        if self.a") and found[1].endswith("        self.b\n")
+
+
+def test_each_bug_has_a_body_of_its_own_and_the_last_is_as_it_was(tmp_path: Path) -> None:
+    with pytest.raises(Unplanted, match="stands in no function"):
+        plant_all([edit("outside", ("LEAST: u32 = 3", "LEAST: u32 = 4"))], tree_in(tmp_path / "outside"))
+    first = edit("a", ("self.a < self.b", "true"), ("return self.a;", "return 0;"))
+    plant_all([first, edit("b", ("self.a < self.b", "false"))], tree_in(tmp_path / "again"))
+    text = (tmp_path / "again" / FILE).read_text()
+    assert "match crate::planted_bug() {\n1 => {        if true {" in text
+    assert "2 => {        if false {" in text and "_ => {        if self.a < self.b {" in text
+    assert "pub fn planted_bug() -> u32 {" in (tmp_path / "again/crates/a/src/lib.rt").read_text()
+
+
+def test_a_number_is_written_where_the_program_reads_it(tmp_path: Path) -> None:
+    mark = bytes.fromhex("a7f16970060bed5e7aece71d")
+    program = tmp_path / "program"
+    program.write_bytes(b"before" + mark + bytes(4) + b"after")
+    programs = choose(program, 7, tmp_path / "seven")
+    assert {it.read_bytes() for it in programs.values()} == {b"before" + mark + b"\7\0\0\0" + b"after"}
+    program.write_bytes(b"no number")
+    with pytest.raises(Unplanted):
+        choose(program, 7, tmp_path / "none")

@@ -1,0 +1,182 @@
+"""Tests of random rows: those that are stored, how many are drawn from which seed, and that a wrong answer is seen."""
+
+import re
+import subprocess
+from collections.abc import Callable, Sequence
+from pathlib import Path
+
+import pytest
+
+from drawn import books, packets
+from drawn.drawing import Amount
+from model.rules import RFC6675
+from model.scenarios import Transfer
+from rows.asking import Call, Said, Sayings, run
+from rows.comparing import Finding
+from rows.kinds import groups_of
+from rows.random_rows import Draw, joined
+from rows.recoveries import drawn_transfers
+from rows.tables import TOP, Chance
+from store_rows import STORED, Stored
+
+RANDOM = TOP / "tests" / "cases" / "random"
+
+
+@pytest.mark.parametrize("it", STORED, ids=[it.kind for it in STORED])
+def test_the_stored_rows_are_those_that_are_drawn(it: Stored) -> None:
+    rows = list(it.rows())
+    assert it.path.read_bytes() == joined(rows)
+    assert it.output.read_bytes().count(joined(it.lists.says(rows))) == 1
+
+
+def test_few_random_rows_are_stored() -> None:
+    assert sum(it.path.read_bytes().count(b"\n") for it in STORED) <= 2_500
+
+
+def draws(file: Path, chance: Chance = Chance()) -> list[Draw]:
+    """What the rows of a file draw."""
+    return [it for group in groups_of(file, chance) for case in group.cases for it in case.tries]
+
+
+def test_all_are_drawn_from_their_seeds_unless_a_run_chooses_otherwise() -> None:
+    chosen = Chance(seed=7, rows=40)
+    every = [it for file in sorted(RANDOM.glob("*.cases")) for it in draws(file)]
+    assert {(it.kind, it.amount.lists) for it in every} == {
+        ("books", 1_000),
+        ("packets", 2_000),
+        ("short boards", 1_000),
+        ("long boards", 4),
+    }
+    others = [it for file in sorted(RANDOM.glob("*.cases")) for it in draws(file, chosen)]
+    assert [(it.seed, it.amount.rows) for it in others] == [(7, 40)] * len(every)
+    assert all("from 7: 40 rows" in it.row.text for it in others)
+
+
+def test_a_run_chooses_of_recoveries_too(tmp_path: Path) -> None:
+    file = tmp_path / "a.cases"
+    file.write_text("[a] random rows of pdrecord\n5 recoveries by rfc6675 from 3\n")
+    for chance, transfers in (
+        (Chance(), drawn_transfers(5, RFC6675, 3)),
+        (Chance(0, 9), drawn_transfers(9, RFC6675, 0)),
+    ):
+        (group,) = groups_of(file, chance)
+        told = next(group.kind.told(group.cases))
+        assert [it.given.decode() for it in told] == [it.script for it in transfers]
+
+
+def test_a_seed_draws_the_same_rows_again_and_another_one_others() -> None:
+    first, again, other = (list(packets.rows(seed, Amount(20))) for seed in (1, 1, 2))
+    assert first == again != other and len(first) == 21
+    lists = [row for row in books.rows(1, Amount(1, rows=100)) if row.startswith("# ")]
+    assert len(lists) in (2, 3, 4)
+
+
+TABLES = "[a] random rows of test_sender\n2 short boards from 5\n[b] random rows of test_book\n1 books from 5\n"
+
+
+def findings(file: Path, wrong: str = "") -> list[Finding]:
+    """What is found of each table where all is said that is wanted, but of one program another number."""
+    file.write_text(TABLES)
+    found = []
+    for group in groups_of(file):
+        wanted = group.cases[0].tries[0].run().wanted
+
+        def say(call: Call, wanted: Said = wanted) -> Said:
+            return Said(wanted.output.replace(b"0 differ", b"1 differ"), b"", 0) if call.program == wrong else wanted
+
+        found += run(group.kind.told(group.cases), lambda calls: [say(it) for it in calls])
+    return found
+
+
+def test_what_differs_is_told_with_its_seed(tmp_path: Path) -> None:
+    assert findings(tmp_path / "a.cases") == [Finding(), Finding()]
+    sender, book = findings(tmp_path / "a.cases", "test_sender")
+    assert "2 short boards from 5" in sender.fault and "+> 2 lists of 30 calls, 1 differ" in sender.fault
+    sender, other = findings(tmp_path / "a.cases", "test_book")
+    assert "+> 1 stories, " in other.fault and sender == book == Finding()
+
+
+@pytest.mark.parametrize("row", ["2 books from 5", "0 packets from 5", "2 packets", "2 packets from -1"])
+def test_what_is_not_drawn_for_the_program_fails(row: str, tmp_path: Path) -> None:
+    file = tmp_path / "a.cases"
+    file.write_text(f"[a] random rows of test_sender\n{row}\n")
+    (group,) = groups_of(file)
+    assert [bool(case.unread) for case in group.cases] == [True]
+
+
+COMMANDS = (["tests/run", "random"], ["tests/rows/plain.py", "tests/cases/random"])
+
+
+@pytest.mark.parametrize("command", COMMANDS)
+def test_a_run_draws_by_its_own_words(command: list[str], tmp_path: Path) -> None:
+    for name in ("test_sender", "test_book"):
+        (tmp_path / name).write_text("#!/bin/sh\ngrep -hc . random_*\n")
+        (tmp_path / name).chmod(0o755)
+    words = ["--programs", str(tmp_path), "--seed", "7", "--rows", "40"]
+    said = subprocess.run([*command, *words], cwd=TOP, capture_output=True, text=True).stdout
+    assert all(f" {kind} from 7: 40 rows\n" in said for kind in ("books", "packets", "short boards", "long boards"))
+    assert "\n+> 41\n" in said and said.endswith("\n0 passed, 4 failed\n")
+
+
+@pytest.mark.parametrize("words", [["--seed", "-1"], ["--rows", "0"], ["--rows", "many"]])
+def test_a_number_that_is_none_is_refused(words: list[str]) -> None:
+    for command in COMMANDS:
+        said = subprocess.run([*command, *words], cwd=TOP, capture_output=True, text=True)
+        assert said.returncode and "is wanted" in said.stderr + said.stdout
+
+
+def trace_of(transfer: Transfer) -> str:
+    """A transfer as the recorder is to play it, after one event of its opening."""
+    events = [f"+0.1 {it.line}\n//= at {it.at / 1_000_000:.6f} {it.state}\n" for it in transfer.expected]
+    return "".join(["+0 accept(3, ..., ...) = 4\n//= at 0.000000 CLOSED\n", *events])
+
+
+@pytest.mark.parametrize(
+    "change, fault",
+    [
+        (lambda trace: trace, ""),
+        (lambda trace: re.sub(r"ssthresh:\d+", "ssthresh:9", trace, count=1), "after 0.000000 accept(3"),
+        (lambda trace: trace.rpartition("+0.1")[0], "  played   nothing more"),
+        (lambda trace: trace.replace(" > P. ", " > . ", 1), "  expected"),
+        (lambda trace: trace.replace("at 0.", "at 1."), "after 1.000000 accept(3"),
+        (lambda trace: trace + "+0 more\n//= at 9.000000 CLOSED\n", "  expected nothing more"),
+    ],
+)
+def test_recoveries_are_played_as_the_second_reading_has_it(
+    change: Callable[[str], str], fault: str, tmp_path: Path
+) -> None:
+    traces = {it.script.encode(): trace_of(it) for it in drawn_transfers(5, "rfc6675", 3)}
+    file = tmp_path / "a.cases"
+    file.write_text("[a] random rows of pdrecord\n5 recoveries by rfc6675 from 3\n")
+    (group,) = groups_of(file)
+
+    def play(calls: Sequence[Call]) -> Sayings:
+        assert [it.given for it in calls] == list(traces) and len(calls) > 1
+        return [Said(change(traces[it.given]).encode(), b"", 0) for it in calls]
+
+    (found,) = run(group.kind.told(group.cases), play)
+    assert group.cases[0].name == "5-recoveries-by-rfc6675-from-3"
+    assert bool(found.fault) is bool(fault) and fault in found.fault
+    (refused,) = run(group.kind.told(group.cases), lambda calls: [Said(b"", b"17 Read\n", 2) for _ in calls])
+    assert "status 2: 17 Read" in refused.fault
+
+
+def test_a_seed_draws_the_same_recoveries_under_many_settings() -> None:
+    first, again, other = (list(drawn_transfers(200, "rfc6675", seed)) for seed in (7, 7, 8))
+    assert first == again != other and 200 <= sum(it.recoveries for it in first) < 210
+    told = "\n".join(it.settings for it in first)
+    keys = (
+        "abc_limit",
+        "initial_ssthresh",
+        "initial_window",
+        "limited_transmit",
+        "min_rto_us",
+        "slow_start_after_idle",
+    )
+    assert all(f"{key} = " in told for key in keys) and "recovery_algorithm" not in told
+    assert any("sackOK" not in it.script for it in first) and any("wscale" not in it.script for it in first)
+
+
+def test_recoveries_are_drawn_that_begin_with_new_octets_and_that_lose_what_they_send_again() -> None:
+    drawn = list(drawn_transfers(200, "rfc9937", 0))
+    assert sum(it.acknowledging for it in drawn) >= 3 and sum(it.lost_again for it in drawn) >= 20
