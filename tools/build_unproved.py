@@ -17,9 +17,8 @@ import argparse
 import sys
 from pathlib import Path
 
-import building
 import stopping
-from kept_builds import OPTIMISED, PLAIN
+from kept_builds import OPTIMISED, PLAIN, kept_programs
 
 FAULT = 2
 NO_BUILD = 3
@@ -41,11 +40,24 @@ class Phases:
             print(phase, flush=True)
 
 
-def found_or_built(tree: Path, way: str, is_kept: bool) -> int:
-    folder = building.kept_programs(tree, SERVES[way])
+def found(tree: Path, way: str, is_kept: bool) -> int:
+    """Finds what is kept, or builds it; the status."""
+    folder = kept_programs(tree, SERVES[way])
+    if folder is not None:
+        print(f"built {folder}", flush=True)
+        return 0
+    if is_kept:
+        print("unproved: NoBuild: none is kept", file=sys.stderr)
+        return NO_BUILD
+    return built(tree, PLAIN if way == ANY else way)
+
+
+def built(tree: Path, way: str) -> int:
+    """Builds in this way; the status."""
+    import building  # Who finds what is kept doesn't pay for this.
+
     try:
-        if folder is None and not is_kept:
-            folder = building.build(tree, PLAIN if way == ANY else way, Phases().note)
+        print(f"built {building.build(tree, way, Phases().note)}", flush=True)
     except building.NotCompiled as refused:
         print(f"unproved: NotCompiled: {refused}", file=sys.stderr, flush=True)
         sys.stderr.buffer.write(refused.said)
@@ -53,10 +65,6 @@ def found_or_built(tree: Path, way: str, is_kept: bool) -> int:
     except building.NoBuild as reason:
         print(f"unproved: NoBuild: {reason}", file=sys.stderr)
         return NO_BUILD
-    if folder is None:
-        print("unproved: NoBuild: none is kept", file=sys.stderr)
-        return NO_BUILD
-    print(f"built {folder}", flush=True)
     return 0
 
 
@@ -68,7 +76,7 @@ def main() -> int:
     asked = parser.parse_args()
     stopping.heed()
     try:
-        return found_or_built(asked.tree.absolute(), asked.way, asked.kept)
+        return found(asked.tree.absolute(), asked.way, asked.kept)
     except stopping.Stopped as signal:
         stopping.end_by(signal.number)
 

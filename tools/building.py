@@ -18,8 +18,9 @@ from typing import Callable
 
 import source_sums
 from fault_places import places_of
-from kept_builds import LEVELS, PROGRAMS, SUM, TOOLS, Kept, Unkept, is_own, kept_of, main_of, make_room, sum_of
-from kit_tools import NATIVE, Kit, Unknown, known_kit, words_of_compiler, words_of_linker, words_of_reader
+from kept_builds import PLAIN, PROGRAMS, SUM, TOOLS, Kept, Unkept, is_own, kept_of, main_of, make_room, sum_of
+from kit_tools import NATIVE, Kit, Unknown, known_kit, words_of_linker, words_of_reader
+from kit_tools import words_of_compiler, words_of_plain_compiler
 
 # The program whose main file takes the place of both, and the mark for the modules of its crate.
 PROGRAM = "pdrecord"
@@ -54,15 +55,6 @@ class NotCompiled(Exception):
 
 class NoBuild(Exception):
     """That nothing can be built or kept here, and why; `rt try` may run the program still."""
-
-
-def kept_programs(top: Path, ways: tuple[str, ...]) -> Path | None:
-    """The folder of both programs of a tree, in the first of these ways in which they are kept, if they are."""
-    try:
-        kept = kept_of(top, known_kit())
-    except (Unknown, Unkept, source_sums.Unreadable, OSError):
-        return None
-    return next((it for it in map(kept.programs, ways) if it is not None), None)
 
 
 def build(top: Path, way: str, note: Note) -> Path:
@@ -188,7 +180,8 @@ def link(kit: Kit, entry: Path, room: Path, way: str, note: Note) -> None:
     given = (entry / "words").read_text().splitlines()
     (room / "module.bc").unlink(missing_ok=True)
     (room / "module.bc").symlink_to(entry / "module.bc")
-    checked(words_of_compiler(kit, given, LEVELS[way]), room, lambda: note(COMPILING))
+    words = words_of_plain_compiler(kit, given) if way == PLAIN else words_of_compiler(kit, given)
+    checked(words, room, lambda: note(COMPILING))
     checked(words_of_handler(kit, handler), room, lambda: note(COMPILING))
     first, *others = (folder / it for it in PROGRAMS)
     checked(words_of_linker(kit, (module, handler), first), room, lambda: note(LINKING))

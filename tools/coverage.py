@@ -23,20 +23,21 @@ HEAD = """<!-- Made by tools/coverage.py from the scripts and examples/suite/cov
 # What the suite covers
 
 `examples/suite` has {count} scripts that test the sender, section by section of the RFCs; `./pdsuite run examples/suite` runs \
-them. The first line of a script names the sections that it tests, the second what would be wrong if it failed. "Own" marks what a \
-section leaves open or asks for otherwise ([SENDER.md](SENDER.md)). Inputs and expected packets were worked out by hand from the \
-section and from SENDER.md. The folders whose names begin with `with-` have settings of their own, in `pdsuite.toml`. The gate \
-runs all scripts; each has to pass.
+them. The first line of a script names the sections that it tests, and the second says what is wrong if it fails. Inputs and \
+expected packets were worked out by hand from the section and from [SENDER.md](SENDER.md). "Own" marks a choice that a section \
+leaves open, or that differs from it. The scripts of a folder whose name begins with `with-` run under settings of their own, in \
+`pdsuite.toml`. The gate runs all scripts, and each has to pass.
 
-A script can't show that nothing is sent at its end: packets that no event asks for are no failure. So a script that forbids a \
-packet goes on to the next one that is due, and fails there by its time or its number; or until 1,025 packets are untaken.
+A script can't show that no packet leaves at its end, since it passes even if packets are left unmatched. So a script that forbids \
+a packet goes on to the next packet that is due, and fails there by its time or its number if the sender sends too much; or it \
+goes on until 1,025 packets are unmatched.
 """
 BUGS = """
 ## Bugs that the scripts see
 
-Whoever changes a rule finds here the scripts to look at. {count} bugs, each a change of one line, were planted in the sender's \
-rules; {seen} of them make a script fail, of which some are named. Of bugs that aren't listed this says nothing: \
-`./pdsuite compare --search` makes a script for one that passes.
+If you change a rule, you find here the scripts to look at. {count} bugs, each a change of one line, were planted in the sender's \
+rules, and {seen} of them make a script fail; the list names some of the scripts. It says nothing about other bugs: if the suite \
+passes with one, `./pdsuite compare --search` makes a script that sees it.
 """
 
 

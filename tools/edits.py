@@ -25,7 +25,7 @@ from pathlib import Path
 
 import stopping
 from edit_files import Edit, Unread, read_crates, read_plain
-from lanes import TOP
+from proofs import TOP
 from plain_planting import Copies, try_plain
 from planting import Trial, try_bugs
 from refusing import most_at_once, try_more

@@ -106,7 +106,7 @@ is_prefix() { # FILE OF: the octets of FILE begin OF
 }
 
 is_told() { # whether the program told want of memory
-    [ "$status" -eq 2 ] && grep -q '^pdregress: 19 \|^pdregress: 12 \|memory' "$work/error"
+    [ "$status" -eq 2 ] && grep -q '^pdregress: 19 \|^pdregress: 12 \|^pdrecord: .*19 \|memory' "$work/error"
 }
 
 # Which of a program's allocations is the Nth depends on its threads, so three numbers in a row have to meet no refusal.

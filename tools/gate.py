@@ -15,7 +15,7 @@ import stamps
 from copies import settled
 from crate_graph import dependencies
 from kept_sums import path_of
-from lanes import TOP
+from proofs import TOP
 from proving_kit import Kit, Refused, working
 from source_sums import TABLE, Unreadable, places_of, sources_below, sources_in, sums_of
 

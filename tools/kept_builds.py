@@ -19,7 +19,7 @@ from dataclasses import dataclass
 from pathlib import Path
 
 import source_sums
-from kit_tools import Kit
+from kit_tools import Kit, Unknown, known_kit
 
 TOOLS = Path(__file__).resolve().parent
 PROGRAMS = ("pdregress", "pdrecord")
@@ -29,9 +29,8 @@ MADE_BY = (
     *("fault_places.py", "tell_fault.py", "run_unproved.py", "../pdregress", "../pdrecord"),
 )
 SUM = "sum"
-# The ways to build, and the kit's word for each.
+# The ways to build.
 PLAIN, OPTIMISED = "plain", "optimised"
-LEVELS = {PLAIN: "-O0", OPTIMISED: "-O1"}
 # What is kept may have so many octets; what was used so many seconds ago at most stays in any case.
 MOST = 1 << 30
 RECENT = 3_600.0
@@ -56,7 +55,7 @@ class Kept:
             if any(not is_own(it) for it in (self.folder.parent, self.folder, folder)):
                 return None
             said = (folder / SUM).read_text()
-            if {sum_of(folder / name) for name in PROGRAMS} != {said}:
+            if sums_of_programs(folder) != {said}:
                 return None
             os.utime(self.folder)
         except OSError:
@@ -75,6 +74,15 @@ class Kept:
             yield
         finally:
             os.close(descriptor)
+
+
+def kept_programs(top: Path, ways: tuple[str, ...]) -> Path | None:
+    """The folder of both programs of a tree, in the first of these ways in which they are kept, if they are."""
+    try:
+        kept = kept_of(top, known_kit())
+    except (Unknown, Unkept, source_sums.Unreadable, OSError):
+        return None
+    return next((it for it in map(kept.programs, ways) if it is not None), None)
 
 
 def kept_of(top: Path, kit: Kit) -> Kept:
@@ -128,6 +136,13 @@ def is_own(folder: Path) -> bool:
     """Whether a folder is one, no link, is this user's, and nobody else may look into it or change it."""
     found = folder.lstat()
     return stat.S_ISDIR(found.st_mode) and found.st_uid == os.geteuid() and not found.st_mode & 0o077
+
+
+def sums_of_programs(folder: Path) -> set[str]:
+    """The checksums of the programs in a folder. What is one file by several names is read once."""
+    found = {name: (folder / name).lstat() for name in PROGRAMS}
+    files = {(it.st_dev, it.st_ino): name for name, it in found.items()}
+    return {sum_of(folder / name) for name in files.values()}
 
 
 def sum_of(file: Path) -> str:

@@ -73,7 +73,7 @@ client() {
     echo "$version $commit" >"$root/$share/version"
     ln -s "../share/$name/pdsuite" "$root/usr/bin/pdsuite"
     page pdsuite "$top/pdsuite"
-    for command in run watch lsp list import expect diff compare search record; do
+    for command in run watch lsp list import expect diff compare search measure record; do
         page "pdsuite-$command" "$top/pdsuite" "$command"
     done
     mkdir -p "$root/$completions"
@@ -118,8 +118,8 @@ documents() {
     install -m 644 "$top/packaging/lintian-overrides" "$root/usr/share/lintian/overrides/$name"
 }
 
-listed() { # FILE the packages in it, as a field of a control file has them
-    paste -s -d , "$1" | sed 's/,/, /g'
+listed() { # the packages of the input, as a field of a control file has them
+    paste -s -d , | sed 's/,/, /g'
 }
 
 libraries() { # what the programs need of the C library
@@ -134,9 +134,12 @@ control() {
     (cd "$root" && find usr -type f -exec md5sum {} + | LC_ALL=C sort -k 2) >"$root/DEBIAN/md5sums"
     libraries=$(libraries)
     [ -n "$libraries" ] || die "$(tail -n 1 "$work/said")"
-    depends="python3 (>= 3.11), $(listed "$top/client/packages.txt"), $libraries"
+    depends="python3 (>= 3.11), $(listed <"$top/client/packages.txt"), $libraries"
+    # What is large only few commands need.
+    recommends=$(grep -vxF -f "$top/packaging/suggests.txt" "$top/client/packages-more.txt" | listed)
     sed -e "s/@VERSION@/$version/" -e "s/@DEPENDS@/$depends/" -e "s/@SIZE@/$(du -sk "$root/usr" | cut -f 1)/" \
-        -e "s/@RECOMMENDS@/$(listed "$top/client/packages-more.txt")/" "$top/packaging/control" >"$root/DEBIAN/control"
+        -e "s/@RECOMMENDS@/$recommends/" -e "s/@SUGGESTS@/$(listed <"$top/packaging/suggests.txt")/" \
+        "$top/packaging/control" >"$root/DEBIAN/control"
 }
 
 version=$(version_of_tree)

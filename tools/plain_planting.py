@@ -16,7 +16,7 @@ from queue import Queue
 from typing import Optional, Union
 
 from edit_files import Edit, Unread, plant, planted
-from lanes import TOP
+from proofs import TOP
 from side_by_side import Commands
 
 PYTHON = "/usr/bin/python3"

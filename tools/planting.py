@@ -15,7 +15,7 @@ from pathlib import Path
 
 from crate_graph import dependencies, libraries_below
 from edit_files import Edit, Unread, plant
-from lanes import TOP, copy_crates
+from proofs import TOP, copy_crates
 from side_by_side import Commands
 
 sys.path.insert(0, str(TOP / "tests"))

@@ -11,10 +11,10 @@ gone at the end.
 
 Says on standard error which crate is proved, how many are left, and about how long they take: as long as they took
 last on this machine, as a file below ~/.cache/pdregress says. Where one isn't proved, it says each error with its file
-and line, which definitions aren't those by which it was proved last, and which laws name them. Interrupted, it keeps
-what was proved. Both end with status 2, and so does a kit that doesn't say what its file KIT-ID has, or changes
-meanwhile. Two calls in one tree work one after the other. In the end it keeps copies of all programs that are proved,
-with their commit, as tools/kept_programs.py says.
+and line, each contract that is refused with the definitions that it cites, which definitions aren't those by which it
+was proved last, and which laws name them. Interrupted, it keeps what was proved. Both end with status 2, and so does a
+kit that doesn't say what its file KIT-ID has, or changes meanwhile. Two calls in one tree work one after the other. In
+the end it keeps copies of all programs that are proved, with their commit, as tools/kept_programs.py says.
 """
 from __future__ import annotations
 
@@ -26,7 +26,7 @@ import shutil
 import sys
 import tempfile
 import time
-from collections.abc import Iterator
+from collections.abc import Callable, Iterator
 from concurrent.futures import FIRST_COMPLETED, Future, ThreadPoolExecutor, wait
 from dataclasses import dataclass, field
 from pathlib import Path
@@ -35,13 +35,13 @@ import kept_sums
 import proving_kit
 import stopping
 from changed_rules import keep, told
+from cited import Definitions, with_contracts
 from copies import copied
 from crate_graph import dependencies, libraries_below
 from kept_programs import keep_programs
-from lanes import JOBS, LANE, TOP, Lane, Unproved, hand_over, has_room, held
+from proofs import JOBS, LANE, TOP, Lane, Times, Unproved, amount, hand_over, has_room, held, key_of, time_of_proof
 from proving_kit import Kit, Refused
 from prove_errors import errors
-from prove_times import Times, amount, key_of, time_of_proof
 from source_sums import TABLE, Unreadable, places_of, sources_below, sources_in, sums_of
 
 
@@ -223,19 +223,29 @@ def folders_for(tree: Path, crate: str, uses: dict[str, list[str]]) -> list[Path
     return [tree / "crates" / it for it in [*libraries_below(crate, uses), crate]]
 
 
-def say_errors(crate: str, uses: dict[str, list[str]]) -> None:
-    """Says why a crate isn't proved, and which definitions have changed since it was; `watch` reads it, too."""
+def refusal(crate: str, folders: list[Path], shown: Callable[[str], str], top: Path) -> Iterator[str]:
+    """Why a crate isn't proved, with each contract that is refused, and which definitions have changed since it was.
+
+    Paths of errors are as they are shown, those of definitions below a folder.
+    """
     folder = TOP / "crates" / crate
     log = folder / "out" / "build.log"
     text = log.read_text(errors="replace")
-    lines = [f"prove: {crate} isn't proved, or wasn't built:"]
-    lines += list(errors(text, folder)) or text.splitlines()[-5:] or [""]
-    lines += [*told(log.parent, folders_for(TOP, crate, uses)), f"prove: the whole log: {log}"]
-    print(*lines, sep="\n", file=sys.stderr, flush=True)
+    found = with_contracts(errors(text, folder, shown), Definitions(folders), top)
+    yield f"prove: {crate} isn't proved, or wasn't built:"
+    yield from list(found) or text.splitlines()[-5:] or [""]
+    yield from told(log.parent, folders)
+    yield f"prove: the whole log: {log}"
+
+
+def say_errors(crate: str, uses: dict[str, list[str]]) -> None:
+    """Says why a crate isn't proved, and leaves that for `watch` and editors, which may be called from elsewhere."""
+    folders = folders_for(TOP, crate, uses)
+    print(*refusal(crate, folders, os.path.relpath, Path()), sep="\n", file=sys.stderr, flush=True)
     with contextlib.suppress(OSError):
         REFUSED.parent.mkdir(parents=True, exist_ok=True)
         beside = REFUSED.with_suffix(".new")
-        beside.write_text("".join(f"{line}\n" for line in lines))
+        beside.write_text("".join(f"{line}\n" for line in refusal(crate, folders, os.path.abspath, TOP)))
         beside.replace(REFUSED)
 
 

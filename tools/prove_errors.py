@@ -3,7 +3,7 @@ from __future__ import annotations
 
 import os
 import re
-from collections.abc import Iterator
+from collections.abc import Callable, Iterator
 from pathlib import Path
 
 # What is said of a place, as `src/lib.rt:5:1`. That a goal is open is said in a note.
@@ -13,20 +13,22 @@ PLAIN = re.compile(r"error\b|fn \S+: no proof: (?!it calls )")
 DIFFERENCE = "differ "
 
 
-def errors(log: str, folder: Path) -> Iterator[str]:
-    """The lines of a log that say an error, with those that go on below one. Paths are from here.
+def errors(log: str, folder: Path, shown: Callable[[str], str] = os.path.relpath) -> Iterator[str]:
+    """The lines of a log that say an error, with those that go on below one. Paths are from here, or as they are shown.
 
     >>> log = "note: a\\n./src/a.rt:1:2: error: b\\n  the two first differ where c\\nnote: d\\n"
     >>> print(*errors(log, Path.cwd()), sep="\\n")
     src/a.rt:1:2: error: b
       the two first differ where c
+    >>> list(errors("note: a\\n  the two first differ where b\\n", Path.cwd()))
+    ['  the two first differ where b']
     """
     is_within = False
     for line in log.splitlines():
         placed = PLACED.match(line)
         if placed:
-            path = os.path.relpath(os.path.normpath(folder / placed["path"]))
-            yield f"{path}:{placed['place']}: {placed['said']}"
+            path = os.path.normpath(folder / placed["path"])
+            yield f"{shown(path)}:{placed['place']}: {placed['said']}"
         elif PLAIN.match(line) or is_within and line.startswith(" ") or DIFFERENCE in line:
             yield line
         else:

@@ -8,7 +8,7 @@ from pathlib import Path
 
 from crate_graph import dependencies, libraries_below
 from edit_files import Edit, Unread
-from lanes import TOP, copy_crates, free_memory, link
+from proofs import TOP, copy_crates, free_memory, link
 from side_by_side import Commands
 
 # What the check of a crate takes at most, in octets.

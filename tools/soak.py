@@ -34,14 +34,14 @@ NAMES = [b"a", b"b", b"c", b"script", b"a.b", b"x" * 64]
 KEYS = [
     b"mss", b"sack", b"wscale", b"sndbuf", b"rcv_wnd", b"initial_ssthresh", b"min_rto_us",
     b"max_rto_us", b"granularity_us", b"nagle", b"tolerance_us", b"initial_window",
-    b"limited_transmit", b"byte_counting", b"restart_after_idle", b"recovery_rate",
+    b"limited_transmit", b"abc_limit", b"slow_start_after_idle", b"recovery_algorithm",
 ]
 VALUES = [
     b"0", b"1", b"true", b"false", b"1000", b"65495", b"1048576", b"x", b"-1", b"18446744073709551616", b"rfc5681",
-    b'"rfc6928"', b"prr_crb",
+    b'"rfc6928"', b"rfc6675",
 ]
 # What many settings take, and words that one takes.
-RIGHT = [b"1000", b"5000", b"60000000", b"true", b"rfc6928", b"prr"]
+RIGHT = [b"1000", b"5000", b"60000000", b"true", b"rfc6928", b"rfc9937"]
 PIECES = [
     b"+0", b"0", b"+0.1", b"*", b"+0~+1", b"0.5~0.7", b"...", b" ", b" ", b"\t", b"<", b">", b"S", b"S.", b".", b"P.",
     b"F.", b"R", b"R.", b"0:0(0)", b"1:1(0)", b"1:1001(1000)", b"ack 1", b"ack 1001", b"win 257", b"win 32792",

@@ -1,5 +1,5 @@
 #!/usr/bin/env -S python3 -B
-"""Spoils scripts of a suite at random, and says whether `pdrecord --least` gives them back:
+"""Spoils scripts of a suite at random, and says whether `pdrecord --minimal` gives them back:
 
 spoil_scripts.py [--count N] [--seed N] [--show] [--program FILE] [PATH..]
 
@@ -186,7 +186,7 @@ def answers_of(cases: Sequence[Spoiled], program: Path | None) -> list[trying.Tr
 
 
 def answer_of(case: trying.Case, program: Path) -> trying.Tried:
-    done = subprocess.run([program, *case.words, b"--least"], input=case.given, capture_output=True)
+    done = subprocess.run([program, *case.words, b"--minimal"], input=case.given, capture_output=True)
     return trying.Answer(done.stdout, done.stderr, done.returncode)
 
 
@@ -200,7 +200,7 @@ def unproved_answers(cases: Sequence[Spoiled]) -> list[trying.Tried]:
     for shared, numbers in groups.items():
         with tempfile.TemporaryDirectory(prefix="spoiled-") as room:
             own = [trying.Case(() if shared else runs[it].words, runs[it].given) for it in numbers]
-            words = [b"--least", *shared]
+            words = [b"--minimal", *shared]
             found |= zip(numbers, trying.run_cases("pdrecord", own, Path(room), 60, words, steps=1))
     return [found[number] for number in range(len(cases))]
 

@@ -18,6 +18,7 @@ from kernel.report import row_of, total_of
 from kernel.run import Outcome, run_script
 from kernel.script import Event, Refused, read_script
 from kernel.settings import Tuning, settings_of, tuning_of
+from pdsuite.faults import Fault
 
 DESCRIPTION = """Runs packetdrill scripts against the TCP of this machine's kernel, each several times, and says how
 often each passes and at which line and field it fails otherwise. It needs root, a tun device and network namespaces.
@@ -160,6 +161,6 @@ def main(words: Sequence[str]) -> int:
     try:
         with runners(choice.jobs) as pool:
             return run_all(choice, pool)
-    except (NoDevice, OSError, tomllib.TOMLDecodeError) as fault:
+    except (NoDevice, Fault, OSError, tomllib.TOMLDecodeError) as fault:
         print(f"kernel.py: {fault}", file=sys.stderr)
         return 2

@@ -3,13 +3,16 @@
 from __future__ import annotations
 
 import tomllib
-from collections.abc import Iterator, Mapping
+from collections.abc import Iterable, Iterator, Mapping
 from dataclasses import dataclass, fields, replace
 from pathlib import Path
 from typing import Any
 
 from kernel.script import Event
+from pdsuite.faults import Fault
 from pdsuite.packetdrill.items import Packet
+from pdsuite.scripts.suite import OPTION, Claim, old_names
+from pdsuite.scripts.toml_places import TomlPlaces, places_in
 
 NO_MSS = 536
 
@@ -27,7 +30,7 @@ class Settings:
     min_rto_us: int = 1_000_000
     max_rto_us: int = 60_000_000
     nagle: bool = True
-    restart_after_idle: bool | None = None  # where nothing sets it, as the kernel has it
+    slow_start_after_idle: bool | None = None  # where nothing sets it, as the kernel has it
 
 
 @dataclass(frozen=True)
@@ -56,30 +59,50 @@ def with_table(settings: Settings, table: Mapping[str, Any]) -> Settings:
 
 
 def settings_of(path: Path, text: str, words: str = "") -> Settings:
-    """The settings of a script: `words` first, then its own comments, then each `pdsuite.toml`, the nearest first."""
+    """The settings of a script: `words` first, then its own comments, then each `pdsuite.toml`, the nearest first.
+
+    A key or a word that has another name now is a fault, with its place and that name.
+    """
     settings = Settings()
     for table in reversed(list(tables_of(path.resolve()))):
         settings = with_table(settings, table)
-    return with_table(with_table(settings, comments_of(text)), tomllib.loads(words))
+    own = {key: value for _, key, value in comments_in(text)}
+    refuse_old_names(Claim(f"{path}:{line}", "", key, value) for line, key, value in comments_in(text))
+    told = tomllib.loads(words)
+    refuse_old_names(claims_in(TomlPlaces(OPTION, {}), told))
+    return with_table(with_table(settings, own), told)
 
 
-def comments_of(text: str) -> dict[str, Any]:
-    """The settings that a script asks for in comments `// set KEY VALUE`, before its first event.
+def refuse_old_names(claims: Iterable[Claim]) -> None:
+    """Raises a fault where a key or a word has another name now."""
+    for line in old_names(claims):
+        raise Fault(line)
 
-    >>> comments_of("// Why.\\n// set sack false\\n// set initial_window rfc6928\\n0 close(3) = 0\\n// set mss 9\\n")
-    {'sack': False, 'initial_window': 'rfc6928'}
+
+def claims_in(places: TomlPlaces, table: Mapping[str, Any], name: str = "") -> Iterator[Claim]:
+    """The keys of a table with their places."""
+    return (Claim(places.at(name, key), name, key, value) for key, value in table.items())
+
+
+def comments_in(text: str) -> Iterator[tuple[int, str, Any]]:
+    """The settings that a script asks for in comments `// set KEY VALUE`, before its first event, with their lines.
+
+    >>> list(comments_in("// Why.\\n// set sack false\\n// set mss 700\\n0 close(3) = 0\\n// set mss 9\\n"))
+    [(2, 'sack', False), (3, 'mss', 700)]
     """
-    found: dict[str, Any] = {}
-    for line in text.splitlines():
+    for number, line in enumerate(text.splitlines(), 1):
         if not line.startswith("//"):
-            break
+            return
         words = line[2:].split()
         if len(words) == 3 and words[0] == "set":
-            value = words[2]
-            found[words[1]] = (
-                value == "true" if value in ("true", "false") else int(value) if value.isdigit() else value
-            )
-    return found
+            yield number, words[1], value_of(words[2])
+
+
+def value_of(word: str) -> bool | int | str:
+    """A word of `set` as a value."""
+    if word in ("true", "false"):
+        return word == "true"
+    return int(word) if word.isdigit() else word
 
 
 def tables_of(path: Path) -> Iterator[dict[str, Any]]:
@@ -88,10 +111,14 @@ def tables_of(path: Path) -> Iterator[dict[str, Any]]:
         file = folder / "pdsuite.toml"
         if not file.is_file():
             continue
-        whole = tomllib.loads(file.read_text())
+        text = file.read_text()
+        whole, places = tomllib.loads(text), places_in(str(file), text)
         if folder == path.parent and isinstance(whole.get(path.name), dict):
+            refuse_old_names(claims_in(places, whole[path.name], path.name))
             yield whole[path.name]
-        yield {key: value for key, value in whole.items() if not isinstance(value, dict)}
+        beside = {key: value for key, value in whole.items() if not isinstance(value, dict)}
+        refuse_old_names(claims_in(places, beside))
+        yield beside
         if whole.get("root") is True:
             return
 
@@ -138,8 +165,8 @@ def tuning_of(events: tuple[Event, ...], settings: Settings, switches: Mapping[s
         "net.ipv4.tcp_wmem": f"4096 {2 * settings.sndbuf} {max(4194304, 2 * settings.sndbuf)}",
         "net.ipv4.tcp_rto_max_ms": str(min(120_000, settings.max_rto_us // 1000)),
     }
-    if settings.restart_after_idle is not None:
-        sysctls["net.ipv4.tcp_slow_start_after_idle"] = str(int(settings.restart_after_idle))
+    if settings.slow_start_after_idle is not None:
+        sysctls["net.ipv4.tcp_slow_start_after_idle"] = str(int(settings.slow_start_after_idle))
     route = [
         *("initcwnd", str(initial_segments(size, settings.initial_window))),
         *("rto_min", f"{settings.min_rto_us // 1000}ms"),

@@ -1,0 +1,406 @@
+#!/usr/bin/env -S /usr/bin/python3 -B
+"""Proofs of crates: the lanes in which ./prove has them made, how long each takes, and what the gate spends on it.
+
+proofs.py [COMMAND..] measures the latter. It runs `rt ci --anew`, or the command named, on a clean clone of what is
+committed, and looks each half second at its processes. It prints for each crate, the dearest first, processor minutes
+and minutes by the clock, and the longest chain: the proof or the edits that ended last, and what they waited for. What
+the command says goes to standard error, and its status is this one's. Two runs on one machine that does nothing else
+compare. It needs Debian's python3-psutil.
+"""
+from __future__ import annotations
+
+import contextlib
+import fcntl
+import json
+import os
+import re
+import shutil
+import signal
+import subprocess
+import sys
+import tempfile
+import time
+from collections import defaultdict
+from collections.abc import Iterator
+from dataclasses import dataclass, field
+from pathlib import Path
+from threading import Lock
+from typing import TYPE_CHECKING, NamedTuple, Tuple
+
+from copies import Copy
+from crate_graph import dependencies, libraries_below
+
+if TYPE_CHECKING:
+    import psutil
+
+TOP = Path(__file__).resolve().parents[1]
+# What two lanes take at most, in octets, and how many jobs each of them gives a proof.
+ROOM = 16_000_000_000
+JOBS = 2
+# How the folder of a lane begins that stands in what is kept of a crate.
+LANE = "lane-"
+# What a crate takes that wasn't measured here: seconds, and more for each octet of it and of the crates below it.
+EACH = 17.0
+EACH_OCTET = 0.31e-3
+EACH_OCTET_BELOW = 0.056e-3
+# A proof over what an earlier one kept takes this part of that, where it wasn't measured.
+AGAIN = 0.25
+# What a crate takes in which nothing has changed, in seconds.
+STANDING = 2.0
+# What a process does: the crate, and whether its proof, its edits or a run.
+Work = Tuple[str, str]
+
+
+class Unproved(Exception):
+    """A crate that isn't proved, by its name."""
+
+
+@dataclass
+class Lane:
+    """A copy of crates in which one at a time is proved, by a kit's command, and the process that proves it."""
+
+    copy: Copy
+    command: str
+    flags: list[str]
+    proving: subprocess.Popen[bytes] | None = None
+    is_stopped: bool = False
+    lock: Lock = field(default_factory=Lock)
+
+    @property
+    def tree(self) -> Path:
+        return self.copy.tree
+
+    def out(self, crate: str) -> Path:
+        return self.tree / "crates" / crate / "out"
+
+    def call(self, crate: str, *words: str) -> int:
+        """Calls rt on a crate, in a session of its own, and gives its status; what it says is the crate's log."""
+        out = self.out(crate)
+        out.mkdir(parents=True, exist_ok=True)
+        said = out / "build.log"
+        said.unlink(missing_ok=True)
+        with said.open("wb") as log:
+            with self.lock:
+                if self.is_stopped:
+                    raise Unproved(crate)
+                self.proving = subprocess.Popen(
+                    [self.command, *words],
+                    cwd=out.parent,
+                    stdin=subprocess.DEVNULL,
+                    stdout=log,
+                    stderr=log,
+                    start_new_session=True,
+                )
+            status = self.proving.wait()
+        # Whoever reads it knows the tree alone.
+        said.write_bytes(said.read_bytes().replace(os.fsencode(self.tree), os.fsencode(TOP)))
+        return status
+
+    def prove_library(self, library: str) -> None:
+        if self.call(library, "lib", *self.flags):
+            raise Unproved(library)
+
+    def prove_program(self, program: str) -> None:
+        built = self.out(program) / program
+        built.unlink(missing_ok=True)
+        # Its status is that of a run without input, too.
+        self.call(program, "run", *self.flags)
+        if not os.access(built, os.X_OK):
+            raise Unproved(program)
+
+    def stop(self) -> None:
+        """Ends what runs here, and lets nothing be begun any more."""
+        with self.lock:
+            self.is_stopped = True
+        if self.proving is not None and self.proving.poll() is None:
+            with contextlib.suppress(ProcessLookupError):
+                os.killpg(self.proving.pid, signal.SIGTERM)
+            self.proving.wait()
+
+
+def hand_over(folder: Path, to: Path, room: Path) -> None:
+    """Puts what a folder has, lanes apart, in another place, by hard links where that can be, instead of what is there.
+
+    ROOM is a folder of the same file system, where each part is made first, so that one who is killed leaves either.
+    """
+    if not folder.is_dir():
+        return
+    to.mkdir(parents=True, exist_ok=True)
+    for part in (it for it in folder.iterdir() if not it.name.startswith(LANE)):
+        hand_over_part(part, to / part.name, room)
+
+
+def hand_over_part(part: Path, to: Path, room: Path) -> None:
+    """Puts a folder or a file in another place, instead of what stands there."""
+    fresh, before = room / "fresh", room / "before"
+    for left in (fresh, before):
+        shutil.rmtree(left, ignore_errors=True)
+        left.unlink(missing_ok=True)
+    if part.is_dir():
+        shutil.copytree(part, fresh, copy_function=link, symlinks=True)
+    else:
+        link(str(part), str(fresh))
+    if to.is_dir():
+        to.rename(before)
+    fresh.replace(to)
+    shutil.rmtree(before, ignore_errors=True)
+
+
+def link(file: str, to: str) -> None:
+    try:
+        os.link(file, to, follow_symlinks=False)
+    except OSError:
+        shutil.copy2(file, to, follow_symlinks=False)
+
+
+@contextlib.contextmanager
+def held(crate: str, waits: bool = True) -> Iterator[bool]:
+    """Lets no `rt` work in a crate of the tree meanwhile. It yields whether it came to that."""
+    folder = os.open(TOP / "crates" / crate, os.O_RDONLY)
+    is_held = True
+    try:
+        try:
+            fcntl.flock(folder, fcntl.LOCK_EX | (0 if waits else fcntl.LOCK_NB))
+        except OSError as error:
+            # Some file systems have no locks, and no rt waits there.
+            is_held = not isinstance(error, BlockingIOError)
+        yield is_held
+    finally:
+        os.close(folder)
+
+
+def copy_crates(crates: list[str], tree: Path) -> None:
+    """Makes a tree of these crates alone, without what is kept of them."""
+    lines = (TOP / "crates.txt").read_text().splitlines(keepends=True)
+    (tree / "crates.txt").write_text("".join(it for it in lines if it.partition(":")[0].partition(" ")[0] in crates))
+    shutil.copy(TOP / "HANDLES", tree)
+    for crate in crates:
+        shutil.copytree(TOP / "crates" / crate, tree / "crates" / crate, ignore=shutil.ignore_patterns("out"))
+
+
+def number_in(file: str, pattern: str) -> int | None:
+    """The number of the line that fits a pattern, if there are the file and the line."""
+    with contextlib.suppress(OSError):
+        found = re.search(pattern, Path(file).read_text(), re.MULTILINE)
+        return int(found[1]) if found else None
+    return None
+
+
+def free_memory() -> int:
+    """The octets that may still be taken here, within the limit of the group of processes too."""
+    free = 1024 * (number_in("/proc/meminfo", r"^MemAvailable:\s+(\d+)") or 0)
+    limit = number_in("/sys/fs/cgroup/memory.max", r"^(\d+)$")
+    taken = number_in("/sys/fs/cgroup/memory.stat", r"^anon (\d+)$")
+    return free if limit is None else min(free, limit - (taken or 0))
+
+
+def has_room() -> bool:
+    """Whether there are the processors and the memory for two lanes."""
+    return len(os.sched_getaffinity(0)) >= 2 * JOBS and free_memory() >= ROOM
+
+
+def file_of_times() -> Path:
+    """Where the times of this machine are kept."""
+    cache = os.environ.get("XDG_CACHE_HOME", "")
+    folder = Path(cache) if os.path.isabs(cache) else Path.home() / ".cache"
+    return folder / "pdregress" / "prove.json"
+
+
+@dataclass
+class Times:
+    """The seconds that each proof took last: from nothing, or over what is kept of an earlier one."""
+
+    seconds: dict[str, float] = field(default_factory=dict)
+
+    @staticmethod
+    def read() -> Times:
+        with contextlib.suppress(OSError, ValueError, TypeError, AttributeError, RuntimeError):
+            kept = json.loads(file_of_times().read_text())
+            return Times({str(it): float(seconds) for it, seconds in kept.items()})
+        return Times()
+
+    def expected(self, uses: dict[str, list[str]]) -> dict[str, float]:
+        """The seconds that each crate takes as it is now, the crates being in the order of crates.txt."""
+        changed: dict[str, float] = {}
+        octets: dict[str, int] = {}
+        found: dict[str, float] = {}
+        for crate, below in uses.items():
+            files = [it.stat() for it in sources(crate)]
+            octets[crate] = sum(it.st_size for it in files)
+            changed[crate] = max([it.st_mtime for it in files] + [changed.get(it, 0.0) for it in below])
+            if changed[crate] <= time_of_proof(TOP / "crates" / crate / "out"):
+                found[crate] = STANDING
+            else:
+                whole = sum(octets.get(it, 0) for it in libraries_below(crate, uses))
+                guess = EACH + EACH_OCTET * octets[crate] + EACH_OCTET_BELOW * whole
+                key = key_of(crate)
+                found[crate] = self.seconds.get(key, guess if key == crate else AGAIN * guess)
+        return found
+
+    def keep(self, key: str, seconds: float) -> None:
+        """Keeps what a proof took, for later calls too where that can be written."""
+        self.seconds = {**Times.read().seconds, key: round(seconds, 1)}
+        with contextlib.suppress(OSError, RuntimeError):
+            file = file_of_times()
+            file.parent.mkdir(parents=True, exist_ok=True)
+            fresh = file.with_name(f"{file.name}.{os.getpid()}")
+            fresh.write_text(json.dumps(self.seconds, indent=0, sort_keys=True) + "\n")
+            fresh.replace(file)
+
+
+def sources(crate: str) -> Iterator[Path]:
+    """The files that the proof of a crate reads."""
+    for folder in ("src", "specs", "proofs"):
+        for kind in ("*.rt", "*.antt"):
+            yield from (TOP / "crates" / crate / folder).rglob(kind)
+
+
+def time_of_proof(out: Path) -> float:
+    """When a crate was built last, which it is once it is proved, by its folder of what is kept."""
+    for built in (out / "rlib" / "stamp", out / out.parent.name):
+        with contextlib.suppress(OSError):
+            return built.stat().st_mtime
+    return 0.0
+
+
+def key_of(crate: str) -> str:
+    """What the times call a proof of a crate: one over what is kept is another than one from nothing."""
+    kept = TOP / "crates" / crate / "out" / "incremental"
+    return f"{crate} again" if kept.is_dir() else crate
+
+
+def amount(crates: int, seconds: float) -> str:
+    """What is left, in words.
+
+    >>> amount(24, 1561.0)
+    '24 crates and about 26 minutes'
+    >>> amount(1, 59.0)
+    '1 crate and less than a minute'
+    """
+    minutes = round(seconds / 60)
+    about = f"about {minutes} minutes" if minutes > 1 else "about a minute" if seconds >= 60 else "less than a minute"
+    return f"{crates} crate{'s' * (crates != 1)} and {about}"
+
+
+class Used(NamedTuple):
+    """What a process does, who started it, and its seconds at the last look: its own, and its ended children's."""
+
+    work: Work | None
+    parent: psutil.Process | None
+    own: float
+    waited: float
+
+
+@dataclass
+class Seen:
+    """What was seen of the processes, of each work, from when to when, and of each crate, how long."""
+
+    processes: dict[psutil.Process | None, Used] = field(default_factory=dict)
+    spans: dict[Work, tuple[float, float]] = field(default_factory=dict)
+    clock: dict[str, float] = field(default_factory=lambda: defaultdict(float))
+
+
+def told_work(words: list[str], folder: str) -> Work | None:
+    """What a process does, by its words and its folder; none where these tell nothing.
+
+    >>> told_work(["rattle", "build", "--crate-name", "pd_lex"], "/tmp/x/crates/pd_lex")
+    ('pd_lex', 'proof')
+    >>> told_work(["rattle", "check", "--crate-name", "pd_lex"], "/tmp/rt-edit-7-x1")
+    ('pd_lex', 'edits')
+    """
+    if ran := next((it for it in words if re.match(r".*/rt-run-[^/]+/bin/", it)), ""):
+        return os.path.basename(ran).removesuffix("_tests"), "run"
+    if "--crate-name" in words[:-1]:
+        kind = "edits" if os.path.basename(folder).startswith("rt-edit-") else "proof"
+        return words[words.index("--crate-name") + 1], kind
+    return (os.path.basename(folder), "proof") if re.search(r"/crates/\w+$", folder) else None
+
+
+def look(seen: Seen, root: psutil.Process, now: float, passed: float) -> None:
+    """Looks at a process and those below it, at a moment by the clock, so many seconds after the last look."""
+    import psutil
+
+    found = {it.pid: it for it in [root, *root.children(recursive=True)]}
+    works = set()
+    for it in sorted(found.values(), key=lambda it: float(it.create_time())):
+        with contextlib.suppress(psutil.Error):
+            parent = found.get(it.ppid())
+            known = [one.work for one in map(seen.processes.get, (it, parent)) if one and one.work]
+            work = known[0] if known else told_work(it.cmdline(), it.cwd())
+            used = it.cpu_times()
+            seen.processes[it] = Used(work, parent, sum(used[:2]), sum(used[2:4]))
+            works |= {work} if work else set()
+    for work in works:
+        seen.spans[work] = (seen.spans.get(work, (now, now))[0], now)
+    for crate in {crate for crate, _ in works}:
+        seen.clock[crate] += passed
+
+
+def charged(seen: Seen) -> dict[str, float]:
+    """The processor seconds of each crate: of its processes, and of their children that ended between two looks."""
+    told: dict[psutil.Process, float] = defaultdict(float)
+    seconds: dict[str, float] = defaultdict(float)
+    for it in seen.processes.values():
+        told[it.parent] += it.own + it.waited
+    for process, it in seen.processes.items():
+        if it.work:
+            seconds[it.work[0]] += it.own + max(0.0, it.waited - told[process])
+    return dict(sorted(seconds.items(), key=lambda it: -it[1]))
+
+
+def longest_chain(spans: dict[Work, tuple[float, float]], uses: dict[str, list[str]]) -> list[Work]:
+    """What ended last, and what it waited for, first to last: edits for the proof, a proof for those of crates below.
+
+    >>> spans = {("a", "proof"): (1, 5), ("b", "proof"): (1, 4), ("c", "proof"): (6, 9), ("c", "edits"): (9, 30)}
+    >>> longest_chain(spans, {"a": [], "b": [], "c": ["a", "b"]})
+    [('a', 'proof'), ('c', 'proof'), ('c', 'edits')]
+    """
+    chain: list[Work] = []
+    left = [it for it in spans if it[1] != "run" and it[0] in uses]
+    while left:
+        last = max(left, key=lambda it: spans[it][1])
+        chain.insert(0, last)
+        waited_for = last[:1] if last[1] == "edits" else uses[last[0]]
+        left = [(crate, "proof") for crate in waited_for if (crate, "proof") in spans]
+    return chain
+
+
+def report(seen: Seen, uses: dict[str, list[str]], processor: float, clock: float) -> Iterator[str]:
+    seconds = {crate: it for crate, it in charged(seen).items() if crate in uses}
+    rest = processor - sum(seconds.values())
+    yield "minutes of processors and by the clock:"
+    crates = [(*it, seen.clock[it[0]]) for it in seconds.items()]
+    for name, used, gone in [*crates, ("of no crate", rest, 0.0), ("all", processor, clock)]:
+        yield f"{used / 60:8.1f} {gone / 60:8.1f}  {name}"
+    yield "the longest chain, from when to when by the clock:"
+    for work in longest_chain(seen.spans, uses):
+        yield "{:8.1f} {:8.1f}  {} {}".format(*(it / 60 for it in seen.spans[work]), *work)
+
+
+def run_gate(command: list[str], clone: Path) -> int:
+    """Runs the command in the clone, and prints what it cost; the status is its."""
+    import psutil  # ./prove does without.
+
+    seen, began, now = Seen(), time.monotonic(), 0.0
+    started = subprocess.Popen(command, cwd=clone, stdin=subprocess.DEVNULL, stdout=sys.stderr)
+    while started.poll() is None:
+        before, now = now, time.monotonic() - began
+        look(seen, psutil.Process(started.pid), now, now - before)
+        time.sleep(0.5)
+    used = os.times()
+    uses = dependencies((clone / "crates.txt").read_text())
+    print(*report(seen, uses, used.children_user + used.children_system, time.monotonic() - began), sep="\n")
+    return started.returncode
+
+
+def main() -> int:
+    if sys.argv[1:2] == ["--help"]:
+        sys.exit(__doc__)
+    with tempfile.TemporaryDirectory() as work:
+        os.chmod(work, 0o755)  # A test of the client reads the clone as another user.
+        subprocess.run(["git", "clone", "-q", TOP, f"{work}/clone"], check=True)
+        return run_gate(sys.argv[1:] or ["rt", "ci", "--anew"], Path(work, "clone"))
+
+
+if __name__ == "__main__":
+    sys.exit(main())
