@@ -18,6 +18,7 @@ sys.path.insert(0, f"{top}/client")
 from tests.lsp_client import LspClient  # noqa: E402
 
 BAD = "+0 bind(3, ..., ...) = 1\n"
+ERROR = 1
 MEDIAN, MOST, HOVER = 20.0, 60.0, 30.0
 
 
@@ -31,7 +32,8 @@ def change(client: LspClient, uri: str, is_bad: bool) -> float:
     client.change(uri, {"range": {"start": start, "end": end}, "text": BAD if is_bad else ""})
     found = client.settled(uri)
     took = client.times[uri] - begin
-    assert bool(found) == is_bad, found
+    # Some scripts are warned of; a failure is an error.
+    assert any(it["severity"] == ERROR for it in found) == is_bad, found
     return took * 1_000
 
 

@@ -1,3 +1,4 @@
+#!/usr/bin/env -S python3 -B
 """Plants the changes of planted.edits in the sender and holds what `pdsuite compare` lists against reports of both:
 
 bench/planted.py [--base SENDER] SUITE
@@ -9,7 +10,6 @@ takes two builds for a change, and more where the base isn't proved.
 
 import argparse
 import json
-import shutil
 import subprocess
 import sys
 import tempfile
@@ -18,30 +18,11 @@ from collections.abc import Iterator
 from pathlib import Path
 from typing import Any
 
-TOP = Path(__file__).resolve().parents[1]
-sys.path.insert(0, str(TOP / "tools"))
-
-from edit_files import Edit, Unread, plant, read_text  # noqa: E402
+from trees import TOP, copied, read_text
 
 CHANGES = TOP / "bench" / "planted.edits"
-# What of this tree a copy has.
-FOLDERS = ("client/pdsuite", "crates", "tools")
-FILES = ("client/packages.txt", "crates.txt", "HANDLES", "pdrecord", "pdregress", "pdsuite")
 # A verdict with its number of events or its kind, and the line.
 Row = tuple[str, "int | None"]
-
-
-def planted(change: Edit, place: Path) -> Path:
-    """A tree like this one, with the change."""
-    for folder in FOLDERS:
-        shutil.copytree(TOP / folder, place / folder, ignore=shutil.ignore_patterns("out", "__pycache__"))
-    for file in FILES:
-        shutil.copy(TOP / file, place / file, follow_symlinks=False)
-    try:
-        plant(change, place)
-    except Unread as why:
-        raise SystemExit(f"{change.name}: {why}") from None
-    return place
 
 
 def said(*words: "str | Path") -> Any:
@@ -78,7 +59,7 @@ def main() -> int:
     with tempfile.TemporaryDirectory(prefix="planted-") as folder:
         before = dict(rows(report_of(asked.base, asked.suite)))
         for number, change in enumerate(read_text(CHANGES.read_text(), folders=())):
-            tree = planted(change, Path(folder, str(number)))
+            tree = copied(Path(folder, str(number)), change)
             begin = time.monotonic()
             compared = said(TOP / "pdsuite", "compare", "--base", asked.base, "--with", tree, "--json", asked.suite)
             seconds = time.monotonic() - begin

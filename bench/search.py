@@ -1,84 +1,131 @@
 #!/usr/bin/env -S python3 -B
-"""Plants the bugs of search.edits in the sender, and has `pdsuite compare --search` look for each:
+"""Plants the bugs of search.edits in the sender, and has the search of `pdsuite compare --search` look for each:
 
-bench/search.py [--seconds N] [--seed N] [--suite FOLDER] [NAME..]
+bench/search.py [--inputs N] [--seed N] [--as-found] [--save FOLDER] [--program FILE] [NAME..]
 
-Those of these names are planted, or all. The search varies the scripts of FOLDER, or of this tree's suite. For each bug
-a line says whether a script of that suite fails with it; after how many inputs and seconds the search found it, if it
-did; and how many lines the script has. It takes a build for each bug. The status is 1 where one isn't found.
+Those of these names are planted, or all, in one build. The search varies the scripts of this tree's suite, without what
+was written there for these very bugs. Since the processors may be busy, it is bounded by a count of inputs in place of
+time: four idle processors try some 63 a second on an unproved sender, so that 3,780 are 60 seconds.
+
+For each bug a line says whether a script of that suite fails with it; after how many inputs the search found it, if it
+did; and how many lines the script has. With --as-found the script isn't cut down. The program with all bugs is kept as
+FILE, and taken from there if it is there; it has to be of these sources and bugs. The status is 1 where a bug that no
+script sees isn't found.
 """
 
 import argparse
-import re
 import shutil
-import subprocess
 import sys
 import tempfile
+from collections.abc import Sequence
+from dataclasses import dataclass
 from pathlib import Path
 
-TOP = Path(__file__).resolve().parents[1]
-sys.path.insert(0, str(TOP / "tools"))
+from trees import TOP, Edit, copied, read_text
+from one_build import build, choose, plant_all
 
-from edit_files import Edit, plant, read_text  # noqa: E402
+sys.path.insert(0, str(TOP / "client"))
+
+from pdsuite.compare.affected import names_changed  # noqa: E402
+from pdsuite.compare.senders import Sender  # noqa: E402
+from pdsuite.programs.rows import Verdict  # noqa: E402
+from pdsuite.search.asking import Asked, ProgramAsker, SenderAsker, sizes  # noqa: E402
+from pdsuite.search.beginnings import beginnings, scripts_in  # noqa: E402
+from pdsuite.search.drawing import Drawing  # noqa: E402
+from pdsuite.search.finds import Differs, Fails  # noqa: E402
+from pdsuite.search.finishing import finished  # noqa: E402
+from pdsuite.search.relevance import emphasis_of  # noqa: E402
+from pdsuite.search.saving import save  # noqa: E402
+from pdsuite.search.searching import Search  # noqa: E402
+from pdsuite.signals import Stop  # noqa: E402
 
 BUGS = TOP / "bench" / "search.edits"
 SUITE = "examples/suite"
-# What of this tree a copy has.
-FOLDERS = ("client/pdsuite", "crates", "tools")
-FILES = ("client/packages.txt", "crates.txt", "HANDLES", "pdrecord", "pdregress", "pdsuite")
-FOUND = re.compile(r"^found after (\d+) inputs in ([\d.]+) s, cut down in ([\d.]+) s", re.MULTILINE)
+# Scripts of the suite that were written for these bugs, and the ends of others.
+LATER = (
+    "new_octets_begin_the_count_anew", "blocks_below_una_are_no_duplicates", "window_stays_in_recovery",
+    "ack_of_what_is_queued", "largest_window_counts_later_acks", "an_expiry_sends_too",
+    "slow_start_after_idle_follows_no_expiry",
+)  # fmt: skip
+LONGER = ("one_segment_after_an_expiry", "smaller_window_stays")
+END = "// cwnd is 2,500\n"
+# A find is cut down for so many seconds at most.
+SECONDS = 60.0
 
 
-def copy(place: Path, suite: Path) -> Path:
-    """A tree like this one, with a suite."""
-    for folder in FOLDERS:
-        shutil.copytree(TOP / folder, place / folder, ignore=shutil.ignore_patterns("out", "__pycache__"))
-    for file in FILES:
-        shutil.copy(TOP / file, place / file, follow_symlinks=False)
-    shutil.copytree(suite, place / SUITE)
-    return place
+@dataclass(frozen=True)
+class Bench:
+    """What all bugs are looked for with: the base, its scripts, the program with all bugs, and what was asked for."""
+
+    base: Path
+    scripts: Sequence[Asked]
+    program: Path
+    asked: argparse.Namespace
+    stop: Stop
+
+    def look(self, bug: Edit, number: int, room: Path) -> tuple[bool, bool]:
+        """Looks for a bug; whether a script of the suite sees it, and whether it was found."""
+        before = self._asker(0, room / "before")
+        after = self._asker(number, room / "after")
+        is_seen = any(it.verdict is not Verdict.PASS for it in after.rows(self.scripts))
+        tree = copied(room / "tree", bug)
+        emphasis = emphasis_of(names_changed(self.base, tree), frozenset())
+        begun = beginnings(list(self.scripts), before, frozenset())
+        drawing = Drawing(self.asked.seed, sizes(), emphasis, begun)
+        seconds = 0.0 if self.asked.as_found else SECONDS
+        search = Search(before, Fails(after), Differs(after), drawing, seconds, self.asked.inputs)
+        searched = search.run(lambda inputs: None)
+        found = "NOT FOUND"
+        if searched.find is not None:
+            script = finished(searched.find, before, after).script
+            found = f"found, inputs {searched.reached.inputs}, lines {script.octets.count(10)}"
+            if self.asked.save is not None:
+                save(self.asked.save / f"{bug.name}.pkt", script.octets, script.settings)
+        print(f"{bug.name}: {'seen by the suite; ' if is_seen else ''}{found}", flush=True)
+        return is_seen, searched.find is not None
+
+    def _asker(self, number: int, folder: Path) -> SenderAsker:
+        sender = Sender(folder.name, choose(self.program, number, folder), None)
+        return ProgramAsker(sender, self.stop)
 
 
-def call(*words: "str | Path") -> "subprocess.CompletedProcess[str]":
-    """Calls a pdsuite, which may say that something differs."""
-    done = subprocess.run(words, stdin=subprocess.DEVNULL, stdout=subprocess.PIPE, encoding="utf-8")
-    if done.returncode not in (0, 1):
-        raise SystemExit(f"{' '.join(map(str, words))} ended with status {done.returncode}")
-    return done
-
-
-def look(bug: Edit, base: Path, room: Path, asked: argparse.Namespace) -> bool:
-    """Looks for a bug; whether it was found."""
-    tree, script = copy(room / "tree", base / SUITE), room / "found.pkt"
-    plant(bug, tree)
-    is_seen = call(tree / "pdsuite", "run", tree / SUITE).returncode == 1
-    words = ("--search", str(asked.seconds), "--seed", str(asked.seed), "--save", script)
-    said = call(TOP / "pdsuite", "compare", "--base", base, "--with", tree, *words).stdout
-    found = FOUND.search(said)
-    lines = len(script.read_bytes().splitlines()) if found else 0
-    how = f"found, inputs {found[1]}, {found[2]} s, {found[3]} s, lines {lines}" if found else "NOT FOUND"
-    print(f"{bug.name}: {'seen by the suite; ' if is_seen else ''}{how}", flush=True)
-    return found is not None
+def put_suite(place: Path) -> None:
+    """This tree's suite, without what was written for these bugs."""
+    shutil.copytree(TOP / SUITE, place, ignore=shutil.ignore_patterns(*(f"{it}.pkt" for it in LATER)))
+    for path in (path for name in LONGER for path in place.rglob(f"{name}.pkt")):
+        path.write_text(path.read_text().partition(END)[0])
 
 
 def main() -> int:
     parser = argparse.ArgumentParser(allow_abbrev=False, description=(__doc__ or "").partition(":\n")[0])
-    parser.add_argument("--seconds", type=int, default=60)
+    parser.add_argument("--inputs", type=int, default=3_780)
     parser.add_argument("--seed", type=int, default=7)
-    parser.add_argument("--suite", type=Path, default=TOP / SUITE)
+    parser.add_argument("--as-found", action="store_true")
+    parser.add_argument("--save", type=Path)
+    parser.add_argument("--program", type=Path)
     parser.add_argument("names", metavar="NAME", nargs="*")
     asked = parser.parse_args()
-    bugs = [it for it in read_text(BUGS.read_text(), True, ()) if not asked.names or it.name in asked.names]
-    count = 0
-    with tempfile.TemporaryDirectory(prefix="search-") as folder:
-        base = copy(Path(folder, "base"), asked.suite)
-        for bug in bugs:
-            room = Path(folder, bug.name)
+    bugs = read_text(BUGS.read_text(), True, ())
+    with tempfile.TemporaryDirectory(prefix="search-") as folder, Stop() as stop:
+        base = copied(Path(folder, "base"))
+        put_suite(base / SUITE)
+        program = asked.program or Path(folder, "program")
+        if not program.exists():
+            tree, room = copied(Path(folder, "tree")), Path(folder, "build")
+            plant_all(bugs, tree)
             room.mkdir()
-            count += look(bug, base, room, asked)
-            shutil.rmtree(room)
-    print(f"total {len(bugs)} found {count}")
-    return 0 if count == len(bugs) else 1
+            shutil.copy(build(tree, room), program)
+        bench = Bench(base, scripts_in(base, stop), program, asked, stop)
+        found = []
+        for number, bug in enumerate(bugs, 1):
+            if not asked.names or bug.name in asked.names:
+                room = Path(folder, bug.name)
+                room.mkdir()
+                found.append(bench.look(bug, number, room))
+                shutil.rmtree(room)
+    live = [is_found for is_seen, is_found in found if not is_seen]
+    print(f"total {len(found)} seen by the suite {len(found) - len(live)} others {len(live)} found {sum(live)}")
+    return 0 if all(live) else 1
 
 
 if __name__ == "__main__":
