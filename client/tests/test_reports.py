@@ -21,6 +21,8 @@ from tests.helpers import TOP, Call, write
 EXAMPLES = TOP / "examples/scripts"
 PATH = 'a"<b>/c&d.pkt'
 COUNTS = {"errors": "0", "skipped": "0"}
+# Seconds of the processor: ten times what 20,000 scripts take, and far less than looking for each among all.
+SLOW = 5
 # Of each line that Perl's parser takes for a test: whether it passed, its number, its name and its directive.
 PARSE_TAP = """
 use TAP::Parser;
@@ -247,7 +249,7 @@ def test_junit_of_many_scripts_costs_little_when_a_signal_ends_the_run() -> None
     outcomes = [Outcome(f"d{number // 500}/s{number}.pkt", (), *_at(rows[number % 3])) for number in range(20_000)]
     begin = time.process_time()
     octets = junit(outcomes, 1.0)
-    assert time.process_time() - begin < 0.6 and octets.count(b"<testcase ") == 20_000
+    assert time.process_time() - begin < SLOW and octets.count(b"<testcase ") == 20_000
 
 
 def _at(row: tuple[Row, tuple[str, ...]]) -> tuple[Row, None, str, tuple[str, ...]]:
@@ -345,7 +347,7 @@ def test_a_summary_that_cannot_be_written_is_a_fault(stand_in: Path, tmp_path: P
     assert (called.status, called.err) == (2, f"pdsuite: {tmp_path}/no/such: No such file or directory\n")
 
 
-def test_what_a_signal_leaves_of_20000_scripts_is_written_within_a_second(
+def test_what_a_signal_leaves_of_20000_scripts_is_written_soon(
     tmp_path: Path, monkeypatch: pytest.MonkeyPatch
 ) -> None:
     """The report of the run, which the next one reads, and JUnit's; in seconds of the processor."""
@@ -356,7 +358,7 @@ def test_what_a_signal_leaves_of_20000_scripts_is_written_within_a_second(
     begin = time.process_time()
     leave([Path("suite")], left, False, pytest.fail)
     told = junit(left, 1.0)
-    assert time.process_time() - begin < 1
+    assert time.process_time() - begin < SLOW
     case = ElementTree.fromstring(told).find("testsuite/testcase/error")
     assert case is not None and case.attrib == {"message": f"{paths[0]}: not run", "type": "not run"}
     assert case.text == f"{paths[0]}: not run"
