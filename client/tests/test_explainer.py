@@ -200,3 +200,10 @@ def test_what_is_told_by_keys_has_the_lines_of_blocks(programs: Path) -> None:
     assert len(blocks) > 500 and blocks.keys() == causes.keys()
     for key, (_, *lines) in blocks.items():
         assert list(lines_of(causes[key])) == [it.decode() for it in lines]
+
+
+@pytest.mark.parametrize("torn", range(1, 4))
+def test_no_line_is_cut_within_an_escape(torn: int) -> None:
+    """A line is cut at 200 octets as they are shown, or before the escape that this would tear."""
+    kept = "reason: ".ljust(200 - torn, "x")
+    assert lines_of({"reason_words": f"{kept}\\xC3\\xA9 and more".removeprefix("reason: ")}) == (f"{kept}..",)

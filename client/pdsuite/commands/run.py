@@ -4,7 +4,7 @@ import os
 import time
 from collections.abc import Callable, Iterable, Iterator, Mapping, Sequence
 from contextlib import AbstractContextManager, closing, nullcontext
-from dataclasses import dataclass, replace
+from dataclasses import dataclass
 from functools import partial
 from pathlib import Path
 from typing import TYPE_CHECKING
@@ -90,11 +90,6 @@ class RunOptions:
     def files(self) -> ReportFiles:
         """The files that reports are written to, too."""
         return ReportFiles(self.junit, self.json, self.tap)
-
-    @property
-    def is_for_people(self) -> bool:
-        """Whether people alone read what it reports."""
-        return self.form is None and not self.files.named and self.html is None
 
     @property
     def by_keys(self) -> bool:
@@ -230,15 +225,6 @@ def _kept(steps: Iterable[Step], texts: dict[int, Text], causes: dict[int, Cause
         yield step
 
 
-def _brief(steps: Iterable[Step]) -> Iterator[Step]:
-    """The steps for people, for whom a known row is one line."""
-    for step in steps:
-        if isinstance(step, SettledPiece):
-            outcomes = [(script, replace(it, why="", told=()) if it.is_known else it) for script, it in step.outcomes]
-            step = replace(step, outcomes=outcomes)
-        yield step
-
-
 def _mapper(
     options: RunOptions, program: Path, stop: Stop, note: Callable[[str], None]
 ) -> AbstractContextManager[Mapper]:
@@ -276,7 +262,7 @@ def _run(
         report.open()
         with closing(mapper(runs_of(scripts))) as steps:
             heard = steps if drawing is None else _kept(steps, texts, causes)
-            heard = lacking_steps(_brief(heard) if options.is_for_people else heard)
+            heard = lacking_steps(heard)
             told = _whole(heard) if options.by_keys else heard
             if options.full_diff:
                 told = _differing(told, tried, stop, screen.note)
