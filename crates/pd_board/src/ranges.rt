@@ -50,6 +50,7 @@ impl Ranges {
         ensures new { IfOk result (λ new. new ≡ list_any (λ x. not (in_ranges self.old x)) (interval first end)) }
         ensures err { OnErr result (self.new ≡ self.old) }
     {
+        // A peer names the same block in many ACKs: one that is known takes no memory.
         if first_free(self, first, end) == end {
             return Ok(false);
         }

@@ -198,6 +198,7 @@ fn write(
     }
     let count = n.min(u64::from(free)) as u32;
     connection.queue(count);
+    // In recovery segments leave for an ACK alone: a call sends nothing by itself (own).
     if !connection.is_recovering() {
         send(connection, outbox, now)?;
     }

@@ -38,6 +38,7 @@ impl Reduction {
         ensures known { IsReduction result }
     {
         Reduction {
+            // `proportion` divides by it.
             recover_fs: recover_fs.max(1),
             ..Reduction::NONE
         }

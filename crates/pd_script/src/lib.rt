@@ -1,4 +1,28 @@
 //! Scripts of packetdrill, read from their tokens.
+//!
+//! `parse` reads a whole text. A `Parsed` has the `Header`, the events, and the line of the fault
+//! if the text is no script. An `Event` has a `Time`, the end of a blocking call if one is written
+//! (`Until`), and an `Action`: a `Packet` that arrives or is expected to leave, a `Call`, a shell
+//! command, or code. An `EventReader` reads one event after the other from any place of a text.
+//!
+//! A text is read as what the grammar gives for it, and the grammar gives one reading: `IsScriptOf`
+//! (specs/Faults.antt), the law `scripts_are_grammatical`. The fault is the first token at which no
+//! script goes on: `IsFault`.
+//!
+//! Why it is so:
+//! - The folder `specs` has the grammar twice. Grammar.antt, PacketGrammar.antt and Arguments.antt
+//!   say which tokens spell an event: that is what one has to read to believe a promise.
+//!   Reader.antt and the files whose names end in Reading say how a script is read from left to
+//!   right with one token of lookahead, as the code does it. The law says that both give the same,
+//!   so nobody has to believe the second form.
+//! - An event is decided by the token after it, and isn't kept if that token begins none. The place
+//!   of that token is the place after the event, so a caller that reads on begins at a token.
+//!   Callers of `EventReader` and `next_event` count the events of a script themselves.
+//! - A script keeps nothing that no rule reads: not the text of a header option or of a command.
+//!   Other words are `Unknown`, other arguments `Other`, and the flags U, E, W and C one `other`. A
+//!   number above 2^64 - 1 is kept as 2^64 - 1.
+//! - Open brackets are kept in an `arrayvec`, so that depth costs no memory. The arguments of a
+//!   call are kept in a `smallvec` of three, since most calls have no more.
 #![tactic(auto)]
 
 mod brackets;

@@ -1,4 +1,21 @@
 //! TCP segments as the sender takes them and puts them out, and what its calls answer.
+//!
+//! A `Segment` has control bits (`Flags`), the numbers of its data, an ack number, the window field
+//! as it stands there, and its options (`SegOptions`), with the blocks of SACK (`SackBlocks`) among
+//! them. A `Sent` is a segment with the time at which it was put out. An `Answer` is what a call
+//! answers.
+//!
+//! These are plain values without a rule: to compare two is equality, and a copy is an equal value.
+//! The rules begin in `pd_board`.
+//!
+//! Why it is so:
+//! - A segment has no octets of data, only the numbers of the first and of the one after the last,
+//!   since no rule of the sender and no expectation of a script looks at data.
+//! - Both initial sequence numbers are 0, as scripts write numbers, so that no rule adds or
+//!   subtracts a start. SYN and FIN are control bits, and don't lie between `start` and `end`; the
+//!   sender counts them itself.
+//! - It isn't the `Packet` of `pd_script`. A script may leave out an ack number or a window, and
+//!   write that any options will do; a segment has all of it. `pd_match` compares the two.
 #![tactic(auto)]
 
 mod answers;

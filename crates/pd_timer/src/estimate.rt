@@ -45,6 +45,7 @@ impl Estimate {
         ensures small { IsEstimate result }
     {
         let rttvar = (3 * self.rttvar + self.srtt.abs_diff(time)) / 4;
+        // Four times a number below 2^62 fits into 64 bits, eight times doesn't.
         let srtt = (7 * u128::from(self.srtt) + u128::from(time)) / 8;
         Estimate {
             srtt: srtt as u64,

@@ -30,6 +30,7 @@ fn timed_after(now: u64, segment: Span, top: u32, timed: Option<Timing>) -> Opti
             sent_at: now,
         }),
         Some(timing) if !overlaps(timing.segment, segment) => Some(timing),
+        // What was sent twice isn't measured: its ACK may be of either time (Karn's algorithm).
         _ => None,
     }
 }

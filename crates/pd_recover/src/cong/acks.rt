@@ -155,6 +155,7 @@ impl Cong {
             if !self.sends_early {
                 return Then::Ordinary;
             }
+            // Nothing was sent again yet, so the pipe counts no octet twice.
             self.high_rxt = ack.una;
             return Then::LimitedTransmit;
         }

@@ -90,6 +90,7 @@ impl Cong {
             NextSegment::Lost(segment) => self.high_rxt = segment.end,
             NextSegment::New(_) => {}
             NextSegment::Hole(segment) => self.high_rxt = segment.end,
+            // `una` stays below RecoveryPoint in this recovery, so no second rescue leaves.
             NextSegment::Rescue(_) => self.rescue_rxt = self.recovery_point,
         }
         self.count_out(sent.segment());
