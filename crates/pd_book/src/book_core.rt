@@ -189,6 +189,7 @@ impl Book {
         ensures tracks { self.new.tracks ≡ self.old.tracks }
     {
         text.facts();
+        // For this act, and for the end of each outstanding job.
         self.records.acts.reserve(self.records.tasks.len() + 1)?;
         let act = Act::Add(name.share()?, text.share()?);
         self.records.scripts.add(name, text)?;

@@ -112,6 +112,7 @@ impl Desk {
                 if started.is_err() {
                     self.miss(rt);
                 }
+                // The list was made with room for all of them.
                 let _ = handles.push(started.ok());
             }
             let mut answer = Ok(());

@@ -114,6 +114,7 @@ impl<'a> LayoutReader<'a> {
         let lead = replace(&mut self.lead, Vec::new(alloc));
         let mut place = replace(&mut self.next, until);
         let mut layout = Layout::of(alloc, lead, Parts::at(place));
+        // A text has no more tokens than octets.
         for _ in 0..MAX_OCTETS {
             match next_token(self.lines, place) {
                 Lexed::Token(token) if is_before(token.from, until) => {

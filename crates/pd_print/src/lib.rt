@@ -1,4 +1,24 @@
 //! Packets, answers and moments as octets of the script language.
+//!
+//! `write_event` writes an event in which a packet arrives or leaves (`Direction`), and
+//! `write_sent` one of a segment that was sent, with every field written (`sent_packet`).
+//! `write_answer` writes the result of a call, `write_time` and `write_moment` times. `Parts` has
+//! the parts of a packet apart, for a caller that puts each into a column. What begins with `put_`
+//! adds octets to others.
+//!
+//! What is written is read as what was meant. Wherever the octets are the rest of a line of a text,
+//! the grammar reads just that value: `IsReadAs` (specs/WayBack.antt), for all that the language
+//! can write (`FitsTime`, `FitsPacket`, `FitsSegment`). A segment agrees in each field with the
+//! packet that is written of it: the law `sent_packets_agree`.
+//!
+//! Why it is so:
+//! - Clauses `octets` say which octets are written, and clauses `back` how the grammar reads them.
+//!   So nobody has to hold a format against the grammar to believe that a packet that is shown, or
+//!   a line that is put into a script, is the one that was meant.
+//! - `IsReadAs` is about the rest of a line, since octets that follow could make the last token
+//!   longer.
+//! - `write_time` writes no more decimals than a time takes, as people write scripts;
+//!   `write_moment` always writes six.
 #![tactic(auto)]
 
 mod answers;

@@ -1,4 +1,31 @@
 //! Recordings: a script's inputs with all that the sender answers and puts out, as a script that passes.
+//!
+//! `record` gives the `Recording` of a text: its lines, how many events it has and, for a trace, a
+//! `Mark` of each event that says how the sender stood (`Standing`). `NotRecorded` says why there
+//! is none, and `find_recording_stop` where on a line recording stops.
+//!
+//! ```text
+//!     text --> events --> Recorder: what is recorded of each event, step by step
+//!      |                     | no trace is asked for, these are the text's own events, and
+//!      |                     | it has the layout of recordings: the text itself
+//!      |                     v else
+//!      '--> LayoutReader --> Writer: the lines --> read again: is_laid_script --no--> Differs
+//!                                                     '-- yes --> the recording
+//! ```
+//!
+//! What is recorded is defined on the sender's rules alone: `recording_of` (specs/Recording.antt).
+//! A recording is read as just these events, passes, and is a recording of itself: `IsRecording`
+//! (specs/Answered.antt).
+//!
+//! Why it is so:
+//! - A `Recorder` takes each step of the recording itself, as soon as it is known. So what was
+//!   recorded so far always passes, and no second run has to show it.
+//! - What the sender would send or answer next is found on a copy (the module `probes`), since an
+//!   event has its time and its result before its step is taken.
+//! - A recording is read and compared before it is answered, and isn't proved right by how it was
+//!   written.
+//! - A text that is its own recording is answered as it is, so that a recording of a recording
+//!   keeps its lines, however they were written.
 #![tactic(auto)]
 
 mod kept;

@@ -60,6 +60,7 @@ pub fn record(
         settings,
         with_trace,
     )?;
+    // A text that is its own recording keeps its lines.
     if is_kept(alloc, lines, &script, &tracks, with_trace)? {
         keep(alloc, lines, &script, &tracks)
     } else {

@@ -206,6 +206,7 @@ impl Held {
     {
         let open = seat.open_jobs.len();
         let outstanding = self.book.outstanding_count();
+        // For the start, for the end of its job, and for the ends of the other jobs.
         reserve(&mut self.notes, outstanding + 2, &mut seat.own, open + 2)?;
         seat.open_jobs.reserve(1)?;
         let act = self.next_start()?;

@@ -1,5 +1,17 @@
 //! Compares the reader of scripts with a plain slow one, on scripts that are cut, shortened or changed at each octet, and
 //! reading an edited script again with reading it whole.
+//!
+//! Each line of the input is a case: a text, or a file of `data`, and what is done with it. A
+//! `Comparison` reads each text both ways, and keeps what differs. The slow reader is a `Machine`:
+//! it keeps all ways to read what has come, token by token, and drops those that the next token
+//! ends. Its `grammar` has each thing with all the ways to write it.
+//!
+//! Why it is so:
+//! - The definitions of `pd_lex` and `pd_script` say what a script is, and the code is proved to
+//!   follow them. This program tests the definitions: it was written from the tables of
+//!   docs/SCRIPTS.md, and shares no rule with the reader.
+//! - It is slow and plain on purpose, so that it can be held against the tables line by line.
+//! - It is one program with data, since each further program costs a proof and two builds.
 #![tactic(auto)]
 
 mod cases;

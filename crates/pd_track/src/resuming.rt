@@ -108,6 +108,7 @@ fn begin_after(
     // A question mark would move the state once more.
     match state_at(track, count).copy() {
         Ok(mut state) => {
+            // The state may hold the settings of the run that kept it.
             state.rebind(settings);
             Ok(Progress {
                 state,

@@ -1,7 +1,20 @@
 //! Tells stories of a book, alone and as seats share it, and of the parts below it: makes the call of each row and compares
-//! its answer with the one that is written after it. Tells those of the input, of the file `random_lists.txt`, and once
-//! more of its own. With the word `stories` it tells the first alone, with the word `memory` the last; a status of 2 says
-//! that not all were told.
+//! its answer with the one that is written after it. Tells those of the input, of the file
+//! `random_lists.txt`, and once more of its own. With the word `stories` it tells the first alone,
+//! with the word `memory` the last; a status of 2 says that not all were told.
+//!
+//! A story begins with its title, and from nothing: each has books and texts of its own. `Tables`
+//! reads the rows, the module `story` finds out which call a row makes, and `test_rows` makes the
+//! calls of a book and compares the answers. The other modules have the calls that `test_rows`
+//! doesn't have: of books that seats share, of settings, of tokens, scripts and runs.
+//!
+//! Why it is so:
+//! - The promises of a book are about any list of calls. The rows say by examples what that means,
+//!   and the random lists compare it with a plain model (tests/model/book.py).
+//! - The rows for want of memory (`ROWS`) can be told by themselves: outside of the gate each
+//!   allocation is refused in turn, and then a call must change nothing and give its answer when it
+//!   is made again.
+//! - A desk has a program of its own, `test_desk`, since its stories need threads and `pd_cli`.
 #![tactic(auto)]
 
 mod bench;

@@ -159,6 +159,7 @@ impl RunState {
         }
         let moments = moments_of(self.base, event.time);
         match self.host.deadline() {
+            // One expiry is enough: each puts a packet out.
             Some(at) if is_in_reach(moments, self.tolerance(), at) => self.expire(at),
             _ => Ok(Some(Stop::Missing)),
         }
