@@ -6,6 +6,7 @@ import signal
 import subprocess
 from collections.abc import Iterator
 from pathlib import Path
+from tempfile import TemporaryDirectory
 
 import pytest
 from _pytest.terminal import TerminalReporter
@@ -97,8 +98,17 @@ def recording_programs(programs: Path, tmp_path_factory: pytest.TempPathFactory)
 def stand_in(tmp_path_factory: pytest.TempPathFactory) -> Path:
     """A folder whose pdregress does what the texts of scripts say."""
     folder = tmp_path_factory.mktemp("stand_in")
+    folder.chmod(0o755)
     shutil.copy(STAND_IN, folder / "pdregress")
     return folder
+
+
+@pytest.fixture
+def open_folder() -> Iterator[Path]:
+    """A folder that other users can enter. It isn't below pytest's, which each session of pytest closes to them."""
+    with TemporaryDirectory(prefix="pdsuite-") as folder:
+        Path(folder).chmod(0o755)
+        yield Path(folder).resolve()
 
 
 @pytest.fixture

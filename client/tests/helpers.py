@@ -4,7 +4,6 @@ import os
 import re
 import signal
 import subprocess
-import tempfile
 import time
 from collections.abc import Callable
 from dataclasses import dataclass
@@ -77,15 +76,6 @@ class Replay:
                 self.rows[found[1]] = line
                 if line.endswith(": gone"):
                     del self.rows[found[1]]
-
-
-def open_to_others(*folders: Path) -> None:
-    """Lets other users enter folders of the tests, and those above them up to the folder of temporary files."""
-    top = Path(tempfile.gettempdir()).resolve()
-    for folder in folders:
-        for it in (folder, *folder.parents):
-            if top in it.parents:
-                it.chmod(0o755)
 
 
 def write(folder: Path, **texts: bytes) -> None:

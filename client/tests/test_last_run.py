@@ -16,7 +16,7 @@ from pdsuite.reports import report_cache
 from pdsuite.reports.report_cache import LastReport, cache_folder, newest
 from pdsuite.run.outcomes import Outcome
 from pdsuite.show.octets import absolute_paths
-from tests.helpers import TOP, Call, Called, open_to_others, wait_for, write
+from tests.helpers import TOP, Call, Called, wait_for, write
 
 FAILS = b"row fail 1 seq\n"
 OTHERWISE = b"row fail 2 ack\n\n"
@@ -306,20 +306,20 @@ def test_a_cache_that_cannot_be_written_is_told_and_the_run_goes_on(
     assert (tmp_path / "out.xml").exists()
 
 
-def test_a_home_that_cannot_be_written_is_told(stand_in: Path, tmp_path: Path) -> None:
+def test_a_home_that_cannot_be_written_is_told(stand_in: Path, open_folder: Path) -> None:
     if os.getuid() != 0:
         pytest.skip("needs root, to be another user for a moment")
-    write(tmp_path / "suite", a=b"\n")
-    (tmp_path / "home").mkdir(mode=0o555)
-    open_to_others(tmp_path, stand_in)
+    write(open_folder / "suite", a=b"\n")
+    (open_folder / "home").mkdir(mode=0o555)
+    shutil.copytree(stand_in, open_folder / "programs")
     as_another = ["setpriv", "--reuid=65534", "--clear-groups"]
     if subprocess.run([*as_another, "test", "-r", str(TOP / "pdsuite")]).returncode:
         pytest.skip("needs a repository that other users can read")
-    environment = {**os.environ, "PDSUITE_PROGRAMS": str(stand_in), "HOME": str(tmp_path / "home")}
+    environment = {**os.environ, "PDSUITE_PROGRAMS": str(open_folder / "programs"), "HOME": str(open_folder / "home")}
     del environment["XDG_CACHE_HOME"]
     command = [*as_another, str(TOP / "pdsuite"), "run", "suite"]
-    done = subprocess.run(command, cwd=tmp_path, env=environment, capture_output=True, text=True)
-    said = f"pdsuite: {tmp_path}/home/.cache: Permission denied: the report isn't kept\n"
+    done = subprocess.run(command, cwd=open_folder, env=environment, capture_output=True, text=True)
+    said = f"pdsuite: {open_folder}/home/.cache: Permission denied: the report isn't kept\n"
     assert (done.returncode, done.stderr) == (0, said)
 
 

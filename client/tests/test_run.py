@@ -2,6 +2,7 @@
 
 import json
 import os
+import shutil
 import subprocess
 from pathlib import Path
 
@@ -13,7 +14,7 @@ from pdsuite.scripts.defaults import KEYS, Number
 from pdsuite.scripts.settings import Value
 from pdsuite.scripts.suite import Claim
 from pdsuite.signals import Stop
-from tests.helpers import FAILS, PASSES, TOP, Call, open_to_others, write
+from tests.helpers import FAILS, PASSES, TOP, Call, write
 
 EXAMPLES = TOP / "examples/scripts"
 HARD = [b"a b", b"a\nb", b"\xff\xfe", b"x" * 200, b"$\\frac{$", b"a\x1b[2J", b"# SKIP", b"-v"]
@@ -236,23 +237,23 @@ def test_what_cannot_be_read_is_a_row_and_all_else_is_run(programs: Path, tmp_pa
     assert (called.status, called.totals) == (2, {"pass": 1, "fail": 1, "error": 3})
 
 
-def test_what_may_not_be_read_is_a_row(tmp_path: Path, programs: Path) -> None:
+def test_what_may_not_be_read_is_a_row(open_folder: Path, programs: Path) -> None:
     if os.getuid() != 0:
         pytest.skip("needs root, to be another user for a moment")
-    write(tmp_path / "suite/shut", a=PASSES)
-    write(tmp_path / "suite", b=PASSES, c=PASSES)
-    (tmp_path / "suite/b.pkt").chmod(0)
-    (tmp_path / "suite/shut").chmod(0)
-    (tmp_path / "suite").chmod(0o755)
+    write(open_folder / "suite/shut", a=PASSES)
+    write(open_folder / "suite", b=PASSES, c=PASSES)
+    (open_folder / "suite/b.pkt").chmod(0)
+    (open_folder / "suite/shut").chmod(0)
+    (open_folder / "suite").chmod(0o755)
     as_another = ["setpriv", "--reuid=65534", "--clear-groups"]
     if subprocess.run([*as_another, "test", "-r", str(TOP / "pdsuite")]).returncode:
         pytest.skip("needs a repository that other users can read")
     command = [*as_another, str(TOP / "pdsuite"), "run", "suite"]
-    open_to_others(tmp_path, programs)
-    (tmp_path / "kept").mkdir()
-    (tmp_path / "kept").chmod(0o777)
-    environment = {**os.environ, "PDSUITE_PROGRAMS": str(programs), "XDG_CACHE_HOME": str(tmp_path / "kept")}
-    done = subprocess.run(command, cwd=tmp_path, env=environment, capture_output=True, text=True)
+    folder = shutil.copytree(programs, open_folder / "programs")
+    (open_folder / "kept").mkdir()
+    (open_folder / "kept").chmod(0o777)
+    environment = {**os.environ, "PDSUITE_PROGRAMS": str(folder), "XDG_CACHE_HOME": str(open_folder / "kept")}
+    done = subprocess.run(command, cwd=open_folder, env=environment, capture_output=True, text=True)
     lines = [it for it in done.stdout.splitlines() if not it.endswith(": passes, but awaits no packet")]
     assert lines[:2] == ["suite/b.pkt: error: Permission denied", "suite/shut: error: Permission denied"]
     assert (done.returncode, done.stderr) == (2, "")
