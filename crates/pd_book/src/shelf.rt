@@ -113,6 +113,7 @@ impl Tracks {
     {
         let name = done.name().share()?;
         let track = done.track().share()?;
+        // It is made with the first track, so that a book is made without memory.
         if self.cache.is_none() {
             self.cache = Some(LruCache::new(alloc, self.most)?);
         }

@@ -58,6 +58,7 @@ pub fn number_at(s: &[u8]) -> Option<Plain>
     ensures symbol { IfSome result (λ p. p.kind ≡ Symbol → take p.len s.now ≡ p.symbol ∷ []) }
 {
     let (len, number) = digits_at(s);
+    // A number of more digits may not fit into 64 bits: `step` reads it.
     if len == 0 || len > FEW {
         return None;
     }

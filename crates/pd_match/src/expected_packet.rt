@@ -57,6 +57,7 @@ fn is_in_time(moments: Option<(u64, u64)>, at: u64, tolerance: u64) -> bool
 {
     match moments {
         Some((first, last)) => {
+            // Nothing is subtracted, so that a tolerance above the first moment does no harm.
             first <= at.saturating_add(tolerance) && at <= last.saturating_add(tolerance)
         }
         None => true,

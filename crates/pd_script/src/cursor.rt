@@ -113,6 +113,7 @@ impl<'a> Cursor<'a> {
             return Err(Stop::Syntax);
         };
         let mut pairs = pairs;
+        // The note's own brackets are a pair, too.
         pairs.pass(&token, MAX_DEPTH - 1)?;
         self.take();
         Ok(pairs)

@@ -188,6 +188,7 @@ impl Book {
     {
         match ruling {
             Ruling::Taken => true,
+            // The track of an old text may share more lines with the present one than the kept track.
             Ruling::Stale => match self.text(done.name()) {
                 Some(text) => self.tracks.shares_more(done, text),
                 None => false,
