@@ -11,7 +11,6 @@
 //!   follow them. This program tests the definitions: it was written from the tables of
 //!   docs/SCRIPTS.md, and shares no rule with the reader.
 //! - It is slow and plain on purpose, so that it can be held against the tables line by line.
-//! - It is one program with data, since each further program costs a proof and two builds.
 #![tactic(auto)]
 
 mod cases;

@@ -11,7 +11,7 @@
 //! Why it is so:
 //! - A list keeps all octets in one row, with the end of each line beside it (`Packed`), and has no
 //!   list for each line. It takes two pieces of memory, however many lines it has, and long
-//!   stretches of two texts are compared at once. `same_front` lives on that: it compares a script
+//!   stretches of two texts are compared at once. `same_front` relies on that: it compares a script
 //!   that was edited with the text before.
 //! - An edit makes a new text and leaves the old one, since jobs and the tracks of earlier runs
 //!   still have that.

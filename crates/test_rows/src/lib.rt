@@ -9,8 +9,6 @@
 //! README.md has the language.
 //!
 //! Why it is so:
-//! - What can be written as data is no code, so that a new row needs no proof. The programs that
-//!   tell rows are few.
 //! - This crate promises nothing: a wrong answer shows as a row that differs. What it calls has
 //!   long contracts; `Alone` and the module `values` keep these in, so that the code above is
 //!   proved in less time.
