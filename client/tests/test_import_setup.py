@@ -22,6 +22,8 @@ COMMANDS: list[tuple[str, list[Command]]] = [
     ("./set_sysctls.py /proc/sys/a/b=1 \\\n /proc/sys/c=2", [Switch("a.b", "1"), Switch("c", "2")]),
     ("ip route change 192.0.2.0/24 via 10.0.0.1 dev tun0 initcwnd 3", [Metric("initcwnd", "3")]),
     ("ip ro replace default dev tun0 rto_min 1s initcwnd 4", [Metric("rto_min", "1s"), Metric("initcwnd", "4")]),
+    ("ip route change default initcwnd 2 &> /dev/null", [Metric("initcwnd", "2")]),
+    ("ip route change default initcwnd 2 2> /dev/null", [Metric("initcwnd", "2")]),
     ("./defaults.sh\n", [Defaults("./defaults.sh")]),
     ("../common/defaults.sh", [Defaults("../common/defaults.sh")]),
     # What isn't read keeps its words, and nothing of it counts.

@@ -215,7 +215,8 @@ def test_what_says_no_facts_is_no_pattern(text: str) -> None:
 def test_what_is_reached_is_counted_by_states() -> None:
     reached = Reached()
     reached.note(STATE + "+0.2 > . 1:2(1)\n//= at 0.300000 TIME-WAIT una:1 expiry:none\n", ["mss"], ["sack"])
-    reached.note("", [], [])
+    # What is on the way before a connection is established is a SYN/ACK alone.
+    reached.note("+0 > S. 0:0(0) ack 1\n//= at 0.100000 SYN-RECEIVED una:0 FlightSize:1 expiry:1.100000\n", [], [])
     assert {name: share for name, share in reached.shares.items() if share} == {
         "data in flight": 0.5,
         "a recovery": 0.5,

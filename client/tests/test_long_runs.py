@@ -5,6 +5,7 @@ from typing import cast
 import pytest
 
 from pdsuite.programs.program import Ended, Program
+from pdsuite.programs.rows import Verdict
 from pdsuite.scripts.settings import Settings
 from pdsuite.scripts.text import text_of
 from pdsuite.watch.fleet import Fleet
@@ -77,3 +78,12 @@ def test_the_old_run_goes_on_where_no_new_one_begins(fleet: Fleet, starts: Start
     fleet.follow(wanted(0))
     starts.is_dead = True
     assert fleet.renew(10) and not starts.models[0].is_closed and len(dict(fleet.rows())) == 10
+
+
+def test_what_no_program_ran_runs_once_one_begins_again(fleet: Fleet, starts: Starts) -> None:
+    starts.is_dead = True
+    fleet.follow(wanted(0))
+    assert {it.verdict for _, it in fleet.rows()} == {Verdict.ERROR} and not fleet.runs
+    starts.is_dead = False
+    fleet.follow(wanted(0))
+    assert Verdict.ERROR not in {it.verdict for _, it in fleet.rows()} and len(dict(fleet.rows())) == 10

@@ -225,7 +225,10 @@ def test_hover_has_what_changed() -> None:
 
 def test_a_script_is_recorded_from_a_line_on() -> None:
     row = Row(Verdict.FAIL, 5, "missing")
-    each = list(recording_from_here(failing(SCRIPT, row, script_packet="+0.1 > P. 1:2(1) ack 1"), RECORDING))
+    packet = "+0.1 > P. 1:2(1) ack 1"
+    each = list(recording_from_here(failing(SCRIPT, row, script_packet=packet), RECORDING))
+    returned = recording_from_here(failing(SCRIPT.replace("\n", "\r\n"), row, script_packet=packet), RECORDING)
+    assert [it.text for it in returned] == [it.text.replace("\n", "\r\n") for it in each]
     front = "".join(SCRIPT.splitlines(keepends=True)[:4])
     assert each[0].text == front + "+0.1 close(4) = 0\n+0 > F. 1501:1501(0) ack 1 win 511\n"
     assert each[1].text == front + "0.2 close(4) = 0\n+0 > F. 1501:1501(0) ack 1 win 511\n"

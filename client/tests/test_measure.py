@@ -12,7 +12,7 @@ import pytest
 from pdsuite.commands.measure import MeasureOptions, measure
 from pdsuite.compare.senders import Sender
 from pdsuite.compare.sides import Side, side_of
-from pdsuite.measure.measuring import Case, Measured, MeasuredCase, Measuring, Pair, cases_of
+from pdsuite.measure.measuring import Case, Measured, MeasuredCase, Measuring, Pair, cases_of, settings_for
 from pdsuite.measure.paths import NetworkPath, paths_of
 from pdsuite.measure.report import MeasureReport, cells_of, plain
 from pdsuite.measure.statistics import FIGURES, Row, Table, Verdict, _shown, tables_of
@@ -171,6 +171,14 @@ def test_a_signal_leaves_what_both_sides_have_played(programs: Path) -> None:
     (case,) = found.cases
     assert found.status == 130 and 0 < len(case.pairs) < 400 and found.transfers == 2 * len(case.pairs)
     assert all(it.before == it.after for it in case.pairs)
+
+
+def test_segments_are_as_large_as_those_of_a_path_unless_the_mss_is_set() -> None:
+    sender, large = Sender("a sender", None), replace(PATH, mss=8_960)
+    side, own = (side_of(sender, it, "--base-settings") for it in ("", "mss = 500"))
+    assert settings_for(side, (), large) == (("mss", 8_960),)
+    assert settings_for(side, (("mss", 1_000),), large) == (("mss", 1_000),)
+    assert settings_for(own, (("mss", 1_000),), large) == (("mss", 500),)
 
 
 def test_a_transfer_that_comes_to_no_end_is_told_and_counts_on_neither_side(programs: Path) -> None:

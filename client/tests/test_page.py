@@ -7,8 +7,10 @@ from pathlib import Path
 import pytest
 
 from pdsuite.page.diagrams import undrawn
-from pdsuite.page.links import file_of, is_file
+from pdsuite.page.drawing import Drawing
+from pdsuite.page.links import FOLDER, file_of, is_file
 from pdsuite.packetdrill.columns import Mark, Packet, Part, columns
+from pdsuite.page.plots import Plots
 from pdsuite.page.render import script_page
 from pdsuite.page.sheets import Entry, Fact, Refused, Sheet, row_of, sheet_of
 from pdsuite.programs.protocol import Cause, Unexpected, causes_in
@@ -16,6 +18,7 @@ from pdsuite.programs.rows import Row, Verdict
 from pdsuite.run.met_lines import Differences, MetLine
 from pdsuite.run.outcomes import Outcome
 from pdsuite.scripts.text import text_of
+from pdsuite.signals import Stop
 from tests.helpers import FAILS, PASSES, Call, write
 from tests.watching import Watching
 
@@ -271,6 +274,16 @@ def test_scripts_that_were_not_run_stand_in_the_table(programs: Path, tmp_path: 
     table = (tmp_path / "out/index.html").read_text()
     assert table.count('data-verdict="not run"') == 36
     assert "It was not run" in (tmp_path / "out/scripts" / file_of("in/s099.pkt")).read_text()
+
+
+def test_the_page_of_a_script_that_went_and_came_back_is_drawn_again(tmp_path: Path) -> None:
+    paths = ("a.pkt", "b.pkt")
+    one, other = (Entry(Outcome(it, (), Row(Verdict.PASS, 1))) for it in paths)
+    with Stop(()) as stop, Drawing(tmp_path / "page", Plots(), print) as drawing:
+        for entries in ([one, other], [other], [one, other]):
+            drawing.follow(entries)
+            drawing.finish(stop, lambda done, count: None)
+    assert sorted(it.name for it in (tmp_path / "page" / FOLDER).iterdir()) == sorted(map(file_of, paths))
 
 
 def test_watch_keeps_the_page_up_and_draws_only_what_changed(programs: Path, tmp_path: Path) -> None:

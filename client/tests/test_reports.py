@@ -331,12 +331,12 @@ def test_github_gets_a_summary_after_those_of_others(stand_in: Path, tmp_path: P
 
 
 def test_a_summary_is_cut_where_github_takes_no_more(stand_in: Path, tmp_path: Path, call: Call) -> None:
-    folder = tmp_path / ("x" * 250) / ("y" * 250) / ("z" * 250)
+    folder = tmp_path / ("\u00fc" * 125) / ("y" * 250) / ("\u00e4" * 125)
     write(folder, **{f"s{number:04}": b"row fail 1 seq\nreason: " + b"x" * 180 + b"\n" for number in range(1_200)})
     summary = tmp_path / "summary.md"
     call(stand_in, "run", "--github", ".", GITHUB_STEP_SUMMARY=str(summary))
     text = summary.read_text()
-    assert 998_000 < len(text) < 1 << 20
+    assert 998_000 < len(text.encode()) < 1 << 20
     rows = text.count("| fail seq |")
     assert text.endswith(f"\n\nand {1_200 - rows} more\n")
 
@@ -347,9 +347,7 @@ def test_a_summary_that_cannot_be_written_is_a_fault(stand_in: Path, tmp_path: P
     assert (called.status, called.err) == (2, f"pdsuite: {tmp_path}/no/such: No such file or directory\n")
 
 
-def test_what_a_signal_leaves_of_20000_scripts_is_written_soon(
-    tmp_path: Path, monkeypatch: pytest.MonkeyPatch
-) -> None:
+def test_what_a_signal_leaves_of_20000_scripts_is_written_soon(tmp_path: Path, monkeypatch: pytest.MonkeyPatch) -> None:
     """The report of the run, which the next one reads, and JUnit's; in seconds of the processor."""
     monkeypatch.setenv("XDG_CACHE_HOME", str(tmp_path))
     paths = [f"suite/{number % 10}/script{number:05}.pkt" for number in range(20_000)]

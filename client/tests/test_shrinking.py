@@ -79,6 +79,11 @@ def test_what_follows_a_shorter_gap_moves_along() -> None:
             lambda it: bool(it.options) and 3 in it.options[0].numbers,
             packet(".", 1, 1, 257, (TcpOption("sack", (3, 4)),)),
         ),
+        (
+            packet(".", 1, 1, 257, (TcpOption("sack", (1, 2, 3, 4, 5, 6)),)),
+            lambda it: bool(it.options) and 1 in it.options[0].numbers,
+            packet(".", 1, 1, 257, (TcpOption("sack", (1, 2)),)),
+        ),
         (packet(".", 1, 1, 5_555), lambda it: it.win > 257, packet(".", 1, 1, 1_000)),
     ],
 )

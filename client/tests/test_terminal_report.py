@@ -239,7 +239,8 @@ class OnTerminal:
 
 def test_on_a_terminal_a_save_begins_with_the_time_of_day(stand_in: Path, tmp_path: Path) -> None:
     write(tmp_path / "t", **{f"s{number:02}": PASSES for number in range(30)})
-    with OnTerminal(tmp_path, stand_in, "--only", "s*", "t") as terminal:
+    words = ("--strict", "--only", "s*", "--settings", "mss = 1000", "t")
+    with OnTerminal(tmp_path, stand_in, *words) as terminal:
         terminal.wait_for("total 30 pass 30 in ")
         block = f"row fail 2 seq\n{PACKET}\n{STATE}\n".encode()
         beside = tmp_path / "beside"
@@ -252,7 +253,8 @@ def test_on_a_terminal_a_save_begins_with_the_time_of_day(stand_in: Path, tmp_pa
         lines = terminal.wait_for("total 30 fail 30 in ")
         rules = [it for it in lines if re.fullmatch(r"\u2500\u2500 \d\d:\d\d:\d\d \u2500+", it)]
         assert rules and all(len(it) < 80 or it.startswith(f"  {PACKET[:9]}") for it in lines)
-        assert "20 more: pdsuite run --only 's*' t" in lines and "and 20 more" in lines
+        command = "pdsuite run --strict --only 's*' --settings 'mss = 1000' t"
+        assert f"20 more: {command}" in lines and "and 20 more" in lines
         assert sum(": fail seq: so it is" in it for it in lines) == 10
         (tmp_path / "t").rename(tmp_path / "u")
         terminal.wait_for("t: error: No such file or directory\n")

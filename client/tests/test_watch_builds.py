@@ -8,6 +8,10 @@ from pathlib import Path
 
 import pytest
 
+from pdsuite.scripts.text import text_of
+from pdsuite.signals import Stop
+from pdsuite.watch.run_changes import WantedScript
+from pdsuite.watch.turned import Base, Shown
 from tests.helpers import HANGS, PASSES, Replay, is_alive, write
 from tests.trees import Tree, put_program, stand_in
 from tests.watching import Watching
@@ -173,6 +177,18 @@ def test_turned_scripts_are_told_against_a_base(tree: Tree) -> None:
         watching.await_out(f"{BUILT}a.pkt: pass 7\ntotal ")
         put_rule(tree, "fail 1 seq")
         watching.await_out("a.pkt: turned\n  before: pass 7\n  after: line 1: fail seq: so it is\n")
+
+
+def test_a_base_runs_anew_what_was_edited_since(tmp_path: Path) -> None:
+    program = tmp_path / "pdregress"
+    put_program(program, stand_in("pass 7"))
+    rows = []
+    with Stop(()) as stop:
+        base = Base((program, None), 1, stop, print)
+        for text in (SENDER, b"row fail 1 seq\n"):
+            now = Shown({}, {"a.pkt": WantedScript((), text_of(text))})
+            rows += [str(it.row.whole) for it in base.outcomes(now, now).values()]
+    assert rows == ["pass 7", "fail 1 seq"]
 
 
 def test_a_terminal_says_what_is_built_and_the_page_is_marked(tree: Tree) -> None:
