@@ -80,6 +80,7 @@ class Bench:
             script = finished(searched.find, before, after).script
             found = f"found, inputs {searched.reached.inputs}, lines {script.octets.count(10)}"
             if self.asked.save is not None:
+                self.asked.save.mkdir(parents=True, exist_ok=True)
                 save(self.asked.save / f"{bug.name}.pkt", script.octets, script.settings)
         print(f"{bug.name}: {'seen by the suite; ' if is_seen else ''}{found}", flush=True)
         return is_seen, searched.find is not None
