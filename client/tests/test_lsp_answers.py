@@ -187,6 +187,9 @@ def test_completion_has_what_the_grammar_allows(client: LspClient, workspace: Pa
     client.put(uri, "0 socket(..., SOCK_STREAM, IPPROTO_TCP) = 3\n+0 wr")
     client.settled(uri)
     assert "write" in labels(1, 5)
+    client.put(uri, "0 socket(..., SOCK_STREAM, IPPROTO_TCP) = 3\n/* \u00e4 */ +0 wr")
+    client.settled(uri)
+    assert "write" in labels(1, 13)
     client.put(uri, "bad bad\n\n")
     client.settled(uri)
     assert labels(1, 0) == []
