@@ -3,6 +3,7 @@
 import os
 import subprocess
 import sys
+from collections.abc import Sequence
 from pathlib import Path
 
 import pytest
@@ -12,7 +13,7 @@ sys.path.insert(0, str(TOP / "tools"))
 
 from edit_files import Change, Edit, Unread, plant, planted, read_crates, read_file, read_plain, read_text  # noqa: E402
 import edits as edits_tool  # noqa: E402
-from plain_planting import Bug, Sight, command, named_test, with_bug  # noqa: E402
+from plain_planting import Bug, Copies, Sight, command, named_test, refuse_failing, with_bug  # noqa: E402
 from planting import Trial  # noqa: E402
 
 SECOND = "file: src/a.rt\nold:   two  blanks\nnew: \nfile: src/b.rt\nold: b: c\nnew: d\n"
@@ -222,6 +223,25 @@ def test_tests_are_made_in_a_copy(tmp_path: Path) -> None:
     folder, words = command("tests", ["test_a.py"], tmp_path)
     assert (folder, words[-3:]) == (tmp_path, ["-c", "tests/pytest.ini", "tests/test_a.py"])
     assert command("edges", ["links"], tmp_path) == (tmp_path, [tmp_path / "tests" / "edges.sh", "links"])
+
+
+class Made(Copies):
+    """Copies in which each test passes; `made` has those that were made together."""
+
+    made: "list[tuple[str, list[str], str]]" = []
+
+    def make_tests(self, kind: str, places: Sequence[str], tree: Path, row: str = "") -> "tuple[int, str]":
+        self.made.append((kind, [*places], row))
+        return 0, f"ok edge {row}\n"
+
+
+def test_each_line_of_edges_is_made_alone_before_a_bug_is_planted(tmp_path: Path) -> None:
+    """One that needs those before it would fail with any bug, and so would see each."""
+    copies = Made(tmp_path, 1)
+    copies.idle.put(tmp_path)
+    lines = [Sight("edges", "links", it) for it in ("one", "other")]
+    refuse_failing([*lines, Sight("tests", "a"), Sight("tests", "b")], copies, 1)
+    assert copies.made == [("edges", ["links"], "one"), ("edges", ["links"], "other"), ("tests", ["a", "b"], "")]
 
 
 def test_a_bug_is_taken_away_again(tmp_path: Path) -> None:

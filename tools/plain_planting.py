@@ -155,18 +155,21 @@ def is_seen(bug: Bug, copies: Copies) -> bool:
 
 
 def as_it_is(tests: Sequence[Sight], copies: Copies) -> str:
-    """What tests of a kind say with nothing planted, if one of them doesn't pass."""
+    """What tests of a kind say with nothing planted, if one of them doesn't pass; a line of edges is one by itself."""
     places = list(dict.fromkeys(it.place for it in tests))
     with copies.one() as tree:
-        status, said = copies.make_tests(tests[0].kind, places, tree)
+        status, said = copies.make_tests(tests[0].kind, places, tree, tests[0].row)
     return "" if all(it.passes(status, said) for it in tests) else said[-2000:]
 
 
 def refuse_failing(tests: Iterable[Sight], copies: Copies, at_once: int) -> None:
-    """Refuses to go on where a test doesn't pass on the tree as it is; those of a kind of pytest are made together."""
-    parts: dict[tuple[str, str], list[Sight]] = {}
+    """Refuses to go on where a test doesn't pass on the tree as it is; those of a kind of pytest are made together.
+
+    A line of edges is made alone, as it is with a bug: one that needs those before it would fail with any.
+    """
+    parts: dict[tuple[str, str, str], list[Sight]] = {}
     for it in tests:
-        parts.setdefault((it.kind, it.place if it.kind == "edges" else ""), []).append(it)
+        parts.setdefault((it.kind, it.place, it.row) if it.row else (it.kind, "", ""), []).append(it)
     faults = [it for it in copies.commands.each(list(parts.values()), at_once, lambda it: as_it_is(it, copies)) if it]
     if faults:
         raise Unread("tests fail with nothing planted:\n" + "\n".join(faults))

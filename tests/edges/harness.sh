@@ -11,6 +11,7 @@ make_small_tree() {
     chmod +x "$small/one/pdregress"
     for program in pdregress pdrecord test_desk test_book test_sender; do cp "$small/one/pdregress" "$small/all/$program"; done
     rows passes '[a] scripts\npass 1: 0'
+    rows runs '[a] scripts\npass 1: 0'
     rows fails '[a] scripts\npass 2: 0\npass 1: 1'
     rows no_table 'a row'
     rows no_text '[a] scripts\npass 1: \377'
@@ -49,6 +50,7 @@ test_rows() {
     expect harness-a-row-fails "$(printf '1 passed, 1 failed\nstatus 1')" run_rows fails.cases --programs ../../one
     expect harness-no-row-is-chosen "$(printf '0 passed, 1 failed\nstatus 5')" run_rows passes.cases --programs ../../one -k none
     expect harness-no-row-is-chosen-in-processes "$(printf '0 passed, 1 failed\nstatus 5')" run_rows passes.cases --programs ../../all -k none
+    expect harness-the-word-of-an-option-is-no-path "$(printf '1 passed, 0 failed\nstatus 0')" run_rows runs.cases passes.cases --programs ../../one -k runs
     expect harness-without-xdist "$(printf '1 passed, 1 failed\nstatus 1')" run_alone fails.cases --programs ../../one
     expect harness-no-file-is-there "$(printf '0 passed, 1 failed\nstatus 4')" run_rows none.cases --programs ../../one
     expect harness-unread "$(printf '1 passed, 2 failed\nstatus 1')" run_rows passes.cases no_table.cases no_text.cases --programs ../../one --continue-on-collection-errors
@@ -73,21 +75,35 @@ step() { # PATH TEXT: a step of the small tree, a shell program
     chmod +x "$small/$1"
 }
 
-check_small() { # TEXT COUNT: the last lines of ./check, of which one step is this
-    mkdir -p "$small/checked/tests"
+copy_check() { # puts ./check into the small tree, without its steps
+    mkdir -p "$small/checked/tests" "$small/checked/tools"
     cp "$top/check" "$small/checked"
+}
+
+check_small() { # TEXT COUNT: the last lines of ./check, of which one step is this
+    copy_check
     step checked/tests/run "$1"
     counted "$2" "$small/checked/check" runs
 }
 
 check_words() { # COUNT WORD..: the last lines of ./check, whose steps each pass so many tests
-    mkdir -p "$small/checked/tools"
+    copy_check
     printf '%s\n' 1:tests/run 10:tests/edges.sh 100:tests/client.sh 1000:tests/documents.py 10000:tools/gate.py 100000:tools/fail_alloc.sh |
         while IFS=: read -r number file; do step "checked/$file" "echo $number passed, 0 failed"; done
     step checked/tests/packages.sh 'exit 1'
     count=$1
     shift
     counted "$count" "$small/checked/check" "$@"
+}
+
+handed_on() { # WORD..: what ./check hands on to its steps
+    copy_check
+    for file in tests/run tests/edges.sh tests/client.sh tests/documents.py tests/packages.sh tools/gate.py tools/fail_alloc.sh; do
+        step "checked/$file" "echo ${file##*/} \$* >>'$work/handed'; echo 1 passed, 0 failed"
+    done
+    rm -f "$work/handed"
+    "$small/checked/check" "$@" >/dev/null
+    cat "$work/handed"
 }
 
 stepped() { # WHY PASSED FAILED: the last lines where a step is at fault
@@ -111,6 +127,10 @@ test_check() {
     expect check-steps-are-added "$(printf '1101 passed, 0 failed\nstatus 0')" check_words 1 runs client documents
     expect check-tests-runs-each-step "$(printf '1112 passed, 0 failed\nstatus 0')" check_words 1 tests
     expect check-runs-each-step "$(printf '111112 passed, 0 failed\nstatus 0')" check_words 1
+    expect check-hands-on-what-it-is-told "$(printf '%s\n' gate.py packages.sh 'run --proved' edges.sh 'run tests/test_[!k]*.py' client.sh \
+        'fail_alloc.sh --part' documents.py; echo status 0)" handed_on
+    expect check-tests-hands-on-what-it-is-told "$(printf '%s\n' 'packages.sh --no-install' 'run --unproved' 'edges.sh --unproved' \
+        'run tests/test_[!k]*.py' 'client.sh --unproved --no-install' 'documents.py --pages'; echo status 0)" handed_on tests --no-install
     expect check-a-step-is-none "$(printf 'status 2')" check_words 0 runs none
     expect check-no-word "$(printf '0 passed, 1 failed\nstatus 1')" check_words 1 ''
 }
@@ -144,7 +164,7 @@ edges_small() { # TEXT: the last lines of tests/edges.sh, of which one file is t
     cp "$top/tests/edges.sh" "$small/tests"
     cp "$top/tests/edges/common.sh" "$small/tests/edges"
     echo "$1" >"$small/tests/edges/own.sh"
-    counted 2 "$small/tests/edges.sh" own
+    counted 2 env -u EDGE "$small/tests/edges.sh" own
 }
 
 test_edges() {

@@ -237,6 +237,7 @@ bases() { # what is kept for a comparison after one program alone is proved anew
 }
 
 bases_beside_a_library() { # what is kept for a comparison after an edit, once that library is proved
+    quietly
     echo '// an edit' >>"$high"
     quietly high
     (cd "$(python3 -B "$build/tools/kept_programs.py")" && ls)
@@ -283,6 +284,18 @@ contract_told() { # FOLDER of the definitions
         "prove: the whole log: $build/crates/right/out/build.log"
 }
 
+changed_since() { # what is said where a proof is refused after a definition by which all was proved has changed
+    three 3
+    quietly pdregress
+    three 2
+    echo 'a goal' >"$build/crates/right/src/lib.rt"
+    without_progress --lanes 1 pdregress
+}
+
+watched() { # what is left of a refusal for who watches
+    quietly pdregress || cat "$build/crates/pdregress/out/refused"
+}
+
 refused_is_gone() { # what is left of a refusal once all is proved
     echo 'a goal' >"$build/crates/right/src/lib.rt"
     quietly pdregress || ls "$build/crates/pdregress/out/refused" >/dev/null
@@ -295,16 +308,14 @@ test_changes() {
     anew
     three 3
     expect proved-by-a-definition "$(printf '! prove: proved and built: pdregress\nstatus 0')" in_folder "$build" without_progress --lanes 1 pdregress
-    three 2
-    echo 'a goal' >"$build/crates/right/src/lib.rt"
     expect what-changed-since "$(printf '! %s\n' "prove: right isn't proved, or wasn't built:" 'a goal' \
         "crates/low/specs/Rule.antt:4: \`three\` isn't as it was when this was proved last" \
         '  laws that name it: IsOdd (crates/right/specs/Laws.antt:3), IsEven (crates/right/specs/MoreLaws.antt:3)' \
-        "prove: the whole log: $build/crates/right/out/build.log"; echo status 2)" without_progress --lanes 1 pdregress
+        "prove: the whole log: $build/crates/right/out/build.log"; echo status 2)" changed_since
     log_with_a_contract >"$build/crates/right/src/lib.rt"
     three 3
     expect what-a-refused-contract-cites "$(contract_told crates/low; echo status 2)" without_progress --lanes 1 pdregress
-    expect what-watch-reads "$(contract_told "$build/crates/low" | sed "s,^! crates,$build/crates,; s/^! //"; echo status 0)" cat "$build/crates/pdregress/out/refused"
+    expect what-watch-reads "$(contract_told "$build/crates/low" | sed "s,^! crates,$build/crates,; s/^! //"; echo status 0)" watched
     echo 'fn f() {}' >"$build/crates/right/src/lib.rt"
     expect what-watch-reads-goes "$(printf 'proved\nstatus 0')" refused_is_gone
     rm -r "$build/crates/low/specs" "$build/crates/right/specs"
