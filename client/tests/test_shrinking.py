@@ -104,6 +104,18 @@ def test_a_whole_round_goes_with_the_numbers_that_it_moved() -> None:
     assert [str(it.what) for it in found.inputs.events] == [str(it) for it in acks[:2]]
 
 
+@pytest.mark.parametrize(("last", "least_last"), [("write", call("write", 4, "...", 1)), ("close", call("close", 4))])
+def test_another_call_shows_sooner_what_waits_show(last: str, least_last: Call) -> None:
+    """Five waits show a find, of which none can go; so does a call in their place."""
+
+    def is_good(it: Inputs) -> bool:
+        (what, *others) = (one.what for one in it.events) or (None,)
+        return what == ACK and (len(others) >= 5 or any(isinstance(one, Call) and one.name == last for one in others))
+
+    waits = [(number * SECOND, TICK) for number in range(1, 6)]
+    assert least(inputs_of((0, ACK), *waits), is_good) == inputs_of((0, ACK), (0, least_last))
+
+
 def test_settings_and_exact_times_go_where_nothing_needs_them() -> None:
     inputs = replace(inputs_of((0, ACK), is_exact=True), settings=(("mss", 100), ("sack", False)))
     found = least(inputs, lambda it: len(it.events) == 1 and dict(it.settings).get("sack") is False)

@@ -9,7 +9,8 @@ from pdsuite.compare.parting import played_events
 from pdsuite.packetdrill.items import Call, Packet, TcpOption
 from pdsuite.search.asking import SenderAsker
 from pdsuite.search.finds import TRACE, Find, Test
-from pdsuite.search.inputs import Input, Inputs, options_text
+from pdsuite.search.inputs import Input, Inputs, call, options_text
+from pdsuite.search.playing import TICK
 from pdsuite.search.renumbering import without_rounds
 from pdsuite.search.states import states_before
 
@@ -17,6 +18,8 @@ _GAPS = (0, 1_000, 100_000, 200_000, 1_000_000, 10_000_000)
 _WINDOWS = (257, 32_792, 1_000)
 _SIZES = (1, 100, 1_000, 2_000, 3_000, 4_000, 5_000, 8_000, 10_000)
 _WRITE = "write"
+# What a connection is asked for last: it tells one that is reset, and has what a window lets go.
+_LAST = (call(_WRITE, 4, "...", 1_000), call("close", 4))
 # So many inputs without a round are tried at once.
 _AT_ONCE = 96
 _NOT_ZERO = tuple(b"%d" % digit for digit in range(1, 10))
@@ -70,8 +73,9 @@ def _smaller(find: Find, test: Test, before: SenderAsker) -> Find | None:
         while some := list(islice(rounds, _AT_ONCE)):
             if (found := _best(find, some, test, before)) is not None:
                 return found
-    if (found := _best(find, list(_fewer_rules(whole)), test, before)) is not None:
-        return found
+    for others in (list(_fewer_rules(whole)), list(_sooner_ends(whole))):
+        if (found := _best(find, others, test, before)) is not None:
+            return found
     return _changed(find, list(_simpler_events(whole)), test, before)
 
 
@@ -145,6 +149,15 @@ def _fewer_rules(it: Inputs) -> Iterator[Inputs]:
         yield replace(it, settings=it.settings[:place] + it.settings[place + 1 :])
     if it.is_exact:
         yield replace(it, is_exact=False)
+
+
+def _sooner_ends(it: Inputs) -> Iterator[Inputs]:
+    """With a write or a close in place of all that follows an event, and with a wait that what these send meets."""
+    for place in range(1, len(it.events)):
+        at = it.events[place - 1].at
+        for what in _LAST:
+            wait = Input(at + _GAPS[-1], TICK)
+            yield from (replace(it, events=(*it.events[:place], Input(at, what), *more)) for more in ((), (wait,)))
 
 
 def _simpler_events(it: Inputs) -> Iterator[_Changes]:
