@@ -1,4 +1,35 @@
 //! The report, serving and the whole programs, over any reader and writers.
+//!
+//! `run` is the whole of `pdregress` but for its streams. `run_alone` serves its input without
+//! workers, `serve` beside workers, and `serve_seat` at a seat of a desk. `render` gives the octets
+//! of a report. One loop serves: it takes a command, asks an `Answerer` for the reply, and writes
+//! the reply.
+//!
+//! ```text
+//!     input --octets--> Intake --lines--> next_command --command--> Answerer
+//!                                          | the end                 | AtBook: the book; a settle
+//!                                          v                         |   starts and runs the jobs
+//!                                        a settle, the last report   | AtDesk: a seat of the desk;
+//!                                                                    |   workers run the jobs
+//!     output <------- nothing, the line of a refusal, or a report ---'
+//!     standard error <--- steps and reasons of each job, by the Listener of AtBook
+//!     standard error <--- the line of a fault, at which serving stops
+//! ```
+//!
+//! For any number of workers, what is written is what the commands accepted so far allow:
+//! `MayAnswer` (specs/Beside.antt). Without workers it is one function of the settings and the
+//! input: `output` (specs/Output.antt), the law `reports`.
+//!
+//! Why it is so:
+//! - Readers, writers and the runtime are parameters. So contracts say what the whole program
+//!   writes, and tests run it over memory, on streams that fail at each call in turn.
+//! - The two ways to serve differ in their `Answerer` alone. It says what a command may print and
+//!   why it may have no reply (`prints`, `fails`), so the loop is proved once.
+//! - `AtDesk` keeps a book of its own, in which only the accepted commands are made, and compares
+//!   each reply and report with it. No contract says that a desk works on the book under its own
+//!   lock, so what is printed rests on this copy.
+//! - A reply is made before any of it is written. So a fault, but for one of the writer, leaves
+//!   whole replies.
 #![tactic(auto)]
 
 mod answering;

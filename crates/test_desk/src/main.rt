@@ -1,7 +1,24 @@
 //! Tries a desk, and the program on streams that fail: tells the stories of the input, serves beside two workers that
-//! overlap, and on random schedules, and compares what is written with what is written without threads; and makes calls in
-//! all orders in which threads may hand the turn on. With a word, `stories`, `overlap`, `schedules` or `orders`, it does that
-//! alone; a status of 2 says that it wasn't tried to the end.
+//! overlap, and on random schedules, and compares what is written with what is written without
+//! threads; and makes calls in all orders in which threads may hand the turn on. With a word,
+//! `stories`, `overlap`, `schedules` or `orders`, it does that alone; a status of 2 says that it
+//! wasn't tried to the end.
+//!
+//! A story is a list of rows, each a call of a desk with its answer, some beside threads that wait
+//! (`stories`). `overlap` holds one worker at its job until another has begun. `schedules` serves
+//! random commands beside workers that are delayed at random. `orders` lets one thread at a time go
+//! on, and goes through all orders of turns. `streams` runs the whole program on streams that give
+//! or take little, or fail.
+//!
+//! Why it is so:
+//! - No contract says in which order threads run, who is woken, or that a call that waits ends.
+//!   Only tests show it, most of them here.
+//! - What is written beside workers is compared with what one thread writes (`hand`, and serving
+//!   without workers): a settled report depends on the accepted commands alone.
+//! - Random schedules seldom meet a rare order, so a few short lists of calls are made in all of
+//!   them.
+//! - Each wait of a test is bounded by turns (`progress`), so that a thread that sleeps for good
+//!   shows as a row that differs.
 #![tactic(auto)]
 
 mod aside;
