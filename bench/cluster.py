@@ -13,7 +13,7 @@ from pathlib import Path
 top, suite = Path(sys.argv[1]), sys.argv[2]
 sys.path.insert(0, str(top / "client"))
 
-from tests.clusters import LocalCluster  # noqa: E402
+from tests.cluster_fixture import LocalCluster  # noqa: E402
 
 
 def seconds(*words: str) -> float:

@@ -28,15 +28,15 @@ sys.path.insert(0, str(TOP / "client"))
 
 from pdsuite.compare.affected import names_changed  # noqa: E402
 from pdsuite.compare.senders import Sender  # noqa: E402
-from pdsuite.programs.rows import Verdict  # noqa: E402
-from pdsuite.search.asking import Asked, ProgramAsker, SenderAsker, sizes  # noqa: E402
-from pdsuite.search.beginnings import beginnings, scripts_in  # noqa: E402
-from pdsuite.search.drawing import Drawing  # noqa: E402
-from pdsuite.search.finds import Differs, Fails  # noqa: E402
-from pdsuite.search.finishing import finished  # noqa: E402
+from pdsuite.programs.verdict import Verdict  # noqa: E402
+from pdsuite.search.candidates import Candidates  # noqa: E402
+from pdsuite.search.find import DiffersTest, FailsTest  # noqa: E402
+from pdsuite.search.finished_script import finished_script  # noqa: E402
+from pdsuite.search.initial_inputs import initial_inputs, scripts_in  # noqa: E402
+from pdsuite.search.oracle import ConfiguredScript, ProgramOracle, SenderOracle, sizes  # noqa: E402
 from pdsuite.search.relevance import emphasis_of  # noqa: E402
-from pdsuite.search.saving import save  # noqa: E402
-from pdsuite.search.searching import Search  # noqa: E402
+from pdsuite.search.save import save  # noqa: E402
+from pdsuite.search.search import Search  # noqa: E402
 from pdsuite.signals import Stop  # noqa: E402
 
 BUGS = TOP / "bench" / "search.edits"
@@ -58,7 +58,7 @@ class Bench:
     """What all bugs are looked for with: the base, its scripts, the program with all bugs, and what was asked for."""
 
     base: Path
-    scripts: Sequence[Asked]
+    scripts: Sequence[ConfiguredScript]
     program: Path
     asked: argparse.Namespace
     stop: Stop
@@ -70,24 +70,24 @@ class Bench:
         is_seen = any(it.verdict is not Verdict.PASS for it in after.rows(self.scripts))
         tree = copied(room / "tree", bug)
         emphasis = emphasis_of(names_changed(self.base, tree), frozenset())
-        begun = beginnings(list(self.scripts), before, frozenset())
-        drawing = Drawing(self.asked.seed, sizes(), emphasis, begun)
+        begun = initial_inputs(list(self.scripts), before, frozenset())
+        drawing = Candidates(self.asked.seed, sizes(), emphasis, begun)
         seconds = 0.0 if self.asked.as_found else SECONDS
-        search = Search(before, Fails(after), Differs(after), drawing, seconds, self.asked.inputs)
+        search = Search(before, FailsTest(after), DiffersTest(after), drawing, seconds, self.asked.inputs)
         searched = search.run(lambda inputs: None)
         found = "NOT FOUND"
         if searched.find is not None:
-            script = finished(searched.find, before, after).script
-            found = f"found, inputs {searched.reached.inputs}, lines {script.octets.count(10)}"
+            script = finished_script(searched.find, before, after).script
+            found = f"found, inputs {searched.coverage.inputs}, lines {script.octets.count(10)}"
             if self.asked.save is not None:
                 self.asked.save.mkdir(parents=True, exist_ok=True)
                 save(self.asked.save / f"{bug.name}.pkt", script.octets, script.settings)
         print(f"{bug.name}: {'seen by the suite; ' if is_seen else ''}{found}", flush=True)
         return is_seen, searched.find is not None
 
-    def _asker(self, number: int, folder: Path) -> SenderAsker:
+    def _asker(self, number: int, folder: Path) -> SenderOracle:
         sender = Sender(folder.name, choose(self.program, number, folder), None)
-        return ProgramAsker(sender, self.stop)
+        return ProgramOracle(sender, self.stop)
 
 
 def put_suite(place: Path) -> None:

@@ -26,10 +26,10 @@ import trying
 TOP = trying.TOP
 sys.path.insert(0, str(TOP / "client"))
 
-from pdsuite.run.choice import found_of, scripts_of  # noqa: E402
-from pdsuite.run.runs import Script  # noqa: E402
+from pdsuite.run.batches import Script  # noqa: E402
+from pdsuite.run.collect import found_of, scripts_of  # noqa: E402
+from pdsuite.scripts.config import SuiteConfig, option_of  # noqa: E402
 from pdsuite.scripts.settings import settings_text  # noqa: E402
-from pdsuite.scripts.suite import Suite, option_of  # noqa: E402
 from pdsuite.signals import Stop  # noqa: E402
 
 TOLERANCE = 0.004
@@ -163,7 +163,7 @@ def main() -> int:
     parser.add_argument("--program", metavar="FILE", type=Path, help="a built pdrecord")
     parser.add_argument("paths", metavar="PATH", type=Path, nargs="*", default=[TOP / "examples/suite"])
     asked = parser.parse_args()
-    suite = Suite(option_of(""))
+    suite = SuiteConfig(option_of(""))
     with Stop() as stop:
         scripts = [it for it in scripts_of(found_of(asked.paths, [], suite, stop), suite) if not it.fault]
     chance = random.Random(asked.seed)

@@ -9,7 +9,7 @@ class FileFault(Fault):
     """A fault of what a file says: its text begins with the file's place, which editors read there."""
 
 
-class Cut(Fault):
+class CutShortError(Fault):
     """Something that ends a run early; what is settled until then is shown."""
 
 

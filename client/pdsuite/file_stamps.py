@@ -1,4 +1,4 @@
-"""How a file is told from what it was: by its inode, size and times."""
+"""How a file is distinguished from what it was: by its inode, size and times."""
 
 import os
 import time

@@ -8,7 +8,7 @@ from collections.abc import Iterable
 from pathlib import Path
 
 from pdsuite.faults import Fault, why
-from pdsuite.show.octets import shown_path
+from pdsuite.output.octets import shown_path
 
 
 def write(path: Path, octets: bytes, keeps_rights: bool = False) -> None:

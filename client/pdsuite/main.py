@@ -10,20 +10,20 @@ from typing import TYPE_CHECKING, Any
 import click
 
 from pdsuite.commands.list import list_scripts
-from pdsuite.commands.options import MOST_RUNS, MOST_SECONDS, PlaceWord, ReasonWord
+from pdsuite.commands.options import MOST_RUNS, MOST_SECONDS, PathParam, ReasonParam
 from pdsuite.commands.options import choice_options, free_choice_options, html_option, no_color_option, part_options
 from pdsuite.commands.options import plot_options, search_options, strict_option, workers_option
 from pdsuite.commands.renamed import with_new_name
-from pdsuite.commands.report_files import FileWord, FormOption, ReportCommand
+from pdsuite.commands.report_files import FileParam, FormatOption, ReportCommand
 from pdsuite.commands.run import RunOptions, run
 from pdsuite.commands.version import version
 from pdsuite.faults import Fault, FileFault, why
+from pdsuite.output.octets import shown, shown_text
+from pdsuite.output.screen import OutputError, Screen, print_error, wants_color
+from pdsuite.output.styled_text import unstyled
 from pdsuite.packages import need
 from pdsuite.scripts.shards import Shard
-from pdsuite.show.octets import shown, shown_text
-from pdsuite.show.screen import Screen, Unwritten, say, wants_color
-from pdsuite.show.styled_text import unstyled
-from pdsuite.signals import Stopped
+from pdsuite.signals import StoppedError
 
 if TYPE_CHECKING:
     from pdsuite.commands.compare import CompareOptions
@@ -67,13 +67,13 @@ def pdsuite() -> None:
 @click.option(
     "--junit",
     metavar="FILE",
-    type=FileWord(),
+    type=FileParam(),
     help="Write JUnit's XML, too.",
 )
 @click.option(
-    "--tap", "form", cls=FormOption, flag_value="tap", help="Print TAP, version 13, or write it into FILE, too."
+    "--tap", "form", cls=FormatOption, flag_value="tap", help="Print TAP, version 13, or write it into FILE, too."
 )
-@click.option("--json", "form", cls=FormOption, flag_value="json", help="Print JSON, or write it into FILE, too.")
+@click.option("--json", "form", cls=FormatOption, flag_value="json", help="Print JSON, or write it into FILE, too.")
 @click.option("--github", "form", flag_value="github", help="Print annotations.")
 @click.option("--full-diff", is_flag=True, help="Show what each line of a script that fails was met by.")
 @click.option("-v", "--verbose", is_flag=True, help="A line for each script.")
@@ -136,7 +136,7 @@ def list_command(
 @pdsuite.command(name="expect")
 @choice_options
 @workers_option
-@click.option("--reason", metavar="TEXT", type=ReasonWord(), help="Why those that don't pass are known.")
+@click.option("--reason", metavar="TEXT", type=ReasonParam(), help="Why those that don't pass are known.")
 @click.option("--prune", is_flag=True, help="Take away all tables of scripts that aren't there.")
 def expect_command(no_color: bool, **words: Any) -> int:
     """Writes into pdsuite.toml which scripts are known not to pass.
@@ -172,8 +172,8 @@ def record_command(no_color: bool, **words: Any) -> int:
 
 @pdsuite.command(name="diff")
 @click.option("--no-color", is_flag=True, help="No colours on a terminal.")
-@click.argument("old", metavar="OLD", type=PlaceWord())
-@click.argument("new", metavar="[NEW]...", nargs=-1, type=PlaceWord())
+@click.argument("old", metavar="OLD", type=PathParam())
+@click.argument("new", metavar="[NEW]...", nargs=-1, type=PathParam())
 def diff_command(old: Path, new: tuple[Path, ...], no_color: bool) -> int:
     """Shows what turned between two reports, and runs nothing.
 
@@ -231,7 +231,7 @@ def compare_command(no_color: bool, search: int | None, seed: int | None, save: 
 
 
 def _searching(seconds: int | None, seed: int | None, save: Path | None) -> "SearchOptions | None":
-    """What a search is asked for, if one is."""
+    """The options of a search, if one is requested."""
     if seconds is None:
         if seed is not None or save is not None:
             raise click.UsageError("--seed and --save are of --search")
@@ -264,7 +264,7 @@ def _refuse_search(options: "CompareOptions") -> None:
 @click.option("--settings", default="", metavar="TEXT", help="Settings of both senders.")
 @click.option("--base-settings", default="", metavar="TEXT", help="Settings of the sender before, before all others.")
 @click.option("--with-settings", default="", metavar="TEXT", help="Settings of the sender after, before all others.")
-@click.option("--paths", metavar="FILE", type=PlaceWord(), help="Paths of your own, in TOML.")
+@click.option("--paths", metavar="FILE", type=PathParam(), help="Paths of your own, in TOML.")
 @click.option("--only", metavar="PATTERN", multiple=True, help="Only paths whose name fits; again for more.")
 @click.option(
     "--runs",
@@ -276,7 +276,7 @@ def _refuse_search(options: "CompareOptions") -> None:
 @click.option("--seed", metavar="N", type=click.IntRange(0), default=1, help="Draw what chance decides by this number.")
 @html_option
 @click.option("--json", "is_json", is_flag=True, help="Print JSON.")
-@click.option("--save", metavar="FOLDER", type=PlaceWord(), help="Save all transfers as scripts in a new folder.")
+@click.option("--save", metavar="FOLDER", type=PathParam(), help="Save all transfers as scripts in a new folder.")
 @no_color_option
 def measure_command(no_color: bool, **words: Any) -> int:
     """Measures what a change of the sender is worth: how soon transfers over modelled paths are delivered, and how.
@@ -335,8 +335,8 @@ def lsp_command(settings: str, stdio: bool) -> int:
 @click.option("--keep-packets", is_flag=True, help="Change nothing of packets.")
 @click.option("--json", "is_json", is_flag=True, help="Print JSON.")
 @click.option("--no-color", is_flag=True, help="No colours on a terminal.")
-@click.argument("source", metavar="FROM", type=PlaceWord())
-@click.argument("target", metavar="TO", type=PlaceWord())
+@click.argument("source", metavar="FROM", type=PathParam())
+@click.argument("target", metavar="TO", type=PathParam())
 def import_command(source: Path, target: Path, keep_packets: bool, is_json: bool, no_color: bool) -> int:
     """Brings scripts of the kernel's self-tests over into a new folder, and runs nothing."""
     # Only who imports pays for what reads the kernel's scripts.
@@ -347,9 +347,9 @@ def import_command(source: Path, target: Path, keep_packets: bool, is_json: bool
 
 
 def main() -> int:
-    """Does what the words ask for, and answers the exit status."""
+    """Runs the command that the arguments name, and answers the exit status."""
     if sys.stdout is None:
-        say("pdsuite: standard output is closed")
+        print_error("pdsuite: standard output is closed")
         return FAULT
     # Scripts and outcomes make no cycles, and the more there are, the longer it takes to look for some.
     gc.disable()
@@ -362,20 +362,20 @@ def main() -> int:
         error = with_new_name(error)
         error.message = shown_text(error.message)
         error.show()
-    except Stopped as stopped:
+    except StoppedError as stopped:
         return stopped.status
     except FileFault as fault:
-        say(str(fault))
+        print_error(str(fault))
     except Fault as fault:
-        say(f"pdsuite: {fault}")
-    except Unwritten as unwritten:
+        print_error(f"pdsuite: {fault}")
+    except OutputError as unwritten:
         _leave_output()
         if not unwritten.is_reader_gone:
-            say(f"pdsuite: standard output: {unwritten}")
+            print_error(f"pdsuite: standard output: {unwritten}")
     except OSError as error:
         _leave_output()
         place = f"{shown(os.fsencode(error.filename))}: " if error.filename else ""
-        say(f"pdsuite: {place}{why(error)}")
+        print_error(f"pdsuite: {place}{why(error)}")
     return FAULT
 
 

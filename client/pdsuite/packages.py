@@ -7,8 +7,8 @@ from pdsuite.faults import Fault
 
 def need(module: str) -> None:
     """Raises a fault that names the package of a module, where that isn't installed."""
-    if said := missing(module):
-        raise Fault(said)
+    if reason := missing(module):
+        raise Fault(reason)
 
 
 def missing(module: str) -> str:

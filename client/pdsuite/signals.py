@@ -8,8 +8,8 @@ from types import FrameType
 _SIGNALS = (signal.SIGINT, signal.SIGTERM, signal.SIGHUP)
 
 
-class Stopped(Exception):
-    """A signal asked for the end."""
+class StoppedError(Exception):
+    """A signal requested the end."""
 
     def __init__(self, number: int) -> None:
         super().__init__(signal.Signals(number).name)
@@ -49,9 +49,9 @@ class Stop:
         return self._reader
 
     def check(self) -> None:
-        """Raises Stopped where a signal has come."""
+        """Raises StoppedError where a signal has come."""
         if self._number:
-            raise Stopped(self._number)
+            raise StoppedError(self._number)
 
     def _note(self, number: int, frame: FrameType | None) -> None:
         self._number = number

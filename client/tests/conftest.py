@@ -1,4 +1,4 @@
-"""What the tests are given: the built program, a program that stands in for it, and calls of ./pdsuite."""
+"""What the tests are given: the built program, a fake program in its place, and calls of ./pdsuite."""
 
 import os
 import shutil
@@ -12,17 +12,17 @@ import pytest
 from _pytest.terminal import TerminalReporter
 
 from pdsuite.faults import Fault
-from pdsuite.programs.places import RECORD, locate
+from pdsuite.programs.locate import RECORD, locate
 from pdsuite.signals import Stop
 from pdsuite.watch.watcher import Watcher
 from tests.helpers import HANGS, TOP, Call, Called
 from tests.schemas import hold_output
-from tests.site import Site
+from tests.watch_fixture import WatchFixture
 
-pytest_plugins = ["tests.browsing", "tests.lsp_client"]
+pytest_plugins = ["tests.browser_fixture", "tests.lsp_client"]
 UNPROVED = "--unproved"
 NEEDS_BUILT = "needs a built program"
-STAND_IN = Path(__file__).with_name("stand_in.py")
+FAKE_PDREGRESS = Path(__file__).with_name("fake_pdregress.py")
 
 
 def pytest_addoption(parser: pytest.Parser) -> None:
@@ -30,7 +30,7 @@ def pytest_addoption(parser: pytest.Parser) -> None:
 
 
 def pytest_terminal_summary(terminalreporter: TerminalReporter) -> None:
-    """Names what was skipped for want of a built program, where that was asked for."""
+    """Names what was skipped for want of a built program, where that was requested."""
     if terminalreporter.config.getoption(UNPROVED):
         skipped = terminalreporter.stats.get("skipped", [])
         untold = [it.nodeid for it in skipped if NEEDS_BUILT in str(it.longrepr)]
@@ -41,7 +41,7 @@ def pytest_terminal_summary(terminalreporter: TerminalReporter) -> None:
 
 @pytest.fixture(scope="session")
 def proved(request: pytest.FixtureRequest) -> None:
-    """Skips what needs a built program, where that was asked for."""
+    """Skips what needs a built program, where that was requested."""
     if request.config.getoption(UNPROVED):
         pytest.skip(NEEDS_BUILT)
 
@@ -83,7 +83,7 @@ def programs(proved: None, tmp_path_factory: pytest.TempPathFactory) -> Path:
 
 @pytest.fixture(scope="session")
 def recording_programs(programs: Path, tmp_path_factory: pytest.TempPathFactory) -> Path:
-    """A folder with the built programs and pdrecord; where that isn't built, what asks for it is skipped."""
+    """A folder with the built programs and pdrecord; where that isn't built, what needs it is skipped."""
     try:
         recorder = locate(RECORD)
     except Fault as fault:
@@ -95,11 +95,11 @@ def recording_programs(programs: Path, tmp_path_factory: pytest.TempPathFactory)
 
 
 @pytest.fixture(scope="session")
-def stand_in(tmp_path_factory: pytest.TempPathFactory) -> Path:
+def fake_program(tmp_path_factory: pytest.TempPathFactory) -> Path:
     """A folder whose pdregress does what the texts of scripts say."""
     folder = tmp_path_factory.mktemp("stand_in")
     folder.chmod(0o755)
-    shutil.copy(STAND_IN, folder / "pdregress")
+    shutil.copy(FAKE_PDREGRESS, folder / "pdregress")
     return folder
 
 
@@ -131,11 +131,11 @@ def call(tmp_path: Path) -> Call:
 
 
 @pytest.fixture
-def site(tmp_path: Path, monkeypatch: pytest.MonkeyPatch) -> Iterator[Site]:
+def watched_folder(tmp_path: Path, monkeypatch: pytest.MonkeyPatch) -> Iterator[WatchFixture]:
     """A folder that is watched in this process, where nobody goes on writing."""
     monkeypatch.setattr("pdsuite.file_stamps._FRESH", 0)
     top = tmp_path / "top"
     top.mkdir()
     (top / "pdsuite.toml").write_text("root = true\n")
     with Stop() as stop, Watcher() as watcher:
-        yield Site(top, stop, watcher)
+        yield WatchFixture(top, stop, watcher)

@@ -50,7 +50,7 @@ def neovim(*words: str | Path) -> list[str | Path]:
 
 
 def emacs(*words: str | Path) -> list[str | Path]:
-    """The words that start Emacs with the mode and nothing of the user's; Debian's files tell it where eglot is."""
+    """The words that start Emacs with the mode and nothing of the user's; Debian's files show it where eglot is."""
     lisp = (
         f"""(progn (setq packetdrill-command '("{TOP}/pdsuite" "lsp")) (require 'packetdrill-mode) (require 'eglot))"""
     )
@@ -80,8 +80,8 @@ class Terminal:
         )
 
     def _command(self, words: Sequence[str | Path], folder: Path, programs: Path) -> list[str]:
-        told = environment(programs)
-        kept = [f"{name}={told[name]}" for name in ("PDSUITE_PROGRAMS", "LC_ALL", "HOME", "PATH")]
+        variables = environment(programs)
+        kept = [f"{name}={variables[name]}" for name in ("PDSUITE_PROGRAMS", "LC_ALL", "HOME", "PATH")]
         return ["-c", str(folder), "env", *kept, "TERM=tmux-256color", "COLORTERM=truecolor", *map(str, words)]
 
     def __enter__(self) -> "Terminal":

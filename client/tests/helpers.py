@@ -109,19 +109,19 @@ def ends(process: "subprocess.Popen[bytes]", number: signal.Signals) -> tuple[in
     return process.returncode, out.decode(), err.decode()
 
 
-# What a stand-in tells all of that the program has of a packet that differs, and the lines of that.
+# What a fake program explains all of that the program has of a packet that differs, and the lines of that.
 PACKET = b"+0 > . 1:2(1) ack 1\n"
-TOLD = [
+BLOCK_LINES = [
     "script packet: +0 > . 1:2(1) ack 1",
     "actual packet: +0 > . 1:3(2) ack 1 win 5, sent by line 1",
     "state: ESTABLISHED",
 ]
 
 
-def wrapped(folder: Path, stand_in: Path, runs: str = ":", explains: str = ":") -> Path:
-    """A folder with a stand-in that is begun by these commands of the shell, where it runs scripts and explains."""
+def wrapped(folder: Path, fake_program: Path, runs: str = ":", explains: str = ":") -> Path:
+    """A folder with a fake program that is begun by these commands of the shell, where it runs scripts and explains."""
     folder.mkdir()
-    (folder / "pdregress.py").symlink_to(stand_in / "pdregress")
+    (folder / "pdregress.py").symlink_to(fake_program / "pdregress")
     begin = f'if [ "$1" = --explain ]; then\n{explains}\nelse\n{runs}\nfi\n'
     (folder / "pdregress").write_text(f'#!/bin/sh\n{begin}exec "$0.py" "$@"\n')
     (folder / "pdregress").chmod(0o755)

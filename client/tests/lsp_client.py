@@ -1,4 +1,4 @@
-"""A client that plays an editor: it starts `pdsuite lsp`, says what editors say, and keeps what it is told."""
+"""A client that plays an editor: it starts `pdsuite lsp`, sends what editors send, and keeps what it gets."""
 
 import itertools
 import os
@@ -27,7 +27,7 @@ CAPABILITIES: Json = {
 }
 
 
-class Refusal(Exception):
+class RequestRefusedError(Exception):
     """That the server answered a request by an error."""
 
     def __init__(self, error: Json) -> None:
@@ -36,7 +36,7 @@ class Refusal(Exception):
 
 
 class LspClient:
-    """A started server, the texts that are open in this client, and what the server has told it."""
+    """A started server, the texts that are open in this client, and what the server has sent it."""
 
     def __init__(
         self,
@@ -65,15 +65,15 @@ class LspClient:
         self.shown: list[str] = []
         self.logged: list[str] = []
         self.progress: list[Json] = []
-        self.asked: list[Json] = []
+        self.requests: list[Json] = []
         self.refused: list[int] = []
         self.times: dict[str, float] = {}
         self._answers: dict[int, Json] = {}
         self._numbers = itertools.count(1)
-        self._news = threading.Condition()
+        self._changed = threading.Condition()
         assert self.process.stdin is not None and self.process.stdout is not None
         self._writer = JsonRpcStreamWriter(self.process.stdin)
-        self._reader = threading.Thread(target=JsonRpcStreamReader(self.process.stdout).listen, args=(self._hear,))
+        self._reader = threading.Thread(target=JsonRpcStreamReader(self.process.stdout).listen, args=(self._receive,))
         self._reader.start()
 
     def __enter__(self) -> "LspClient":
@@ -97,11 +97,11 @@ class LspClient:
     # ---- messages
 
     def notify(self, method: str, params: object) -> None:
-        """Tells the server something."""
+        """Notifies the server of something."""
         self._writer.write({"jsonrpc": "2.0", "method": method, "params": params})
 
-    def ask(self, method: str, params: object) -> int:
-        """Asks the server something; the number of the request."""
+    def send_request(self, method: str, params: object) -> int:
+        """Sends the server a request; its number."""
         number = next(self._numbers)
         self._writer.write({"jsonrpc": "2.0", "id": number, "method": method, "params": params})
         return number
@@ -111,12 +111,12 @@ class LspClient:
         self.wait(lambda: number in self._answers, f"an answer to request {number}")
         answer = self._answers.pop(number)
         if "error" in answer:
-            raise Refusal(answer["error"])
+            raise RequestRefusedError(answer["error"])
         return answer["result"]
 
     def request(self, method: str, params: object) -> Any:
-        """Asks the server something, and waits for the answer."""
-        return self.answer(self.ask(method, params))
+        """Sends the server a request, and waits for the answer."""
+        return self.answer(self.send_request(method, params))
 
     def end(self) -> int:
         """Has the server end as editors do; its status."""
@@ -125,11 +125,11 @@ class LspClient:
         return self.process.wait(HANGS)
 
     def wait(self, happened: Callable[[], bool], what: str) -> None:
-        """Waits until the server has told something."""
+        """Waits until the server has sent something."""
         until = time.monotonic() + HANGS
-        with self._news:
+        with self._changed:
             while not happened():
-                assert self._news.wait(max(0.0, until - time.monotonic())), f"{what} didn't come"
+                assert self._changed.wait(max(0.0, until - time.monotonic())), f"{what} didn't come"
                 assert self.process.poll() is None or happened(), f"it ended with status {self.process.returncode}"
 
     # ---- texts
@@ -160,12 +160,12 @@ class LspClient:
         self.notify("textDocument/didClose", {"textDocument": {"uri": uri}})
 
     def settled(self, uri: str) -> list[Json]:
-        """The diagnostics of a text as it stands, once they are told."""
+        """The diagnostics of a text as it stands, once they are sent."""
         version = self.documents[uri].version
         self.wait(lambda: self.diagnostics.get(uri, (None, []))[0] == version, f"diagnostics of {uri} {version}")
         return self.diagnostics[uri][1]
 
-    def told(self, uri: str, happened: Callable[[list[Json]], bool], what: str) -> list[Json]:
+    def wait_diagnostics(self, uri: str, happened: Callable[[list[Json]], bool], what: str) -> list[Json]:
         """The diagnostics of a file, once they are as they are waited for."""
         self.wait(lambda: happened(self.diagnostics.get(uri, (None, []))[1]), what)
         return self.diagnostics[uri][1]
@@ -191,17 +191,17 @@ class LspClient:
         )
         return document.changed(document.version, [{"range": it["range"], "text": it["newText"]} for it in edits]).text
 
-    # ---- what the server tells
+    # ---- what the server sends
 
-    def _hear(self, message: Json) -> None:
-        with self._news:
+    def _receive(self, message: Json) -> None:
+        with self._changed:
             method = message.get("method")
             if method is None and message["id"] is None:
                 self.refused.append(message["error"]["code"])
             elif method is None:
                 self._answers[message["id"]] = message
             elif "id" in message:
-                self.asked.append(message)
+                self.requests.append(message)
                 self._writer.write({"jsonrpc": "2.0", "id": message["id"], "result": None})
             elif method == "textDocument/publishDiagnostics":
                 self._take(message["params"])
@@ -211,7 +211,7 @@ class LspClient:
                 self.progress.append(message["params"])
             elif method == "window/logMessage":
                 self.logged.append(message["params"]["message"])
-            self._news.notify_all()
+            self._changed.notify_all()
 
     def _take(self, params: Json) -> None:
         uri, version = params["uri"], params.get("version")

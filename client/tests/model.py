@@ -4,12 +4,12 @@ import re
 import zlib
 from dataclasses import replace
 
-from pdsuite.programs.program import Ended
-from pdsuite.programs.rows import Row, Verdict
+from pdsuite.programs.program import ProgramEndedError
+from pdsuite.programs.verdict import Row, Verdict
 from pdsuite.run.outcomes import Outcome
 from pdsuite.scripts.defaults import DEFAULTS
 from pdsuite.scripts.settings import Settings, set_words
-from pdsuite.watch.run_changes import WantedScript
+from pdsuite.watch.plan_changes import WantedScript
 
 MOST = 1_024
 
@@ -27,20 +27,20 @@ def row_of(text: bytes, settings: dict[str, str]) -> Row:
 
 
 def meaning_of(text: bytes, settings: Settings) -> str:
-    """What is told of a row; every octet and every setting counts."""
+    """The explanation of a row; every octet and every setting counts."""
     return f"it is {zlib.crc32(text + repr(sorted(settings)).encode())}"
 
 
-class Teller:
-    """Stands in for who knows what was told of scripts."""
+class FakeExplainer:
+    """A fake of who knows the explanations of scripts."""
 
     def explain(self, outcome: Outcome, wanted: WantedScript) -> Outcome:
-        """Tells of a script."""
+        """Explains a script."""
         return replace(outcome, why=meaning_of(wanted.text.octets, wanted.settings))
 
 
 class Model:
-    """Stands in for a started program."""
+    """A fake of a started program."""
 
     def __init__(self, settings: Settings, most_acts: int = 65_536) -> None:
         self.settings = settings_words(settings)
@@ -48,30 +48,30 @@ class Model:
         self.acts = 0
         self.is_closed = False
         self._most_acts = most_acts
-        self._told: list[tuple[int, bytes]] = []
+        self._jobs_run: list[tuple[int, bytes]] = []
         self._jobs = 0
 
-    def ask(self, commands: bytes, longest: int) -> bytes:
+    def query(self, commands: bytes, longest: int) -> bytes:
         """Carries out commands, and answers the report."""
         left = commands
         while left:
             line, left = left.split(b"\n", 1)
             left = self._act(line.split(b" "), left)
         if self.acts > self._most_acts:
-            raise Ended("pdregress: refused 11 HistoryFull")
+            raise ProgramEndedError("pdregress: refused 11 HistoryFull")
         rows = [b"%s %s" % (name, self._row(lines)) for name, lines in self.texts.items()]
         total = b"total %d pass 0 fail 0 syntax 0 unsupported 0 limit 0 pending 0" % len(self.texts)
         answer = b"\n".join([*rows, total]) + b"\n"
         assert len(answer) <= longest
         return answer
 
-    def ask_and_hear(self, commands: bytes, longest: int, longest_said: int) -> tuple[bytes, bytes]:
+    def query_with_errors(self, commands: bytes, longest: int, longest_errors: int) -> tuple[bytes, bytes]:
         """The same, and on standard error nothing but how many steps each script took: one a line."""
-        answer = self.ask(commands, longest)
-        told = [(number, name) for number, name in self._told if name in self.texts]
-        self._told = []
-        said = (b"job %d %s steps %d\n" % (number, name, len(self.texts[name])) for number, name in told)
-        return answer, b"".join(said)
+        answer = self.query(commands, longest)
+        jobs = [(number, name) for number, name in self._jobs_run if name in self.texts]
+        self._jobs_run = []
+        lines = (b"job %d %s steps %d\n" % (number, name, len(self.texts[name])) for number, name in jobs)
+        return answer, b"".join(lines)
 
     def check(self) -> None:
         """It never ends by itself."""
@@ -88,7 +88,7 @@ class Model:
         self.acts += words[0] != b"settle"
         if words[0] in (b"add", b"edit"):
             self._jobs += 1
-            self._told.append((self._jobs, words[1]))
+            self._jobs_run.append((self._jobs, words[1]))
         match words:
             case [b"add", name, count]:
                 assert name not in self.texts and len(self.texts) < MOST

@@ -1,4 +1,4 @@
-"""What `pdsuite compare` says that a changed sender affects in its tree, by stand-ins."""
+"""What `pdsuite compare` says that a changed sender affects in its tree, by fake programs."""
 
 import json
 import shutil
@@ -8,7 +8,7 @@ import pytest
 
 from tests.helpers import Called, write
 from tests.test_compare import git
-from tests.trees import Tree
+from tests.tree_fixture import Tree
 
 TOTAL = "total 1 pass 1 fail 0 syntax 0 unsupported 0 limit 0 pending 0"
 ROWS = f"""[rows] scripts
@@ -102,15 +102,15 @@ def test_a_changed_default_is_named_in_three_places_and_a_function_by_itself(tre
     called = compare(tree, "--base", "HEAD")
     assert called.status == 0, called.err
     lines = affected(called)
-    said = "a default, 'mss': its default is 1_200, and was 1_460"
+    message = "a default, 'mss': its default is 1_200, and was 1_460"
     number = places["client/pdsuite/scripts/defaults.py"].split('"mss"')[0].count("\n") + 1
     assert lines == [
         "affected in the tree: rows 0 runs 0 paragraphs 3",
-        f"  docs/SETTINGS.md:4: {said}",
+        f"  docs/SETTINGS.md:4: {message}",
         "    crates/pd_settings/src/fields.rt:5",
-        f"  packaging/man/pdregress.h2m:2: {said}",
+        f"  packaging/man/pdregress.h2m:2: {message}",
         "    crates/pd_settings/src/fields.rt:5",
-        f"  client/pdsuite/scripts/defaults.py:{number}: {said}",
+        f"  client/pdsuite/scripts/defaults.py:{number}: {message}",
         "    crates/pd_settings/src/fields.rt:5",
         "  rule (crates/pd_board/src/rules.rt:2): its code changed, and paragraphs are about definitions",
     ]
@@ -123,10 +123,10 @@ def test_of_a_folder_of_programs_no_sources_are_known(tree: Tree) -> None:
     unknown = "  paragraphs of pages: unknown, since the sources of the sender before are"
     assert (affected(called)[0], affected(called)[-1]) == ("affected in the tree: rows 3 runs 1 paragraphs 0", unknown)
     whole = json.loads(compare(tree, "--base", tree.bin, "--json").out)
-    told = whole["affected"]
+    reported = whole["affected"]
     assert whole["version"] == 2
-    assert [(it["line"], it["title"]) for it in told["rows"]] == [(2, ""), (3, ""), (5, ""), (9, "a title")]
-    assert (told["unheard"], told["paragraphs"]) == (0, None)
+    assert [(it["line"], it["title"]) for it in reported["rows"]] == [(2, ""), (3, ""), (5, ""), (9, "a title")]
+    assert (reported["unheard"], reported["paragraphs"]) == (0, None)
 
 
 def test_where_no_row_turns_nothing_is_affected(tree: Tree) -> None:
@@ -138,8 +138,8 @@ def test_a_sender_without_a_tree_has_nothing_affected(tree: Tree) -> None:
     other = tree.suite.parent / "other"
     shutil.copytree(tree.bin, other)
     called = compare(tree, "--base", tree.bin, "--with", other)
-    said = f"pdsuite: --affected: {other} is no tree with tests/cases and tools/owed.py\n"
-    assert (called.status, called.out, called.err.endswith(said)) == (2, "", True)
+    message = f"pdsuite: --affected: {other} is no tree with tests/cases and tools/owed.py\n"
+    assert (called.status, called.out, called.err.endswith(message)) == (2, "", True)
     called = tree.call("compare", "--base", tree.bin, "--search", "1", "--affected")
     assert called.status == 2 and "without --html, --json, --markdown and --affected" in called.err
 

@@ -15,7 +15,7 @@ import pytest
 
 from pdsuite.faults import Fault
 from pdsuite.packages import need
-from tests.clusters import LocalCluster, number_of
+from tests.cluster_fixture import LocalCluster, number_of
 from tests.helpers import FAILS, HANGS, PASSES, TOP, Call, ends, wait_for, write
 
 pytest.importorskip("distributed", reason="python3-distributed isn't installed")
@@ -119,89 +119,93 @@ def test_fail_fast_leaves_out_what_it_does_on_one_machine(
 
 
 def test_programs_that_end_are_told_of_as_on_one_machine(
-    started: Add, stand_in: Path, tmp_path: Path, call: Call
+    started: Add, fake_program: Path, tmp_path: Path, call: Call
 ) -> None:
     for number in range(130):
         write(tmp_path, **{f"s{number:03}": b"crash\n" if number == 70 else PASSES})
     write(tmp_path, t=b"row fail 1 seq\ncrash\n", u=b"row syntax 1\n below\n")
-    here = call(stand_in, "run", ".")
-    there = call(stand_in, "run", "--scheduler", started(stand_in).address, ".")
+    here = call(fake_program, "run", ".")
+    there = call(fake_program, "run", "--scheduler", started(fake_program).address, ".")
     assert (there.status, there.err, there.rows) == (here.status, here.err, here.rows)
     assert there.totals == {"pass": 129, "fail": 1, "syntax": 1, "error": 1}
 
 
-def test_explanations_are_those_of_one_machine(started: Add, stand_in: Path, tmp_path: Path, call: Call) -> None:
+def test_explanations_are_those_of_one_machine(started: Add, fake_program: Path, tmp_path: Path, call: Call) -> None:
     write(tmp_path, a=b"row fail 2 seq\n+0 > . 1:2(1) ack 1\n", b=PASSES, c=b"row limit 1\n+\n")
-    here = call(stand_in, "run", "--json", ".")
-    there = call(stand_in, "run", "--json", "--scheduler", started(stand_in).address, ".")
+    here = call(fake_program, "run", "--json", ".")
+    there = call(fake_program, "run", "--json", "--scheduler", started(fake_program).address, ".")
     assert there.out.count('"explanation": ') == 2 and (there.status, there.err) == (1, "")
     assert _SECONDS.sub("", there.out) == _SECONDS.sub("", here.out)
 
 
 def test_a_worker_that_ends_in_the_midst_has_its_runs_done_elsewhere(
-    started: Add, stand_in: Path, tmp_path: Path, call: Call
+    started: Add, fake_program: Path, tmp_path: Path, call: Call
 ) -> None:
     for number in range(1_200):
         write(tmp_path, **{f"s{number:04}": f"row fail {number + 1} seq\n".encode() if number % 100 == 9 else PASSES})
-    here = call(stand_in, "run", "-v", ".")
+    here = call(fake_program, "run", "-v", ".")
     write(tmp_path, s0003=f"orphan {tmp_path}/mark".encode())
-    cluster = started(stand_in, stand_in)
-    there = call(stand_in, "run", "-v", "--scheduler", cluster.address, ".")
+    cluster = started(fake_program, fake_program)
+    there = call(fake_program, "run", "-v", "--scheduler", cluster.address, ".")
     assert (tmp_path / "mark").exists()
     assert sorted(it.is_alive() for it in cluster.workers) == [False, True]
     assert (there.status, there.err, there.rows) == (here.status, here.err, here.rows)
     assert there.totals == {"pass": 1_188, "fail": 12}
 
 
-def test_a_worker_that_its_nanny_starts_again_is_used_again(started: Add, stand_in: Path, tmp_path: Path) -> None:
+def test_a_worker_that_its_nanny_starts_again_is_used_again(started: Add, fake_program: Path, tmp_path: Path) -> None:
     write(tmp_path, a=f"orphan {tmp_path}/mark".encode(), b=PASSES)
-    cluster = started(stand_in, more=("--nanny",))
+    cluster = started(fake_program, more=("--nanny",))
     words = [sys.executable, "-I", "-c", _PATIENT, "run", "--scheduler", cluster.address, "."]
-    environment = {**os.environ, "PDSUITE_PROGRAMS": str(stand_in)}
+    environment = {**os.environ, "PDSUITE_PROGRAMS": str(fake_program)}
     there = subprocess.run(words, cwd=tmp_path, env=environment, capture_output=True, text=True, timeout=HANGS)
     assert (there.returncode, there.stderr) == (0, "")
     assert there.stdout.startswith("total 2 pass 2 ")
     assert (tmp_path / "mark").exists()
 
 
-def test_a_run_that_ends_three_workers_is_an_error(started: Add, stand_in: Path, tmp_path: Path, call: Call) -> None:
+def test_a_run_that_ends_three_workers_is_an_error(
+    started: Add, fake_program: Path, tmp_path: Path, call: Call
+) -> None:
     write(tmp_path, a=PASSES, b=b"orphan\n")
-    cluster = started(stand_in, stand_in, stand_in, stand_in)
-    there = call(stand_in, "run", "--scheduler", cluster.address, ".")
+    cluster = started(fake_program, fake_program, fake_program, fake_program)
+    there = call(fake_program, "run", "--scheduler", cluster.address, ".")
     assert (there.status, there.err) == (2, "")
     assert there.rows == [f"{it}.pkt: error: 3 workers ended that had it" for it in "ab"]
     assert sum(it.is_alive() for it in cluster.workers) == 1
 
 
-def test_without_a_worker_left_runs_are_errors(started: Add, stand_in: Path, tmp_path: Path, call: Call) -> None:
+def test_without_a_worker_left_runs_are_errors(started: Add, fake_program: Path, tmp_path: Path, call: Call) -> None:
     write(tmp_path, a=b"orphan\n", b=PASSES)
     begin = time.monotonic()
-    there = call(stand_in, "run", "--scheduler", started(stand_in).address, ".")
+    there = call(fake_program, "run", "--scheduler", started(fake_program).address, ".")
     assert (there.status, there.err) == (2, "")
     assert there.rows == [f"{it}.pkt: error: no worker is left" for it in "ab"]
     assert time.monotonic() - begin > 10
 
 
 def test_a_worker_with_other_programs_is_named_and_not_used(
-    started: Add, stand_in: Path, tmp_path: Path, call: Call
+    started: Add, fake_program: Path, tmp_path: Path, call: Call
 ) -> None:
     for number in range(1_200):
         write(tmp_path / "suite", **{f"s{number:04}": PASSES})
     other = tmp_path / "other"
-    shutil.copytree(stand_in, other)
+    shutil.copytree(fake_program, other)
     (other / "pdregress").write_text(f"#!/bin/sh\ntouch {tmp_path}/used\n")
-    cluster = started(other, stand_in)
+    cluster = started(other, fake_program)
     address, _ = cluster.wait()
-    there = call(stand_in, "run", "--scheduler", cluster.address, "suite")
+    there = call(fake_program, "run", "--scheduler", cluster.address, "suite")
     assert (there.status, there.totals) == (0, {"pass": 1_200})
     assert there.err == f"pdsuite: worker {address} isn't used: {other}/pdregress has another SHA-256\n"
     assert not (tmp_path / "used").exists()
 
 
-def test_a_cluster_of_other_programs_alone_is_a_fault(started: Add, stand_in: Path, tmp_path: Path, call: Call) -> None:
+def test_a_cluster_of_other_programs_alone_is_a_fault(
+    started: Add, fake_program: Path, tmp_path: Path, call: Call
+) -> None:
     write(tmp_path / "suite", a=PASSES)
     cluster = started(tmp_path / "nowhere")
-    there = call(stand_in, "run", "--scheduler", cluster.address, "suite")
+    there = call(fake_program, "run", "--scheduler", cluster.address, "suite")
     assert (there.status, there.out) == (2, "")
     first, second = there.err.splitlines()
     assert first.endswith(f" isn't used: no program {tmp_path}/nowhere/pdregress")
@@ -210,14 +214,14 @@ def test_a_cluster_of_other_programs_alone_is_a_fault(started: Add, stand_in: Pa
 
 @pytest.mark.parametrize("number", [signal.SIGKILL, signal.SIGTERM])
 def test_a_scheduler_that_goes_away_is_said_with_what_is_settled(
-    number: signal.Signals, started: Add, stand_in: Path, tmp_path: Path
+    number: signal.Signals, started: Add, fake_program: Path, tmp_path: Path
 ) -> None:
     suite = tmp_path / "suite"
     for script in range(512):
         write(suite, **{f"s{script:04}": b"row fail 1 seq\n" if script == 3 else PASSES})
     write(suite, t=f"stall {tmp_path}/mark".encode())
-    cluster = started(stand_in)
-    process = popen(cluster.address, stand_in, suite, "--junit", "out.xml", ".")
+    cluster = started(fake_program)
+    process = popen(cluster.address, fake_program, suite, "--junit", "out.xml", ".")
     wait_for(tmp_path / "mark")
     assert first_row(process) == b"s0003.pkt:1: fail seq\n"
     os.kill(number_of(cluster.scheduler), number)
@@ -227,7 +231,7 @@ def test_a_scheduler_that_goes_away_is_said_with_what_is_settled(
     assert (suite / "out.xml").read_bytes().count(b"<testcase ") == 513
 
 
-# A coroutine of the library that is left, and whose end can't be told, as where a scheduler has gone.
+# A coroutine of the library that is left, and whose end can't be known, as where a scheduler has gone.
 LEFT = """
 import sys, types
 from distributed import utils
@@ -255,12 +259,12 @@ def test_what_the_library_leaves_says_nothing(words: tuple[str, ...], is_quiet: 
     assert done.returncode == 0 and ("IndexError" in done.stderr) is not is_quiet, done.stderr
 
 
-def test_a_signal_shows_what_is_settled(started: Add, stand_in: Path, tmp_path: Path) -> None:
+def test_a_signal_shows_what_is_settled(started: Add, fake_program: Path, tmp_path: Path) -> None:
     suite = tmp_path / "suite"
     for script in range(512):
         write(suite, **{f"s{script:04}": b"row fail 1 seq\n" if script == 3 else PASSES})
     write(suite, t=f"stall {tmp_path}/mark".encode())
-    process = popen(started(stand_in).address, stand_in, suite, ".")
+    process = popen(started(fake_program).address, fake_program, suite, ".")
     wait_for(tmp_path / "mark")
     assert first_row(process) == b"s0003.pkt:1: fail seq\n"
     status, out, err = ends(process, signal.SIGINT)
@@ -268,13 +272,13 @@ def test_a_signal_shows_what_is_settled(started: Add, stand_in: Path, tmp_path: 
     assert "total 513 pass 511 fail 1 " in out and " not run 1 in " in out
 
 
-def test_a_scheduler_that_is_not_reached_is_a_fault_with_its_address(stand_in: Path, tmp_path: Path) -> None:
+def test_a_scheduler_that_is_not_reached_is_a_fault_with_its_address(fake_program: Path, tmp_path: Path) -> None:
     write(tmp_path, a=PASSES)
     silent = socket.create_server(("127.0.0.1", 0))
     closed = socket.create_server(("127.0.0.1", 0))
     places = [f"127.0.0.1:{it.getsockname()[1]}" for it in (silent, closed)]
     closed.close()
-    for process, place in [(popen(place, stand_in, tmp_path, "."), place) for place in places]:
+    for process, place in [(popen(place, fake_program, tmp_path, "."), place) for place in places]:
         out, err = process.communicate(timeout=HANGS)
         assert (process.returncode, out) == (2, b"")
         assert err.startswith(f"pdsuite: {place}: no scheduler is reached within 10 s: ".encode())
@@ -283,16 +287,16 @@ def test_a_scheduler_that_is_not_reached_is_a_fault_with_its_address(stand_in: P
 
 
 @pytest.mark.parametrize("place", ["nowhere", "odd://127.0.0.1:1", "127.0.0.1:x", ""])
-def test_what_is_no_address_is_said(place: str, stand_in: Path, tmp_path: Path, call: Call) -> None:
+def test_what_is_no_address_is_said(place: str, fake_program: Path, tmp_path: Path, call: Call) -> None:
     write(tmp_path, a=PASSES)
-    called = call(stand_in, "run", "--scheduler", place, ".")
+    called = call(fake_program, "run", "--scheduler", place, ".")
     assert (called.status, called.out) == (2, "")
     assert called.err.startswith(f"pdsuite: {place}: no address of a scheduler: ")
     assert called.err.count("\n") == 1
 
 
-def test_workers_of_this_machine_are_not_asked_for_beside_a_scheduler(stand_in: Path, call: Call) -> None:
-    called = call(stand_in, "run", "--workers", "2", "--scheduler", "127.0.0.1:1", ".")
+def test_workers_of_this_machine_are_not_asked_for_beside_a_scheduler(fake_program: Path, call: Call) -> None:
+    called = call(fake_program, "run", "--workers", "2", "--scheduler", "127.0.0.1:1", ".")
     assert called.status == 2
     assert called.err.endswith("Error: --workers is of this machine, and --scheduler runs scripts elsewhere\n")
 

@@ -1,4 +1,4 @@
-"""`pdsuite compare`, by stand-ins: two senders, of which one is changed."""
+"""`pdsuite compare`, by fake programs: two senders, of which one is changed."""
 
 import json
 import shutil
@@ -9,13 +9,13 @@ from pathlib import Path
 import pytest
 
 from pdsuite.commands import compare as comparing
-from pdsuite.show.screen import Screen
-from pdsuite.signals import Stopped
-from tests.helpers import TOLD, TOP, Called, ends, is_alive, wait_for, write
-from tests.trees import Tree
+from pdsuite.output.screen import Screen
+from pdsuite.signals import StoppedError
+from tests.helpers import BLOCK_LINES, TOP, Called, ends, is_alive, wait_for, write
+from tests.tree_fixture import Tree
 
 STATE = "//= at 0.100000 ESTABLISHED cwnd:4000 DupAcks:{}\n"
-# Each has a row, and below it a recording; of one that doesn't pass that is what is told, too.
+# Each has a row, and below it a recording; of one that doesn't pass that is the explanation, too.
 QUICK = f"row pass 9\n+0 > . 1:1001(1000) ack 1\n{STATE.format(2)}".encode()
 SLOW = f"row pass 8\n+0 > . 2001:3001(1000) ack 1\n{STATE.format(3)}".encode()
 LONE = b"row pass 7\n"
@@ -37,7 +37,7 @@ def tree(tmp_path: Path) -> Tree:
 
 
 def compare(tree: Tree, *words: str | Path) -> Called:
-    """Compares the stand-ins as they are with the tree's sender."""
+    """Compares the fake programs as they are with the tree's sender."""
     return tree.call("compare", "--base", tree.bin, *words, "suite")
 
 
@@ -69,7 +69,7 @@ def test_a_script_that_turns_is_told_with_both_blocks_and_where_its_recordings_p
         "suite/quick.pkt: turned",
         "  before: pass 9",
         "  after: line 2: fail seq: so it is",
-        *(f"    {line}" for line in TOLD),
+        *(f"    {line}" for line in BLOCK_LINES),
         "  the first event that differs:",
         "    before: +0 > . 1:1001(1000) ack 1 // 0.100000",
         "    after:  +0 > . 5001:6001(1000) ack 1 // 0.100000",
@@ -94,14 +94,14 @@ def test_a_planted_change_turns_what_differs_between_the_two_full_reports(tree: 
     before = rows(tree.call("run", "--json", "suite"))
     tree.change(change + "\n")
     after = rows(tree.call("run", "--json", "suite"))
-    told = json.loads(compare(tree, "--json").out)
-    turned = [it["path"] for it in told["scripts"] if it["kind"] == "turned"]
+    reported = json.loads(compare(tree, "--json").out)
+    turned = [it["path"] for it in reported["scripts"] if it["kind"] == "turned"]
     assert turned == [path for path in after if before[path] != after[path]]
     kinds = dict(zip(["suite/quick.pkt", "suite/low/slow.pkt", "suite/low/lone.pkt"], CHANGES[change]))
-    assert {it["path"]: it["kind"] for it in told["scripts"]} == {
+    assert {it["path"]: it["kind"] for it in reported["scripts"]} == {
         path: kind for path, kind in kinds.items() if kind in ("turned", "played otherwise")
     }
-    assert told["total"] == {
+    assert reported["total"] == {
         "scripts": 3,
         **{kind: CHANGES[change].count(kind) for kind in ("turned", "played otherwise", "as before", "not compared")},
     }
@@ -109,9 +109,9 @@ def test_a_planted_change_turns_what_differs_between_the_two_full_reports(tree: 
 
 def test_as_json_it_has_both_senders_both_blocks_and_both_events(tree: Tree) -> None:
     tree.change("s/^row pass 9/row fail 2 seq/\ns/1:1001(1000)/5001:6001(1000)/\n")
-    told = json.loads(compare(tree, "--json").out)
-    assert (told["before"], told["UNPROVED"]) == (str(tree.bin), True)
-    (script,) = told["scripts"]
+    reported = json.loads(compare(tree, "--json").out)
+    assert (reported["before"], reported["UNPROVED"]) == (str(tree.bin), True)
+    (script,) = reported["scripts"]
     assert (script["before"]["row"], script["after"]["row"], script["after"]["line"]) == ("pass 9", "fail seq", 2)
     assert script["parting"]["after"] == {"event": "+0 > . 5001:6001(1000) ack 1", "moment": "0.100000", "state": ""}
 
@@ -128,7 +128,7 @@ def test_two_folders_of_programs_are_compared_without_a_build(tree: Tree) -> Non
     assert called.err == f"pdsuite: before: {tree.bin}; after: {other}\n"
 
 
-# Has a stand-in run scripts once the other sender's does so too, or note that it never does.
+# Has a fake program run scripts once the other sender's does so too, or note that it never does.
 TOGETHER = """
 def meet():
     open("{notes}/{own}", "w").close()
@@ -154,8 +154,8 @@ def test_two_folders_of_programs_run_side_by_side_and_are_told_of_in_their_order
         (folder / "pdregress").write_text(text)
     called = tree.call("compare", "--base", "before", "--with", "after", "suite")
     assert not (tree.notes / "alone").exists()
-    told = [line.partition(";")[0] for line in called.err.splitlines() if "; a new run begins at " in line]
-    assert told == ["pdsuite: pdregress: one", "pdsuite: pdregress: two"]
+    reported = [line.partition(";")[0] for line in called.err.splitlines() if "; a new run begins at " in line]
+    assert reported == ["pdsuite: pdregress: one", "pdsuite: pdregress: two"]
 
 
 ON = b"told early\n+0 > . 1:1001(1000) ack 1 SETTINGS\n//= at 0.100000 ESTABLISHED cwnd:4000 DupAcks:2\n"
@@ -215,9 +215,9 @@ def test_a_key_that_a_sender_lacks_counts_as_its_default_there_and_is_told_once(
         called = tree.call("compare", "--base", tree.bin, *words, "--only", "on.pkt", "suite")
     else:
         called = tree.call("compare", "--base", lacking(tree), "--with", tree.bin, *words, "--only", "on.pkt", "suite")
-    said = f"{'the tree as it stands, unknown, unproved' if is_built else tree.suite.parent / 'other'}"
+    message = f"{'the tree as it stands, unknown, unproved' if is_built else tree.suite.parent / 'other'}"
     assert called.status == 1 and called.err.splitlines()[2 if is_built else 1 :] == [
-        f"pdsuite: {said}: there is no setting early, which counts as its default"
+        f"pdsuite: {message}: there is no setting early, which counts as its default"
     ]
     rows = [("before", "2"), ("after", "1")] if is_built else [("before", "1"), ("after", "2")]
     assert called.out.splitlines()[1:3] == [f"  {side}: pass {number}" for side, number in rows]
@@ -229,7 +229,7 @@ def test_a_key_counts_by_its_old_name_with_a_sender_from_before(tree: Tree) -> N
     (tree.suite / "pdsuite.toml").write_text("abc_limit = 2\n")
     other = tree.suite.parent / "other"
     shutil.copytree(tree.bin, other)
-    # It is asked on standard input, and called with the settings of a run.
+    # It is queried on standard input, and called with the settings of a run.
     names = "s/^set abc_limit /set no_abc_limit /; s/^set byte_counting /set abc_limit /"
     for name in ("pdregress", "pdrecord"):
         (other / name).write_text(f'#!/bin/sh\nexec sed -u "{names}" | "{tree.bin}/{name}" "$@"\n')
@@ -239,7 +239,7 @@ def test_a_key_counts_by_its_old_name_with_a_sender_from_before(tree: Tree) -> N
 
 
 @pytest.mark.parametrize(
-    ("words", "said"),
+    ("words", "message"),
     [
         (("--settings", "no_early = 2"), "--settings: no_early: UnknownKey (by {before})"),
         (("--base-settings", "no_early = 2"), "--base-settings: no_early: UnknownKey (by {before} with no_early = 2)"),
@@ -248,14 +248,14 @@ def test_a_key_counts_by_its_old_name_with_a_sender_from_before(tree: Tree) -> N
 )
 @pytest.mark.parametrize("is_search", [False, True])
 def test_a_key_that_both_senders_lack_is_refused_and_one_that_a_side_alone_is_given(
-    tree: Tree, words: tuple[str, ...], said: str, is_search: bool
+    tree: Tree, words: tuple[str, ...], message: str, is_search: bool
 ) -> None:
     other = tree.suite.parent / "other"
     shutil.copytree(tree.bin, other)
     more = ("--search", "1") if is_search else ("suite",)
     called = tree.call("compare", "--base", tree.bin, "--with", other, *words, *more)
     assert (called.status, called.out) == (2, "")
-    assert called.err.splitlines()[-1] == said.format(before=tree.bin, after=other)
+    assert called.err.splitlines()[-1] == message.format(before=tree.bin, after=other)
 
 
 def test_scripts_beside_one_that_the_changed_sender_ends_on_are_started_again_one_by_one(tree: Tree) -> None:
@@ -266,10 +266,10 @@ def test_scripts_beside_one_that_the_changed_sender_ends_on_are_started_again_on
         "pdsuite: pdregress: Faulted: a failed unwrap; 3 scripts are run again, each by itself",
         "pdsuite: pdrecord: Faulted: a failed unwrap; 3 scripts are recorded again, each by itself",
     ]
-    told = json.loads(called.out)
-    (script,) = told["scripts"]
+    reported = json.loads(called.out)
+    (script,) = reported["scripts"]
     assert (script["path"], script["after"]["row"]) == ("suite/quick.pkt", "error: pdregress: Faulted: a failed unwrap")
-    assert (told["total"]["turned"], told["total"]["as before"], told["total"]["not compared"]) == (1, 1, 1)
+    assert (reported["total"]["turned"], reported["total"]["as before"], reported["total"]["not compared"]) == (1, 1, 1)
 
 
 def test_a_folder_of_launchers_is_the_tree_that_they_are_of(tree: Tree) -> None:
@@ -279,8 +279,8 @@ def test_a_folder_of_launchers_is_the_tree_that_they_are_of(tree: Tree) -> None:
         shutil.copy(TOP / name, tree.top)
         (links / name).symlink_to(tree.top / name)
     called = tree.call("compare", "--base", links, "--with", tree.bin, "suite")
-    said = f"pdsuite: before: {links}, unproved; after: {tree.bin}\npdsuite: building the sender first\n"
-    assert (called.status, called.err, tree.builds()) == (0, said, 1)
+    message = f"pdsuite: before: {links}, unproved; after: {tree.bin}\npdsuite: building the sender first\n"
+    assert (called.status, called.err, tree.builds()) == (0, message, 1)
     assert called.out.endswith(" s UNPROVED\n")
     called = tree.call("compare", "--base", tree.bin, "suite", PDSUITE_PROGRAMS=str(links))
     assert called.err.startswith(f"pdsuite: before: {tree.bin}; after: {links}, unproved\n")
@@ -319,8 +319,8 @@ def test_a_commit_is_checked_out_and_built_beside(tree: Tree, has_tar: bool) -> 
 
 def test_the_programs_that_were_proved_last_are_the_base_if_nothing_is_said(tree: Tree) -> None:
     called = tree.call("compare", "suite")
-    said = "pdsuite: ./prove has kept no programs of this tree: name a sender by --base, or run ./prove\n"
-    assert (called.status, called.err) == (2, said)
+    message = "pdsuite: ./prove has kept no programs of this tree: name a sender by --base, or run ./prove\n"
+    assert (called.status, called.err) == (2, message)
     for name in ("pdregress", "pdrecord"):
         (tree.top / "crates" / name / "out").mkdir()
         shutil.copy(tree.bin / name, tree.top / "crates" / name / "out")
@@ -344,16 +344,16 @@ def test_a_tree_that_does_not_compile_is_told_with_its_errors(tree: Tree) -> Non
 
 
 @pytest.mark.parametrize(
-    ("word", "said"),
+    ("word", "message"),
     [
         ("suite", "suite: no folder of programs: it has no pdregress"),
         ("nowhere", "nowhere: neither a folder of programs nor a commit"),
         ("-x", "-x: neither a folder of programs nor a commit"),
     ],
 )
-def test_a_word_that_names_no_sender_is_refused(tree: Tree, word: str, said: str) -> None:
+def test_a_word_that_names_no_sender_is_refused(tree: Tree, word: str, message: str) -> None:
     called = tree.call("compare", f"--base={word}", "suite")
-    assert (called.status, called.out, called.err) == (2, "", f"pdsuite: --base: {said}\n")
+    assert (called.status, called.out, called.err) == (2, "", f"pdsuite: --base: {message}\n")
 
 
 def test_the_page_has_both_blocks_and_says_that_nothing_is_proved(tree: Tree) -> None:
@@ -386,7 +386,7 @@ def test_a_build_that_is_kept_serves_however_it_was_made(monkeypatch: pytest.Mon
 
     def with_programs(senders: object, way: str, *more: object) -> None:
         ways.append(way)
-        raise Stopped(signal.SIGINT)
+        raise StoppedError(signal.SIGINT)
 
     monkeypatch.setattr(comparing, "with_programs", with_programs)
     paths = [TOP / "examples/suite/close"]

@@ -10,24 +10,25 @@ from pdsuite.diagram.failing_line import failing_line_of
 from pdsuite.diagram.labels import MOST_ROWS, Label, placed
 from pdsuite.diagram.pictures import for_page, png_file, svg_file
 from pdsuite.diagram.plot import figure_of
-from pdsuite.diagram.strokes import strokes_of
-from pdsuite.diagram.values import Arrival, Block, Expected, Flag, Kind, Note, Segment, Step, Strokes
-from pdsuite.page.plots import Plot, Plots, plots_of
-from pdsuite.programs.rows import Row, Verdict
+from pdsuite.diagram.timeline import timeline_of
+from pdsuite.diagram.timeline_parts import Arrival, ExpectedSegment, Flag, Note, SackBlock, Segment, SegmentKind, Stair
+from pdsuite.diagram.timeline_parts import Timeline
+from pdsuite.page.diagram_choice import DiagramChoice, Plot, plots_of
 from pdsuite.programs.trace import events_in
+from pdsuite.programs.verdict import Row, Verdict
 from pdsuite.run.outcomes import Outcome
 
 RECORDINGS = Path(__file__).with_name("recordings")
 
 
-def strokes(name: str) -> Strokes:
+def strokes(name: str) -> Timeline:
     """The strokes of a recording."""
-    found = strokes_of(events_in((RECORDINGS / f"{name}.txt").read_text()))
+    found = timeline_of(events_in((RECORDINGS / f"{name}.txt").read_text()))
     assert found is not None
     return found
 
 
-def sent(found: Strokes) -> list[str]:
+def sent(found: Timeline) -> list[str]:
     """The segments that leave, in one line each: milliseconds, octets, what they are."""
     return [
         " ".join(filter(None, (f"{it.at // 1000}", f"{it.start}:{it.end}", it.kind.value, it.flag.value)))
@@ -35,12 +36,12 @@ def sent(found: Strokes) -> list[str]:
     ]
 
 
-def stairs(steps: tuple[Step, ...]) -> list[tuple[int, int | None]]:
+def stairs(steps: tuple[Stair, ...]) -> list[tuple[int, int | None]]:
     """A staircase, its moments in milliseconds."""
     return [(it.at // 1000, it.value) for it in steps]
 
 
-def notes(found: Strokes) -> list[tuple[int, str]]:
+def notes(found: Timeline) -> list[tuple[int, str]]:
     return [(it.at // 1000, it.words) for it in found.notes]
 
 
@@ -50,7 +51,7 @@ def notes(found: Strokes) -> list[tuple[int, str]]:
 )
 def test_a_diagram_is_as_high_as_a_window_that_is_not_far_above(edges: tuple[int | None, ...], most: int) -> None:
     """Up to 1.6 times the octets that are sent, which go to 8,002."""
-    found = replace(strokes("timeout"), edge=tuple(Step(200_000, it) for it in edges))
+    found = replace(strokes("timeout"), edge=tuple(Stair(200_000, it) for it in edges))
     assert figure_of(found, WIDE).axes[0].get_ylim()[1] == pytest.approx(1.05 * most)
 
 
@@ -81,7 +82,11 @@ def test_a_timeout() -> None:
 
 def test_a_recovery_with_sack() -> None:
     found = strokes("sack")
-    assert found.blocks == (Block(300_000, 1001, 2001), Block(310_000, 1001, 3001), Block(320_000, 1001, 4001))
+    assert found.blocks == (
+        SackBlock(300_000, 1001, 2001),
+        SackBlock(310_000, 1001, 3001),
+        SackBlock(320_000, 1001, 4001),
+    )
     assert [it for it in sent(found) if "again" in it] == ["320 1:1001 again"]
     assert notes(found) == [(320, "loss: SACK recovery")]
     assert [(it.begin, it.end) for it in found.spans] == [(320_000, 440_000)]
@@ -124,7 +129,7 @@ RESET = """+0.5 < S 0:0(0) win 100 <mss 1000>
 
 
 def test_a_reset_ends_the_stairs_and_times_count_from_the_start_of_the_run() -> None:
-    found = strokes_of(
+    found = timeline_of(
         events_in("+0 socket(..., SOCK_STREAM, 6) = 3\n//= at 0.000000 CLOSED connection:none\n" + RESET)
     )
     assert found is not None
@@ -156,7 +161,7 @@ FINS = f"""+0.5 < S 0:0(0) win 100 <mss 1000>
 
 
 def test_a_fin_or_rst_that_is_dropped_is_marked_where_acknowledged_octets_end() -> None:
-    found = strokes_of(events_in(FINS))
+    found = timeline_of(events_in(FINS))
     assert found is not None
     assert found.arrivals == (
         Arrival(500_000, 0, Flag.SYN),
@@ -171,7 +176,7 @@ def test_a_fin_or_rst_that_is_dropped_is_marked_where_acknowledged_octets_end() 
 
 
 def test_what_is_dropped_is_drawn_just_above_the_stairs_and_raises_nothing() -> None:
-    found = strokes_of(events_in(FINS))
+    found = timeline_of(events_in(FINS))
     assert found is not None
     picture = figure_of(found, WIDE)
     axes = picture.axes[0]
@@ -196,7 +201,7 @@ def test_what_is_dropped_is_drawn_just_above_the_stairs_and_raises_nothing() -> 
     "recording", ["", "0 close(3) = 0\n//= at 0.000000 CLOSED connection:none\n", RESET[:-30], "?"]
 )
 def test_without_packets_or_states_there_are_no_strokes(recording: str) -> None:
-    assert strokes_of(events_in(recording)) is None
+    assert timeline_of(events_in(recording)) is None
 
 
 def script_of(name: str) -> str:
@@ -217,10 +222,10 @@ def test_the_failing_packet_is_an_outline_and_what_was_sent_is_filled_and_what_c
     failing = failing_line_of(script, 16, WRONG)
     assert failing is not None
     assert (failing.inputs, failing.packets, failing.moment) == (9, 6, 310_000)
-    found = strokes_of(events_in((RECORDINGS / "fails.txt").read_text()), failing)
+    found = timeline_of(events_in((RECORDINGS / "fails.txt").read_text()), failing)
     assert found is not None and found.failure is not None and found.has_later
-    assert found.failure.expected == Expected(310_000, 310_000, 1, 1001)
-    assert found.failure.actual == Segment(310_000, 5001, 6001, Kind.NEW)
+    assert found.failure.expected == ExpectedSegment(310_000, 310_000, 1, 1001)
+    assert found.failure.actual == Segment(310_000, 5001, 6001, SegmentKind.NEW)
     assert "310 5001:6001 new" not in sent(found)
     assert {it.at for it in found.segments if it.is_later} == {320_000, 520_000}
     assert {it.at for it in found.arrivals if not it.is_later} == {100_000, 200_000, 300_000, 310_000}
@@ -235,11 +240,11 @@ def test_a_missing_packet_has_an_outline_alone_and_its_moments() -> None:
     assert (failing.inputs, failing.packets, failing.moment, failing.actual) == (1, 0, 300_000, None)
     assert (failing.expected.first, failing.expected.last) == (100_000, 300_000)
     recording = RESET.replace("+0.5 <", "+0 <").replace("at 0.500000", "at 0.000000")
-    found = strokes_of(events_in(recording), failing)
+    found = timeline_of(events_in(recording), failing)
     assert found is not None and found.failure is not None
     assert (found.failure.at, found.failure.expected, found.failure.actual) == (
         300_000,
-        Expected(100_000, 300_000, 1, 2),
+        ExpectedSegment(100_000, 300_000, 1, 2),
         None,
     )
     assert [it.is_later for it in found.segments] == [False, True]
@@ -293,6 +298,12 @@ def test_the_same_strokes_give_the_same_octets_with_classes_and_variables() -> N
 def test_which_scripts_are_drawn() -> None:
     verdicts = [Verdict.FAIL, Verdict.PASS, Verdict.FAIL, Verdict.SYNTAX, Verdict.FAIL]
     outcomes = [Outcome(f"a/{number}.pkt", (), Row(it, 1)) for number, it in enumerate(verdicts)]
-    assert list(plots_of(outcomes, Plots(None, 2))) == [Plot.PAGE, Plot.NONE, Plot.PAGE, Plot.NONE, Plot.NONE]
-    assert list(plots_of(outcomes, Plots("1.pkt", 0))) == [Plot.NONE, Plot.FILES, Plot.NONE, Plot.NONE, Plot.NONE]
-    assert list(plots_of(outcomes, Plots("a/*", 50))) == [Plot.FILES] * 5
+    assert list(plots_of(outcomes, DiagramChoice(None, 2))) == [Plot.PAGE, Plot.NONE, Plot.PAGE, Plot.NONE, Plot.NONE]
+    assert list(plots_of(outcomes, DiagramChoice("1.pkt", 0))) == [
+        Plot.NONE,
+        Plot.FILES,
+        Plot.NONE,
+        Plot.NONE,
+        Plot.NONE,
+    ]
+    assert list(plots_of(outcomes, DiagramChoice("a/*", 50))) == [Plot.FILES] * 5

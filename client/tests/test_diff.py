@@ -43,12 +43,12 @@ Report = Callable[..., None]
 
 
 @pytest.fixture
-def report(stand_in: Path, tmp_path: Path, call: Call) -> Report:
+def report(fake_program: Path, tmp_path: Path, call: Call) -> Report:
     """Writes the report of a run into a file."""
 
     def written(name: str, *words: str) -> None:
         (tmp_path / name).parent.mkdir(parents=True, exist_ok=True)
-        (tmp_path / name).write_text(call(stand_in, "run", "--json", *words).out)
+        (tmp_path / name).write_text(call(fake_program, "run", "--json", *words).out)
 
     return written
 
@@ -130,30 +130,30 @@ def test_a_shard_that_is_missing_is_refused(report: Report, tmp_path: Path, call
     assert call(None, "diff", "now/3.json", "now/3.json").status == 0
 
 
-def test_a_report_is_read_from_a_pipe(report: Report, tmp_path: Path, call: Call, stand_in: Path) -> None:
+def test_a_report_is_read_from_a_pipe(report: Report, tmp_path: Path, call: Call, fake_program: Path) -> None:
     make(tmp_path / "suite", BEFORE)
     report("old.json", "suite")
     make(tmp_path / "suite", AFTER)
     command = f'"{TOP}/pdsuite" run --json suite | "{TOP}/pdsuite" diff old.json /dev/stdin'
-    environment = {**os.environ, "PDSUITE_PROGRAMS": str(stand_in)}
+    environment = {**os.environ, "PDSUITE_PROGRAMS": str(fake_program)}
     done = subprocess.run(["sh", "-c", command], cwd=tmp_path, env=environment, capture_output=True, text=True)
     assert (done.stdout.splitlines(), done.returncode) == (TURNED, 1)
 
 
 def test_one_report_is_compared_with_what_the_last_run_of_its_scripts_left(
-    report: Report, stand_in: Path, tmp_path: Path, call: Call
+    report: Report, fake_program: Path, tmp_path: Path, call: Call
 ) -> None:
     make(tmp_path / "suite", BEFORE)
     report("old.json", "suite")
     report("from_above.json", str(tmp_path / "suite"))
     make(tmp_path / "suite", AFTER)
-    call(stand_in, "run", "suite")
-    call(stand_in, "run", "suite/well.pkt")  # holds not all scripts of the reports
+    call(fake_program, "run", "suite")
+    call(fake_program, "run", "suite/well.pkt")  # holds not all scripts of the reports
     called = call(None, "diff", "old.json")
     assert (called.out.splitlines(), called.status) == (TURNED, 1)
     assert call(None, "diff", "from_above.json").out.splitlines() == TURNED
     make(tmp_path / "suite", BEFORE)
-    call(stand_in, "run", ".")  # was left last, and holds them too
+    call(fake_program, "run", ".")  # was left last, and holds them too
     assert call(None, "diff", "old.json").status == 0
 
 
@@ -219,13 +219,13 @@ def test_words_that_it_does_not_take_are_status_2(words: list[str], call: Call) 
     assert "Traceback" not in called.err
 
 
-def test_a_terminal_shows_in_colour_what_got_worse(report: Report, stand_in: Path, tmp_path: Path) -> None:
+def test_a_terminal_shows_in_colour_what_got_worse(report: Report, fake_program: Path, tmp_path: Path) -> None:
     make(tmp_path / "suite", BEFORE)
     report("old.json", "suite")
     make(tmp_path / "suite", AFTER)
     report("new.json", "suite")
-    _, shown = on_terminal(tmp_path, stand_in, "diff", "old.json", "new.json")
+    _, shown = on_terminal(tmp_path, fake_program, "diff", "old.json", "new.json")
     assert b"suite/more.pkt:2: \x1b[1;31mpasses no more\x1b[0m: fail seq, was pass 9\r\n" in shown
     assert b"\x1b[32mpasses again\x1b[0m" in shown
-    _, shown = on_terminal(tmp_path, stand_in, "diff", "--no-color", "old.json", "new.json")
+    _, shown = on_terminal(tmp_path, fake_program, "diff", "--no-color", "old.json", "new.json")
     assert b"\x1b[" not in shown

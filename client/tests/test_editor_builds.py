@@ -9,7 +9,7 @@ import pytest
 from tests.editors import EDITORS
 from tests.helpers import HANGS
 from tests.test_watch_builds import SOURCE, tree_of_one_script
-from tests.trees import Tree
+from tests.tree_fixture import Tree
 
 NEOVIM = """
 local function wait(happened)
@@ -55,8 +55,8 @@ EMACS = """
 (princ (format "%s\\n" (match-string 0 (format "%s" (said script)))))
 (eglot-shutdown (eglot-current-server))
 """
-# What is said of the source, and then of the script.
-SAID = ("error[mismatch]: wrong", "fail seq: so it is")
+# What is shown of the source, and then of the script.
+PRINTED = ("error[mismatch]: wrong", "fail seq: so it is")
 LEFT = "pdsuite: the sender has changed: rows are old"
 
 
@@ -65,7 +65,7 @@ def tree(tmp_path: Path) -> Tree:
     return tree_of_one_script(tmp_path)
 
 
-def said_by(tree: Tree, words: Sequence[str | Path]) -> "subprocess.CompletedProcess[str]":
+def output_of(tree: Tree, words: Sequence[str | Path]) -> "subprocess.CompletedProcess[str]":
     """What an editor says that is started beside the scripts."""
     there = {**tree.environment, "SOURCE": str(tree.top / SOURCE), "LC_ALL": "C.UTF-8"}
     return subprocess.run(words, cwd=tree.suite, env=there, capture_output=True, text=True, timeout=HANGS)
@@ -75,9 +75,9 @@ def test_neovim_follows_a_sender_that_is_built(tree: Tree) -> None:
     (tree.notes / "play.lua").write_text(NEOVIM)
     command = f"let g:pdsuite_command = ['{tree.top}/pdsuite', 'lsp']"
     words = ["--cmd", command, "--cmd", f"set runtimepath^={EDITORS}/vim", "--headless"]
-    done = said_by(tree, ["nvim", "--clean", "-n", *words, "-c", f"luafile {tree.notes}/play.lua", "a.pkt"])
+    done = output_of(tree, ["nvim", "--clean", "-n", *words, "-c", f"luafile {tree.notes}/play.lua", "a.pkt"])
     lines = done.stderr.splitlines()
-    assert [it for it in lines if it in SAID] == list(SAID) and lines.count("LSP[pdsuite][Warning] " + LEFT) == 1
+    assert [it for it in lines if it in PRINTED] == list(PRINTED) and lines.count("LSP[pdsuite][Warning] " + LEFT) == 1
 
 
 def test_emacs_follows_a_sender_that_is_built(tree: Tree) -> None:
@@ -85,6 +85,6 @@ def test_emacs_follows_a_sender_that_is_built(tree: Tree) -> None:
     lisp = f"""(progn (require 'packetdrill-mode) (require 'eglot)
       (setq packetdrill-command '("{tree.top}/pdsuite" "lsp")))"""
     words: list[str | Path] = ["-q", "--batch", "-L", EDITORS / "emacs", "--eval", lisp, "-l", tree.notes / "play.el"]
-    done = said_by(tree, ["emacs", *words])
+    done = output_of(tree, ["emacs", *words])
     lines = done.stdout.splitlines()
-    assert [it for it in lines if it in SAID] == list(SAID), done.stderr
+    assert [it for it in lines if it in PRINTED] == list(PRINTED), done.stderr

@@ -64,7 +64,7 @@ def test_neovim_takes_over_what_was_sent(recording_programs: Path, tmp_path: Pat
     script = prepared(tmp_path)
     play = tmp_path / "play.lua"
     play.write_text(NEOVIM)
-    said = subprocess.run(
+    done = subprocess.run(
         neovim("--headless", "-c", f"luafile {play}", script),
         env=environment(recording_programs),
         cwd=tmp_path,
@@ -72,8 +72,8 @@ def test_neovim_takes_over_what_was_sent(recording_programs: Path, tmp_path: Pat
         text=True,
         timeout=HANGS,
     )
-    lines = said.stderr.splitlines()
-    assert lines[0] == f"{FAILING + 1} seq fail seq: the packet has other octets", said.stderr
+    lines = done.stderr.splitlines()
+    assert lines[0] == f"{FAILING + 1} seq fail seq: the packet has other octets", done.stderr
     assert lines[1] == ACTUAL and lines[2].startswith("Take the packet that was sent")
     ends_passing(script, recording_programs, call)
 
@@ -82,7 +82,7 @@ def test_emacs_takes_over_what_was_sent(recording_programs: Path, tmp_path: Path
     script = prepared(tmp_path)
     play = tmp_path / "play.el"
     play.write_text(EMACS)
-    said = subprocess.run(
+    done = subprocess.run(
         emacs("--batch", "-l", play),
         env={**environment(recording_programs), "SCRIPT": str(script)},
         cwd=tmp_path,
@@ -90,8 +90,8 @@ def test_emacs_takes_over_what_was_sent(recording_programs: Path, tmp_path: Path
         text=True,
         timeout=HANGS,
     )
-    assert f"{FAILING + 1} pdsuite [seq]: fail seq: the packet has other octets\n{ACTUAL}\n" in said.stdout, said.stderr
-    assert "\nTake the packet that was sent\n3\n" in said.stdout
+    assert f"{FAILING + 1} pdsuite [seq]: fail seq: the packet has other octets\n{ACTUAL}\n" in done.stdout, done.stderr
+    assert "\nTake the packet that was sent\n3\n" in done.stdout
     ends_passing(script, recording_programs, call)
 
 

@@ -10,13 +10,13 @@ import pytest
 from junitparser import Error, Failure, JUnitXml, Skipped
 
 from pdsuite.faults import Fault
-from pdsuite.programs.rows import Row, Verdict
-from pdsuite.run.outcomes import Outcome, Tally, Totals
+from pdsuite.programs.verdict import Row, Verdict
+from pdsuite.run.outcomes import CountedAs, Outcome, Totals
+from pdsuite.scripts.config import layer_of
 from pdsuite.scripts.expectation import Expectation, is_row
-from pdsuite.scripts.suite import layer_of
-from tests.helpers import FAILS, PACKET, PASSES, TOLD, Call, write
+from tests.helpers import BLOCK_LINES, FAILS, PACKET, PASSES, Call, write
 from tests.test_reports import NAMES, parse_tap
-from tests.watching import Watching
+from tests.watch_process import Watching
 
 SEQ = Row(Verdict.FAIL, 12, "seq")
 # Rows with the words that fit each, and some that don't.
@@ -58,16 +58,16 @@ def test_all_else_is_no_row_that_can_be_expected(words: str) -> None:
 
 
 TAKES = 'it takes a row that doesn\'t pass, as "fail 12 seq", or its first words'
-SAYS = "it takes a text that isn't empty"
+TAKES_TEXT = "it takes a text that isn't empty"
 WRONG = [
     ('["a.pkt"]\nexpect = "fail"', ":2", 'expect: needs a reason beside it (["a.pkt"])'),
     ('["a.pkt"]\nreason = "x"', ":2", 'reason: needs expect beside it (["a.pkt"])'),
     ('["a.pkt"]\nexpect = "pass 9"\nreason = "x"', ":2", f'expect: BadValue (["a.pkt"]): {TAKES}'),
     ('\n["a.pkt"]\nreason = "x"\nexpect = 12', ":4", f'expect: BadValue (["a.pkt"]): {TAKES}'),
     ('["a\\nb.pkt"]\nexpect = ""\nreason = "x"', "", f'expect: BadValue (["a\\x0ab.pkt"]): {TAKES}'),
-    ('["a.pkt"]\nexpect = "fail"\nreason = ""', ":3", f'reason: BadValue (["a.pkt"]): {SAYS}'),
-    ('["a.pkt"]\nexpect = "fail"\nreason = " \\n"', ":3", f'reason: BadValue (["a.pkt"]): {SAYS}'),
-    ('["a.pkt"]\nexpect = "fail"\nreason = 75', ":3", f'reason: BadValue (["a.pkt"]): {SAYS}'),
+    ('["a.pkt"]\nexpect = "fail"\nreason = ""', ":3", f'reason: BadValue (["a.pkt"]): {TAKES_TEXT}'),
+    ('["a.pkt"]\nexpect = "fail"\nreason = " \\n"', ":3", f'reason: BadValue (["a.pkt"]): {TAKES_TEXT}'),
+    ('["a.pkt"]\nexpect = "fail"\nreason = 75', ":3", f'reason: BadValue (["a.pkt"]): {TAKES_TEXT}'),
     ('expect = "fail"\nreason = "x"', ":1", 'expect: stands in no script\'s table, as ["NAME.pkt"] is'),
     ('reason = "x"', ":1", 'reason: stands in no script\'s table, as ["NAME.pkt"] is'),
 ]
@@ -92,21 +92,21 @@ def outcome(row: Row, words: str | None = None) -> Outcome:
 
 TALLIES = [
     (SEQ, None, Verdict.FAIL, False),
-    (SEQ, "fail 12", Tally.KNOWN, True),
-    (SEQ, "fail 13", Tally.UNEXPECTED, False),
+    (SEQ, "fail 12", CountedAs.KNOWN, True),
+    (SEQ, "fail 13", CountedAs.UNEXPECTED, False),
     (Row(Verdict.PASS, 9), None, Verdict.PASS, True),
-    (Row(Verdict.PASS, 9), "fail 12", Tally.UNEXPECTED, False),
-    (Row(Verdict.UNSUPPORTED, 1), "unsupported", Tally.KNOWN, True),
-    (Row(Verdict.ERROR, word="x"), "error", Tally.KNOWN, True),
+    (Row(Verdict.PASS, 9), "fail 12", CountedAs.UNEXPECTED, False),
+    (Row(Verdict.UNSUPPORTED, 1), "unsupported", CountedAs.KNOWN, True),
+    (Row(Verdict.ERROR, word="x"), "error", CountedAs.KNOWN, True),
     (Row(Verdict.ERROR, word="x"), "fail", Verdict.ERROR, False),
     (Row(Verdict.NOT_RUN), "fail", Verdict.NOT_RUN, False),
 ]
 
 
 @pytest.mark.parametrize(("row", "words", "tally", "passes"), TALLIES, ids=range(len(TALLIES)))
-def test_how_a_script_is_counted(row: Row, words: str | None, tally: Verdict | Tally, passes: bool) -> None:
+def test_how_a_script_is_counted(row: Row, words: str | None, tally: Verdict | CountedAs, passes: bool) -> None:
     it = outcome(row, words)
-    assert (it.tally, it.passes) == (tally, passes)
+    assert (it.counted_as, it.passes) == (tally, passes)
 
 
 def test_known_rows_are_counted_apart_and_make_no_run_fail() -> None:
@@ -121,7 +121,7 @@ def test_known_rows_are_counted_apart_and_make_no_run_fail() -> None:
     assert str(Totals.of([passing])) == f"total 1 pass 1 fail 0 {zeros}"
 
 
-# A script's first line, the row that is expected, and what is said of it with -v.
+# A script's first line, the row that is expected, and what is printed of it with -v.
 SCRIPTS: Mapping[str, tuple[bytes, str | None, str]] = {
     "a other": (b"row fail 2 ack\n\n", "fail 1 seq", ':2: fail ack, though "fail 1 seq" is expected (so #1)'),
     "b known": (b"row fail 1 seq\n" + PACKET, "fail 1 seq", ":1: known: fail seq (so #1)"),
@@ -133,7 +133,7 @@ SCRIPTS: Mapping[str, tuple[bytes, str | None, str]] = {
     "h passes": (b"row pass 9\n", None, ": pass 9"),
     "i fails": (b"row fail 1 seq\n", None, ":1: fail seq"),
 }
-LINES = [f"{name}.pkt{said}" for name, (_, _, said) in SCRIPTS.items()]
+LINES = [f"{name}.pkt{message}" for name, (_, _, message) in SCRIPTS.items()]
 KNOWN = ["b known", "c syntax", "d unsupported", "f error"]
 
 
@@ -156,66 +156,71 @@ def without_below(out: str) -> list[str]:
 TOTALS = "total 9 pass 1 fail 1 syntax 0 unsupported 0 limit 0 error 0 not run 0 known 4 unexpected 3"
 
 
-def test_people_see_known_rows_with_v_alone(stand_in: Path, tmp_path: Path, call: Call) -> None:
+def test_people_see_known_rows_with_v_alone(fake_program: Path, tmp_path: Path, call: Call) -> None:
     make(tmp_path)
-    called = call(stand_in, "run", "-v", ".")
+    called = call(fake_program, "run", "-v", ".")
     assert (without_below(called.out), called.status) == ([*LINES, TOTALS], 1)
     lines = called.out.splitlines()
     assert not any(lines[place + 1].startswith("  ") for place, it in enumerate(lines) if ": known: " in it)
     shown = [it for it in LINES if ": known: " not in it and not it.endswith(": pass 9")]
-    called = call(stand_in, "run", ".")
+    called = call(fake_program, "run", ".")
     assert (without_below(called.out), called.status) == ([*shown, TOTALS], 1)
 
 
-def test_where_all_others_pass_the_run_passes(stand_in: Path, tmp_path: Path, call: Call) -> None:
+def test_where_all_others_pass_the_run_passes(fake_program: Path, tmp_path: Path, call: Call) -> None:
     make(tmp_path)
     write(tmp_path, **{it: b"row pass 1\n" for it in ("a other", "e limit", "g mended", "i fails")})
     text = (tmp_path / "pdsuite.toml").read_text()
     for name in ("a other", "e limit", "g mended"):
         text = text.replace(f'["{name}.pkt"]\nexpect = "{SCRIPTS[name][1]}"\nreason = "so #1"\n', "")
     (tmp_path / "pdsuite.toml").write_text(text)
-    called = call(stand_in, "run", ".")
+    called = call(fake_program, "run", ".")
     assert (called.status, called.rows) == (0, [])
     assert called.totals == {"pass": 5, "known": 4}
 
 
-def test_what_is_known_ends_no_run_that_is_to_fail_fast(stand_in: Path, tmp_path: Path, call: Call) -> None:
+def test_what_is_known_ends_no_run_that_is_to_fail_fast(fake_program: Path, tmp_path: Path, call: Call) -> None:
     write(tmp_path, **{f"s{number:03}": b"row fail 1 seq\n" if number == 0 else PASSES for number in range(200)})
     toml = tmp_path / "pdsuite.toml"
     toml.write_text('root = true\n["s000.pkt"]\nexpect = "fail"\nreason = "x"\n')
-    assert call(stand_in, "run", "--fail-fast", ".").totals == {"pass": 199, "known": 1}
+    assert call(fake_program, "run", "--fail-fast", ".").totals == {"pass": 199, "known": 1}
     toml.write_text(
         'root = true\n["s001.pkt"]\nexpect = "fail"\nreason = "x"\n["s000.pkt"]\nexpect = "fail 1"\nreason = "x"\n'
     )
-    assert call(stand_in, "run", "--fail-fast", ".").totals == {"pass": 62, "known": 1, "unexpected": 1, "not run": 136}
+    assert call(fake_program, "run", "--fail-fast", ".").totals == {
+        "pass": 62,
+        "known": 1,
+        "unexpected": 1,
+        "not run": 136,
+    }
 
 
-def test_of_a_known_failure_people_read_a_line(stand_in: Path, tmp_path: Path, call: Call) -> None:
+def test_of_a_known_failure_people_read_a_line(fake_program: Path, tmp_path: Path, call: Call) -> None:
     write(tmp_path, a=b"row fail 1 seq\n" + PACKET)
     (tmp_path / "pdsuite.toml").write_text('root = true\n["a.pkt"]\nexpect = "fail"\nreason = "x"\n')
-    assert call(stand_in, "run", "-v", ".").out.splitlines()[:-1] == ["a.pkt:1: known: fail seq (x)"]
+    assert call(fake_program, "run", "-v", ".").out.splitlines()[:-1] == ["a.pkt:1: known: fail seq (x)"]
     for words in (["--tap"], ["--github"], ["--json"]):
-        assert TOLD[2] in call(stand_in, "run", *words, ".").out
+        assert BLOCK_LINES[2] in call(fake_program, "run", *words, ".").out
 
 
-def test_tap_has_known_rows_still_to_do(stand_in: Path, tmp_path: Path, call: Call) -> None:
+def test_tap_has_known_rows_still_to_do(fake_program: Path, tmp_path: Path, call: Call) -> None:
     make(tmp_path)
-    called = call(stand_in, "run", "--tap", ".")
+    called = call(fake_program, "run", "--tap", ".")
     tests, last = parse_tap(tmp_path, called.out)
     assert [(it[2], it[3]) for it in tests] == [(f"{name}.pkt", "TODO" if name in KNOWN else "") for name in SCRIPTS]
     assert [it[0] for it in tests] == ["1" if name == "h passes" else "0" for name in SCRIPTS]
     assert last == "13 9 0"
     lines = called.out.splitlines()
     place = lines.index("not ok 2 b known.pkt # TODO so #1")
-    told = [f"#   {line}" for line in TOLD]
-    assert lines[place - 4 : place] == ["# b known.pkt:1: known: fail seq (so #1): so it is", *told]
+    reported = [f"#   {line}" for line in BLOCK_LINES]
+    assert lines[place - 4 : place] == ["# b known.pkt:1: known: fail seq (so #1): so it is", *reported]
     place = lines.index("not ok 7 g mended.pkt")
     assert lines[place - 1] == f"# {LINES[6]}"
 
 
-def test_junit_skips_known_rows_with_the_reason(stand_in: Path, tmp_path: Path, call: Call) -> None:
+def test_junit_skips_known_rows_with_the_reason(fake_program: Path, tmp_path: Path, call: Call) -> None:
     make(tmp_path)
-    call(stand_in, "run", "--junit", "out.xml", ".")
+    call(fake_program, "run", "--junit", "out.xml", ".")
     (suite,) = JUnitXml.fromfile(str(tmp_path / "out.xml"))
     assert (suite.tests, suite.failures, suite.errors, suite.skipped) == (9, 3, 1, 4)
     results = {case.name.removesuffix(".pkt"): case.result[0] for case in suite if case.result}
@@ -224,15 +229,15 @@ def test_junit_skips_known_rows_with_the_reason(stand_in: Path, tmp_path: Path, 
     for name in KNOWN:
         assert (results[name].message, results[name].type) == ("so #1", "known")
     assert results["b known"].text == "b known.pkt:1: known: fail seq (so #1): so it is" + "".join(
-        f"\n  {it}" for it in TOLD
+        f"\n  {it}" for it in BLOCK_LINES
     )
     assert (results["g mended"].message, results["g mended"].type) == (LINES[6], "unexpected")
     assert results["a other"].message.startswith(LINES[0])
 
 
-def test_json_has_what_is_expected(stand_in: Path, tmp_path: Path, call: Call) -> None:
+def test_json_has_what_is_expected(fake_program: Path, tmp_path: Path, call: Call) -> None:
     make(tmp_path)
-    report = json.loads(call(stand_in, "run", "--json", ".").out)
+    report = json.loads(call(fake_program, "run", "--json", ".").out)
     for script in report["scripts"]:
         name = script["path"].removesuffix(".pkt")
         words = SCRIPTS[name][1]
@@ -248,9 +253,11 @@ def test_json_has_what_is_expected(stand_in: Path, tmp_path: Path, call: Call) -
     }
 
 
-def test_github_has_a_notice_of_known_rows(stand_in: Path, tmp_path: Path, call: Call) -> None:
+def test_github_has_a_notice_of_known_rows(fake_program: Path, tmp_path: Path, call: Call) -> None:
     make(tmp_path)
-    lines = call(stand_in, "run", "--github", ".", GITHUB_STEP_SUMMARY=str(tmp_path / "summary.md")).out.splitlines()
+    lines = call(
+        fake_program, "run", "--github", ".", GITHUB_STEP_SUMMARY=str(tmp_path / "summary.md")
+    ).out.splitlines()
     notices = [it for it in lines if it.startswith("::notice ")]
     errors = [it for it in lines if it.startswith("::error ")]
     assert [it.split("::")[2].split(": known")[0] for it in notices] == [
@@ -260,8 +267,8 @@ def test_github_has_a_notice_of_known_rows(stand_in: Path, tmp_path: Path, call:
         "f error.pkt",
     ]
     first = "::notice file=b known.pkt,line=1,title=known%3A fail seq::"
-    told = "".join(f"%0A  {line}" for line in TOLD)
-    assert notices[0] == f"{first}b known.pkt:1: known: fail seq (so #1): so it is{told}"
+    reported = "".join(f"%0A  {line}" for line in BLOCK_LINES)
+    assert notices[0] == f"{first}b known.pkt:1: known: fail seq (so #1): so it is{reported}"
     assert errors[2] == f"::error file=g mended.pkt,title=passes%2C though it is expected not to::{LINES[6]}"
     assert [it.split("::")[2].split(".pkt")[0] for it in errors] == ["a other", "e limit", "g mended", "i fails"]
     summary = (tmp_path / "summary.md").read_text().splitlines()
@@ -274,9 +281,9 @@ def test_github_has_a_notice_of_known_rows(stand_in: Path, tmp_path: Path, call:
     ]
 
 
-def test_the_page_filters_by_what_is_known(stand_in: Path, tmp_path: Path, call: Call) -> None:
+def test_the_page_filters_by_what_is_known(fake_program: Path, tmp_path: Path, call: Call) -> None:
     make(tmp_path)
-    call(stand_in, "run", "--html", "page", ".")
+    call(fake_program, "run", "--html", "page", ".")
     table = (tmp_path / "page/index.html").read_text()
     assert '<input type="checkbox" name="verdict" value="known"> known <span class="count">4</span>' in table
     assert '<input type="checkbox" name="verdict" value="unexpected"> unexpected <span class="count">3</span>' in table
@@ -291,11 +298,11 @@ def test_the_page_filters_by_what_is_known(stand_in: Path, tmp_path: Path, call:
     assert '<p class="known">&#34;fail 12 seq&#34; is expected (so #1)</p>' in page.read_text()
 
 
-def test_while_scripts_are_watched_it_is_told_when_one_passes(stand_in: Path, tmp_path: Path) -> None:
+def test_while_scripts_are_watched_it_is_told_when_one_passes(fake_program: Path, tmp_path: Path) -> None:
     write(tmp_path, a=b"row fail 1 seq\n", b=b"row pass 2\n")
     toml = tmp_path / "pdsuite.toml"
     toml.write_text('root = true\n["a.pkt"]\nexpect = "fail 1 seq"\nreason = "so #1"\n')
-    with Watching(tmp_path, stand_in, ".") as watching:
+    with Watching(tmp_path, fake_program, ".") as watching:
         assert without_below(watching.out)[0].startswith("total 2 pass 1 fail 0 ")
         write(tmp_path, a=b"row pass 3\n")
         watching.await_out('a.pkt: passes, though "fail 1 seq" is expected (so #1)\ntotal 2 pass 1 ')
@@ -315,17 +322,19 @@ def test_while_scripts_are_watched_it_is_told_when_one_passes(stand_in: Path, tm
         assert watching.ends(signal.SIGINT).status == 0
 
 
-def test_a_row_that_is_expected_of_no_script_is_a_fault_of_the_file(stand_in: Path, tmp_path: Path, call: Call) -> None:
+def test_a_row_that_is_expected_of_no_script_is_a_fault_of_the_file(
+    fake_program: Path, tmp_path: Path, call: Call
+) -> None:
     write(tmp_path, known=b"row fail 1 seq\n")
     (tmp_path / "pdsuite.toml").write_text('root = true\n["knwon.pkt"]\nexpect = "fail"\nreason = "x"\n')
-    said = 'pdsuite.toml:2: ["knwon.pkt"]: no script of this name is beside the file; the nearest is known.pkt; '
+    message = 'pdsuite.toml:2: ["knwon.pkt"]: no script of this name is beside the file; the nearest is known.pkt; '
     for command in ("run", "list"):
-        called = call(stand_in, command, ".")
+        called = call(fake_program, command, ".")
         assert (called.status, called.out) == (2, "")
-        assert called.err == f"{said}`pdsuite expect --prune` takes the table away\n"
+        assert called.err == f"{message}`pdsuite expect --prune` takes the table away\n"
 
 
-def test_names_of_any_octets_can_be_known(stand_in: Path, tmp_path: Path, call: Call) -> None:
+def test_names_of_any_octets_can_be_known(fake_program: Path, tmp_path: Path, call: Call) -> None:
     toml = "root = true\n"
     names = [name for name in NAMES if name != b"\xff"]
     for name in names:
@@ -334,23 +343,23 @@ def test_names_of_any_octets_can_be_known(stand_in: Path, tmp_path: Path, call: 
         toml += f'[{key}]\nexpect = "fail 1"\nreason = "a\\nb \\u001b[2J # <x> | `"\n'
     (tmp_path / "pdsuite.toml").write_text(toml)
     for words in (["-v"], ["--tap"], ["--json"], ["--github"], ["--html", "page"], ["--junit", "out.xml"]):
-        called = call(stand_in, "run", *words, ".")
+        called = call(fake_program, "run", *words, ".")
         assert (called.status, called.err) == (0, "")
         assert all(line.isprintable() for line in called.out.split("\n"))
-    tests, last = parse_tap(tmp_path, call(stand_in, "run", "--tap", ".").out)
+    tests, last = parse_tap(tmp_path, call(fake_program, "run", "--tap", ".").out)
     assert [it[3] for it in tests] == ["TODO"] * len(names) and last == f"13 {len(names)} 0"
     (suite,) = JUnitXml.fromfile(str(tmp_path / "out.xml"))
     assert {result.message for case in suite for result in case.result} == {r"a\x0ab \x1b[2J # <x> | `"}
 
 
-def test_known_rows_are_no_difference_that_is_worse(stand_in: Path, tmp_path: Path, call: Call) -> None:
+def test_known_rows_are_no_difference_that_is_worse(fake_program: Path, tmp_path: Path, call: Call) -> None:
     suite = tmp_path / "suite"
     write(suite, a=b"row pass 9\n", b=b"row fail 2 seq\n\n")
-    (tmp_path / "old.json").write_text(call(stand_in, "run", "--json", "suite").out)
+    (tmp_path / "old.json").write_text(call(fake_program, "run", "--json", "suite").out)
     write(suite, a=b"row fail 1 seq\n", b=b"row fail 1 seq\n", c=b"row fail 1 seq\n")
     tables = "".join(f'["{name}.pkt"]\nexpect = "fail 1"\nreason = "x"\n' for name in "abc")
     (suite / "pdsuite.toml").write_text(f"root = true\n{tables}")
-    (tmp_path / "new.json").write_text(call(stand_in, "run", "--json", "suite").out)
+    (tmp_path / "new.json").write_text(call(fake_program, "run", "--json", "suite").out)
     called = call(None, "diff", "old.json", "new.json")
     assert called.out.splitlines()[:3] == [
         "suite/a.pkt:1: passes no more: known: fail seq, was pass 9",
@@ -361,11 +370,11 @@ def test_known_rows_are_no_difference_that_is_worse(stand_in: Path, tmp_path: Pa
 
 
 def test_what_made_the_run_fail_is_run_again_and_what_is_known_is_not(
-    stand_in: Path, tmp_path: Path, call: Call
+    fake_program: Path, tmp_path: Path, call: Call
 ) -> None:
     make(tmp_path)
-    call(stand_in, "run", ".")
-    called = call(stand_in, "run", "-v", "--last-failed", ".")
+    call(fake_program, "run", ".")
+    called = call(fake_program, "run", "-v", "--last-failed", ".")
     assert without_below(called.out)[:-1] == [LINES[place] for place in (0, 4, 6, 8)]
 
 

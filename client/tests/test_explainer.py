@@ -1,4 +1,4 @@
-"""What is told below the row of a script that doesn't pass."""
+"""What is printed below the row of a script that doesn't pass."""
 
 import json
 import os
@@ -9,47 +9,47 @@ from pathlib import Path
 
 import pytest
 
+from pdsuite.programs.cause_text import lines_of
 from pdsuite.programs.protocol import add, blocks_in, causes_in, name_of
-from pdsuite.programs.told import lines_of
-from pdsuite.run.manner import in_manner
+from pdsuite.run.script_style import in_script_style
 from pdsuite.scripts.text import text_of
-from tests.helpers import OPENED, PACKET, PASSES, TOLD, TOP, Call, ends, is_alive, wait_for, wrapped, write
+from tests.helpers import BLOCK_LINES, OPENED, PACKET, PASSES, TOP, Call, ends, is_alive, wait_for, wrapped, write
 from tests.lsp_scripts import HEAD, failing_cases, failing_scripts
 
 BLOCK = b"script packet: x\nactual packet: y\n"
 BELOW = ["  script packet: x", "  actual packet: y"]
 
 
-def test_a_block_stands_below_its_row(stand_in: Path, tmp_path: Path, call: Call) -> None:
+def test_a_block_stands_below_its_row(fake_program: Path, tmp_path: Path, call: Call) -> None:
     write(tmp_path, a=PASSES, b=b"row fail 2 seq\n" + BLOCK, c=b"row limit 1\nrule: why\n")
-    called = call(stand_in, "run", ".")
+    called = call(fake_program, "run", ".")
     limit = ["c.pkt:1: limit: so it is", "  rule: why"]
     assert called.out.splitlines()[:-1] == ["b.pkt:2: fail seq: so it is", *BELOW, *limit]
     assert (called.status, called.err) == (1, "")
 
 
-def test_each_script_has_its_own_block(stand_in: Path, tmp_path: Path, call: Call) -> None:
+def test_each_script_has_its_own_block(fake_program: Path, tmp_path: Path, call: Call) -> None:
     for number in range(150):
         text = PASSES if number % 3 == 0 else b"row fail 1 seq\nreason: it is %d\n" % number
         write(tmp_path, **{f"s{number:03}": text})
-    called = call(stand_in, "run", ".")
+    called = call(fake_program, "run", ".")
     below = [line for line in called.out.splitlines() if line.startswith("  ")]
     assert below == [f"  reason: it is {number}" for number in range(150) if number % 3]
 
 
-def test_every_form_has_the_block(stand_in: Path, tmp_path: Path, call: Call) -> None:
+def test_every_form_has_the_block(fake_program: Path, tmp_path: Path, call: Call) -> None:
     write(tmp_path, b=b"row fail 2 seq\n" + PACKET)
-    told = ["b.pkt:2: fail seq: so it is", *(f"  {line}" for line in TOLD)]
-    assert call(stand_in, "run", "--tap", ".").out.splitlines()[2:6] == [f"# {line}" for line in told]
-    (script,) = json.loads(call(stand_in, "run", "--json", ".").out)["scripts"]
-    assert (script["what"], script["below"]) == ("so it is", TOLD)
-    assert "%0A".join(told) in call(stand_in, "run", "--github", ".").out
-    call(stand_in, "run", "--junit", "out.xml", ".")
-    assert "\n".join(told).replace(">", "&gt;") in (tmp_path / "out.xml").read_text()
+    reported = ["b.pkt:2: fail seq: so it is", *(f"  {line}" for line in BLOCK_LINES)]
+    assert call(fake_program, "run", "--tap", ".").out.splitlines()[2:6] == [f"# {line}" for line in reported]
+    (script,) = json.loads(call(fake_program, "run", "--json", ".").out)["scripts"]
+    assert (script["what"], script["below"]) == ("so it is", BLOCK_LINES)
+    assert "%0A".join(reported) in call(fake_program, "run", "--github", ".").out
+    call(fake_program, "run", "--junit", "out.xml", ".")
+    assert "\n".join(reported).replace(">", "&gt;") in (tmp_path / "out.xml").read_text()
 
 
-def test_the_script_s_settings_are_given(tmp_path: Path, stand_in: Path, call: Call) -> None:
-    folder = wrapped(tmp_path / "programs", stand_in, explains='printf "%s\\n" "$@" >words')
+def test_the_script_s_settings_are_given(tmp_path: Path, fake_program: Path, call: Call) -> None:
+    folder = wrapped(tmp_path / "programs", fake_program, explains='printf "%s\\n" "$@" >words')
     write(tmp_path / "suite", b=b"row fail 1 seq\nreason: why\n")
     called = call(folder, "run", "--settings", "mss = 1000", "suite")
     assert "\n  reason: why\n" in called.out
@@ -58,17 +58,19 @@ def test_the_script_s_settings_are_given(tmp_path: Path, stand_in: Path, call: C
 
 
 @pytest.mark.parametrize("text", [b"silent\n", b"other line\nwhy\n"])
-def test_a_row_without_a_block_has_the_script_s_line(text: bytes, stand_in: Path, tmp_path: Path, call: Call) -> None:
+def test_a_row_without_a_block_has_the_script_s_line(
+    text: bytes, fake_program: Path, tmp_path: Path, call: Call
+) -> None:
     write(tmp_path, b=b"row fail 1 seq\n" + text)
-    called = call(stand_in, "run", ".")
+    called = call(fake_program, "run", ".")
     assert called.out.splitlines()[:-1] == ["b.pkt:1: fail seq", "  row fail 1 seq"]
     assert (called.status, called.err) == (1, "")
 
 
-def test_that_line_is_cut_and_its_octets_are_escaped(stand_in: Path, tmp_path: Path, call: Call) -> None:
+def test_that_line_is_cut_and_its_octets_are_escaped(fake_program: Path, tmp_path: Path, call: Call) -> None:
     line = b"\x1b]0;x\x07\xff\\" + b"y" * 60_000
     write(tmp_path, a=b"row fail 3 seq\nsilent\n" + line, b=b"row fail 3 seq\nsilent\n?" + b"z" * 300)
-    lines = call(stand_in, "run", ".").out.splitlines()
+    lines = call(fake_program, "run", ".").out.splitlines()
     assert lines[1] == r"  \x1b]0;x\x07\xff\\" + "y" * 179 + "..."
     assert lines[3] == "  ?" + "z" * 196 + "..."
 
@@ -82,23 +84,23 @@ REASONS = {
 
 @pytest.mark.parametrize("text", REASONS, ids=[text.decode().strip() for text in REASONS])
 def test_a_script_on_which_it_ends_costs_no_other_its_block(
-    text: bytes, stand_in: Path, tmp_path: Path, call: Call
+    text: bytes, fake_program: Path, tmp_path: Path, call: Call
 ) -> None:
     write(tmp_path, a=b"row fail 2 seq\n" + BLOCK, b=b"row fail 1 ack\n" + text, c=b"row fail 2 win\n" + BLOCK)
-    called = call(stand_in, "run", ".")
+    called = call(fake_program, "run", ".")
     assert called.out.splitlines()[:-1] == [
         *("a.pkt:2: fail seq: so it is", *BELOW),
         *("b.pkt:1: fail ack", "  row fail 1 ack"),
         *("c.pkt:2: fail win: so it is", *BELOW),
     ]
     again, untold = "a new run begins at a.pkt", "nothing is told of b.pkt"
-    said = [f"pdsuite: {REASONS[text]}; {it}" for it in (again, untold)]
-    assert (called.status, called.err.splitlines()) == (1, said)
+    message = [f"pdsuite: {REASONS[text]}; {it}" for it in (again, untold)]
+    assert (called.status, called.err.splitlines()) == (1, message)
 
 
-def test_what_is_told_is_safe_to_print(stand_in: Path, tmp_path: Path, call: Call) -> None:
+def test_what_is_told_is_safe_to_print(fake_program: Path, tmp_path: Path, call: Call) -> None:
     write(tmp_path, b=b"row fail 1 seq\nreason: a \\x1b b\nrule: \x1b[2J\n")
-    assert call(stand_in, "run", ".").out.splitlines()[1:3] == [r"  reason: a \x1b b", r"  rule: \x1b[2J"]
+    assert call(fake_program, "run", ".").out.splitlines()[1:3] == [r"  reason: a \x1b b", r"  rule: \x1b[2J"]
 
 
 @pytest.mark.parametrize("command", ["run", "watch"])
@@ -107,8 +109,8 @@ def test_it_has_to_be_built(command: str, tmp_path: Path, call: Call) -> None:
     folder.mkdir()
     write(tmp_path / "suite", a=PASSES)
     called = call(folder, command, "suite")
-    said = f"pdsuite: {folder}/pdregress: no program (PDSUITE_PROGRAMS names the folder)\n"
-    assert (called.status, called.out, called.err) == (2, "", said)
+    message = f"pdsuite: {folder}/pdregress: no program (PDSUITE_PROGRAMS names the folder)\n"
+    assert (called.status, called.out, called.err) == (2, "", message)
 
 
 SENT = "+0 > .  1:1001(1000)    ack 1 win 511 // 0.200000"
@@ -123,8 +125,8 @@ MANNERS = {
 
 @pytest.mark.parametrize(("line", "mend"), MANNERS.items(), ids=range(len(MANNERS)))
 def test_a_packet_to_be_inserted_is_written_as_the_script_writes_its_own(line: str, mend: str) -> None:
-    told = (f"mend by inserting: {SENT}", f"actual packet: {SENT}, sent by line 2")
-    assert in_manner(told, f"// Why.\n{line}\n".encode()) == (f"mend by inserting: {mend}", told[1])
+    reported = (f"mend by inserting: {SENT}", f"actual packet: {SENT}, sent by line 2")
+    assert in_script_style(reported, f"// Why.\n{line}\n".encode()) == (f"mend by inserting: {mend}", reported[1])
 
 
 def test_what_a_run_has_inserted_is_the_scripts_own(programs: Path, tmp_path: Path, call: Call) -> None:
@@ -139,9 +141,9 @@ def test_what_a_run_has_inserted_is_the_scripts_own(programs: Path, tmp_path: Pa
     assert call(programs, "run", "a.pkt").totals == {"pass": 1}
 
 
-def test_a_signal_ends_it_too(stand_in: Path, tmp_path: Path) -> None:
+def test_a_signal_ends_it_too(fake_program: Path, tmp_path: Path) -> None:
     write(tmp_path, a=b"row fail 1 seq\nstall\n", b=PASSES)
-    environment = {**os.environ, "PDSUITE_PROGRAMS": str(stand_in)}
+    environment = {**os.environ, "PDSUITE_PROGRAMS": str(fake_program)}
     process = subprocess.Popen(
         [TOP / "pdsuite", "run", "."], cwd=tmp_path, env=environment, stdout=subprocess.PIPE, stderr=subprocess.PIPE
     )
@@ -152,11 +154,11 @@ def test_a_signal_ends_it_too(stand_in: Path, tmp_path: Path) -> None:
     assert not is_alive(int((tmp_path / "mark").read_text()))
 
 
-def test_a_signal_loses_nothing_that_was_settled(stand_in: Path, tmp_path: Path) -> None:
+def test_a_signal_loses_nothing_that_was_settled(fake_program: Path, tmp_path: Path) -> None:
     write(tmp_path / "a", a=b"row fail 1 seq\nstall\n")
     (tmp_path / "a/pdsuite.toml").write_text("mss = 1000\n")
     write(tmp_path / "b", b=PASSES)
-    environment = {**os.environ, "PDSUITE_PROGRAMS": str(stand_in)}
+    environment = {**os.environ, "PDSUITE_PROGRAMS": str(fake_program)}
     command: list[str | Path] = [TOP / "pdsuite", "run", "-v", "--workers", "2", "."]
     process = subprocess.Popen(command, cwd=tmp_path, env=environment, stdout=subprocess.PIPE, stderr=subprocess.PIPE)
     wait_for(tmp_path / "mark", process)
@@ -175,18 +177,18 @@ def test_each_row_of_the_examples_is_explained_by_the_built_program(programs: Pa
     assert (called.status, called.err) == (1, "")
 
 
-def test_each_script_runs_once(tmp_path: Path, stand_in: Path, call: Call) -> None:
+def test_each_script_runs_once(tmp_path: Path, fake_program: Path, call: Call) -> None:
     """Whoever gives its row says why, too, and what it leaves at its end."""
     teed = 'tee -a asked | "$0.py" "$@"\nexit'
-    folder = wrapped(tmp_path / "programs", stand_in, runs="echo >>others", explains=teed)
+    folder = wrapped(tmp_path / "programs", fake_program, runs="echo >>others", explains=teed)
     for number in range(130):
         text = b"row limit 1\nrule: why\n" if number in (70, 90) else b"row pass 1\nends it awaits no packet\n"
         write(tmp_path / "suite", **{f"s{number:03}": text})
     called = call(folder, "run", "suite")
     assert (called.totals, called.err) == ({"pass": 128, "limit": 2}, "") and " warnings 128 " in called.out
-    asked = (tmp_path / "asked").read_bytes()
-    assert (asked.count(b"add "), asked.count(b"settle\n")) == (130, 3)
-    assert (tmp_path / "others").read_text() == "\n"  # it is asked whether it answers
+    queried = (tmp_path / "asked").read_bytes()
+    assert (queried.count(b"add "), queried.count(b"settle\n")) == (130, 3)
+    assert (tmp_path / "others").read_text() == "\n"  # it is queried whether it answers
 
 
 def test_what_is_told_by_keys_has_the_lines_of_blocks(programs: Path) -> None:
@@ -195,8 +197,8 @@ def test_what_is_told_by_keys_has_the_lines_of_blocks(programs: Path) -> None:
     texts += [text_of(HEAD.encode() + it) for it in (far, far.replace(b"300000", b"9)"), b"x" * 300 + b"\n", b"")]
     commands = b"".join(add(name_of(number), it) for number, it in enumerate(texts))
     begin: list[str | Path] = [programs / "pdregress", "--explain", "--leftovers"]
-    said = [subprocess.run([*begin, *words], input=commands, capture_output=True) for words in ((), ("--json",))]
-    blocks, causes = blocks_in(said[0].stderr), causes_in(said[1].stderr)
+    message = [subprocess.run([*begin, *words], input=commands, capture_output=True) for words in ((), ("--json",))]
+    blocks, causes = blocks_in(message[0].stderr), causes_in(message[1].stderr)
     assert len(blocks) > 500 and blocks.keys() == causes.keys()
     for key, (_, *lines) in blocks.items():
         assert list(lines_of(causes[key])) == [it.decode() for it in lines]

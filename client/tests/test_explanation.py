@@ -9,7 +9,7 @@ from typing import Any
 import jsonschema
 import pytest
 
-from pdsuite.programs.rows import Row, Verdict
+from pdsuite.programs.verdict import Row, Verdict
 from pdsuite.run.explanation import explanation_of
 from pdsuite.scripts.text import text_of
 from tests.helpers import TOP, Call, write
@@ -26,13 +26,13 @@ _REPEATED = re.compile(r"\\<(\d+) (.*?)\\>")
 PACKETS = {"script_packet": r"+0 > P. 1:501(500) ack 1 win 9 <mss 1000,\x0a    nop>", "actual_packet": SENT}
 
 
-def told(row: Row, cause: Mapping[str, object], text: bytes = SCRIPT) -> Any:
-    """What is told of a row."""
+def explained(row: Row, cause: Mapping[str, object], text: bytes = SCRIPT) -> Any:
+    """The explanation of a row."""
     return explanation_of(row, {"name": "s7", "line": row.number, **cause}, text_of(text))
 
 
 def place(line: int, column: int, end_line: int, end_column: int, field: str = "") -> dict[str, object]:
-    """A place as it is told."""
+    """A place as it is reported."""
     where: dict[str, object] = {"line": line, "column": column, "end_line": end_line, "end_column": end_column}
     if field:
         where["field"] = field
@@ -52,11 +52,11 @@ def place(line: int, column: int, end_line: int, end_column: int, field: str = "
     ],
 )
 def test_the_field_that_differs_has_its_place_in_octets(kind: str, where: object) -> None:
-    assert told(Row(Verdict.FAIL, 2, kind), {"kind": kind, **PACKETS})["place"] == where
+    assert explained(Row(Verdict.FAIL, 2, kind), {"kind": kind, **PACKETS})["place"] == where
 
 
 def test_both_packets_are_told_by_field() -> None:
-    found = told(Row(Verdict.FAIL, 2, "seq"), PACKETS)
+    found = explained(Row(Verdict.FAIL, 2, "seq"), PACKETS)
     script, actual = found["fields"]["script_packet"], found["fields"]["actual_packet"]
     assert script == {
         "time": "+0",
@@ -85,28 +85,28 @@ def test_both_packets_are_told_by_field() -> None:
     ],
 )
 def test_other_rows_have_their_places(row: Row, cause: dict[str, object], where: object) -> None:
-    assert told(row, cause)["place"] == where
+    assert explained(row, cause)["place"] == where
 
 
 def test_a_packet_that_the_client_reads_otherwise_is_told_as_the_program_shows_it() -> None:
     row = Row(Verdict.FAIL, 1, "seq")
-    found = told(row, {"script_packet": "+0 > . 1:2(1) ack 1", "actual_packet": "no packet"}, b"?\n")
+    found = explained(row, {"script_packet": "+0 > . 1:2(1) ack 1", "actual_packet": "no packet"}, b"?\n")
     assert found["fields"] == {"script_packet": {"time": "+0", "flags": ".", "seq": {"start": 1, "end": 2}, "ack": 1}}
-    assert "fields" not in told(row, {"script_packet": "no packet", "actual_packet": 7}, b"?\n")
+    assert "fields" not in explained(row, {"script_packet": "no packet", "actual_packet": 7}, b"?\n")
 
 
 def test_what_is_not_safe_to_print_is_shown() -> None:
-    found = told(Row(Verdict.FAIL, 1, "result"), {"call": "\x1b[2J", "state": {"\x07": ["\x9b", 1, None]}})
+    found = explained(Row(Verdict.FAIL, 1, "result"), {"call": "\x1b[2J", "state": {"\x07": ["\x9b", 1, None]}})
     assert (found["call"], found["state"]) == (r"\x1b[2J", {r"\x07": [r"\xc2\x9b", 1, None]})
 
 
 def test_a_report_has_whole_explanations_and_what_the_last_run_left_has_none(
-    stand_in: Path, tmp_path: Path, call: Call
+    fake_program: Path, tmp_path: Path, call: Call
 ) -> None:
     write(
         tmp_path / "suite", a=b"row fail 2 seq\n+0 > . 1:2(1) ack 1\n", b=b"row pass 1\n", c=b"row fail 1 ack\nsilent\n"
     )
-    called = call(stand_in, "run", "--json", "suite", XDG_CACHE_HOME=str(tmp_path / "cache"))
+    called = call(fake_program, "run", "--json", "suite", XDG_CACHE_HOME=str(tmp_path / "cache"))
     first, second, third = held("run", called.out)["scripts"]
     assert first["explanation"]["fields"]["actual_packet"]["seq"] == {"start": 1, "end": 3}
     assert first["explanation"]["state"] == {"name": "ESTABLISHED"}
@@ -115,9 +115,9 @@ def test_a_report_has_whole_explanations_and_what_the_last_run_left_has_none(
     assert "explanation" not in kept.read_text()
 
 
-def test_a_program_that_ends_on_a_script_is_told_of_once(stand_in: Path, tmp_path: Path, call: Call) -> None:
+def test_a_program_that_ends_on_a_script_is_told_of_once(fake_program: Path, tmp_path: Path, call: Call) -> None:
     write(tmp_path, a=b"row fail 1 seq\ncrash\n", b=b"row fail 1 seq\n+0 > . 1:2(1) ack 1\n")
-    called = call(stand_in, "run", "--json", ".")
+    called = call(fake_program, "run", "--json", ".")
     ended = "pdsuite: pdregress was ended by SIGSEGV; {} a.pkt\n"
     assert called.err == ended.format("a new run begins at") + ended.format("nothing is told of")
     assert ["explanation" in it for it in held("run", called.out)["scripts"]] == [False, True]
@@ -127,16 +127,16 @@ def rows_of_the_programs() -> list[str]:
     """What rows of the programs want of `--json`, an object each."""
     files = sorted((TOP / "tests/cases/runs").glob("*.cases"))
     lines = [line for file in files for line in file.read_text().splitlines()]
-    told = (line.removeprefix("! ") for line in lines if line.startswith('! {"'))
-    return [_REPEATED.sub(lambda it: it[2] * int(it[1]), line).replace("\\\\", "\\") for line in told]
+    reported = (line.removeprefix("! ") for line in lines if line.startswith('! {"'))
+    return [_REPEATED.sub(lambda it: it[2] * int(it[1]), line).replace("\\\\", "\\") for line in reported]
 
 
 def test_what_the_program_tells_has_the_schema() -> None:
     schema = {**schema_of("run"), "$ref": "#/$defs/explanation"}
     for key in ("type", "required", "properties", "additionalProperties"):
         del schema[key]
-    told = [json.loads(it) for it in rows_of_the_programs()]
-    rows = [it for it in told if it["verdict"] != "pass"]
+    reported = [json.loads(it) for it in rows_of_the_programs()]
+    rows = [it for it in reported if it["verdict"] != "pass"]
     assert len({it.get("kind", it["verdict"]) for it in rows}) >= 5
     for row in rows:
         del row["name"]

@@ -91,9 +91,9 @@ def test_a_write_that_fails_leaves_nothing_beside(tmp_path: Path, monkeypatch: p
 
 
 @pytest.mark.parametrize("words", [["run", "-v"], ["run", "--tap"], ["run", "--json"], ["run", "--github"], ["list"]])
-def test_a_full_disk_under_standard_output_is_a_line(words: list[str], stand_in: Path, tmp_path: Path) -> None:
+def test_a_full_disk_under_standard_output_is_a_line(words: list[str], fake_program: Path, tmp_path: Path) -> None:
     write(tmp_path, a=PASSES)
-    environment = {**os.environ, "PDSUITE_PROGRAMS": str(stand_in)}
+    environment = {**os.environ, "PDSUITE_PROGRAMS": str(fake_program)}
     with open("/dev/full", "wb") as full:
         done = subprocess.run(
             [TOP / "pdsuite", *words, "."], cwd=tmp_path, env=environment, stdout=full, stderr=subprocess.PIPE
@@ -102,9 +102,11 @@ def test_a_full_disk_under_standard_output_is_a_line(words: list[str], stand_in:
 
 
 @pytest.mark.parametrize("form", ["-v", "--tap", "--json"])
-def test_what_standard_output_does_not_take_still_stands_in_the_file(form: str, stand_in: Path, tmp_path: Path) -> None:
+def test_what_standard_output_does_not_take_still_stands_in_the_file(
+    form: str, fake_program: Path, tmp_path: Path
+) -> None:
     write(tmp_path, a=PASSES)
-    environment = {**os.environ, "PDSUITE_PROGRAMS": str(stand_in)}
+    environment = {**os.environ, "PDSUITE_PROGRAMS": str(fake_program)}
     command = [str(TOP / "pdsuite"), "run", form, "--junit", "out.xml", "."]
     with open("/dev/full", "wb") as full:
         done = subprocess.run(command, cwd=tmp_path, env=environment, stdout=full, stderr=subprocess.PIPE)

@@ -5,11 +5,11 @@ from dataclasses import replace
 
 import pytest
 
-from pdsuite.compare.comparison import ComparedScript, Kind
+from pdsuite.compare.comparison import ComparedScript, ComparisonKind
 from pdsuite.compare.groups import first_difference, groups_of
 from pdsuite.compare.quantities import Quantities, Quantity, changes_of, quantities_of, total_of
-from pdsuite.programs.rows import Row, Verdict
-from pdsuite.reports.comparison import Told, as_json, plain
+from pdsuite.programs.verdict import Row, Verdict
+from pdsuite.reports.comparison import ComparisonReport, as_json, plain
 from pdsuite.reports.comparison_markdown import as_markdown
 from pdsuite.reports.quantities import quantity_lines
 from pdsuite.run.outcomes import Outcome
@@ -52,7 +52,7 @@ def test_the_first_field_or_fact_that_differs_is_found_with_its_event(
 def script(path: str, before: str, after: str, comment: str = "") -> ComparedScript:
     rows = Row(Verdict.PASS, 3), Row(Verdict.FAIL, 7, "seq")
     one, other = (Outcome(path, (), row) for row in rows)
-    return ComparedScript(0, Kind.TURNED, one, other, None, ("", ""), (before, after), comment)
+    return ComparedScript(0, ComparisonKind.TURNED, one, other, None, ("", ""), (before, after), comment)
 
 
 MANY = [
@@ -62,25 +62,25 @@ MANY = [
 ]
 
 
-def told(is_every: bool = False) -> Told:
-    return Told(MANY, None, 1.0, False, Quantity.TIME, is_every)
+def report_of(is_every: bool = False) -> ComparisonReport:
+    return ComparisonReport(MANY, None, 1.0, False, Quantity.TIME, is_every)
 
 
 def test_the_largest_group_comes_first_with_one_script_whole_and_the_others_by_their_comments() -> None:
     assert [[it.path for it in group.scripts] for group in groups_of(MANY)] == [["b.pkt", "c.pkt"], ["a.pkt"]]
-    heads = [line for line in plain(told()).plain.splitlines() if not line.startswith(" ")]
+    heads = [line for line in plain(report_of()).plain.splitlines() if not line.startswith(" ")]
     assert heads[:4] == [
         "2 scripts differ first in cwnd, at the ACK that establishes:",
         "b.pkt: turned",
         "c.pkt: turned: RFC 1, section 3: c.",
         "a.pkt: turned",
     ]
-    whole = plain(told(is_every=True)).plain.splitlines()
+    whole = plain(report_of(is_every=True)).plain.splitlines()
     assert whole.count("  before: pass 3") == 3 and "c.pkt: turned" in whole
 
 
 def test_as_json_the_groups_name_their_scripts() -> None:
-    found = held("compare", as_json(told(), ("x", "y")).plain)
+    found = held("compare", as_json(report_of(), ("x", "y")).plain)
     assert [(it["kind"], it["field"], [each["path"] for each in it["scripts"]]) for it in found["groups"]] == [
         ("turned", "cwnd", ["b.pkt", "c.pkt"]),
         ("turned", "seq", ["a.pkt"]),
@@ -91,7 +91,7 @@ def test_as_json_the_groups_name_their_scripts() -> None:
 
 
 def test_as_markdown_no_comment_is_markup() -> None:
-    lines = as_markdown(told(), ("one `x`", "y")).plain.splitlines()
+    lines = as_markdown(report_of(), ("one `x`", "y")).plain.splitlines()
     assert lines[:5] == [
         "## Before and after",
         "",

@@ -8,8 +8,8 @@ from pathlib import Path
 import pytest
 
 from pdsuite.commands import import_
-from pdsuite.scripts.search import ScriptFile
-from pdsuite.show.screen import Screen
+from pdsuite.output.screen import Screen
+from pdsuite.scripts.discover import ScriptFile
 from tests.helpers import PASSES, TOP, Call, write
 from tests.schemas import held
 from tests.test_import_conversion import LEFT, OPEN, REPLACED
@@ -346,5 +346,5 @@ def test_settings_that_no_run_can_be_given_are_refused(tmp_path: Path, call: Cal
     write(tmp_path / "from", a=PASSES)
     (tmp_path / "from/pdsuite.toml").write_text("mss = [1]\n")
     called = call(None, "import", "from", "to")
-    said = "from/pdsuite.toml:1: mss: BadValue: it takes 64 to 65,495 octets\n"
-    assert (called.status, called.err) == (2, said)
+    message = "from/pdsuite.toml:1: mss: BadValue: it takes 64 to 65,495 octets\n"
+    assert (called.status, called.err) == (2, message)

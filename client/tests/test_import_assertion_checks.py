@@ -1,4 +1,4 @@
-"""Assertions beside the states of a recording, which is worked out by hand here; and as `pdsuite run` tells them."""
+"""Assertions beside the states of a recording, which is worked out by hand here; and as `pdsuite run` reports them."""
 
 import os
 from pathlib import Path
@@ -19,7 +19,7 @@ def state(moment: str, more: str = "") -> str:
     return f"//= at {moment} ESTABLISHED {' '.join(f'{name}:{value}' for name, value in facts.items())}\n"
 
 
-def said(recording: str, row_line: int | None = None, mss: int = 1460) -> list[tuple[int, bool | None]]:
+def checked(recording: str, row_line: int | None = None, mss: int = 1460) -> list[tuple[int, bool | None]]:
     """The lines of the assertions of a recording, and whether they hold; its script is what is no line of a state."""
     script = "".join(it for it in recording.splitlines(keepends=True) if not it.startswith("//= "))
     return [(it.line, it.holds) for it in compare(script, recording, row_line, mss)]
@@ -42,7 +42,7 @@ def said(recording: str, row_line: int | None = None, mss: int = 1460) -> list[t
 )
 def test_an_assertion_is_compared_with_the_state_before_it(facts: str, assertion: str, holds: bool) -> None:
     text = SYN + state("0.100000", "cwnd:1") + "+0 close(4) = 0\n" + state("0.100000", facts)
-    assert said(f"{text}// asserts {assertion}\n+1 close(3) = 0\n{state('1.100000', 'cwnd:1 FlightSize:9')}") == [
+    assert checked(f"{text}// asserts {assertion}\n+1 close(3) = 0\n{state('1.100000', 'cwnd:1 FlightSize:9')}") == [
         (3, holds)
     ]
 
@@ -53,7 +53,7 @@ def test_after_an_expiry_it_is_in_loss_until_all_is_acknowledged_that_was_sent()
     text += "+1 > . 1:1001(1000) ack 1\n" + state("1.100000", "top:2001 FlightSize:2000")
     text += "+0.1 < . 1:1(0) ack 1001 win 257\n" + state("1.200000", "una:1001 top:2001") + assertions
     text += "+0.1 < . 1:1(0) ack 2001 win 257\n" + state("1.300000", "una:2001 top:2001") + assertions
-    assert said(text) == [(5, True), (6, False), (8, False), (9, True)]
+    assert checked(text) == [(5, True), (6, False), (8, False), (9, True)]
 
 
 EXPIRY = "+1 > . 1:1001(1000) ack 1\n" + state("1.100000")
@@ -70,11 +70,11 @@ WITHOUT = [
 
 @pytest.mark.parametrize(("text", "row_line", "line"), WITHOUT, ids=range(len(WITHOUT)))
 def test_what_cannot_be_compared_says_nothing(text: str, row_line: int | None, line: int) -> None:
-    assert said(text, row_line) == [(line, None)]
+    assert checked(text, row_line) == [(line, None)]
 
 
 def test_a_row_of_a_later_line_leaves_assertions_compared() -> None:
-    assert said(SYN + state("0.100000") + "// asserts tcpi_unacked == 0\n", 3) == [(2, True)]
+    assert checked(SYN + state("0.100000") + "// asserts tcpi_unacked == 0\n", 3) == [(2, True)]
 
 
 @pytest.mark.parametrize("recording", ["", "// asserts tcpi_unacked == 0\n", SYN + "// asserts tcpi_snd_cwnd == 4\n"])

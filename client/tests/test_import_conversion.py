@@ -2,10 +2,10 @@
 
 import pytest
 
-from pdsuite.imports.conversion import Imported, Left, Source, convert
+from pdsuite.imports.conversion import ImportSource, Imported, NotImported, convert
 from pdsuite.imports.findings import Heading
 from pdsuite.scripts.settings import Value
-from pdsuite.scripts.text import Unfit
+from pdsuite.scripts.text import UnfitTextError
 
 OPEN = """0 socket(..., SOCK_STREAM, IPPROTO_TCP) = 3
 +0 bind(3, ..., ...) = 0
@@ -17,13 +17,13 @@ OPEN = """0 socket(..., SOCK_STREAM, IPPROTO_TCP) = 3
 """
 
 
-def came(text: str, own: dict[str, Value] | None = None, keep: bool = False) -> Imported | Left:
+def came(text: str, own: dict[str, Value] | None = None, keep: bool = False) -> Imported | NotImported:
     """What comes of a script that has nothing beside it."""
 
     def load(path: str) -> str:
-        raise Unfit("No such file or directory")
+        raise UnfitTextError("No such file or directory")
 
-    return convert(Source(text, own, load), keep)
+    return convert(ImportSource(text, own, load), keep)
 
 
 def imported(text: str, own: dict[str, Value] | None = None, keep: bool = False) -> Imported:
@@ -41,7 +41,7 @@ def counted(script: Imported) -> list[tuple[Heading, str]]:
 def reasons(text: str, own: dict[str, Value] | None = None) -> list[tuple[int, str]]:
     """Why a script isn't imported."""
     found = came(text, own)
-    assert isinstance(found, Left), found
+    assert isinstance(found, NotImported), found
     return [(it.line, it.words) for it in found.reasons]
 
 

@@ -6,13 +6,13 @@ import pytest
 
 from pdsuite.imports.kernel import ALIKE, DROPPED_COMMANDS, FEATURES, REFUSED_COMMANDS, SETTINGS, Use
 from pdsuite.imports.kernel import command_meaning, meaning
-from pdsuite.imports.setup import Looked, Place, Setup, look_at, setup_of, shift_count
-from pdsuite.imports.shell import Command, Defaults, Metric, Other, Switch, commands_in
+from pdsuite.imports.setup import CommandPlace, ParsedCommand, Setup, look_at, setup_of, shift_count
+from pdsuite.imports.shell import Defaults, Metric, Other, SetupCommand, Switch, commands_in
 from pdsuite.scripts.settings import Value
-from pdsuite.scripts.text import Unfit
+from pdsuite.scripts.text import UnfitTextError
 from tests.helpers import TOP
 
-COMMANDS: list[tuple[str, list[Command]]] = [
+COMMANDS: list[tuple[str, list[SetupCommand]]] = [
     ("sysctl -q a.b=1 c.d=2", [Switch("a.b", "1"), Switch("c.d", "2")]),
     ("sysctl -e -q net/ipv4/tcp_x=1", [Switch("net.ipv4.tcp_x", "1")]),
     ("sysctl -w net/ipv4/conf/eth0.1/x=1", [Switch("net.ipv4.conf.eth0/1.x", "1")]),
@@ -49,7 +49,7 @@ COMMANDS: list[tuple[str, list[Command]]] = [
 
 
 @pytest.mark.parametrize(("text", "commands"), COMMANDS, ids=[text[:30] for text, _ in COMMANDS])
-def test_of_commands_those_alone_are_read_that_say_settings(text: str, commands: list[Command]) -> None:
+def test_of_commands_those_alone_are_read_that_say_settings(text: str, commands: list[SetupCommand]) -> None:
     assert list(commands_in(text)) == commands
 
 
@@ -89,10 +89,10 @@ def test_a_command_that_is_no_switch_may_be_known(words: str, use: Use, about: s
 
 
 def no_file(path: str) -> str:
-    raise Unfit("No such file or directory")
+    raise UnfitTextError("No such file or directory")
 
 
-def looked(text: str, place: Place = Place.SETUP, file: str | None = None) -> Looked:
+def looked(text: str, place: CommandPlace = CommandPlace.SETUP, file: str | None = None) -> ParsedCommand:
     """What the commands of a text say, beside a defaults.sh with a text, if any."""
 
     def load(path: str) -> str:
@@ -103,7 +103,7 @@ def looked(text: str, place: Place = Place.SETUP, file: str | None = None) -> Lo
 
 def came_of(text: str, own: dict[str, Value] | None = None, smss: int = 1000, file: str | None = None) -> Setup:
     """What a set-up comes to."""
-    return setup_of(looked(text, file=file).told, smss, {}, own)
+    return setup_of(looked(text, file=file).lines, smss, {}, own)
 
 
 KERNEL = {
@@ -220,8 +220,8 @@ def test_a_comment_of_a_defaults_sh_does_not_go_on_in_the_next_line() -> None:
 
 def test_a_command_that_is_not_known_counts_in_set_up_and_is_dropped_in_the_midst() -> None:
     assert [it.words for it in looked("modprobe x").reasons] == ["a command of set-up"]
-    assert looked("modprobe x", Place.MIDST).reasons == ()
-    assert looked("modprobe x", Place.MIDST).dropped == ("commands, which are never run",)
+    assert looked("modprobe x", CommandPlace.MIDST).reasons == ()
+    assert looked("modprobe x", CommandPlace.MIDST).dropped == ("commands, which are never run",)
 
 
 @pytest.mark.parametrize(
@@ -235,7 +235,7 @@ def test_a_command_that_is_not_known_counts_in_set_up_and_is_dropped_in_the_mids
     ],
 )
 def test_nothing_is_set_in_the_midst(text: str, words: list[str]) -> None:
-    assert [it.words for it in looked(text, Place.MIDST).reasons] == words
+    assert [it.words for it in looked(text, CommandPlace.MIDST).reasons] == words
 
 
 def names_below(heading: str) -> set[str]:

@@ -7,47 +7,48 @@ from pathlib import Path
 
 import pytest
 
-from pdsuite.compare.parting import played_events
+from pdsuite.compare.divergence import played_events
 from pdsuite.compare.senders import Sender
 from pdsuite.packetdrill.items import Packet, TcpOption
-from pdsuite.programs.building import Untried
+from pdsuite.programs.build import BuildError
 from pdsuite.programs.recorder import Recording
-from pdsuite.programs.rows import Row, Verdict
+from pdsuite.programs.verdict import Row, Verdict
 from pdsuite.scripts.defaults import DEFAULTS
-from pdsuite.search.asking import Asked, askers_of
-from pdsuite.search.drawing import Drawing
-from pdsuite.search.finds import Differs, Fails, Reaches, without_trace
+from pdsuite.search.candidates import Candidates
+from pdsuite.search.coverage import SHARES, Coverage, state_pattern
+from pdsuite.search.find import DiffersTest, FailsTest, ReachesTest, without_trace
+from pdsuite.search.generate import KEYS, scenarios
 from pdsuite.search.inputs import Input, Inputs, call, packet
-from pdsuite.search.making import KEYS, plans
+from pdsuite.search.oracle import ConfiguredScript, oracles_of
 from pdsuite.search.peer import Peer
-from pdsuite.search.playing import play
-from pdsuite.search.plans import Act, Ending, Handshake, Network, Odd, Oddity, Plan, Receiver
-from pdsuite.search.reached import SHARES, Reached, pattern_of
-from pdsuite.search.searching import Search, Searched, play_all
+from pdsuite.search.scenario import Ending, Handshake, IrregularPacket, Irregularity, Network, PlannedCall, ReceiverPlan
+from pdsuite.search.scenario import Scenario
+from pdsuite.search.search import Search, SearchResult, play_side_by_side
+from pdsuite.search.simulate import play
 from pdsuite.signals import Stop
+from tests.fake_sender import lines_of, row_of
 from tests.helpers import Called
-from tests.stand_in_sender import lines_of, row_of
-from tests.trees import Tree
+from tests.tree_fixture import Tree
 
-SENDER = Path(__file__).with_name("stand_in_sender.py")
+SENDER = Path(__file__).with_name("fake_sender.py")
 
 
 class Toy:
-    """Asks the stand-in, in this process."""
+    """Queries the fake program, in this process."""
 
     def __init__(self, change: str = "") -> None:
         self.change = change
-        self.asked = 0
+        self.recorded_count = 0
 
-    def recordings(self, inputs: Sequence[Inputs | Asked]) -> list[Recording]:
-        self.asked += len(inputs)
+    def recordings(self, inputs: Sequence[Inputs | ConfiguredScript]) -> list[Recording]:
+        self.recorded_count += len(inputs)
         return [self._recording(it) for it in inputs]
 
-    def _recording(self, it: Inputs | Asked) -> Recording:
+    def _recording(self, it: Inputs | ConfiguredScript) -> Recording:
         lines, fault = lines_of(it.script(), self.change, "mss" in dict(it.settings))
         return Recording("".join(f"{line}\n" for line in lines), f"pdrecord: {fault}" if fault else "")
 
-    def rows(self, scripts: Sequence[Asked]) -> list[Row]:
+    def rows(self, scripts: Sequence[ConfiguredScript]) -> list[Row]:
         return [self._row(row_of(it.octets, self.change, "mss" in dict(it.settings)).split()) for it in scripts]
 
     def _row(self, words: list[str]) -> Row:
@@ -55,25 +56,27 @@ class Toy:
             return Row(Verdict.PASS, int(words[1]))
         return Row(Verdict(words[0]), int(words[1]), *words[2:])
 
-    def told(self, script: Asked) -> list[str]:
+    def explain(self, script: ConfiguredScript) -> list[str]:
         return ["so it is"]
 
 
-def searched(change: str, lists: int = 1, seed: int = 1) -> Searched:
-    """Searches so many lists of inputs for what tells the changed stand-in from the other, however long it takes."""
+def searched(change: str, lists: int = 1, seed: int = 1) -> SearchResult:
+    """Searches so many lists of inputs for what tells both fake programs apart, however long it takes."""
     after = Toy(change)
-    return Search(Toy(), Fails(after), Differs(after), Drawing(seed, repeat(48, lists)), 300).run(lambda inputs: None)
+    return Search(Toy(), FailsTest(after), DiffersTest(after), Candidates(seed, repeat(48, lists)), 300).run(
+        lambda inputs: None
+    )
 
 
 def test_a_sender_that_is_the_same_gives_no_find() -> None:
     came = searched("")
-    assert (came.find, came.unshown, came.reached.inputs >= 40) == (None, None, True)
+    assert (came.find, came.unshown, came.coverage.inputs >= 40) == (None, None, True)
 
 
 def test_a_count_of_inputs_bounds_a_search_in_place_of_time() -> None:
-    lists = Drawing(1, repeat(8))
-    came = Search(Toy(), Fails(Toy()), Differs(Toy()), lists, 0.0, 30).run(lambda inputs: None)
-    assert came.find is None and 30 <= came.reached.inputs < 38
+    lists = Candidates(1, repeat(8))
+    came = Search(Toy(), FailsTest(Toy()), DiffersTest(Toy()), lists, 0.0, 30).run(lambda inputs: None)
+    assert came.find is None and 30 <= came.coverage.inputs < 38
 
 
 def test_each_setting_that_the_sender_consults_is_drawn() -> None:
@@ -103,18 +106,20 @@ def test_where_only_a_packet_at_the_end_differs_it_is_said_that_no_script_shows_
 
 def test_moments_of_inputs_never_go_back() -> None:
     for seed in range(4):
-        for played in play_all(map(play, next(plans(seed, [48]))), Toy()):
+        for played in play_side_by_side(map(play, next(scenarios(seed, [48]))), Toy()):
             moments = [it.at for it in played.inputs.events]
             assert moments == sorted(moments)
 
 
 def test_the_same_seed_makes_the_same_inputs() -> None:
-    made = [[it.inputs for it in play_all(map(play, next(plans(seed, [24]))), Toy())] for seed in (3, 3, 4)]
+    made = [
+        [it.inputs for it in play_side_by_side(map(play, next(scenarios(seed, [24]))), Toy())] for seed in (3, 3, 4)
+    ]
     assert made[0] == made[1] != made[2]
 
 
 def test_inputs_come_under_each_rule_of_the_sender_that_settings_turn_on_or_off() -> None:
-    made = [it for plan in plans(5, [400]) for it in plan]
+    made = [it for plan in scenarios(5, [400]) for it in plan]
     chosen = {it for plan in made for it in plan.settings}
     rules: dict[str, set[object]] = {
         "abc_limit": {2, 3, 8},
@@ -142,47 +147,49 @@ def test_times_count_from_the_input_before() -> None:
     assert script == b"+0.1 < S 0:0(0) win 9 <sackOK>\n+0.250001 close(4) = 0\n"
 
 
-def peer_of(receiver: Receiver, *options: TcpOption) -> Peer:
+def peer_of(receiver: ReceiverPlan, *options: TcpOption) -> Peer:
     """The peer of a plan that has this receiver and these options of its SYN."""
     handshake = Handshake(options, 1_000, 100_000)
-    return Peer(Plan((), handshake, Network(100_000), receiver, (), (), Ending.NONE, 4))
+    return Peer(Scenario((), handshake, Network(100_000), receiver, (), (), Ending.NONE, 4))
 
 
 def test_the_peer_acknowledges_in_order_and_tells_holes_by_blocks_the_newest_first() -> None:
-    peer = peer_of(Receiver(each=2, windows=((0, 32_768), (2, 0))), TcpOption("wscale", (7,)))
+    peer = peer_of(ReceiverPlan(each=2, windows=((0, 32_768), (2, 0))), TcpOption("wscale", (7,)))
     assert [peer.take((1, 1_001)), peer.take((1_001, 2_001))] == [False, True]
     assert str(peer.acknowledge()) == "< . 1:1(0) ack 2001 win 256"
     assert peer.take((3_001, 4_001)) and peer.take((5_001, 6_001))
     assert str(peer.acknowledge()) == "< . 1:1(0) ack 2001 win 256 <sack 5001:6001 3001:4001>"
     assert peer.take((2_001, 3_001))
     assert str(peer.acknowledge()) == "< . 1:1(0) ack 4001 win 0 <sack 5001:6001>"
-    assert str(peer.odd(Odd(0, Oddity.FIN))) == "< F. 1:1(0) ack 4001 win 0"
-    assert str(peer.odd(Odd(0, Oddity.EARLY_ACK))) == "< . 2:2(0) ack 6002 win 0"
+    assert str(peer.irregular(IrregularPacket(0, Irregularity.FIN))) == "< F. 1:1(0) ack 4001 win 0"
+    assert str(peer.irregular(IrregularPacket(0, Irregularity.EARLY_ACK))) == "< . 2:2(0) ack 6002 win 0"
     blocks = "<sack 5501:5601 5001:5101 4501:4601>"
-    assert str(peer.odd(Odd(0, Oddity.SMALL_BLOCKS, 99))) == f"< . 2:2(0) ack 4001 win 0 {blocks}"
+    assert (
+        str(peer.irregular(IrregularPacket(0, Irregularity.SMALL_BLOCKS, 99))) == f"< . 2:2(0) ack 4001 win 0 {blocks}"
+    )
 
 
 def test_a_peer_may_tell_each_segment_as_a_block_of_its_own() -> None:
-    peer = peer_of(Receiver(joins_blocks=False))
+    peer = peer_of(ReceiverPlan(joins_blocks=False))
     assert peer.take((2_001, 3_001)) and peer.take((3_001, 4_001))
     assert str(peer.acknowledge()) == "< . 1:1(0) ack 1 win 65535 <sack 3001:4001>"
 
 
 def test_packets_that_are_lost_come_to_no_peer_and_late_ones_later() -> None:
     network = Network(100_000, lost=frozenset((0,)), late={1: 30_000})
-    write = (Act(0, call("write", 4, "...", 2_000)),)
-    acts = Plan((), Handshake((), 1_000, 100_000), network, Receiver(), write, (), Ending.NONE, 6)
-    (played,) = play_all([play(acts)], Toy())
+    write = (PlannedCall(0, call("write", 4, "...", 2_000)),)
+    acts = Scenario((), Handshake((), 1_000, 100_000), network, ReceiverPlan(), write, (), Ending.NONE, 6)
+    (played,) = play_side_by_side([play(acts)], Toy())
     acks = [(it.at, it.what.ack) for it in played.inputs.events if isinstance(it.what, Packet)][2:]
     assert acks == [(330_000, 1), (1_300_000, 2_001)]
 
 
 def test_a_peer_that_goes_on_counts_from_what_it_acknowledged_before() -> None:
-    peer = peer_of(Receiver())
+    peer = peer_of(ReceiverPlan())
     peer.resume(3_001, 4_001, 2)
-    assert str(peer.odd(Odd(0, Oddity.SAME_ACK))) == "< . 2:2(0) ack 3001 win 65535"
-    assert str(peer.odd(Odd(9, Oddity.OLD_ACK))) == "< . 2:2(0) ack 3000 win 65535"
-    assert str(peer.odd(Odd(0, Oddity.EARLY_ACK))) == "< . 2:2(0) ack 4002 win 65535"
+    assert str(peer.irregular(IrregularPacket(0, Irregularity.SAME_ACK))) == "< . 2:2(0) ack 3001 win 65535"
+    assert str(peer.irregular(IrregularPacket(9, Irregularity.OLD_ACK))) == "< . 2:2(0) ack 3000 win 65535"
+    assert str(peer.irregular(IrregularPacket(0, Irregularity.EARLY_ACK))) == "< . 2:2(0) ack 4002 win 65535"
 
 
 STATE = (
@@ -201,19 +208,19 @@ STATE = (
     ],
 )
 def test_a_pattern_is_facts_of_one_state(pattern: str, is_in: bool) -> None:
-    found = pattern_of(pattern)
+    found = state_pattern(pattern)
     assert found is not None and found.is_in(STATE) is is_in
-    test = Reaches(found).finds([Inputs((), ())], [Recording(STATE)])
+    test = ReachesTest(found).finds([Inputs((), ())], [Recording(STATE)])
     assert (test[0] is not None) is is_in
 
 
 @pytest.mark.parametrize("text", ["", "CLOSING", "state:", ":1", "una:1 x"])
 def test_what_says_no_facts_is_no_pattern(text: str) -> None:
-    assert pattern_of(text) is None
+    assert state_pattern(text) is None
 
 
 def test_what_is_reached_is_counted_by_states() -> None:
-    reached = Reached()
+    reached = Coverage()
     reached.note(STATE + "+0.2 > . 1:2(1)\n//= at 0.300000 TIME-WAIT una:1 expiry:none\n", ["mss"], ["sack"])
     # What is on the way before a connection is established is a SYN/ACK alone.
     reached.note("+0 > S. 0:0(0) ack 1\n//= at 0.100000 SYN-RECEIVED una:0 FlightSize:1 expiry:1.100000\n", [], [])
@@ -228,7 +235,7 @@ def test_what_is_reached_is_counted_by_states() -> None:
 
 @pytest.fixture
 def tree(tmp_path: Path) -> Tree:
-    """A tree in which nothing is proved, with the stand-in for its programs, and a folder `new` with a changed one."""
+    """A tree in which nothing is proved, with fake programs, and a folder `new` with a changed one."""
     tree = Tree(tmp_path)
     new = tmp_path / "new"
     new.mkdir()
@@ -240,7 +247,7 @@ def tree(tmp_path: Path) -> Tree:
 
 
 def search(tree: Tree, *words: str | Path, seconds: str = "60") -> Called:
-    """Searches for what tells the stand-in from the changed one."""
+    """Searches for what distinguishes the fake program from the changed one."""
     return tree.call("compare", "--base", tree.bin, "--search", seconds, "--seed", "1", *words)
 
 
@@ -269,29 +276,29 @@ def unproved(tree: Tree, monkeypatch: pytest.MonkeyPatch) -> Sender:
 def test_a_tree_that_is_not_proved_is_built_once(tree: Tree, unproved: Sender) -> None:
     inputs = [Inputs((("mss", size),), (Input(0, call("listen", 3, 1)),)) for size in (536, 536, 1_000)]
     refused = Inputs((), (Input(0, packet("S", 0, None, 9)),))
-    with Stop(()) as stop, askers_of([unproved], stop) as (asker,):
-        recordings = asker.recordings([*inputs, refused])
-        scripts = [Asked(it.settings, without_trace(one.text)) for it, one in zip(inputs, recordings)]
-        wrong = Asked((), b"+0 listen(3, 1) = 7\n")
-        rows = asker.rows([*scripts, wrong])
-        told = asker.told(wrong)
+    with Stop(()) as stop, oracles_of([unproved], stop) as (oracle,):
+        recordings = oracle.recordings([*inputs, refused])
+        scripts = [ConfiguredScript(it.settings, without_trace(one.text)) for it, one in zip(inputs, recordings)]
+        wrong = ConfiguredScript((), b"+0 listen(3, 1) = 7\n")
+        rows = oracle.rows([*scripts, wrong])
+        reported = oracle.explain(wrong)
     assert [bool(it.text) for it in recordings] == [True, True, True, False]
-    assert [str(it) for it in rows] == ["pass 1", "pass 1", "pass 1", "fail seq"] and told == ["fail seq: so it is"]
+    assert [str(it) for it in rows] == ["pass 1", "pass 1", "pass 1", "fail seq"] and reported == ["fail seq: so it is"]
     assert tree.builds() == 1
 
 
 def test_where_programs_end_on_a_start_others_of_the_same_build_go_on(tree: Tree, unproved: Sender) -> None:
     texts = [b"+0 listen(3, 1) = 0\n", b"+0 abort() = 0\n", b"+0 listen(3, 1) = 0\n"]
-    with Stop(()) as stop, askers_of([unproved], stop) as (asker,):
-        rows = asker.rows([Asked((), it) for it in texts])
+    with Stop(()) as stop, oracles_of([unproved], stop) as (oracle,):
+        rows = oracle.rows([ConfiguredScript((), it) for it in texts])
     assert [str(it) for it in rows] == ["pass 1", "error: the programs ended on it", "pass 1"]
     assert tree.builds() == 1
 
 
 def test_a_tree_that_does_not_compile_is_told_with_its_errors(tree: Tree, unproved: Sender) -> None:
     (tree.top / "crates/pdregress/src/main.rt").touch()
-    with Stop(()) as stop, pytest.raises(Untried, match="unproved: NotCompiled: .*\n.*wrong"):
-        with askers_of([unproved], stop):
+    with Stop(()) as stop, pytest.raises(BuildError, match="unproved: NotCompiled: .*\n.*wrong"):
+        with oracles_of([unproved], stop):
             pass
 
 
@@ -310,7 +317,7 @@ def test_a_state_is_searched_for_with_one_sender(tree: Tree) -> None:
 
 
 @pytest.mark.parametrize(
-    ("words", "said"),
+    ("words", "message"),
     [
         (("compare",), "Missing argument 'PATHS...', or --search"),
         (("compare", "--search", "1", "suite"), "--search makes scripts, and takes no PATH or --only"),
@@ -321,9 +328,9 @@ def test_a_state_is_searched_for_with_one_sender(tree: Tree) -> None:
         (("search", "--for", "una:1", "--save", "none/x.pkt"), "none/x.pkt: the folder above it isn't there"),
     ],
 )
-def test_words_that_do_not_go_together_are_refused(tree: Tree, words: tuple[str, ...], said: str) -> None:
+def test_words_that_do_not_go_together_are_refused(tree: Tree, words: tuple[str, ...], message: str) -> None:
     called = tree.call(*words)
-    assert called.status == 2 and said in called.err
+    assert called.status == 2 and message in called.err
 
 
 def test_a_script_is_not_saved_where_it_would_run_under_other_settings(tree: Tree) -> None:

@@ -11,11 +11,11 @@ from typing import Any
 
 import pytest
 
-from pdsuite.programs.rows import Row, Verdict
+from pdsuite.output.octets import absolute_paths
+from pdsuite.programs.verdict import Row, Verdict
 from pdsuite.reports import report_cache
 from pdsuite.reports.report_cache import LastReport, cache_folder, newest
 from pdsuite.run.outcomes import Outcome
-from pdsuite.show.octets import absolute_paths
 from tests.helpers import TOP, Call, Called, wait_for, write
 
 FAILS = b"row fail 1 seq\n"
@@ -33,9 +33,9 @@ def kept(tmp_path: Path) -> Path:
 
 
 @pytest.fixture
-def run(stand_in: Path, kept: Path, call: Call) -> Run:
+def run(fake_program: Path, kept: Path, call: Call) -> Run:
     """Runs scripts with that cache."""
-    return lambda *words, **more: call(stand_in, "run", *words, **{"XDG_CACHE_HOME": str(kept), **more})
+    return lambda *words, **more: call(fake_program, "run", *words, **{"XDG_CACHE_HOME": str(kept), **more})
 
 
 def reports(kept: Path) -> list[dict[str, Any]]:
@@ -87,14 +87,14 @@ def test_what_failed_by_a_warning_is_run_again_too(run: Run, tmp_path: Path) -> 
     assert run("--last-failed", "-v", "suite").rows == ["suite/a.pkt: pass 0"]
 
 
-def test_list_shows_what_failed_last(run: Run, stand_in: Path, kept: Path, tmp_path: Path, call: Call) -> None:
+def test_list_shows_what_failed_last(run: Run, fake_program: Path, kept: Path, tmp_path: Path, call: Call) -> None:
     write(tmp_path / "suite", a=b"\n", b=FAILS)
     run("suite")
-    assert call(stand_in, "list", "--last-failed", "suite", XDG_CACHE_HOME=str(kept)).out == "suite/b.pkt\n"
+    assert call(fake_program, "list", "--last-failed", "suite", XDG_CACHE_HOME=str(kept)).out == "suite/b.pkt\n"
 
 
 def test_the_same_paths_are_known_from_other_folders_and_in_another_order(
-    run: Run, stand_in: Path, kept: Path, tmp_path: Path
+    run: Run, fake_program: Path, kept: Path, tmp_path: Path
 ) -> None:
     write(tmp_path / "one", a=FAILS, b=b"\n")
     write(tmp_path / "two", c=FAILS)
@@ -103,7 +103,7 @@ def test_the_same_paths_are_known_from_other_folders_and_in_another_order(
         f"{tmp_path}/two/c.pkt:1: fail seq",
         "one/../one/a.pkt:1: fail seq",
     ]
-    environment = {**os.environ, "PDSUITE_PROGRAMS": str(stand_in), "XDG_CACHE_HOME": str(kept)}
+    environment = {**os.environ, "PDSUITE_PROGRAMS": str(fake_program), "XDG_CACHE_HOME": str(kept)}
     words = ["run", "--last-failed", ".", "../one"]
     done = subprocess.run(
         [TOP / "pdsuite", *words], cwd=tmp_path / "two", env=environment, capture_output=True, text=True
@@ -120,8 +120,8 @@ def test_what_was_never_run_is_refused(words: list[str], run: Run, tmp_path: Pat
     if words[-1] != "suite":
         run("suite")
     called = run(*words)
-    said = f"pdsuite: {words[-1]}: no run has left a report: run it without --last-failed first\n"
-    assert (called.status, called.out, called.err) == (2, "", said)
+    message = f"pdsuite: {words[-1]}: no run has left a report: run it without --last-failed first\n"
+    assert (called.status, called.out, called.err) == (2, "", message)
 
 
 def test_where_nothing_failed_last_nothing_is_run(run: Run, tmp_path: Path) -> None:
@@ -225,8 +225,8 @@ def test_new_annotations_are_of_rows_that_differ(run: Run, tmp_path: Path) -> No
 def test_a_form_that_has_all_rows_takes_no_new(form: str, run: Run, tmp_path: Path) -> None:
     write(tmp_path / "suite", a=FAILS)
     called = run("--new-only", form, "suite")
-    said = "Error: --new-only leaves rows out, and --tap and --json have all"
-    assert (called.status, called.out, called.err.splitlines()[-1]) == (2, "", said)
+    message = "Error: --new-only leaves rows out, and --tap and --json have all"
+    assert (called.status, called.out, called.err.splitlines()[-1]) == (2, "", message)
 
 
 def test_names_of_any_octets_are_known_again(run: Run, tmp_path: Path) -> None:
@@ -251,10 +251,10 @@ def test_a_folder_of_any_octets_is_known_again(run: Run, kept: Path, tmp_path: P
     assert len(reports(kept)) == len(NAMES)
 
 
-def test_a_run_that_was_ended_leaves_what_it_has(run: Run, kept: Path, tmp_path: Path, stand_in: Path) -> None:
+def test_a_run_that_was_ended_leaves_what_it_has(run: Run, kept: Path, tmp_path: Path, fake_program: Path) -> None:
     suite = tmp_path / "suite"
     write(suite, **{f"s{number:02}": b"\n" for number in range(64)}, z=f"stall {tmp_path}/mark\n".encode())
-    environment = {**os.environ, "PDSUITE_PROGRAMS": str(stand_in), "XDG_CACHE_HOME": str(kept)}
+    environment = {**os.environ, "PDSUITE_PROGRAMS": str(fake_program), "XDG_CACHE_HOME": str(kept)}
     process = subprocess.Popen(
         [TOP / "pdsuite", "run", "suite"], cwd=tmp_path, env=environment, stdout=subprocess.PIPE, stderr=subprocess.PIPE
     )
@@ -265,10 +265,10 @@ def test_a_run_that_was_ended_leaves_what_it_has(run: Run, kept: Path, tmp_path:
     assert rows(kept, suite) == {f"s{number:02}.pkt": "pass" for number in range(64)}
 
 
-def test_two_runs_at_once_leave_the_rows_of_both(run: Run, kept: Path, tmp_path: Path, stand_in: Path) -> None:
+def test_two_runs_at_once_leave_the_rows_of_both(run: Run, kept: Path, tmp_path: Path, fake_program: Path) -> None:
     suite = tmp_path / "suite"
     write(suite, **{f"s{number:03}": FAILS if number % 5 == 0 else b"\n" for number in range(200)})
-    environment = {**os.environ, "PDSUITE_PROGRAMS": str(stand_in), "XDG_CACHE_HOME": str(kept)}
+    environment = {**os.environ, "PDSUITE_PROGRAMS": str(fake_program), "XDG_CACHE_HOME": str(kept)}
     words = [[str(TOP / "pdsuite"), "run", "--shard", f"{number}/6", "suite"] for number in range(1, 7)]
     processes = [subprocess.Popen(it, cwd=tmp_path, env=environment, stdout=subprocess.DEVNULL) for it in words]
     assert {it.wait() for it in processes} == {1}
@@ -306,12 +306,12 @@ def test_a_cache_that_cannot_be_written_is_told_and_the_run_goes_on(
     assert (tmp_path / "out.xml").exists()
 
 
-def test_a_home_that_cannot_be_written_is_told(stand_in: Path, open_folder: Path) -> None:
+def test_a_home_that_cannot_be_written_is_told(fake_program: Path, open_folder: Path) -> None:
     if os.getuid() != 0:
         pytest.skip("needs root, to be another user for a moment")
     write(open_folder / "suite", a=b"\n")
     (open_folder / "home").mkdir(mode=0o555)
-    shutil.copytree(stand_in, open_folder / "programs")
+    shutil.copytree(fake_program, open_folder / "programs")
     as_another = ["setpriv", "--reuid=65534", "--clear-groups"]
     if subprocess.run([*as_another, "test", "-r", str(TOP / "pdsuite")]).returncode:
         pytest.skip("needs a repository that other users can read")
@@ -319,8 +319,8 @@ def test_a_home_that_cannot_be_written_is_told(stand_in: Path, open_folder: Path
     del environment["XDG_CACHE_HOME"]
     command = [*as_another, str(TOP / "pdsuite"), "run", "suite"]
     done = subprocess.run(command, cwd=open_folder, env=environment, capture_output=True, text=True)
-    said = f"pdsuite: {open_folder}/home/.cache: Permission denied: the report isn't kept\n"
-    assert (done.returncode, done.stderr) == (0, said)
+    message = f"pdsuite: {open_folder}/home/.cache: Permission denied: the report isn't kept\n"
+    assert (done.returncode, done.stderr) == (0, message)
 
 
 def test_who_holds_the_cache_for_long_is_not_waited_for(
@@ -428,11 +428,11 @@ def test_a_path_is_absolute_as_people_see_it(tmp_path: Path, monkeypatch: pytest
     assert absolute_paths()("a.pkt") == "/a.pkt"
 
 
-def test_a_working_folder_that_went_is_no_fault(stand_in: Path, kept: Path, tmp_path: Path) -> None:
+def test_a_working_folder_that_went_is_no_fault(fake_program: Path, kept: Path, tmp_path: Path) -> None:
     write(tmp_path / "suite", a=b"\n")
     (tmp_path / "here").mkdir()
     command = f'rmdir "{tmp_path}/here" && exec "{TOP}/pdsuite" run "{tmp_path}/suite"'
-    environment = {**os.environ, "PDSUITE_PROGRAMS": str(stand_in), "XDG_CACHE_HOME": str(kept)}
+    environment = {**os.environ, "PDSUITE_PROGRAMS": str(fake_program), "XDG_CACHE_HOME": str(kept)}
     done = subprocess.run(["sh", "-c", command], cwd=tmp_path / "here", env=environment, capture_output=True, text=True)
     shutil.rmtree(tmp_path / "suite")
     assert done.stdout.startswith("total 1 pass 1 ")

@@ -1,4 +1,4 @@
-"""Runs that stay up, and programs that an editor asks anew, by a program that takes all that it is told."""
+"""Runs that stay up, and programs that an editor starts anew, by a program that takes all that it gets."""
 
 import select
 from pathlib import Path
@@ -6,18 +6,17 @@ from typing import Any
 
 import pytest
 
-from pdsuite.lsp import tools
+from pdsuite.lsp import queries
 from pdsuite.programs import program as programs
-from pdsuite.programs.program import Ended
-from pdsuite.programs.program import Program as StartedProgram
+from pdsuite.programs.lookup import stamped_program
+from pdsuite.programs.program import Program as StartedProgram, ProgramEndedError
 from pdsuite.programs.protocol import SETTLE, add, name_of
-from pdsuite.programs.rows import Row, Verdict
-from pdsuite.programs.standing import standing_of
+from pdsuite.programs.verdict import Row, Verdict
 from pdsuite.scripts.settings import Settings
 from pdsuite.scripts.text import text_of
 from pdsuite.signals import Stop
 from pdsuite.watch.live_run import LiveRun
-from pdsuite.watch.run_changes import Act, Add, Remove, RunContents, Set
+from pdsuite.watch.plan_changes import Act, AddScript, RemoveScript, RunContents, SetKey
 from pdsuite.watch.sender import LiveSender
 from tests.helpers import HANGS
 
@@ -25,10 +24,10 @@ ONE = text_of(b"one\n")
 
 
 class Program:
-    """Passes all scripts whose names it was told, and keeps what it is asked."""
+    """Passes all scripts whose names it got, and keeps its queries."""
 
     def __init__(self, *words: object) -> None:
-        self.asked: list[bytes] = []
+        self.queries: list[bytes] = []
         self.names: list[bytes] = []
 
     def __enter__(self) -> "Program":
@@ -37,8 +36,8 @@ class Program:
     def __exit__(self, *why: object) -> None:
         ...
 
-    def ask(self, commands: bytes, most: int) -> bytes:
-        self.asked.append(commands)
+    def query(self, commands: bytes, most: int) -> bytes:
+        self.queries.append(commands)
         for words in (line.split() for line in commands.split(b"\n")):
             if words[:1] == [b"add"]:
                 self.names.append(words[1])
@@ -48,12 +47,12 @@ class Program:
         count = len(self.names)
         return rows + f"total {count} pass {count} fail 0 syntax 0 unsupported 0 limit 0 pending 0\n".encode()
 
-    def ask_and_hear(self, commands: bytes, most: int, most_said: int) -> tuple[bytes, bytes]:
+    def query_with_errors(self, commands: bytes, most: int, most_errors: int) -> tuple[bytes, bytes]:
         before = list(self.names)
-        answer = self.ask(commands, most)
+        answer = self.query(commands, most)
         ran = self.names if b"\nset " in b"\n" + commands else [it for it in self.names if it not in before]
-        told = (b'job 1 %b steps 3\n{"name": "%b", "line": 1, "verdict": "pass"}\n' % (it, it) for it in ran)
-        return answer, b"".join(told)
+        errors = (b'job 1 %b steps 3\n{"name": "%b", "line": 1, "verdict": "pass"}\n' % (it, it) for it in ran)
+        return answer, b"".join(errors)
 
 
 def started(settings: Settings) -> Any:
@@ -69,10 +68,10 @@ def carried_out(run: LiveRun, *acts: Act) -> int:
 
 def test_an_act_is_recorded_with_the_start_and_the_end_of_each_job_that_it_leads_to() -> None:
     run = LiveRun((), started)
-    assert carried_out(run, Add("a", ONE), Add("b", ONE), Add("c", ONE)) == 3 * 5
+    assert carried_out(run, AddScript("a", ONE), AddScript("b", ONE), AddScript("c", ONE)) == 3 * 5
     assert run.rows == {it: Row(Verdict.PASS, 1) for it in "abc"}
-    assert carried_out(run, Set("mss", "100")) == 1 + 4 * 3
-    assert carried_out(run, Remove("b"), Set("mss", "200")) == 5 + 1 + 4 * 2
+    assert carried_out(run, SetKey("mss", "100")) == 1 + 4 * 3
+    assert carried_out(run, RemoveScript("b"), SetKey("mss", "200")) == 5 + 1 + 4 * 2
     assert list(run.rows) == ["a", "c"]
 
 
@@ -80,28 +79,28 @@ def test_an_act_is_recorded_with_the_start_and_the_end_of_each_job_that_it_leads
 def test_an_answer_is_found_however_reads_cut_it(octets: int, monkeypatch: pytest.MonkeyPatch) -> None:
     monkeypatch.setattr(programs, "_READ", octets)
     with Stop() as stop, StartedProgram(["sh", "-c", "read line; printf 'a total 1\ntotal 1\n'"], stop) as program:
-        assert program.ask(b"settle\n", 1_000) == b"a total 1\ntotal 1\n"
+        assert program.query(b"settle\n", 1_000) == b"a total 1\ntotal 1\n"
 
 
 def test_what_is_told_stays_until_its_script_runs_again_or_goes() -> None:
     run = LiveRun((), started)
-    run.carry_out([Add("a", ONE), Add("b", ONE)], RunContents((), {}))
+    run.carry_out([AddScript("a", ONE), AddScript("b", ONE)], RunContents((), {}))
     first = run.causes["a"]
     assert (list(run.causes), run.steps) == (["a", "b"], {"a": 3, "b": 3})
-    run.carry_out([Remove("b"), Add("c", ONE)], RunContents((), {}))
+    run.carry_out([RemoveScript("b"), AddScript("c", ONE)], RunContents((), {}))
     assert run.causes.keys() == {"a", "c"} and run.causes["a"] is first
     assert run.steps == {"c": 3}
-    run.carry_out([Set("mss", "100")], RunContents((), {}))
+    run.carry_out([SetKey("mss", "100")], RunContents((), {}))
     assert run.causes["a"] is not first and run.steps == {"a": 3, "c": 3}
 
 
 def test_a_program_that_says_what_nobody_asked_is_at_an_end() -> None:
     """Whoever watches looks at it from time to time."""
     total = "total 0 pass 0 fail 0 syntax 0 unsupported 0 limit 0 pending 0"
-    says = f"read line; echo {total}; sleep 0.3; echo x; sleep 20"
-    with Stop() as stop, StartedProgram(["sh", "-c", says], stop) as program:
-        assert program.ask(b"settle\n", 1_000) == f"{total}\n".encode()
-        with pytest.raises(Ended, match="sh answered more than was asked"):
+    script_words = f"read line; echo {total}; sleep 0.3; echo x; sleep 20"
+    with Stop() as stop, StartedProgram(["sh", "-c", script_words], stop) as program:
+        assert program.query(b"settle\n", 1_000) == f"{total}\n".encode()
+        with pytest.raises(ProgramEndedError, match="sh answered more than was asked"):
             while select.select([program.fileno()], [], [], HANGS)[0]:
                 program.check()
 
@@ -109,10 +108,10 @@ def test_a_program_that_says_what_nobody_asked_is_at_an_end() -> None:
 def test_a_text_is_asked_with_the_octets_that_an_editor_has(monkeypatch: pytest.MonkeyPatch) -> None:
     """One half of a pair of UTF-16 stays what it is, so that no other text is judged in its place."""
     program: Any = Program()
-    monkeypatch.setattr(tools, "Program", lambda words, stop: program)
-    sender = LiveSender(standing_of(Path(__file__)), None)
+    monkeypatch.setattr(queries, "Program", lambda words, stop: program)
+    sender = LiveSender(stamped_program(Path(__file__)), None)
     with Stop() as stop:
-        found = tools.Tools(sender, stop, lambda line: None).rows(["a\ud800", "\n" * 5_000, "b"], ())
+        found = queries.ProgramQueries(sender, stop, lambda line: None).rows(["a\ud800", "\n" * 5_000, "b"], ())
     assert found == [Row(Verdict.PASS, 1), None, Row(Verdict.PASS, 1)]
     texts = text_of(b"a\xed\xa0\x80\n"), text_of(b"b\n")
-    assert program.asked == [add(name_of(0), texts[0]) + add(name_of(2), texts[1]) + SETTLE]
+    assert program.queries == [add(name_of(0), texts[0]) + add(name_of(2), texts[1]) + SETTLE]

@@ -4,12 +4,12 @@ from typing import cast
 
 import pytest
 
-from pdsuite.programs.program import Ended, Program
-from pdsuite.programs.rows import Verdict
+from pdsuite.programs.program import Program, ProgramEndedError
+from pdsuite.programs.verdict import Verdict
 from pdsuite.scripts.settings import Settings
 from pdsuite.scripts.text import text_of
-from pdsuite.watch.fleet import Fleet
-from pdsuite.watch.run_changes import WantedScript
+from pdsuite.watch.live_pool import LivePool
+from pdsuite.watch.plan_changes import WantedScript
 from tests.model import Model
 
 MSS = (("mss", 1_000),)
@@ -24,7 +24,7 @@ class Starts:
 
     def __call__(self, settings: Settings) -> Program:
         if self.is_dead:
-            raise Ended("no program")
+            raise ProgramEndedError("no program")
         self.models.append(Model(settings))
         return cast(Program, self.models[-1])
 
@@ -36,9 +36,9 @@ def starts() -> Starts:
 
 
 @pytest.fixture
-def fleet(starts: Starts) -> Fleet:
+def fleet(starts: Starts) -> LivePool:
     """Runs of models; they say nothing."""
-    return Fleet(starts, print, lambda doing: None)
+    return LivePool(starts, print, lambda doing: None)
 
 
 def wanted(number: int, settings: Settings = ()) -> dict[str, WantedScript]:
@@ -47,7 +47,7 @@ def wanted(number: int, settings: Settings = ()) -> dict[str, WantedScript]:
     return {path: WantedScript(settings, text_of(text.encode())) for path, text in texts.items()}
 
 
-def test_a_run_says_the_steps_of_its_last_change_alone(fleet: Fleet) -> None:
+def test_a_run_says_the_steps_of_its_last_change_alone(fleet: LivePool) -> None:
     fleet.follow(wanted(0))
     (run,) = fleet.runs
     assert run.steps["a.pkt"] == 2
@@ -55,7 +55,7 @@ def test_a_run_says_the_steps_of_its_last_change_alone(fleet: Fleet) -> None:
     assert run.steps == {"a.pkt": 2}
 
 
-def test_acts_are_counted_at_least_as_the_program_counts_them(fleet: Fleet) -> None:
+def test_acts_are_counted_at_least_as_the_program_counts_them(fleet: LivePool) -> None:
     for number in range(20):
         fleet.follow(wanted(number, MSS if number % 5 == 4 else ()))
     (run,) = fleet.runs
@@ -63,7 +63,7 @@ def test_acts_are_counted_at_least_as_the_program_counts_them(fleet: Fleet) -> N
     assert run.acts >= 3 * (10 + 16) + 4 * (1 + 2 * 10)
 
 
-def test_a_run_with_a_long_history_gives_way_to_a_new_one_that_holds_the_same(fleet: Fleet, starts: Starts) -> None:
+def test_a_run_with_a_long_history_gives_way_to_a_new_one_that_holds_the_same(fleet: LivePool, starts: Starts) -> None:
     fleet.follow(wanted(0))
     assert not fleet.renew(1_000) and len(starts.models) == 1
     before = dict(fleet.rows())
@@ -74,13 +74,13 @@ def test_a_run_with_a_long_history_gives_way_to_a_new_one_that_holds_the_same(fl
     assert len(starts.models) == 2 and new.texts[b"s0"] == [b"1", b"x"]
 
 
-def test_the_old_run_goes_on_where_no_new_one_begins(fleet: Fleet, starts: Starts) -> None:
+def test_the_old_run_goes_on_where_no_new_one_begins(fleet: LivePool, starts: Starts) -> None:
     fleet.follow(wanted(0))
     starts.is_dead = True
     assert fleet.renew(10) and not starts.models[0].is_closed and len(dict(fleet.rows())) == 10
 
 
-def test_what_no_program_ran_runs_once_one_begins_again(fleet: Fleet, starts: Starts) -> None:
+def test_what_no_program_ran_runs_once_one_begins_again(fleet: LivePool, starts: Starts) -> None:
     starts.is_dead = True
     fleet.follow(wanted(0))
     assert {it.verdict for _, it in fleet.rows()} == {Verdict.ERROR} and not fleet.runs

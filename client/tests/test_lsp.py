@@ -1,4 +1,4 @@
-"""`pdsuite lsp` with the built programs: what it tells of open texts and of files, and how it lives and ends."""
+"""`pdsuite lsp` with the built programs: what it reports of open texts and of files, and how it lives and ends."""
 
 import os
 import signal
@@ -8,12 +8,12 @@ from pathlib import Path
 import pytest
 
 from pdsuite.faults import Fault
-from pdsuite.lsp.answers import Running
 from pdsuite.lsp.documents import uri_of
+from pdsuite.lsp.features import SenderSession
 from pdsuite.lsp.server import Server
-from pdsuite.lsp.streams import CONTENT_MODIFIED
+from pdsuite.lsp.transport import CONTENT_MODIFIED
 from tests.helpers import HANGS, is_alive
-from tests.lsp_client import Json, LspClient, Refusal, span
+from tests.lsp_client import Json, LspClient, RequestRefusedError, span
 from tests.lsp_scripts import HEAD, PASSES, WRITES
 
 
@@ -90,32 +90,32 @@ def test_a_change_starts_no_program(recording_programs: Path, tmp_path: Path, wo
 def test_untaken_packets_stand_where_they_left(client: LspClient, workspace: Path) -> None:
     text = HEAD + "+0 write(4, ..., 2500) = 2500\n+0.1 < . 1:1(0) ack 2001 win 257\n+0 close(4) = 1\n"
     (found,) = client.settled(client.open(workspace / "a.pkt", text))
-    told = [(it["location"]["range"]["start"]["line"], it["message"]) for it in found["relatedInformation"]]
-    assert [line for line, _ in told] == [7, 7, 8, 9][: len(told)] and len(told) >= 3
-    assert told[0][1].startswith("untaken packet: * > . 1:1001(1000) ack 1 win 511")
+    reported = [(it["location"]["range"]["start"]["line"], it["message"]) for it in found["relatedInformation"]]
+    assert [line for line, _ in reported] == [7, 7, 8, 9][: len(reported)] and len(reported) >= 3
+    assert reported[0][1].startswith("untaken packet: * > . 1:1001(1000) ack 1 win 511")
 
 
 def test_a_text_that_is_open_counts_in_place_of_its_file(client: LspClient, workspace: Path) -> None:
     (workspace / "a.pkt").write_text(PASSES)
     (workspace / "b.pkt").write_text("bad\n")
     other = uri_of(str(workspace / "b.pkt"))
-    client.told(other, bool, "what is wrong with the file")
+    client.wait_diagnostics(other, bool, "what is wrong with the file")
     uri = client.open(workspace / "a.pkt", "worse\n")
     assert client.settled(uri)[0]["code"] == "syntax"
     client.close(uri)
-    client.told(uri, lambda found: not found, "that the file passes")
+    client.wait_diagnostics(uri, lambda found: not found, "that the file passes")
     (workspace / "b.pkt").write_text(PASSES)
-    client.told(other, lambda found: not found, "that the other file passes")
+    client.wait_diagnostics(other, lambda found: not found, "that the other file passes")
     (workspace / "b.pkt").write_text("bad\n")
-    client.told(other, bool, "what is wrong again")
+    client.wait_diagnostics(other, bool, "what is wrong again")
     (workspace / "b.pkt").unlink()
-    client.told(other, lambda found: not found, "that the file is gone")
+    client.wait_diagnostics(other, lambda found: not found, "that the file is gone")
 
 
 def test_a_file_that_is_not_utf_8_is_what_a_run_says(client: LspClient, workspace: Path) -> None:
     (workspace / "a.pkt").write_bytes(b"// \xff\n" + PASSES.encode())
     (workspace / "b.pkt").write_bytes(b"/* \xff */ 0 \xfe() = 1\n")
-    (found,) = client.told(uri_of(str(workspace / "b.pkt")), bool, "what is wrong with the file")
+    (found,) = client.wait_diagnostics(uri_of(str(workspace / "b.pkt")), bool, "what is wrong with the file")
     assert (found["code"], found["range"]["start"]) == ("syntax", {"line": 0, "character": 10})
     assert uri_of(str(workspace / "a.pkt")) not in client.diagnostics
 
@@ -126,21 +126,25 @@ def test_settings_count_while_they_are_edited(client: LspClient, workspace: Path
     client.settled(uri)
     client.put(settings, "root = true\nsack = false\nnagle = false\n")
     client.put(settings, "root = true\nmss = 10\n")
-    (found,) = client.told(settings, bool, "the fault of the settings")
+    (found,) = client.wait_diagnostics(settings, bool, "the fault of the settings")
     assert found["range"]["start"]["line"] == 1 and "BadValue: it takes 64 to 65,495 octets" in found["message"]
     client.put(settings, "root = true\n= 1\n")
-    (found,) = client.told(settings, lambda it: bool(it) and "no TOML" in it[0]["message"], "the fault of the text")
+    (found,) = client.wait_diagnostics(
+        settings, lambda it: bool(it) and "no TOML" in it[0]["message"], "the fault of the text"
+    )
     client.put(settings, 'root = true\n["gone.pkt"]\nmss = 1000\n')
-    (found,) = client.told(settings, lambda it: bool(it) and "gone.pkt" in it[0]["message"], "the unused table")
+    (found,) = client.wait_diagnostics(
+        settings, lambda it: bool(it) and "gone.pkt" in it[0]["message"], "the unused table"
+    )
     assert found["range"]["start"]["line"] == 1
     client.put(settings, 'root = true\n["a.pkt"]\nexpect = "fail"\nreason = "why"\n')
-    client.told(settings, lambda it: not it, "no fault")
-    (found,) = client.told(uri, bool, "that the script passes, though it is known to fail")
+    client.wait_diagnostics(settings, lambda it: not it, "no fault")
+    (found,) = client.wait_diagnostics(uri, bool, "that the script passes, though it is known to fail")
     assert "passes, though" in found["message"]
     client.put(uri, WRITES + "+0 > P. 1:501(500) ack 1\n")
     assert [it["severity"] for it in client.settled(uri)] == [4]
     client.close(settings)
-    client.told(uri, lambda it: bool(it) and it[0]["severity"] == 1, "that no failure is known any more")
+    client.wait_diagnostics(uri, lambda it: bool(it) and it[0]["severity"] == 1, "that no failure is known any more")
 
 
 def test_what_a_run_warns_of_is_a_diagnostic(client: LspClient, workspace: Path) -> None:
@@ -150,7 +154,9 @@ def test_what_a_run_warns_of_is_a_diagnostic(client: LspClient, workspace: Path)
     assert [(it["severity"], it["message"]) for it in client.settled(uri)] == [(2, f"passes, but {left}")]
     settings = client.open(workspace / "pdsuite.toml")
     client.put(settings, "root = true\nstrict = true\n")
-    (found,) = client.told(uri, lambda it: bool(it) and it[0]["severity"] == 1, "that the warning is strict")
+    (found,) = client.wait_diagnostics(
+        uri, lambda it: bool(it) and it[0]["severity"] == 1, "that the warning is strict"
+    )
     assert (found["code"], found["message"]) == ("warning", f"passes, but {left} (strict)")
     lens = client.request("textDocument/codeLens", {"textDocument": {"uri": uri}})[0]["command"]["title"]
     assert lens.startswith(f"pass: 10 events, but {left}")
@@ -158,7 +164,7 @@ def test_what_a_run_warns_of_is_a_diagnostic(client: LspClient, workspace: Path)
     assert [it["message"] for it in client.settled(uri)] == ["passes, but awaits no packet (strict)"]
     (workspace / "b.pkt").write_text(blind)
     other = uri_of(str(workspace / "b.pkt"))
-    assert client.told(other, bool, "the warning of a file")[0]["message"] == f"passes, but {left} (strict)"
+    assert client.wait_diagnostics(other, bool, "the warning of a file")[0]["message"] == f"passes, but {left} (strict)"
     client.put(uri, PASSES)
     assert client.settled(uri) == []
 
@@ -172,10 +178,10 @@ def test_what_lies_in_a_folder_that_is_removed_is_told_of_no_more(client: LspCli
     place = {"uri": uri_of(str(second)), "name": "second"}
     script, settings = (uri_of(str(second / it)) for it in ("b.pkt", "pdsuite.toml"))
     client.notify("workspace/didChangeWorkspaceFolders", {"event": {"added": [place], "removed": []}})
-    client.told(script, bool, "what is wrong in the new folder")
-    client.told(settings, bool, "the fault of its settings")
+    client.wait_diagnostics(script, bool, "what is wrong in the new folder")
+    client.wait_diagnostics(settings, bool, "the fault of its settings")
     client.notify("workspace/didChangeWorkspaceFolders", {"event": {"added": [], "removed": [place]}})
-    client.told(script, lambda it: not it, "that the folder isn't followed")
+    client.wait_diagnostics(script, lambda it: not it, "that the folder isn't followed")
     assert len(client.settled(opened)) == 1
 
 
@@ -191,11 +197,11 @@ def test_a_request_that_is_cancelled_is_dropped(client: LspClient, workspace: Pa
     uri = client.open(workspace / "a.pkt", PASSES)
     client.settled(uri)
     client.put(uri, PASSES + "// more\n")
-    number = client.ask("textDocument/hover", client.at(uri, 8, 2))
+    number = client.send_request("textDocument/hover", client.at(uri, 8, 2))
     client.notify("$/cancelRequest", {"id": number})
     try:
         client.answer(number)
-    except Refusal as refusal:
+    except RequestRefusedError as refusal:
         assert refusal.code == -32800
     assert client.settled(uri) == []
 
@@ -211,7 +217,7 @@ def test_a_request_about_an_older_text_is_given_up() -> None:
     assert waiting[0].exception().code == CONTENT_MODIFIED
 
 
-def _no_programs(server: Server) -> Running:
+def _no_programs(server: Server) -> SenderSession:
     raise Fault("no programs")
 
 
@@ -280,7 +286,7 @@ def test_nonsense_is_left_out_or_answered(client: LspClient, workspace: Path) ->
     wanted = [code for _, codes in NONSENSE for code in codes]
     client.wait(lambda: len(client.refused) >= len(wanted), "the errors")
     assert client.refused == wanted
-    told: list[tuple[str, object]] = [
+    reported: list[tuple[str, object]] = [
         ("textDocument/didOpen", {}),
         ("textDocument/didOpen", None),
         ("textDocument/didChange", {"textDocument": {"uri": "file:///nowhere"}, "contentChanges": [{"text": "x"}]}),
@@ -290,7 +296,7 @@ def test_nonsense_is_left_out_or_answered(client: LspClient, workspace: Path) ->
         ("$/cancelRequest", {"id": 99}),
         ("$/setTrace", {"value": "off"}),
     ]
-    for method, params in told:
+    for method, params in reported:
         client.notify(method, params)
     uri = client.open(workspace / "a.pkt", PASSES)
     assert client.settled(uri) == []
@@ -301,7 +307,7 @@ def test_nonsense_is_left_out_or_answered(client: LspClient, workspace: Path) ->
         ("workspace/executeCommand", {"command": "rm"}),
         ("textDocument/fly", {}),
     ]:
-        with pytest.raises(Refusal):
+        with pytest.raises(RequestRefusedError):
             client.request(method, wrong)
     assert client.end() == 0
 
@@ -320,19 +326,19 @@ def test_what_is_not_proved_is_named_and_syntax_and_outline_serve(tmp_path: Path
         assert client.request("textDocument/hover", client.at(uri, 1, 0)) is None
         assert client.actions(uri, 8) == [] and client.request("textDocument/codeLens", params) == []
         client.put(uri, PASSES)
-        client.told(uri, lambda it: not it, "that the text can be read")
+        client.wait_diagnostics(uri, lambda it: not it, "that the text can be read")
         assert len(client.shown) == 1
 
 
 def test_watched_files_are_asked_for_where_the_client_has_them(recording_programs: Path, workspace: Path) -> None:
     can = {"workspace": {"didChangeWatchedFiles": {"dynamicRegistration": True}}}
     with LspClient(recording_programs, workspace, can=can) as client:
-        client.wait(lambda: bool(client.asked), "a registration")
-        assert client.asked[0]["method"] == "client/registerCapability"
+        client.wait(lambda: bool(client.requests), "a registration")
+        assert client.requests[0]["method"] == "client/registerCapability"
         (workspace / "b.pkt").write_text("bad\n")
         uri = uri_of(str(workspace / "b.pkt"))
         client.notify("workspace/didChangeWatchedFiles", {"changes": [{"uri": uri, "type": 1}]})
-        client.told(uri, bool, "what is wrong with the file")
+        client.wait_diagnostics(uri, bool, "what is wrong with the file")
 
 
 def test_a_script_without_a_workspace_is_served(recording_programs: Path, workspace: Path) -> None:

@@ -5,16 +5,16 @@ from pathlib import Path
 
 import pytest
 
-from pdsuite.lsp.answers import lenses
+from pdsuite.lsp.features import lenses
 from pdsuite.lsp.workspace import Result
-from pdsuite.programs.rows import Row, Verdict
+from pdsuite.programs.verdict import Row, Verdict
 from pdsuite.run.outcomes import Outcome
-from pdsuite.scripts.search import ScriptFile
+from pdsuite.scripts.discover import ScriptFile
 from pdsuite.watch.change_report import BEFORE
 from tests.helpers import HANGS
 from tests.lsp_client import CAPABILITIES, Json, LspClient
 from tests.test_watch_builds import SOURCE, put_rule, refuse_proof, tree_of_one_script
-from tests.trees import Tree, stand_in
+from tests.tree_fixture import Tree, fake_octets
 
 PROGRESS: Json = {**CAPABILITIES, "window": {"workDoneProgress": True}}
 
@@ -42,9 +42,9 @@ def await_lens(client: LspClient, uri: str, title: str) -> None:
         time.sleep(0.05)
 
 
-def first(told: Json) -> str:
+def first(reported: Json) -> str:
     """The first line of a diagnostic."""
-    return str(told["message"]).partition("\n")[0]
+    return str(reported["message"]).partition("\n")[0]
 
 
 def test_an_editor_follows_a_sender_that_is_built_and_then_proved(tree: Tree) -> None:
@@ -55,11 +55,11 @@ def test_an_editor_follows_a_sender_that_is_built_and_then_proved(tree: Tree) ->
         kinds = [it["value"]["kind"] for it in client.progress]
         assert (kinds[0], kinds[-1]) == ("begin", "end")
         put_rule(tree, "fail 1 seq")
-        (told,) = client.told(uri, bool, "a row of the sender after")
-        assert first(told) == "fail seq: so it is" and lens(client, uri) == "fail 1 seq UNPROVED"
+        (reported,) = client.wait_diagnostics(uri, bool, "a row of the sender after")
+        assert first(reported) == "fail seq: so it is" and lens(client, uri) == "fail 1 seq UNPROVED"
         client.wait(lambda: any("the sender turned" in it for it in client.shown), "what turned")
         client.wait(lambda: any("a.pkt: turned\n  before: pass 1" in it for it in client.logged), "how it turned")
-        tree.prove(pdregress=stand_in("fail 1 seq"), pdrecord=(tree.bin / "pdrecord").read_bytes())
+        tree.prove(pdregress=fake_octets("fail 1 seq"), pdrecord=(tree.bin / "pdrecord").read_bytes())
         await_lens(client, uri, "fail 1 seq")
 
 
@@ -69,14 +69,17 @@ def test_what_does_not_compile_is_a_diagnostic_of_its_source(tree: Tree) -> None
         await_lens(client, uri, "fail 1 ack UNPROVED")
         put_rule(tree, "wrong")
         source = (tree.top / SOURCE).as_uri()
-        (told,) = client.told(source, bool, "what the compiler says")
-        assert (told["message"], told["range"]["start"]) == ("error[mismatch]: wrong", {"line": 0, "character": 3})
-        (told,) = client.told(uri, lambda it: "before" in first(it[0]), "a mark")
-        assert first(told).startswith("(by the sender before) ")
+        (reported,) = client.wait_diagnostics(source, bool, "what the compiler says")
+        assert (reported["message"], reported["range"]["start"]) == (
+            "error[mismatch]: wrong",
+            {"line": 0, "character": 3},
+        )
+        (reported,) = client.wait_diagnostics(uri, lambda it: "before" in first(it[0]), "a mark")
+        assert first(reported).startswith("(by the sender before) ")
         assert lens(client, uri) == "fail 1 ack (by the sender before)"
         put_rule(tree, "pass 2")
-        client.told(source, lambda it: not it, "no error")
-        client.told(uri, lambda it: "before" not in first(it[0]), "no mark")
+        client.wait_diagnostics(source, lambda it: not it, "no error")
+        client.wait_diagnostics(uri, lambda it: "before" not in first(it[0]), "no mark")
 
 
 def test_a_refused_proof_is_a_message_and_a_diagnostic_of_its_source_until_that_changes(tree: Tree) -> None:
@@ -85,16 +88,18 @@ def test_a_refused_proof_is_a_message_and_a_diagnostic_of_its_source_until_that_
         await_lens(client, uri, "pass: 1 event UNPROVED")
         refuse_proof(tree)
         source = (tree.top / SOURCE).as_uri()
-        (told,) = client.told(source, bool, "what the prover says")
-        assert (told["message"], told["range"]["start"]) == ("error: the contract", {"line": 0, "character": 1})
-        said = f"pd_board isn't proved, or wasn't built:\n{tree.top / SOURCE}:1:2: error: the contract"
-        client.wait(lambda: f"pdsuite: {said}" in client.shown, "a message")
-        client.wait(lambda: said in client.logged, "all of it in the log")
+        (reported,) = client.wait_diagnostics(source, bool, "what the prover says")
+        assert (reported["message"], reported["range"]["start"]) == ("error: the contract", {"line": 0, "character": 1})
+        message = f"pd_board isn't proved, or wasn't built:\n{tree.top / SOURCE}:1:2: error: the contract"
+        client.wait(lambda: f"pdsuite: {message}" in client.shown, "a message")
+        client.wait(lambda: message in client.logged, "all of it in the log")
         put_rule(tree, "wrong")
-        (told,) = client.told(source, lambda it: bool(it) and "contract" not in it[0]["message"], "the compiler's")
-        assert told["message"] == "error[mismatch]: wrong"
+        (reported,) = client.wait_diagnostics(
+            source, lambda it: bool(it) and "contract" not in it[0]["message"], "the compiler's"
+        )
+        assert reported["message"] == "error[mismatch]: wrong"
         put_rule(tree, "pass 1")
-        client.told(source, lambda it: not it, "nothing")
+        client.wait_diagnostics(source, lambda it: not it, "nothing")
         assert sum("isn't proved, or" in it for it in client.shown) == 1
 
 
@@ -103,12 +108,14 @@ def test_where_the_first_sender_does_not_compile_that_is_told_once_and_the_next_
     with served(tree) as client:
         uri = client.open(tree.suite / "a.pkt", "+0 wrong\n")
         source = (tree.top / SOURCE).as_uri()
-        client.told(source, bool, "what the compiler says")
-        (told,) = client.told(uri, lambda it: bool(it) and "isn't built" in it[0]["message"], "that nothing was run")
-        assert first(told).endswith("; nothing was run: the sender isn't built")
+        client.wait_diagnostics(source, bool, "what the compiler says")
+        (reported,) = client.wait_diagnostics(
+            uri, lambda it: bool(it) and "isn't built" in it[0]["message"], "that nothing was run"
+        )
+        assert first(reported).endswith("; nothing was run: the sender isn't built")
         place = f"{tree.top / SOURCE}:1:4: error[mismatch]: wrong"
-        said = [f"pdsuite: unproved: NotCompiled: the program doesn't compile\n{place}"]
-        shown = ["pdsuite: unproved: the sender is being built", *said]
+        message = [f"pdsuite: unproved: NotCompiled: the program doesn't compile\n{place}"]
+        shown = ["pdsuite: unproved: the sender is being built", *message]
         client.wait(lambda: client.shown == shown, "what the compiler says, once")
         client.put(uri, "row fail 1 ack\n")
         client.notify("textDocument/didSave", {"textDocument": {"uri": uri}})

@@ -1,4 +1,4 @@
-"""What `pdsuite lsp` tells of texts is what `pdsuite run` says of them, whatever was typed before."""
+"""What `pdsuite lsp` reports of texts is what `pdsuite run` says of them, whatever was typed before."""
 
 import json
 import os
@@ -25,7 +25,7 @@ def test_texts_of_all_kinds_are_those_of_a_run(client: LspClient, workspace: Pat
 
 
 def rows(client: LspClient) -> dict[str, list[tuple[str, int, str]]]:
-    """What is told of each open script: code, line and whether it counts as an error, without what is expected."""
+    """What is reported of each open script: code, line and whether it counts as an error, without what is expected."""
     return {
         uri: [(it["code"], it["range"]["start"]["line"] + 1, it["message"].splitlines()[0]) for it in found]
         for uri, (_, found) in client.diagnostics.items()
@@ -34,19 +34,19 @@ def rows(client: LspClient) -> dict[str, list[tuple[str, int, str]]]:
 
 
 def compare(client: LspClient, workspace: Path, programs: Path) -> None:
-    """Holds what is told of all open scripts against `pdsuite run` on the same texts."""
+    """Holds what is reported of all open scripts against `pdsuite run` on the same texts."""
     for uri, document in client.documents.items():
         (workspace / uri.rpartition("/")[2]).write_bytes(document.octets)
     environment = {**os.environ, "PDSUITE_PROGRAMS": str(programs)}
     done = subprocess.run(
         [TOP / "pdsuite", "run", "--json", workspace], env=environment, capture_output=True, timeout=HANGS
     )
-    told = rows(client)
+    reported = rows(client)
     for script in json.loads(done.stdout)["scripts"]:
         uri = uri_of(script["path"])
         if uri not in client.documents:
             continue
-        found = told.get(uri, [])
+        found = reported.get(uri, [])
         match script:
             case {"verdict": "pass", "events": 0}:
                 assert [it[2] for it in found] == ["passes, but has no event"]

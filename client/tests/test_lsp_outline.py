@@ -1,10 +1,10 @@
 """What the language server makes of comments, and what it says of settings, calls and flags by the documents."""
 
-from pdsuite.lsp import pages
+from pdsuite.lsp import doc_lookup
 from pdsuite.lsp.comments import blocks_of, foldings_of, symbols_of
 from pdsuite.lsp.completion import items_of, keys_proposed, proposals, typed_before
 from pdsuite.lsp.positions import Lines
-from pdsuite.lsp.settings_places import diagnostic_of, key_at
+from pdsuite.lsp.toml_positions import diagnostic_of, key_at
 from pdsuite.scripts.defaults import KEYS
 
 SCRIPT = """// Sets up,
@@ -44,13 +44,13 @@ def test_comments_stand_up_to_where_no_token_begins() -> None:
 
 
 def test_the_documents_have_each_key_call_and_field() -> None:
-    assert all(f"**{key}**" in pages.of_key(key) for key in KEYS)
-    assert "64 to 65,495 octets; 1,460" in pages.of_key("mss")
+    assert all(f"**{key}**" in doc_lookup.of_key(key) for key in KEYS)
+    assert "64 to 65,495 octets; 1,460" in doc_lookup.of_key("mss")
     for call in ("socket", "bind", "listen", "accept", "setsockopt", "fcntl", "write", "close"):
-        assert pages.of_call(call).startswith(f"`{call}(")
-    assert pages.of_call("setsockopt").count("`setsockopt(") == 2
-    assert all(pages.of_field(it) for it in ("flags", "seq", "ack", "win", "options", "header"))
-    assert pages.of_call("connect") == pages.of_field("time") == pages.of_key("root") == ""
+        assert doc_lookup.of_call(call).startswith(f"`{call}(")
+    assert doc_lookup.of_call("setsockopt").count("`setsockopt(") == 2
+    assert all(doc_lookup.of_field(it) for it in ("flags", "seq", "ack", "win", "options", "header"))
+    assert doc_lookup.of_call("connect") == doc_lookup.of_field("time") == doc_lookup.of_key("root") == ""
 
 
 def test_what_is_expected_becomes_proposals() -> None:

@@ -4,18 +4,18 @@ from typing import Any
 
 import pytest
 
-from pdsuite.lsp.actions import Action, Failing, edits_to, leads_past
+from pdsuite.lsp.actions import Action, FailingScript, edits_to, leads_past
 from pdsuite.lsp.actions import recording_all, recording_from_here, switching_off, taking
 from pdsuite.lsp.diagnostics import Diagnostic, diagnostics_of, with_related
 from pdsuite.lsp.documents import Document
 from pdsuite.lsp.hover import hover_of, plain
 from pdsuite.lsp.packets_sent import as_lines, sent_in, sent_of
 from pdsuite.lsp.positions import Lines
-from pdsuite.packetdrill.recorded import last_input_before, met_by, recorded_in, tolerance_of, without_trace
 from pdsuite.packetdrill.layout import layout_of
-from pdsuite.programs.rows import Row, Verdict
+from pdsuite.packetdrill.recorded import last_input_before, match_events, recorded_in, tolerance_of, without_trace
+from pdsuite.programs.verdict import Row, Verdict
+from pdsuite.run.locate_row import unshown
 from pdsuite.run.outcomes import Outcome
-from pdsuite.run.row_place import unshown
 from pdsuite.scripts.expectation import Expectation
 
 SCRIPT = """0 write(4, ..., 1500) = 1500 // two
@@ -41,9 +41,9 @@ RECORDING = """+0 write(4, ..., 1500) = 1500 // two
 SENT = "+0   > P. 1:1001(1000) ack 1 win 511 // 0.200000"
 
 
-def failing(text: str, row: Row, **cause: Any) -> Failing:
+def failing(text: str, row: Row, **cause: Any) -> FailingScript:
     """A script that doesn't pass."""
-    return Failing(Lines(text), layout_of(text), row, cause)
+    return FailingScript(Lines(text), layout_of(text), row, cause)
 
 
 def test_packets_are_read_as_they_are_shown() -> None:
@@ -96,24 +96,24 @@ def test_the_time_alone_is_offered_where_nothing_else_differs() -> None:
 
 def test_packets_before_the_awaited_one_are_inserted() -> None:
     event = "+0 > P. 4001:5001(1000) ack 1"
-    untaken = ["* > P. 3001:4001(1000) ack 1 win 5 // 0.200000", "+0 > P. 4001:5001(1000) ack 1 win 5 // 0.300000"]
+    unmatched = ["* > P. 3001:4001(1000) ack 1 win 5 // 0.200000", "+0 > P. 4001:5001(1000) ack 1 win 5 // 0.300000"]
     actual = "* > . 2001:3001(1000) ack 1 win 5 // 0.200000"
     text = f"0 a() = 1\r\n  {event}\r\n"
-    told = {"script_packet": event, "actual_packet": actual, "untaken_packets": untaken}
-    first, _ = taking(failing(text, Row(Verdict.FAIL, 2, "time"), unasked_packets=2, **told))
+    cause_fields = {"script_packet": event, "actual_packet": actual, "untaken_packets": unmatched}
+    first, _ = taking(failing(text, Row(Verdict.FAIL, 2, "time"), unasked_packets=2, **cause_fields))
     assert (first.title, first.shift) == ("Insert 2 packets that were sent before it", 2)
     assert first.text.split("\r\n")[1:3] == [
         "  * > . 2001:3001(1000) ack 1 win 5",
         "  * > P. 3001:4001(1000) ack 1 win 5",
     ]
-    _, last = taking(failing(text, Row(Verdict.FAIL, 2, "time"), **told))
+    _, last = taking(failing(text, Row(Verdict.FAIL, 2, "time"), **cause_fields))
     assert (last.title, last.shift) == ("Insert 3 packets that were sent before it", 3)
 
 
 def test_before_an_event_that_follows_another_in_its_line_packets_are_inserted_without_an_indent() -> None:
     event = "+0 > P. 1001:2001(1000) ack 1"
-    told = {"script_packet": event, "actual_packet": SENT, "untaken_packets": [], "unasked_packets": 1}
-    first, _ = taking(failing(f"  0 a() = 1 {event}\n", Row(Verdict.FAIL, 1, "seq"), **told))
+    cause_fields = {"script_packet": event, "actual_packet": SENT, "untaken_packets": [], "unasked_packets": 1}
+    first, _ = taking(failing(f"  0 a() = 1 {event}\n", Row(Verdict.FAIL, 1, "seq"), **cause_fields))
     assert first.text == f"  0 a() = 1 +0 > P. 1:1001(1000) ack 1 win 511\n{event}\n"
 
 
@@ -149,7 +149,7 @@ def test_an_action_leads_past_its_line() -> None:
 def test_a_recording_beside_its_script() -> None:
     recorded = recorded_in(RECORDING)
     events = layout_of(SCRIPT).events
-    met = list(met_by(events, recorded, 4, 4_000))
+    met = list(match_events(events, recorded, 4, 4_000))
     assert [None if it.recorded is None else it.recorded.moment for it in met] == [
         0,
         0,
@@ -164,7 +164,7 @@ def test_a_recording_beside_its_script() -> None:
 
 def test_what_is_unmet_is_told_by_the_time_alone() -> None:
     events = layout_of(SCRIPT.replace("+0.1 > P. 1:2(1)", "* > P. 1:2(1)")).events
-    met = list(met_by(events, recorded_in(RECORDING), 4, 0))
+    met = list(match_events(events, recorded_in(RECORDING), 4, 0))
     assert met[4].recorded is None  # nothing left before the next input
     late = "0 a() = 1\n+0.1~+0.3 > . 1:2(1)\n+1 b() = 1\n"
     trace = "//= at {} CLOSED\n"
@@ -172,7 +172,7 @@ def test_what_is_unmet_is_told_by_the_time_alone() -> None:
         *(trace.format(it) for it in ("0.000000", "0.304000", "1.000000"))
     )
     for tolerance, is_met in [(4_000, True), (3_999, False)]:
-        found = list(met_by(layout_of(late).events, recorded_in(recording), 1, tolerance))
+        found = list(match_events(layout_of(late).events, recorded_in(recording), 1, tolerance))
         assert (found[1].recorded is not None) == is_met
 
 
@@ -201,7 +201,7 @@ def test_hover_says_what_the_timer_sent() -> None:
     expiry = "+1 > . 1:1001(1000) ack 1\n"
     trace = "//= at 1.000000 ESTABLISHED una:1 prr_delivered:0 prr_out:1000 recovery:RFC6675 sent_by:timer\n"
     events, recorded = layout_of(expiry).events, recorded_in(expiry + trace)
-    met = list(met_by(events, recorded, 1, 4_000))
+    met = list(match_events(events, recorded, 1, 4_000))
     words = hover_of(events[0], 0, met, expiry + trace)
     assert "`> . 1:1001(1000) ack 1` was sent at 1.000000, by the timer\n" in words
     assert "prr_out        1000\n" in words
@@ -210,7 +210,7 @@ def test_hover_says_what_the_timer_sent() -> None:
 def test_hover_has_what_changed() -> None:
     recorded = recorded_in(RECORDING)
     events = layout_of(SCRIPT).events
-    met = list(met_by(events, recorded, 4, 4_000))
+    met = list(match_events(events, recorded, 4, 4_000))
     words = hover_of(events[2], events[2].item.start, met, RECORDING)
     assert "After it at 0.100000: ESTABLISHED\n```text\nuna   1001  was 1\nnext  1501  was 1001\n" in words
     assert "`> P. 1001:1501(500) ack 1 win 511` was sent at 0.100000, by line 3" in hover_of(
@@ -289,7 +289,7 @@ def test_a_diagnostic_says_what_sent_a_packet_and_what_was_dropped() -> None:
 
 
 @pytest.mark.parametrize(
-    ("expected", "column", "said"),
+    ("expected", "column", "message"),
     [
         (["`=`"], None, "expected `=` at the end of the text"),
         (["letters of flags", "`.`", "`-`"], 5, "expected letters of flags, `.` or `-`"),
@@ -297,13 +297,13 @@ def test_a_diagnostic_says_what_sent_a_packet_and_what_was_dropped() -> None:
     ],
 )
 def test_a_text_that_is_no_script_says_what_it_lacks_as_run_does(
-    expected: list[str], column: int | None, said: str
+    expected: list[str], column: int | None, message: str
 ) -> None:
     text = "0 a()\n"
     outcome = Outcome("a", (), Row(Verdict.SYNTAX, 1))
     cause = {"what": "the text is no script", "expected": expected, "column": column, "text_line": 1, "found": "x"}
     (found,) = diagnostics_of(outcome, cause, layout_of(text), Lines(text))
-    assert found.message == f"syntax: {said}\nfound: x"
+    assert found.message == f"syntax: {message}\nfound: x"
 
 
 def test_a_known_failure_is_a_hint_and_an_unexpected_pass_an_error() -> None:

@@ -3,7 +3,7 @@
 import pytest
 
 from pdsuite.lsp.documents import Document, opened, path_of, uri_of
-from pdsuite.lsp.json_values import Malformed
+from pdsuite.lsp.json_values import MalformedMessageError
 from pdsuite.lsp.positions import Lines, Position
 from pdsuite.packetdrill.layout import layout_of
 
@@ -80,7 +80,7 @@ def test_changes_apply_one_after_another() -> None:
     ],
 )
 def test_a_change_of_another_shape_is_refused(broken: dict[str, object]) -> None:
-    with pytest.raises(Malformed):
+    with pytest.raises(MalformedMessageError):
         changed("abc", broken)
 
 

@@ -12,12 +12,13 @@ import pytest
 from pdsuite.commands.measure import MeasureOptions, measure
 from pdsuite.compare.senders import Sender
 from pdsuite.compare.sides import Side, side_of
-from pdsuite.measure.measuring import Case, Measured, MeasuredCase, Measuring, Pair, cases_of, settings_for
+from pdsuite.measure.measurement import MeasureResult, MeasuredCase, Measurement, Pair, TransferCase, cases_of
+from pdsuite.measure.measurement import settings_for
 from pdsuite.measure.paths import NetworkPath, paths_of
 from pdsuite.measure.report import MeasureReport, cells_of, plain
-from pdsuite.measure.statistics import FIGURES, Row, Table, Verdict, _shown, tables_of
+from pdsuite.measure.statistics import FIGURES, ChangeVerdict, FigureRow, FigureTable, _shown, tables_of
 from pdsuite.measure.transfer import Delivery
-from pdsuite.show.screen import Screen
+from pdsuite.output.screen import Screen
 from pdsuite.signals import Stop
 from tests.helpers import Call
 
@@ -45,7 +46,7 @@ def delivery(time: float, again: int = 0) -> Delivery:
     return Delivery(1_000, int(time), 1, again, 1_000 * again, 0, 0.0, 0, 0, (), ())
 
 
-def table(before: Sequence[float], after: Sequence[float], path: NetworkPath = PATH) -> Table:
+def table(before: Sequence[float], after: Sequence[float], path: NetworkPath = PATH) -> FigureTable:
     (found,) = tables_of([measured(before, after, path)])
     return found
 
@@ -54,10 +55,10 @@ def measured(before: Sequence[float], after: Sequence[float], path: NetworkPath 
     pairs = tuple(
         Pair(number, delivery(one), delivery(other)) for number, (one, other) in enumerate(zip(before, after))
     )
-    return MeasuredCase(Case(path, 1_000, len(pairs)), pairs)
+    return MeasuredCase(TransferCase(path, 1_000, len(pairs)), pairs)
 
 
-def row(it: Table, key: str) -> Row:
+def row(it: FigureTable, key: str) -> FigureRow:
     return next(row for row in it.rows if row.figure.key == key)
 
 
@@ -79,8 +80,8 @@ def test_a_difference_that_runs_show_is_better_or_worse_and_lies_in_its_interval
     after = [it - 5_000 + draw.gauss(0, 500) for it in before]
     found = table(before, after)
     for key in ("time_median", "goodput"):
-        assert row(found, key).verdict is Verdict.BETTER
-        assert row(table(after, before), key).verdict is Verdict.WORSE
+        assert row(found, key).verdict is ChangeVerdict.BETTER
+        assert row(table(after, before), key).verdict is ChangeVerdict.WORSE
     # The runs differ far more from one another than the senders do in each.
     assert -6_000 < row(found, "time_median").low < row(found, "time_median").high < -4_000
 
@@ -88,23 +89,23 @@ def test_a_difference_that_runs_show_is_better_or_worse_and_lies_in_its_interval
 def test_equal_senders_are_the_same_and_chance_alone_shows_nothing() -> None:
     draw = Random(4)
     equal = [draw.gauss(100_000, 20_000) for _ in range(50)]
-    assert {it.verdict for it in table(equal, equal).rows} == {Verdict.SAME}
+    assert {it.verdict for it in table(equal, equal).rows} == {ChangeVerdict.SAME}
     cases = [measured(equal, draw.sample(equal, len(equal))) for _ in range(8)]
     found = [it.verdict for one in tables_of(cases) for it in one.rows if it.figure.key == "time_median"]
-    assert found.count(Verdict.UNSHOWN) >= 7
+    assert found.count(ChangeVerdict.UNSHOWN) >= 7
 
 
 def test_few_runs_show_nothing_however_alike_they_are() -> None:
     assert row(table([2_000.0] * 4, [1_000.0] * 4), "time_median").chance == pytest.approx(1 / 8)
-    assert row(table([2_000.0] * 4, [1_000.0] * 4), "time_median").verdict is Verdict.UNSHOWN
-    assert row(table([2_000.0] * 14, [1_000.0] * 14), "time_median").verdict is Verdict.BETTER
+    assert row(table([2_000.0] * 4, [1_000.0] * 4), "time_median").verdict is ChangeVerdict.UNSHOWN
+    assert row(table([2_000.0] * 14, [1_000.0] * 14), "time_median").verdict is ChangeVerdict.BETTER
 
 
 def test_without_chance_one_run_has_all() -> None:
     exact = NetworkPath("rail", "a test", 8_000_000, 1_000, 10_000, (1_000, 2_000))
     assert [it.runs for it in cases_of([exact, PATH], 30)] == [1, 1, 30]
     found = row(table([2_000.0], [1_999.0], exact), "time_median")
-    assert (found.chance, found.verdict, found.low, found.high) == (None, Verdict.BETTER, -1, -1)
+    assert (found.chance, found.verdict, found.low, found.high) == (None, ChangeVerdict.BETTER, -1, -1)
 
 
 def test_verdicts_hold_together_as_holm_has_it() -> None:
@@ -114,8 +115,8 @@ def test_verdicts_hold_together_as_holm_has_it() -> None:
 
 
 def test_a_report_has_a_title_each_figure_and_totals() -> None:
-    told = MeasureReport([table([2_000.0] * 20, [1_000.0] * 20)], ("one", "other"), 7, 40, 1.5, True)
-    first, *rows, counts, total = plain(told).plain.splitlines()
+    report = MeasureReport([table([2_000.0] * 20, [1_000.0] * 20)], ("one", "other"), 7, 40, 1.5, True)
+    first, *rows, counts, total = plain(report).plain.splitlines()
     assert first == "road, 1,000 octets: 20 runs" and len(rows) == len(FIGURES)
     assert rows[0].startswith(
         "  time to deliver, median           2.000 ms  1.000 ms  -1.000 ms  (-1.000 ms to -1.000 ms)"
@@ -127,25 +128,25 @@ def test_a_report_has_a_title_each_figure_and_totals() -> None:
 
 def test_times_of_some_microseconds_are_told_in_microseconds() -> None:
     queue = next(it for it in FIGURES if it.key == "queue")
-    assert cells_of(Row(queue, 0.5, 1.75, 1, 1.5, 0.01))[1:] == (
+    assert cells_of(FigureRow(queue, 0.5, 1.75, 1, 1.5, 0.01))[1:] == (
         "0.500 us",
         "1.750 us",
         "+1.250 us",
         "(+1.000 us to +1.500 us)",
     )
-    assert cells_of(Row(queue, 200, 201.25, 1, 1.5, None))[1:] == ("0.200 ms", "0.201 ms", "+0.001 ms", "")
+    assert cells_of(FigureRow(queue, 200, 201.25, 1, 1.5, None))[1:] == ("0.200 ms", "0.201 ms", "+0.001 ms", "")
 
 
 def test_a_narrow_terminal_has_the_numbers_of_a_figure_below_it() -> None:
     draw = Random(6)
     slow = [draw.gauss(200_000_000, 20_000_000) for _ in range(40)]
     tables = [table(slow, [it - draw.gauss(10_000_000, 9_000_000) for it in slow])]
-    broken = replace(tables[0], measured=replace(tables[0].measured, unplayed=("run 7, before: " + "because " * 20,)))
-    told = plain(MeasureReport([broken], ("one", "other"), 7, 80, 1.5, True), 79).plain.splitlines()
-    assert max(map(len, told)) <= 79
-    assert told[1] == f"  {'time to deliver, median':34}better"
-    assert told[2].startswith("    20") and told[3].startswith("    (-") and told[3].endswith(" ms)")
-    assert "    0.00  0.00  +0.00  (+0.00 to +0.00)" in told
+    broken = replace(tables[0], measured=replace(tables[0].measured, unfinished=("run 7, before: " + "because " * 20,)))
+    report = plain(MeasureReport([broken], ("one", "other"), 7, 80, 1.5, True), 79).plain.splitlines()
+    assert max(map(len, report)) <= 79
+    assert report[1] == f"  {'time to deliver, median':34}better"
+    assert report[2].startswith("    20") and report[3].startswith("    (-") and report[3].endswith(" ms)")
+    assert "    0.00  0.00  +0.00  (+0.00 to +0.00)" in report
     assert plain(MeasureReport(tables, ("one", "other"), 7, 80, 1.5, True), 200).plain.count("\n") == len(FIGURES) + 3
 
 
@@ -159,7 +160,7 @@ def side_of_programs(folder: Path) -> Side:
 
 def test_a_signal_leaves_what_both_sides_have_played(programs: Path) -> None:
     side = side_of_programs(programs)
-    measuring = Measuring([Case(PATH, 1_000, 400)], (side, side), (), 1)
+    measuring = Measurement([TransferCase(PATH, 1_000, 400)], (side, side), (), 1)
     with Stop(()) as stop:
 
         def advance(done: int, count: int) -> None:
@@ -184,13 +185,13 @@ def test_segments_are_as_large_as_those_of_a_path_unless_the_mss_is_set() -> Non
 def test_a_transfer_that_comes_to_no_end_is_told_and_counts_on_neither_side(programs: Path) -> None:
     large = replace(PATH, mss=64, loss=0.2, name="broken")
     side = side_of_programs(programs)
-    measuring = Measuring([Case(large, 64 * 3_000, 1), Case(PATH, 1_000, 1)], (side, side), (), 1)
+    measuring = Measurement([TransferCase(large, 64 * 3_000, 1), TransferCase(PATH, 1_000, 1)], (side, side), (), 1)
     with Stop(()) as stop:
         found = measuring.run(stop, lambda done, count: None)
     broken, whole = found.cases
-    assert broken.pairs == () and len(broken.unplayed) == 2 and len(whole.pairs) == 1
-    told = plain(MeasureReport(tables_of(found.cases), ("one", "other"), 1, 2, 0.0, False)).plain
-    assert "not played: run 0, before: its packets don't fit into a script" in told and ", and 1 more" in told
+    assert broken.pairs == () and len(broken.unfinished) == 2 and len(whole.pairs) == 1
+    report = plain(MeasureReport(tables_of(found.cases), ("one", "other"), 1, 2, 0.0, False)).plain
+    assert "not played: run 0, before: its packets don't fit into a script" in report and ", and 1 more" in report
 
 
 # ---- the command
@@ -252,13 +253,13 @@ def test_a_page_and_all_transfers_as_scripts_are_kept(call: Call, recording_prog
 def test_what_was_played_until_a_signal_is_kept_too(
     recording_programs: Path, tmp_path: Path, monkeypatch: pytest.MonkeyPatch
 ) -> None:
-    def cut(measuring: Measuring, stop: Stop, advance: Callable[[int, int], None]) -> Measured:
+    def cut(measuring: Measurement, stop: Stop, advance: Callable[[int, int], None]) -> MeasureResult:
         stop._note(signal.SIGINT, None)
         with Stop(()) as unheeded:
             return replace(run(measuring, unheeded, advance), status=130)
 
-    run = Measuring.run
-    monkeypatch.setattr(Measuring, "run", cut)
+    run = Measurement.run
+    monkeypatch.setattr(Measurement, "run", cut)
     (tmp_path / "paths.toml").write_text(PATHS)
     folder = str(recording_programs)
     places = {"paths": tmp_path / "paths.toml", "html": tmp_path / "page", "save": tmp_path / "kept"}

@@ -11,10 +11,10 @@ from pathlib import Path
 
 import pytest
 
-from pdsuite.measure.asking import play_all
-from pdsuite.measure.link import Losses
+from pdsuite.measure.link import LossModel
 from pdsuite.measure.paths import NetworkPath
 from pdsuite.measure.transfer import Delivery, play
+from pdsuite.measure.transfer_batch import play_transfers
 from pdsuite.signals import Stop
 
 TRANSFERS = int(os.environ.get("MEASURED_TRANSFERS", "96"))
@@ -29,7 +29,7 @@ PIECE = 16
 
 def since_first_loss(path: NetworkPath, seed: str, it: Delivery) -> tuple[int, int]:
     """How many octets are delivered in how many microseconds, from the moment at which the first packet was lost."""
-    losses = Losses(path, f"{seed} loss")
+    losses = LossModel(path, f"{seed} loss")
     first = next(number for number in count() if losses.lose(0))
     if first >= len(it.departures):
         return 0, 0
@@ -49,7 +49,9 @@ def test_goodput_follows_the_square_root_law(programs: Path, share: float) -> No
     for begin in range(0, transfers, PIECE):
         seeds = [f"{share} {number}" for number in range(begin, min(begin + PIECE, transfers))]
         with Stop(()) as stop:
-            found = play_all([play(path, SIZE, it, 1_048_576) for it in seeds], programs / "pdregress", settings, stop)
+            found = play_transfers(
+                [play(path, SIZE, it, 1_048_576) for it in seeds], programs / "pdregress", settings, stop
+            )
         for seed, it in zip(seeds, found):
             assert isinstance(it, Delivery), it
             more = since_first_loss(path, seed, it)

@@ -10,9 +10,9 @@ from random import Random
 import pytest
 
 from pdsuite.faults import Fault
-from pdsuite.measure.link import Carried, Fate, Link, Losses
+from pdsuite.measure.link import CarriedPacket, Link, LossModel, PacketFate
 from pdsuite.measure.paths import FILE, HEADER, MOST_SEGMENTS, NetworkPath, paths_in, paths_of
-from pdsuite.measure.receiver import Ack, Receiver, Span
+from pdsuite.measure.receiver import Ack, OctetRange, Receiver
 
 PLAIN = NetworkPath("plain", "a test", rate=8_000_000, delay_us=10_000, queue=10_000, sizes=(14_600,))
 TABLE = "[a]\nsource = 'a test'\nrate = 1_000_000\ndelay_us = 10\nqueue = 1\nsizes = [1]\n"
@@ -101,7 +101,7 @@ def test_the_window_is_shifted_as_little_as_lets_its_field_hold_it() -> None:
 # ---- the link
 
 
-def second_model(path: NetworkPath, packets: Sequence[Span]) -> list[Carried]:
+def second_model(path: NetworkPath, packets: Sequence[OctetRange]) -> list[CarriedPacket]:
     """The same link, plainly: all packets with exact moments, each looked at as the next comes."""
     taken: list[tuple[Fraction, Fraction, int]] = []  # when each begins to leave, has left, and its octets
     found = []
@@ -110,12 +110,12 @@ def second_model(path: NetworkPath, packets: Sequence[Span]) -> list[Carried]:
         waiting = sum(size for begin, _, size in taken if begin > now)
         is_busy = any(begin <= now < end or begin > now for begin, end, _ in taken)
         if is_busy and waiting + octets > path.queue:
-            found.append(Carried(Fate.OVERFLOW))
+            found.append(CarriedPacket(PacketFate.OVERFLOW))
             continue
         begin = max([now, *(end for _, end, _ in taken)])
         end = begin + Fraction(octets * 8 * 1_000_000, path.rate)
         taken.append((begin, end, octets))
-        found.append(Carried(Fate.ARRIVES, -int(-end // 1) + path.delay_us, int((begin - now) * 1_000)))
+        found.append(CarriedPacket(PacketFate.ARRIVES, -int(-end // 1) + path.delay_us, int((begin - now) * 1_000)))
     return found
 
 
@@ -138,9 +138,9 @@ def test_packets_leave_at_the_rate_and_wait_for_one_another() -> None:
     link = Link(PLAIN, "seed")
     # 1,000 octets take a millisecond.
     assert [link.carry(0, 1_000) for _ in range(3)] == [
-        Carried(Fate.ARRIVES, 11_000, 0),
-        Carried(Fate.ARRIVES, 12_000, 1_000_000),
-        Carried(Fate.ARRIVES, 13_000, 2_000_000),
+        CarriedPacket(PacketFate.ARRIVES, 11_000, 0),
+        CarriedPacket(PacketFate.ARRIVES, 12_000, 1_000_000),
+        CarriedPacket(PacketFate.ARRIVES, 13_000, 2_000_000),
     ]
     assert link.earliest(0) == 13_041
 
@@ -148,14 +148,18 @@ def test_packets_leave_at_the_rate_and_wait_for_one_another() -> None:
 def test_the_queue_holds_so_many_octets_beside_the_packet_that_leaves() -> None:
     link = Link(PLAIN, "seed")
     fates = [link.carry(0, 1_000).fate for _ in range(12)]
-    assert fates == [Fate.ARRIVES] * 11 + [Fate.OVERFLOW]
-    assert link.carry(999, 1_000).fate is Fate.OVERFLOW
-    assert link.carry(1_000, 1_000).fate is Fate.ARRIVES
+    assert fates == [PacketFate.ARRIVES] * 11 + [PacketFate.OVERFLOW]
+    assert link.carry(999, 1_000).fate is PacketFate.OVERFLOW
+    assert link.carry(1_000, 1_000).fate is PacketFate.ARRIVES
 
 
 def test_a_link_without_a_queue_takes_what_finds_it_idle() -> None:
     link = Link(NetworkPath("a", "", 8_000_000, 1, 0, (1,)), "seed")
-    assert [link.carry(at, 1_000).fate for at in (0, 999, 1_000)] == [Fate.ARRIVES, Fate.OVERFLOW, Fate.ARRIVES]
+    assert [link.carry(at, 1_000).fate for at in (0, 999, 1_000)] == [
+        PacketFate.ARRIVES,
+        PacketFate.OVERFLOW,
+        PacketFate.ARRIVES,
+    ]
 
 
 def test_nothing_arrives_before_what_the_link_says_is_the_earliest() -> None:
@@ -172,14 +176,17 @@ def test_nothing_arrives_before_what_the_link_says_is_the_earliest() -> None:
 def test_a_late_packet_arrives_later_and_delays_no_other() -> None:
     late = NetworkPath("a", "", 8_000_000, 10_000, 10_000, (1,), reorder=1, reorder_us=500)
     link = Link(late, "seed")
-    assert [link.carry(at, 1_000) for at in (0, 1_000)] == [Carried(Fate.LATE, 11_500), Carried(Fate.LATE, 12_500)]
+    assert [link.carry(at, 1_000) for at in (0, 1_000)] == [
+        CarriedPacket(PacketFate.LATE, 11_500),
+        CarriedPacket(PacketFate.LATE, 12_500),
+    ]
 
 
 # ---- losses
 
 
 def lost(path: NetworkPath, count: int, seed: str = "seed") -> list[bool]:
-    losses = Losses(path, seed)
+    losses = LossModel(path, seed)
     return [losses.lose(0) for _ in range(count)]
 
 
@@ -192,7 +199,7 @@ def test_random_losses_have_their_share_and_a_seed_makes_them_again() -> None:
 
 def test_bursts_are_as_long_and_as_often_as_the_model_has_them() -> None:
     path = NetworkPath("a", "", 1, 1, 1, (1,), burst_us=4_000, burst_gap_us=36_000)
-    losses = Losses(path, "seed")
+    losses = LossModel(path, "seed")
     found = [losses.lose(at) for at in range(0, 80_000_000, 1_000)]
     bursts = [it for it in "".join("x" if it else " " for it in found).split(" ") if it]
     assert sum(found) / len(found) == pytest.approx(0.1, rel=0.1)
@@ -202,10 +209,10 @@ def test_bursts_are_as_long_and_as_often_as_the_model_has_them() -> None:
 
 def test_a_burst_comes_at_its_moment_however_many_packets_pass_before_and_a_share_of_it_is_lost() -> None:
     path = NetworkPath("a", "", 1, 1, 1, (1,), burst_us=4_000, burst_gap_us=36_000)
-    dense, sparse = Losses(path, "seed"), Losses(path, "seed")
+    dense, sparse = LossModel(path, "seed"), LossModel(path, "seed")
     each = {at: dense.lose(at) for at in range(0, 2_000_000, 250)}
     assert all(sparse.lose(at) is each[at] for at in range(0, 2_000_000, 5_000))
-    halves = Losses(replace(path, burst_loss=0.5), "seed")
+    halves = LossModel(replace(path, burst_loss=0.5), "seed")
     lost_of_burst = [halves.lose(at) for at, is_lost in each.items() if is_lost]
     assert sum(lost_of_burst) / len(lost_of_burst) == pytest.approx(0.5, abs=0.1)
 
@@ -215,10 +222,10 @@ def test_a_packet_is_lost_whatever_becomes_of_those_before() -> None:
     together, apart = Link(path, "seed"), Link(path, "seed")
     in_queue = [together.carry(0, 1_000).fate for _ in range(50)]
     alone = [apart.carry(number * 10_000, 1_000).fate for number in range(50)]
-    assert in_queue[4:] == [Fate.OVERFLOW] * 46 or Fate.LOST in in_queue
-    losses = Losses(path, "seed loss")
-    assert [it is Fate.LOST for it in alone] == [losses.lose(0) for _ in range(50)]
-    assert all(one is other for one, other in zip(in_queue, alone) if one is not Fate.OVERFLOW)
+    assert in_queue[4:] == [PacketFate.OVERFLOW] * 46 or PacketFate.LOST in in_queue
+    losses = LossModel(path, "seed loss")
+    assert [it is PacketFate.LOST for it in alone] == [losses.lose(0) for _ in range(50)]
+    assert all(one is other for one, other in zip(in_queue, alone) if one is not PacketFate.OVERFLOW)
 
 
 # ---- the peer
@@ -232,14 +239,14 @@ class PlainReceiver:
         self._segments = 0
         self.next = 1
 
-    def take(self, span: Span) -> None:
+    def take(self, span: OctetRange) -> None:
         self._segments += 1
         for octet in range(*span):
             self._came.setdefault(octet, self._segments)
         while self.next in self._came:
             self.next += 1
 
-    def blocks(self) -> set[Span]:
+    def blocks(self) -> set[OctetRange]:
         above = sorted(it for it in self._came if it > self.next)
         starts = [it for it in above if it - 1 not in self._came]
         ends = [it + 1 for it in above if it + 1 not in self._came]

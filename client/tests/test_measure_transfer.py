@@ -8,10 +8,10 @@ from random import Random
 
 import pytest
 
-from pdsuite.measure.asking import Outcome, Unplayed, play_all
-from pdsuite.measure.link import Losses
+from pdsuite.measure.link import LossModel
 from pdsuite.measure.paths import HEADER, NetworkPath, paths_of
 from pdsuite.measure.transfer import Delivery, Departure, Transfer, play
+from pdsuite.measure.transfer_batch import TransferOutcome, UnfinishedTransferError, play_transfers
 from pdsuite.packetdrill.items import Packet
 from pdsuite.programs.recorder import TRACE, record_all
 from pdsuite.programs.trace import events_in
@@ -32,11 +32,11 @@ def delivered(
     """What comes of transfers of these sizes, by each of these seeds."""
     games = [play(path, size, seed, ROOM) for size in sizes for seed in seeds]
     with Stop(()) as stop:
-        return [whole(it) for it in play_all(games, folder / "pdregress", settings, stop)]
+        return [whole(it) for it in play_transfers(games, folder / "pdregress", settings, stop)]
 
 
-def whole(it: Outcome) -> Delivery:
-    if isinstance(it, Unplayed):
+def whole(it: TransferOutcome) -> Delivery:
+    if isinstance(it, UnfinishedTransferError):
         raise it
     return it
 
@@ -48,7 +48,7 @@ def lose(monkeypatch: pytest.MonkeyPatch) -> Callable[..., None]:
     def losing(*numbers: int) -> None:
         found: dict[int, count[int]] = {}
         monkeypatch.setattr(
-            Losses, "lose", lambda losses, at: next(found.setdefault(id(losses), count())) in numbers, raising=True
+            LossModel, "lose", lambda losses, at: next(found.setdefault(id(losses), count())) in numbers, raising=True
         )
 
     return losing
@@ -200,7 +200,7 @@ def test_pdrecord_gives_the_same_packets(recording_programs: Path) -> None:
 
 
 class OneMoment(Transfer):
-    """The same transfer, plainly: each time the sender is asked after the inputs of one moment."""
+    """The same transfer, plainly: each time the sender is queried after the inputs of one moment."""
 
     def horizon(self, first: int) -> int:
         return first + 1 - self._path.delay_us
@@ -209,7 +209,7 @@ class OneMoment(Transfer):
 def test_it_makes_no_difference_how_many_inputs_are_put_in_at_once(programs: Path) -> None:
     with Stop(()) as stop:
         games = [OneMoment(path, 12_000, "3", ROOM).play() for path in ODD]
-        plain = play_all(games, programs / "pdregress", (), stop)
+        plain = play_transfers(games, programs / "pdregress", (), stop)
     for path, it in zip(ODD, plain):
         assert delivered(programs, path, [12_000], seeds=["3"]) == [it]
 
@@ -243,7 +243,7 @@ def test_writes_that_are_paced_take_as_long_as_their_pace(programs: Path) -> Non
 def test_a_program_writes_on_as_the_buffer_has_room(programs: Path) -> None:
     small = [play(WIDE, 100_000, "", 16_384)]
     with Stop(()) as stop:
-        (found,) = map(whole, play_all(small, programs / "pdregress", (("sndbuf", 16_384),), stop))
+        (found,) = map(whole, play_transfers(small, programs / "pdregress", (("sndbuf", 16_384),), stop))
     check(WIDE, 100_000, found)
     assert sum(" write(" in f" {it}" for it in found.lines) > 6
 
@@ -254,13 +254,13 @@ def test_a_program_writes_on_as_the_buffer_has_room(programs: Path) -> None:
 def test_a_sender_that_answers_otherwise_is_told(programs: Path) -> None:
     # It thinks of more room than the sender has.
     with Stop(()) as stop:
-        (found,) = play_all([play(WIDE, 100_000, "", ROOM)], programs / "pdregress", (("sndbuf", 4_096),), stop)
-    assert isinstance(found, Unplayed) and "the call has another result" in str(found)
+        (found,) = play_transfers([play(WIDE, 100_000, "", ROOM)], programs / "pdregress", (("sndbuf", 4_096),), stop)
+    assert isinstance(found, UnfinishedTransferError) and "the call has another result" in str(found)
 
 
 def test_a_transfer_whose_packets_fit_into_no_script_is_told(programs: Path) -> None:
     with Stop(()) as stop:
         games = [play(replace(WIDE, mss=64), 64 * 4_000, "", ROOM), play(WIDE, 1_000, "", ROOM)]
-        long, short = play_all(games, programs / "pdregress", (), stop)
-    assert isinstance(long, Unplayed) and "don't fit into a script" in str(long)
+        long, short = play_transfers(games, programs / "pdregress", (), stop)
+    assert isinstance(long, UnfinishedTransferError) and "don't fit into a script" in str(long)
     assert isinstance(short, Delivery)

@@ -36,8 +36,8 @@ def _chosen() -> list[str]:
 
 def _passing(programs: Path, call: Call, *words: str) -> set[str]:
     """The scripts of the folder `suite` that pass."""
-    told = json.loads(call(programs, "run", "--json", *words, "suite").out)
-    return {it["path"] for it in told["scripts"] if it["verdict"] == "pass" and not it.get("strict", False)}
+    reported = json.loads(call(programs, "run", "--json", *words, "suite").out)
+    return {it["path"] for it in reported["scripts"] if it["verdict"] == "pass" and not it.get("strict", False)}
 
 
 @pytest.mark.parametrize("change", _chosen())

@@ -5,7 +5,7 @@ from pathlib import Path
 
 import pytest
 
-from pdsuite.show.octets import shown, shown_path
+from pdsuite.output.octets import shown, shown_path
 
 
 @pytest.mark.parametrize(

@@ -24,8 +24,8 @@ _SPACE = re.compile(r"[\s$]+")
 def output(*words: str | Path, **more: str) -> str:
     """What a command says, on both outputs; it may end with any status."""
     environment = {**os.environ, "LC_ALL": "C.UTF-8", **more}
-    said = subprocess.run(words, stdin=subprocess.DEVNULL, capture_output=True, text=True, env=environment)
-    return said.stdout + said.stderr
+    printed = subprocess.run(words, stdin=subprocess.DEVNULL, capture_output=True, text=True, env=environment)
+    return printed.stdout + printed.stderr
 
 
 def clone_of_tools(folder: Path) -> Path:
@@ -65,12 +65,12 @@ def test_what_is_not_proved_is_not_packed(tmp_path: Path) -> None:
         shutil.copy(TOP / name, tmp_path / name)
     for module in TOP.glob("tools/*.py"):
         shutil.copy(module, tmp_path / "tools")
-    said = output(tool, tmp_path, PATH="/usr/bin:/bin:/usr/sbin:/sbin")  # without rt nothing is proved
-    assert said.endswith("package: pdregress isn't proved and built\n")
+    printed = output(tool, tmp_path, PATH="/usr/bin:/bin:/usr/sbin:/sbin")  # without rt nothing is proved
+    assert printed.endswith("package: pdregress isn't proved and built\n")
     assert not list(tmp_path.glob("*.deb"))
 
 
-def test_the_programs_of_a_package_have_no_sources_that_could_change(tmp_path: Path, stand_in: Path) -> None:
+def test_the_programs_of_a_package_have_no_sources_that_could_change(tmp_path: Path, fake_program: Path) -> None:
     top = tmp_path / "usr/lib/pdregress"
     shutil.copytree(TOP / "client", top / "client", ignore=shutil.ignore_patterns("tests", ".mypy_cache"))
     shutil.copy(TOP / "pdsuite", top)
@@ -79,7 +79,7 @@ def test_the_programs_of_a_package_have_no_sources_that_could_change(tmp_path: P
     (top / "tools/built.sh").write_text(f'#!/bin/sh\necho "$*" >>"{tmp_path}/asked"\nexit 2\n')
     (top / "tools/built.sh").chmod(0o755)
     (tmp_path / "usr/bin").mkdir()
-    shutil.copy(stand_in / "pdregress", tmp_path / "usr/bin")
+    shutil.copy(fake_program / "pdregress", tmp_path / "usr/bin")
     write(tmp_path / "suite", a=PASSES)
     environment = {key: value for key, value in os.environ.items() if key != "PDSUITE_PROGRAMS"}
     for changed in ("client/pdsuite/main.py", "../../bin/pdregress", "crates.txt"):
@@ -93,9 +93,9 @@ def test_the_programs_of_a_package_have_no_sources_that_could_change(tmp_path: P
 def test_each_command_has_its_page() -> None:
     commands = output(TOP / "pdsuite", "--help").split("Commands:\n")[1]
     assert tuple(line.split()[0] for line in commands.splitlines()) == COMMANDS
-    told = output(TOP / "tools/man_page.sh", "0.1", "pdsuite", TOP / "pdsuite")
+    reported = output(TOP / "tools/man_page.sh", "0.1", "pdsuite", TOP / "pdsuite")
     for name in (f"pdsuite-{it}" for it in COMMANDS):
-        assert f".BR {name} (1)" in told and (TOP / f"packaging/man/{name}.h2m").is_file()
+        assert f".BR {name} (1)" in reported and (TOP / f"packaging/man/{name}.h2m").is_file()
 
 
 @pytest.mark.parametrize("words", [("pdregress",), ("pdsuite",), *(("pdsuite", it) for it in COMMANDS)])
@@ -126,11 +126,11 @@ def package(proved: None, tmp_path_factory: pytest.TempPathFactory) -> Path:
     for tool in ("dpkg-deb", "dpkg-shlibdeps", "help2man"):
         if shutil.which(tool) is None:
             pytest.skip(f"{tool} isn't installed")
-    said = subprocess.run(
+    printed = subprocess.run(
         [TOP / "tools/package.sh", tmp_path_factory.mktemp("package")], capture_output=True, text=True, timeout=HANGS
     )
-    assert said.returncode == 0, said.stderr
-    return Path(said.stdout.splitlines()[-1])
+    assert printed.returncode == 0, printed.stderr
+    return Path(printed.stdout.splitlines()[-1])
 
 
 def test_the_programs_are_packed_octet_for_octet(package: Path, tmp_path: Path) -> None:
@@ -150,9 +150,9 @@ def test_what_is_large_is_suggested_and_the_rest_of_what_some_need_recommended(p
 def test_lintian_finds_no_error(package: Path) -> None:
     if shutil.which("lintian") is None:
         pytest.skip("lintian isn't installed")
-    said = subprocess.run(["lintian", "--fail-on", "error", package], capture_output=True, text=True)
-    assert said.returncode == 0, said.stdout
-    assert "E: " not in said.stdout
+    printed = subprocess.run(["lintian", "--fail-on", "error", package], capture_output=True, text=True)
+    assert printed.returncode == 0, printed.stdout
+    assert "E: " not in printed.stdout
 
 
 @pytest.fixture(scope="module")
@@ -207,8 +207,8 @@ def test_pages_and_completion_are_installed(root: Path) -> None:
         assert (root / f"usr/share/man/man1/{name}.1.gz").exists()
     source = (root / "usr/share/bash-completion/completions/pdsuite").read_text()
     assert "_pdsuite_completion" in source
-    asked = "COMP_WORDS='pdsuite w' COMP_CWORD=1 _PDSUITE_COMPLETE=bash_complete pdsuite"
-    assert in_root(root, "bash", "-c", asked).out == "plain,watch\n"
+    completion = "COMP_WORDS='pdsuite w' COMP_CWORD=1 _PDSUITE_COMPLETE=bash_complete pdsuite"
+    assert in_root(root, "bash", "-c", completion).out == "plain,watch\n"
     for name in PROVED:
         words = (root / f"usr/share/bash-completion/completions/{name}").read_text()
         assert "--help" in words and "--settings" in words

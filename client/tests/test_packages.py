@@ -11,7 +11,7 @@ from tests.helpers import TOP
 CLIENT = TOP / "client/pdsuite"
 # The lowest first. What stands beside the packages knows none but the first, and main.py all.
 ORDER = (
-    *("show", "scripts", "packetdrill", "programs", "imports", "run", "compare", "search", "diagram", "reports"),
+    *("output", "scripts", "packetdrill", "programs", "imports", "run", "compare", "search", "diagram", "reports"),
     *("page", "measure", "watch", "lsp", "commands"),
 )
 

@@ -6,7 +6,7 @@ import pytest
 
 from pdsuite.packetdrill.items import Call, Code, Command, HeaderOption, Packet, TcpOption, Time
 from pdsuite.packetdrill.reader import read
-from pdsuite.packetdrill.tokens import Kind, Unread, tokens_of
+from pdsuite.packetdrill.tokens import ScriptSyntaxError, TokenKind, tokens_of
 
 TOKENS = [
     ("0 12 0x1F 0xg 0x1g a_1", "number number hexadecimal word word word"),
@@ -21,7 +21,7 @@ TOKENS = [
 @pytest.mark.parametrize(("text", "kinds"), TOKENS, ids=range(len(TOKENS)))
 def test_the_longest_piece_is_a_token(text: str, kinds: str) -> None:
     tokens = list(tokens_of(text))
-    assert [it.kind for it in tokens] == list(map(Kind, kinds.split()))
+    assert [it.kind for it in tokens] == list(map(TokenKind, kinds.split()))
     assert all(text[it.start : it.end] == it.text for it in tokens)
 
 
@@ -29,9 +29,9 @@ def test_the_longest_piece_is_a_token(text: str, kinds: str) -> None:
 def test_no_token_stands_where_something_is_opened_and_never_closed(text: str) -> None:
     tokens = tokens_of(text)
     assert next(tokens).text == "a"
-    with pytest.raises(Unread) as unread:
+    with pytest.raises(ScriptSyntaxError) as caught:
         next(tokens)
-    assert unread.value.place == 2
+    assert caught.value.place == 2
 
 
 TIMES = [
@@ -56,7 +56,7 @@ def test_a_packet_has_its_numbers_and_options() -> None:
     options = "<mss 1000,sackOK,TS val 1 ecr 2,\nnop, wscale 7,sack 1:2 3:4,eol>"
     packet = read(f"+0 < SP. 0:10(10) ack 5 win 6 {options}").items[0].what
     numbers = {"mss": (1000,), "sackOK": (), "TS": (1, 2), "nop": (), "wscale": (7,), "sack": (1, 2, 3, 4), "eol": ()}
-    values = tuple(TcpOption(name, told) for name, told in numbers.items())
+    values = tuple(TcpOption(name, given_numbers) for name, given_numbers in numbers.items())
     flat = options.replace("\n", " ")
     assert packet == Packet(True, "SP.", 0, 10, 5, 6, values, flat)
     assert str(packet) == f"< SP. 0:10(10) ack 5 win 6 {flat}"

@@ -6,26 +6,26 @@ from pathlib import Path
 
 import pytest
 
+from pdsuite.packetdrill.columns import Mark, PacketColumns, PacketField, columns
+from pdsuite.page.diagram_choice import DiagramChoice
 from pdsuite.page.diagrams import undrawn
-from pdsuite.page.drawing import Drawing
 from pdsuite.page.links import FOLDER, file_of, is_file
-from pdsuite.packetdrill.columns import Mark, Packet, Part, columns
-from pdsuite.page.plots import Plots
+from pdsuite.page.page_updates import PageUpdates
 from pdsuite.page.render import script_page
-from pdsuite.page.sheets import Entry, Fact, Refused, Sheet, row_of, sheet_of
-from pdsuite.programs.protocol import Cause, Unexpected, causes_in
-from pdsuite.programs.rows import Row, Verdict
-from pdsuite.run.met_lines import Differences, MetLine
+from pdsuite.page.view_model import NamedFact, PageEntry, RefusedText, ScriptView, script_view, table_row
+from pdsuite.programs.protocol import Cause, UnexpectedAnswerError, causes_in
+from pdsuite.programs.verdict import Row, Verdict
+from pdsuite.run.line_diff import DiffLine, LineDiff
 from pdsuite.run.outcomes import Outcome
 from pdsuite.scripts.text import text_of
 from pdsuite.signals import Stop
 from tests.helpers import FAILS, PASSES, Call, write
-from tests.watching import Watching
+from tests.watch_process import Watching
 
 MARKS = {Mark.NONE: "", Mark.FAILS: "!", Mark.DIFFERS: "?"}
 
 
-def line(packet: Packet) -> str:
+def line(packet: PacketColumns) -> str:
     """A packet as it stands on the page, each mark after its field."""
     return "".join(f"{it.text}{MARKS[it.mark]}{' ' * it.blanks}" for it in packet)
 
@@ -77,11 +77,11 @@ def test_packets_stand_in_columns_and_what_differs_is_marked(
     assert tuple(map(line, columns(script, actual, kind))) == (one, other)
 
 
-def sheet(verdict: Verdict, text: bytes, cause: Cause, number: int = 1, word: str = "") -> Sheet:
+def sheet(verdict: Verdict, text: bytes, cause: Cause, number: int = 1, word: str = "") -> ScriptView:
     """The page of a script."""
     row = Row(verdict, number, word)
     named = text_of(text).line(number) if row.line else None
-    return sheet_of(Entry(Outcome("a.pkt", (), row, named), text_of(text)), cause, undrawn(row))
+    return script_view(PageEntry(Outcome("a.pkt", (), row, named), text_of(text)), cause, undrawn(row))
 
 
 def test_what_the_program_tells_of_a_missing_packet() -> None:
@@ -98,99 +98,103 @@ def test_what_the_program_tells_of_a_missing_packet() -> None:
         "more_untaken_packets": 2,
         "state": {"name": "ESTABLISHED", "una": 1, "flight_size": 0, "rto_us": 1_500_000, "expiry_us": None},
     }
-    told = sheet(Verdict.FAIL, b"one\ntwo\n", cause, 2, "missing")
-    assert [line(packet) for _, packet in told.packets] == ["* > . 1:1(0) ack 1", ""]
-    assert told.reason == "all that was handed over is acknowledged"
-    assert [(it.name, it.value) for it in told.facts] == [
+    view = sheet(Verdict.FAIL, b"one\ntwo\n", cause, 2, "missing")
+    assert [line(packet) for _, packet in view.packets] == ["* > . 1:1(0) ack 1", ""]
+    assert view.reason == "all that was handed over is acknowledged"
+    assert [(it.name, it.value) for it in view.facts] == [
         ("awaited until", "any time"),
         ("tolerance", "0.004000 s"),
         ("timer expires", "never, it doesn't run"),
         ("dropped", "line 1: its ACK lies below una"),
     ]
-    assert told.untaken == (
+    assert view.unmatched == (
         "+0 > . 1:2(1) ack 1 // 0.1, sent by line 1",
         "+0 > . 2:3(1) ack 1 // 0.1, sent by the timer",
     )
-    assert told.more_untaken == 2
-    assert [(it.name, it.value) for it in told.state] == [
+    assert view.more_unmatched == 2
+    assert [(it.name, it.value) for it in view.state] == [
         ("state", "ESTABLISHED"),
         ("una", "1"),
         ("FlightSize", "0"),
         ("RTO", "1.500000 s"),
         ("expiry", "none"),
     ]
-    assert [(it.number, it.text, it.is_named) for it in told.lines] == [(1, "one", False), (2, "two", True)]
+    assert [(it.number, it.text, it.is_named) for it in view.lines] == [(1, "one", False), (2, "two", True)]
 
 
 def test_what_sent_a_packet_that_differs() -> None:
     for origin, words in (({"line": 8}, "line 8"), ({"timer_us": 200_000}, "the timer")):
-        told = sheet(Verdict.FAIL, b"one\n", {"sent_by": origin}, 1, "seq")
-        assert [(it.name, it.value) for it in told.facts] == [("sent by", words)]
+        view = sheet(Verdict.FAIL, b"one\n", {"sent_by": origin}, 1, "seq")
+        assert [(it.name, it.value) for it in view.facts] == [("sent by", words)]
 
 
 def test_where_a_text_is_no_script_and_what_could_stand_there() -> None:
-    told = sheet(
+    view = sheet(
         Verdict.SYNTAX, b"+0 > X.\n", {"text": "+0 > X.", "column": 5, "expected": ["letters of flags", "`.`"]}
     )
-    assert told.refused == Refused("+0 > ", "X.", ("letters of flags", "`.`"))
-    told = sheet(Verdict.SYNTAX, b"+0 >\n", {"text": "+0 >", "column": None, "expected": ["`.`"]})
-    assert told.refused == Refused("+0 >", "", ("`.`",))
+    assert view.refused == RefusedText("+0 > ", "X.", ("letters of flags", "`.`"))
+    view = sheet(Verdict.SYNTAX, b"+0 >\n", {"text": "+0 >", "column": None, "expected": ["`.`"]})
+    assert view.refused == RefusedText("+0 >", "", ("`.`",))
 
 
 def test_where_nothing_is_told_the_line_stands() -> None:
-    told = sheet(Verdict.FAIL, b"a\xff\tb\r\n", {}, 1, "seq")
-    assert told.below == (r"a\xff\x09b",)
-    assert told.lines[0].text == r"a\xff      b"
+    view = sheet(Verdict.FAIL, b"a\xff\tb\r\n", {}, 1, "seq")
+    assert view.below == (r"a\xff\x09b",)
+    assert view.lines[0].text == r"a\xff      b"
 
 
 def test_what_each_line_was_met_by_stands_on_the_page_of_a_script_that_fails() -> None:
     row = Row(Verdict.FAIL, 2, "seq")
     wanted, came = columns("+0 > P. 1:2(1)", "+0 > P. 1:3(2) win 5 // 0.100000", "")
-    met = Differences(
+    met = LineDiff(
         (
-            MetLine(1, (Part("0 close(3) = 0"),)),
-            MetLine(2, wanted, came, True),
-            MetLine(3, (Part("+0 > . 3:3(0)"),), (), True),
-            MetLine(None, (), (Part("+1 > . 1:3(2) // 1.100000"),), True),
+            DiffLine(1, (PacketField("0 close(3) = 0"),)),
+            DiffLine(2, wanted, came, True),
+            DiffLine(3, (PacketField("+0 > . 3:3(0)"),), (), True),
+            DiffLine(None, (), (PacketField("+1 > . 1:3(2) // 1.100000"),), True),
         )
     )
-    told = sheet_of(Entry(Outcome("a.pkt", (), row)), None, undrawn(row), met)
-    page = script_page(told, False).decode()
+    view = script_view(PageEntry(Outcome("a.pkt", (), row)), None, undrawn(row), met)
+    page = script_page(view, False).decode()
     section = page[page.index("<h2>Line by line</h2>") :]
     assert '<a href="#L1">1</a></th><td><code>0 close(3) = 0</code>' in section
     assert '<mark class="differs">1:3(2)</mark>' in section and "nothing was sent" in section
     assert section.count('<tr class="came">') == 3 and '">too</th>' in section
     assert (
         "Line by line"
-        not in script_page(sheet_of(Entry(Outcome("a.pkt", (), row)), None, undrawn(row)), False).decode()
+        not in script_page(script_view(PageEntry(Outcome("a.pkt", (), row)), None, undrawn(row)), False).decode()
     )
 
 
 def test_the_table_names_the_rule_and_the_reason_of_an_error() -> None:
-    told = ("rule: a command", "limit: 7")
-    row = row_of(Outcome("a.pkt", (), Row(Verdict.LIMIT, 3), b"  x\t1", "a number is over its limit", told))
+    view = ("rule: a command", "limit: 7")
+    row = table_row(Outcome("a.pkt", (), Row(Verdict.LIMIT, 3), b"  x\t1", "a number is over its limit", view))
     assert (row.line, row.text, row.why) == (3, "x     1", "a number is over its limit: a command")
-    row = row_of(Outcome("a.pkt", (), Row(Verdict.ERROR, word="more than 4,096 lines")))
+    row = table_row(Outcome("a.pkt", (), Row(Verdict.ERROR, word="more than 4,096 lines")))
     assert (row.line, row.kind, row.why) == (None, "", "more than 4,096 lines")
 
 
 def test_settings_stand_on_the_page() -> None:
-    entry = Entry(Outcome("a", (("initial_window", "rfc6928"), ("sack", False)), Row(Verdict.PASS, 0)), text_of(b""))
-    assert sheet_of(entry, None, undrawn(entry.outcome.row)).settings == (
-        Fact("initial_window", '"rfc6928"'),
-        Fact("sack", "false"),
+    entry = PageEntry(
+        Outcome("a", (("initial_window", "rfc6928"), ("sack", False)), Row(Verdict.PASS, 0)), text_of(b"")
+    )
+    assert script_view(entry, None, undrawn(entry.outcome.row)).settings == (
+        NamedFact("initial_window", '"rfc6928"'),
+        NamedFact("sack", "false"),
     )
 
 
-@pytest.mark.parametrize("said", [b"{}\n", b"{\xff\n", b'{"name": 1, "line": 2}\n', b'{"a":' + b"[" * 100_000 + b"\n"])
-def test_what_is_no_object_of_a_script_is_not_taken(said: bytes) -> None:
-    with pytest.raises(Unexpected):
-        causes_in(b"[1]\njob 1 s1 steps 2\n" + said)
+@pytest.mark.parametrize(
+    "message", [b"{}\n", b"{\xff\n", b'{"name": 1, "line": 2}\n', b'{"a":' + b"[" * 100_000 + b"\n"]
+)
+def test_what_is_no_object_of_a_script_is_not_taken(message: bytes) -> None:
+    with pytest.raises(UnexpectedAnswerError):
+        causes_in(b"[1]\njob 1 s1 steps 2\n" + message)
 
 
 def test_what_is_no_object_tells_something_else() -> None:
-    said = b'job 1 s1 steps 2\n{"name": "s1", "line": 2}\n[1]\n\xff'
-    assert causes_in(said) == {(b"s1", 2): {"name": "s1", "line": 2}}
+    message = b'job 1 s1 steps 2\n{"name": "s1", "line": 2}\n[1]\n\xff'
+    assert causes_in(message) == {(b"s1", 2): {"name": "s1", "line": 2}}
 
 
 PATHS = [
@@ -245,8 +249,8 @@ def test_a_folder_with_other_things_is_refused_and_stays_as_it_is(
     (tmp_path / "out" / name).write_text("mine")
     for command in ("run", "watch"):
         called = call(programs, command, "--html", "out", "in")
-        said = f"pdsuite: out: holds {name}, which is no part of a page\n"
-        assert (called.status, called.out, called.err) == (2, "", said)
+        message = f"pdsuite: out: holds {name}, which is no part of a page\n"
+        assert (called.status, called.out, called.err) == (2, "", message)
     assert octets_in(tmp_path / "out") == {name: b"mine"}
 
 
@@ -278,8 +282,8 @@ def test_scripts_that_were_not_run_stand_in_the_table(programs: Path, tmp_path: 
 
 def test_the_page_of_a_script_that_went_and_came_back_is_drawn_again(tmp_path: Path) -> None:
     paths = ("a.pkt", "b.pkt")
-    one, other = (Entry(Outcome(it, (), Row(Verdict.PASS, 1))) for it in paths)
-    with Stop(()) as stop, Drawing(tmp_path / "page", Plots(), print) as drawing:
+    one, other = (PageEntry(Outcome(it, (), Row(Verdict.PASS, 1))) for it in paths)
+    with Stop(()) as stop, PageUpdates(tmp_path / "page", DiagramChoice(), print) as drawing:
         for entries in ([one, other], [other], [one, other]):
             drawing.follow(entries)
             drawing.finish(stop, lambda done, count: None)

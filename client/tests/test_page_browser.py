@@ -10,16 +10,16 @@ from selenium.webdriver.common.by import By
 from selenium.webdriver.common.keys import Keys
 
 from pdsuite.page.links import file_of
-from tests.browsing import EVIL, HTML, SCRIPTS, Browser, make, path
+from tests.browser_fixture import EVIL, HTML, SCRIPTS, Browser, make, path
 from tests.helpers import PASSES, TOP, write
 
 
 @pytest.fixture(scope="module")
-def many(driver: webdriver.Chrome, stand_in: Path, tmp_path_factory: pytest.TempPathFactory) -> Browser:
+def many(driver: webdriver.Chrome, fake_program: Path, tmp_path_factory: pytest.TempPathFactory) -> Browser:
     """The page of as many scripts as one run of the program takes."""
     top = tmp_path_factory.mktemp("many")
     write(top / "in", **{f"s{it:04}": b"row fail 1 seq\n" if it % 100 == 7 else PASSES for it in range(1_024)})
-    return Browser(driver, make(top, stand_in))
+    return Browser(driver, make(top, fake_program))
 
 
 def test_the_table_has_each_script_with_its_verdict_and_its_first_failing_line(few: Browser) -> None:
@@ -207,11 +207,11 @@ def test_a_thousand_scripts_are_filtered_at_once(many: Browser) -> None:
 
 
 @pytest.fixture(scope="module")
-def drawn(driver: webdriver.Chrome, stand_in: Path, tmp_path_factory: pytest.TempPathFactory) -> Browser:
+def drawn(driver: webdriver.Chrome, fake_program: Path, tmp_path_factory: pytest.TempPathFactory) -> Browser:
     """The page of scripts with a diagram, whose recordings are there already."""
     top = tmp_path_factory.mktemp("drawn")
     programs = top / "programs"
-    shutil.copytree(stand_in, programs)
+    shutil.copytree(fake_program, programs)
     recording = TOP / "client/tests/recordings/timeout.txt"
     (programs / "pdrecord").write_text(f"#!/bin/sh\ncat >/dev/null\ncat {recording}\n")
     (programs / "pdrecord").chmod(0o755)

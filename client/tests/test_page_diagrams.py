@@ -9,7 +9,7 @@ import pytest
 from pdsuite.page.links import file_of, plot_files
 from tests.helpers import PASSES, TOP, Call, write
 from tests.test_page import octets_in
-from tests.watching import Watching
+from tests.watch_process import Watching
 
 RECORDINGS = Path(__file__).with_name("recordings")
 ROW = b"row fail 1 seq\n"
@@ -18,11 +18,11 @@ NAMES = ("$\\frac{$", EVIL)
 
 
 @pytest.fixture
-def recorder(stand_in: Path, tmp_path: Path) -> Path:
+def recorder(fake_program: Path, tmp_path: Path) -> Path:
     """The programs that stand in for those that run and explain, and one that has recorded already."""
     folder = tmp_path / "programs"
     folder.mkdir()
-    for program in stand_in.iterdir():
+    for program in fake_program.iterdir():
         (folder / program.name).symlink_to(program)
     record(folder, f"cat {RECORDINGS / 'sack.txt'}")
     return folder

@@ -6,7 +6,7 @@ import pytest
 from selenium.webdriver.common.keys import Keys
 from selenium.webdriver.remote.webelement import WebElement
 
-from tests.browsing import EVIL, Browser
+from tests.browser_fixture import EVIL, Browser
 
 
 def heads(browser: Browser) -> dict[str, WebElement]:

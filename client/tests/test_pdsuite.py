@@ -12,11 +12,11 @@ from pathlib import Path
 import pytest
 
 from tests.helpers import HANGS, PASSES, TOP, Call, write
-from tests.trees import vouch
+from tests.tree_fixture import vouch
 
 
 def test_it_runs_under_the_systems_python_whatever_comes_first_on_the_path(
-    stand_in: Path, tmp_path: Path, call: Call
+    fake_program: Path, tmp_path: Path, call: Call
 ) -> None:
     write(tmp_path, a=PASSES)
     other = tmp_path / "bin"
@@ -26,18 +26,18 @@ def test_it_runs_under_the_systems_python_whatever_comes_first_on_the_path(
         (other / name).chmod(0o755)
     (tmp_path / "rich.py").write_text("raise SystemExit(9)\n")
     more = {"PATH": f"{other}:{os.environ['PATH']}", "PYTHONPATH": str(tmp_path), "PYTHONHOME": "/nowhere"}
-    called = call(stand_in, "run", ".", **more)
+    called = call(fake_program, "run", ".", **more)
     assert (called.status, called.err) == (0, "")
 
 
-def test_it_runs_through_links_from_any_folder(stand_in: Path, tmp_path: Path) -> None:
+def test_it_runs_through_links_from_any_folder(fake_program: Path, tmp_path: Path) -> None:
     write(tmp_path / "suite", a=PASSES)
     (tmp_path / "bin").mkdir()
     (tmp_path / "bin/pdsuite").symlink_to(TOP / "pdsuite")
     (tmp_path / "bin/twice").symlink_to("pdsuite")
     environment = {
         **os.environ,
-        "PDSUITE_PROGRAMS": str(stand_in),
+        "PDSUITE_PROGRAMS": str(fake_program),
         "PATH": f"{tmp_path}/bin:{os.environ['PATH']}",
         "CDPATH": "/",
     }
@@ -76,19 +76,19 @@ def test_a_program_that_is_not_built_is_named_with_its_command(words: list[str],
     write(tmp_path / "client", a=PASSES)
     environment = without_programs()
     done = subprocess.run([command, *words], cwd=tmp_path, env=environment, capture_output=True, text=True)
-    said = "pdregress isn't proved and built, or has changed since: run ./prove pdregress"
-    assert (done.returncode, done.stderr) == (2, f"pdsuite: {said}\n")
+    message = "pdregress isn't proved and built, or has changed since: run ./prove pdregress"
+    assert (done.returncode, done.stderr) == (2, f"pdsuite: {message}\n")
     assert not (tmp_path / "crates").exists()
 
 
-def test_a_program_whose_sources_have_changed_is_not_taken(stand_in: Path, tmp_path: Path) -> None:
+def test_a_program_whose_sources_have_changed_is_not_taken(fake_program: Path, tmp_path: Path) -> None:
     command = copied(tmp_path)
     (tmp_path / "crates.txt").write_text("low:\npdregress: low\n")
     for name in ("low/src", "pdregress/src", "pdregress/out"):
         (tmp_path / "crates" / name).mkdir(parents=True)
     source = tmp_path / "crates/low/src/lib.rt"
     source.touch()
-    shutil.copy(stand_in / "pdregress", tmp_path / "crates/pdregress/out/pdregress")
+    shutil.copy(fake_program / "pdregress", tmp_path / "crates/pdregress/out/pdregress")
     write(tmp_path / "suite", a=PASSES)
     environment = without_programs()
 
@@ -109,8 +109,8 @@ def test_a_program_whose_sources_have_changed_is_not_taken(stand_in: Path, tmp_p
 def test_another_folder_of_programs_has_to_hold_one(tmp_path: Path, call: Call) -> None:
     write(tmp_path, a=PASSES)
     called = call(tmp_path / "nowhere", "run", ".")
-    said = f"pdsuite: {tmp_path}/nowhere/pdregress: no program (PDSUITE_PROGRAMS names the folder)\n"
-    assert (called.status, called.err) == (2, said)
+    message = f"pdsuite: {tmp_path}/nowhere/pdregress: no program (PDSUITE_PROGRAMS names the folder)\n"
+    assert (called.status, called.err) == (2, message)
 
 
 @pytest.mark.parametrize("more", [[], ["pdrecord"]])
@@ -122,10 +122,10 @@ def test_the_version_names_commit_and_programs(more: list[str], tmp_path: Path, 
     called = call(tmp_path, "--version")
     first, *others = called.out.splitlines()
     head = subprocess.run(["git", "-C", TOP, "rev-parse", "HEAD"], capture_output=True, text=True).stdout.strip()
-    said = subprocess.run(["sha256sum", *programs], capture_output=True, text=True).stdout.splitlines()
+    sums = subprocess.run(["sha256sum", *programs], capture_output=True, text=True).stdout.splitlines()
     assert called.status == 0
     assert first in (f"pdsuite {head}", f"pdsuite {head}-dirty", "pdsuite unknown")
-    assert others == [f"{path.name} {line.split()[0]} {path}" for path, line in zip(programs, said)]
+    assert others == [f"{path.name} {line.split()[0]} {path}" for path, line in zip(programs, sums)]
     lost = f"pdsuite: {tmp_path}/pdrecord: no program (PDSUITE_PROGRAMS names the folder); nothing is recorded\n"
     assert called.err == ("" if more else lost)
 
@@ -156,10 +156,10 @@ def on_terminal(folder: Path, programs: Path, *words: str, **more: str) -> tuple
     return process.wait(), shown
 
 
-def test_a_terminal_has_colours_and_a_line_of_progress_that_goes_away(stand_in: Path, tmp_path: Path) -> None:
+def test_a_terminal_has_colours_and_a_line_of_progress_that_goes_away(fake_program: Path, tmp_path: Path) -> None:
     for number in range(130):
         write(tmp_path, **{f"s{number:03}": b"row fail 1 seq\n" if number == 100 else PASSES})
-    status, shown = on_terminal(tmp_path, stand_in, "run", ".")
+    status, shown = on_terminal(tmp_path, fake_program, "run", ".")
     assert status == 1
     assert b"\x1b[1;31mfail seq\x1b[0m\r\n" in shown
     assert b"64/130" in shown and b"128/130" in shown
@@ -169,48 +169,48 @@ def test_a_terminal_has_colours_and_a_line_of_progress_that_goes_away(stand_in: 
 
 
 @pytest.mark.parametrize("how", ["option", "environment"])
-def test_colours_can_be_left_out(how: str, stand_in: Path, tmp_path: Path) -> None:
+def test_colours_can_be_left_out(how: str, fake_program: Path, tmp_path: Path) -> None:
     write(tmp_path, a=b"row fail 1 seq\n")
     words = ["--no-color"] if how == "option" else []
     more = {"NO_COLOR": "1"} if how == "environment" else {}
-    _, shown = on_terminal(tmp_path, stand_in, "run", *words, ".", **more)
+    _, shown = on_terminal(tmp_path, fake_program, "run", *words, ".", **more)
     assert b"a.pkt:1: fail seq\r\n  row fail 1 seq\r\n" in shown
     assert not re.search(rb"\x1b\[[0-9;]*m", shown)
 
 
-def test_a_long_line_is_not_broken_on_a_terminal(stand_in: Path, tmp_path: Path) -> None:
+def test_a_long_line_is_not_broken_on_a_terminal(fake_program: Path, tmp_path: Path) -> None:
     write(tmp_path / "folder" / ("x" * 150), **{"y" * 150: b"row fail 1 seq\n"})
-    _, shown = on_terminal(tmp_path, stand_in, "run", "--no-color", ".")
+    _, shown = on_terminal(tmp_path, fake_program, "run", "--no-color", ".")
     assert f"folder/{'x' * 150}/{'y' * 150}.pkt:1: fail seq\r\n".encode() in shown
 
 
-def test_a_terminal_has_facts_and_totals_in_lines_that_fit(stand_in: Path, tmp_path: Path) -> None:
+def test_a_terminal_has_facts_and_totals_in_lines_that_fit(fake_program: Path, tmp_path: Path) -> None:
     facts = "state: " + " ".join(f"fact{number}:{number}" for number in range(20))
     packet = f"actual packet: +0 > . 1:1001(1000) ack 1 <{'nop,' * 20}nop>"
     write(tmp_path, a=f"row fail 1 seq\n{packet}\n{facts}\n".encode())
-    _, shown = on_terminal(tmp_path, stand_in, "run", "--no-color", ".", COLUMNS="60")
+    _, shown = on_terminal(tmp_path, fake_program, "run", "--no-color", ".", COLUMNS="60")
     lines = re.sub(r"\x1b\[[?0-9;]*[A-Za-z]", "", shown.decode()).replace("\r", "\n").split("\n")
     broken = [it for it in lines if "fact" in it or "total" in it or it.endswith(" s")]
     assert len(broken) == 6 and max(map(len, broken)) < 60
     assert broken[0].startswith("  state: fact0") and all(it.startswith("    fact") for it in broken[1:4])
     assert broken[4].startswith("total 1 pass 0 fail 1 ") and f"  {packet}" in lines
-    _, shown = on_terminal(tmp_path, stand_in, "run", "--no-color", "--github", ".", COLUMNS="60")
+    _, shown = on_terminal(tmp_path, fake_program, "run", "--no-color", "--github", ".", COLUMNS="60")
     assert f"  {facts}".encode() in shown
 
 
-def test_standard_output_may_be_closed(stand_in: Path, tmp_path: Path) -> None:
+def test_standard_output_may_be_closed(fake_program: Path, tmp_path: Path) -> None:
     write(tmp_path, a=PASSES)
-    environment = {**os.environ, "PDSUITE_PROGRAMS": str(stand_in)}
+    environment = {**os.environ, "PDSUITE_PROGRAMS": str(fake_program)}
     command = ["sh", "-c", 'exec "$0" run . >&-', str(TOP / "pdsuite")]
     done = subprocess.run(command, cwd=tmp_path, env=environment, capture_output=True, text=True)
     assert (done.returncode, done.stderr) == (2, "pdsuite: standard output is closed\n")
 
 
 @pytest.mark.parametrize("locale", ["C", "POSIX", "de_DE.ISO-8859-1", "C.UTF-8"])
-def test_names_are_shown_alike_in_every_locale(locale: str, stand_in: Path, tmp_path: Path, call: Call) -> None:
+def test_names_are_shown_alike_in_every_locale(locale: str, fake_program: Path, tmp_path: Path, call: Call) -> None:
     write(tmp_path, **{"grün": b"row fail 1 seq\n"})
     (tmp_path / os.fsdecode(b"\xff.pkt")).write_bytes(b"row fail 1 seq\n")
-    called = call(stand_in, "run", ".", LC_ALL=locale)
+    called = call(fake_program, "run", ".", LC_ALL=locale)
     assert called.rows == ["grün.pkt:1: fail seq", r"\xff.pkt:1: fail seq"]
 
 
@@ -226,17 +226,17 @@ NAMELESS = [
 
 
 @pytest.mark.parametrize(("word", "words"), NAMELESS, ids=[" ".join(it[1]) for it in NAMELESS])
-def test_an_empty_word_is_no_path(word: str, words: list[str], stand_in: Path, tmp_path: Path, call: Call) -> None:
+def test_an_empty_word_is_no_path(word: str, words: list[str], fake_program: Path, tmp_path: Path, call: Call) -> None:
     write(tmp_path, a=PASSES)
-    called = call(stand_in, *words)
+    called = call(fake_program, *words)
     assert (called.status, called.out) == (2, "")
     assert called.err.splitlines()[-1] == f"Error: Invalid value for '{word}': it is empty, and so names no file."
     assert os.listdir(tmp_path) == ["a.pkt"]
 
 
-def test_an_empty_no_color_forbids_no_colours(stand_in: Path, tmp_path: Path) -> None:
+def test_an_empty_no_color_forbids_no_colours(fake_program: Path, tmp_path: Path) -> None:
     write(tmp_path, a=b"row fail 1 seq\n")
-    _, shown = on_terminal(tmp_path, stand_in, "run", ".", NO_COLOR="")
+    _, shown = on_terminal(tmp_path, fake_program, "run", ".", NO_COLOR="")
     assert b"\x1b[1;31mfail seq\x1b[0m\r\n" in shown
 
 
@@ -268,13 +268,13 @@ def test_words_that_are_not_taken_are_shown_escaped(call: Call) -> None:
     assert (called.status, called.err.splitlines()[-1]) == (2, r"Error: No such option: --x\x07\xff\\y")
 
 
-def test_a_program_whose_crates_are_not_known_is_not_taken(stand_in: Path, tmp_path: Path) -> None:
+def test_a_program_whose_crates_are_not_known_is_not_taken(fake_program: Path, tmp_path: Path) -> None:
     command = copied(tmp_path)
     (tmp_path / "crates/pdregress/out").mkdir(parents=True)
-    shutil.copy(stand_in / "pdregress", tmp_path / "crates/pdregress/out/pdregress")
+    shutil.copy(fake_program / "pdregress", tmp_path / "crates/pdregress/out/pdregress")
     write(tmp_path / "suite", a=PASSES)
     environment = without_programs()
-    said = "pdregress isn't proved and built, or has changed since: run ./prove pdregress"
+    message = "pdregress isn't proved and built, or has changed since: run ./prove pdregress"
     for lines in ("", "pdrecord:\n", "pdregress: gone\ngone:\n", None):
         if lines is None:
             (tmp_path / "crates.txt").unlink()
@@ -283,29 +283,29 @@ def test_a_program_whose_crates_are_not_known_is_not_taken(stand_in: Path, tmp_p
         words: list[str | Path] = [command, "run", "--proved", "suite"]
         done = subprocess.run(words, cwd=tmp_path, env=environment, capture_output=True, text=True)
         assert (done.returncode, done.stdout) == (2, "")
-        assert done.stderr.splitlines()[-1].endswith(said)
+        assert done.stderr.splitlines()[-1].endswith(message)
 
 
-def with_tool(folder: Path, stand_in: Path, before: str) -> Path:
-    """A copy whose tools/built.sh notes whom it is asked about, and names the stand-ins."""
+def with_tool(folder: Path, fake_program: Path, before: str) -> Path:
+    """A copy whose tools/built.sh notes whom it is queried about, and names the fake programs."""
     command = copied(folder)
-    text = f'#!/bin/sh\necho "$1" >>"{folder}/asked"\n{before}\necho "{stand_in}/$1"\n'
+    text = f'#!/bin/sh\necho "$1" >>"{folder}/asked"\n{before}\necho "{fake_program}/$1"\n'
     (folder / "tools/built.sh").write_text(text)
     write(folder / "suite", a=PASSES, b=b"row fail 1 seq\n")
     return command
 
 
-def test_whether_a_program_is_up_to_date_is_asked_once(tmp_path: Path, stand_in: Path) -> None:
-    command = with_tool(tmp_path, stand_in, "")
+def test_whether_a_program_is_up_to_date_is_asked_once(tmp_path: Path, fake_program: Path) -> None:
+    command = with_tool(tmp_path, fake_program, "")
     (tmp_path / "suite/pdsuite.toml").write_text('["a.pkt"]\nmss = 1000\n')
     done = subprocess.run([command, "run", "suite"], cwd=tmp_path, env=without_programs(), capture_output=True)
     assert (done.returncode, done.stderr) == (1, b"")
-    # What the answer depends on is asked for first, so that a change after that is seen.
+    # What the answer depends on is read first, so that a change after that is seen.
     assert (tmp_path / "asked").read_text() == "--files\npdregress\n"
 
 
-def test_a_key_of_the_terminal_that_ends_it_while_it_asks_has_its_status(tmp_path: Path, stand_in: Path) -> None:
-    command = with_tool(tmp_path, stand_in, f'touch "{tmp_path}/mark"\nsleep 0.5')
+def test_a_key_of_the_terminal_that_ends_it_while_it_asks_has_its_status(tmp_path: Path, fake_program: Path) -> None:
+    command = with_tool(tmp_path, fake_program, f'touch "{tmp_path}/mark"\nsleep 0.5')
     process = subprocess.Popen(
         [command, "run", "suite"],
         cwd=tmp_path,
@@ -352,8 +352,8 @@ def test_the_gate_installs_what_is_missing_or_names_the_line(
     line = "FAILED client packages: apt-get install --no-install-recommends python3-nowhere"
     assert done.stdout.splitlines() == ["missing packages: python3-nowhere", line, "0 passed, 1 failed"]
     assert done.returncode == 1
-    said = tmp_path / "calls"
-    assert (said.read_text().splitlines() if said.exists() else []) == calls
+    calls_file = tmp_path / "calls"
+    assert (calls_file.read_text().splitlines() if calls_file.exists() else []) == calls
 
 
 CODE = """
@@ -368,10 +368,10 @@ print(*sorted({"matplotlib", "distributed", "watchdog", "junitparser", "jinja2"}
 
 @pytest.mark.parametrize(("words", "modules"), [([], ""), (["--junit", "out.xml"], ""), (["--html", "page"], "jinja2")])
 def test_a_package_is_imported_only_where_it_is_used(
-    words: list[str], modules: str, stand_in: Path, tmp_path: Path
+    words: list[str], modules: str, fake_program: Path, tmp_path: Path
 ) -> None:
     write(tmp_path / "suite", a=PASSES)
-    environment = {**os.environ, "PDSUITE_PROGRAMS": str(stand_in)}
+    environment = {**os.environ, "PDSUITE_PROGRAMS": str(fake_program)}
     command = ["/usr/bin/python3", "-I", "-c", CODE, str(TOP / "client"), "run", *words, "suite"]
     done = subprocess.run(command, cwd=tmp_path, env=environment, capture_output=True, text=True)
     assert done.stdout.splitlines()[-1] == modules

@@ -9,7 +9,7 @@ from pathlib import Path
 
 import pytest
 
-from tests.site import Site
+from tests.watch_fixture import WatchFixture
 
 Act = Callable[[random.Random, Path], None]
 NAMES = ("a.pkt", "b.pkt", "c.pkt", "in/a.pkt", "in/d.pkt", "in/er/a.pkt", "b/a.pkt", ".hidden/a.pkt", "x.txt")
@@ -108,18 +108,18 @@ def act(chance: random.Random, top: Path) -> None:
 
 
 @pytest.mark.parametrize("seed", range(200))
-def test_after_random_changes_the_last_report_is_that_of_a_run(seed: int, site: Site) -> None:
+def test_after_random_changes_the_last_report_is_that_of_a_run(seed: int, watched_folder: WatchFixture) -> None:
     chance = random.Random(seed)
     for _ in range(8):
         for _ in range(chance.choice((1, 1, 3, 10))):
-            act(chance, site.top)
+            act(chance, watched_folder.top)
         if chance.random() < 0.1:
-            site.watcher.read()
-        site.wait(chance.choice((0.0, 0.01, 0.05, 0.6)))
-    for toml in site.top.rglob("pdsuite.toml"):
+            watched_folder.watcher.read()
+        watched_folder.wait(chance.choice((0.0, 0.01, 0.05, 0.6)))
+    for toml in watched_folder.top.rglob("pdsuite.toml"):
         toml.write_text(re.sub("mss = 7$", "mss = 96", toml.read_text(), flags=re.M))
-    (site.top / "pdsuite.toml").write_text("root = true\nwscale = 4\n")
-    site.rest()
-    assert site.rows == site.truth()
-    open_ones = [it for it in site.models if not it.is_closed]
-    assert sum(len(it.texts) for it in open_ones) == sum("error" not in it for it in site.rows.values())
+    (watched_folder.top / "pdsuite.toml").write_text("root = true\nwscale = 4\n")
+    watched_folder.rest()
+    assert watched_folder.rows == watched_folder.truth()
+    open_ones = [it for it in watched_folder.models if not it.is_closed]
+    assert sum(len(it.texts) for it in open_ones) == sum("error" not in it for it in watched_folder.rows.values())

@@ -8,19 +8,19 @@ from pathlib import Path
 
 import pytest
 
-from pdsuite.scripts.rewriting import as_written, hunks_of
+from pdsuite.scripts.file_diff import as_written, hunks_of
 from tests.helpers import HANGS, TOP, Call, Called, ends, wait_for, write
 
-STAND_IN = Path(__file__).with_name("stand_in_record.py")
+FAKE_PDRECORD = Path(__file__).with_name("fake_pdrecord.py")
 FAILS, PASSES = b"row fail 1 seq\n", b"row pass 1\n"
 
 
 @pytest.fixture(scope="module")
-def recorders(stand_in: Path, tmp_path_factory: pytest.TempPathFactory) -> Path:
+def recorders(fake_program: Path, tmp_path_factory: pytest.TempPathFactory) -> Path:
     """A folder whose pdregress does what scripts say, and whose pdrecord takes what stands below their first line."""
     folder = tmp_path_factory.mktemp("recorders")
-    shutil.copy(stand_in / "pdregress", folder)
-    shutil.copy(STAND_IN, folder / "pdrecord")
+    shutil.copy(fake_program / "pdregress", folder)
+    shutil.copy(FAKE_PDRECORD, folder / "pdrecord")
     return folder
 
 
@@ -199,8 +199,8 @@ def test_hunks_are_those_that_diff_writes(tmp_path: Path) -> None:
         for new in texts:
             (tmp_path / "old").write_bytes(old)
             (tmp_path / "new").write_bytes(new)
-            said = subprocess.run(["diff", "-u", "old", "new"], cwd=tmp_path, capture_output=True).stdout
-            wanted = said.decode("utf-8", "backslashreplace").splitlines()[2:]
+            printed = subprocess.run(["diff", "-u", "old", "new"], cwd=tmp_path, capture_output=True).stdout
+            wanted = printed.decode("utf-8", "backslashreplace").splitlines()[2:]
             assert list(hunks_of(old, new)) == wanted, (old, new)
 
 

@@ -1,14 +1,14 @@
-"""What comes first in a search, and that the same seed draws the same inputs: plain functions, and the stand-in."""
+"""What comes first in a search, and that the same seed draws the same inputs: plain functions, and a fake program."""
 
 from itertools import islice
 
-from pdsuite.search.drawing import Drawing
-from pdsuite.search.making import plans
-from pdsuite.search.plans import Emphasis, Theme
+from pdsuite.compare.divergence import played_events
+from pdsuite.search.candidates import Candidates
+from pdsuite.search.generate import scenarios
 from pdsuite.search.relevance import emphasis_of, offer
-from pdsuite.search.searching import play_all
+from pdsuite.search.scenario import Emphasis, Theme
+from pdsuite.search.search import play_side_by_side
 from pdsuite.search.states import state_of, states_before, steps_in
-from pdsuite.compare.parting import played_events
 from tests.test_input_search import Toy
 
 CHANGED = {"name": "restart", "sections": ["RFC 5681, section 4.1"], "changed": ["restart", "u32"], "whole": ["widest"]}
@@ -38,17 +38,17 @@ def test_a_script_is_offered_by_the_name_and_the_sections_of_what_changed() -> N
 
 
 def test_settings_that_come_first_are_drawn_in_most_plans_and_fixed_ones_in_none() -> None:
-    (made,) = plans(3, [200], Emphasis(frozenset({"recovery_algorithm"}), frozenset(), frozenset({"mss"})))
+    (made,) = scenarios(3, [200], Emphasis(frozenset({"recovery_algorithm"}), frozenset(), frozenset({"mss"})))
     keys = [[key for key, _ in it.settings] for it in made]
     assert sum("recovery_algorithm" in it for it in keys) > 100 and not any("mss" in it for it in keys)
 
 
 def drawn(seed: int) -> list[object]:
     """What is tried in three lists, where all that was played is learnt from."""
-    drawing = Drawing(seed, [12, 12, 24])
+    drawing = Candidates(seed, [12, 12, 24])
     tried: list[object] = []
     for games in drawing.lists():
-        played = play_all(games, Toy())
+        played = play_side_by_side(games, Toy())
         tried += [it.inputs for it in played]
         drawing.learn(played)
     return tried

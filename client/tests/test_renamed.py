@@ -8,13 +8,12 @@ from pathlib import Path
 import pytest
 
 from pdsuite.lsp.positions import Lines
-from pdsuite.lsp.settings_places import diagnostic_of
+from pdsuite.lsp.toml_positions import diagnostic_of
 from pdsuite.scripts.defaults import KEYS, Word, help_for
-from pdsuite.scripts.renamed import KEYS as NAMES
-from pdsuite.scripts.renamed import WORDS, new_name, reason_of
+from pdsuite.scripts.renamed import KEYS as NAMES, WORDS, new_name, reason_of
 from pdsuite.scripts.settings import Value, shown_value
 from tests.helpers import PASSES, Call, write
-from tests.watching import Watching
+from tests.watch_process import Watching
 
 HERE = Path(__file__).parent
 TAKES = 'it takes "rfc6675" or "rfc9937"'
@@ -43,8 +42,8 @@ old = pytest.mark.parametrize(("key", "value", "reason", "helps"), OLD, ids=IDS)
 def both(tmp_path_factory: pytest.TempPathFactory) -> Path:
     """A folder with what stands in for both programs."""
     folder = tmp_path_factory.mktemp("both")
-    shutil.copy(HERE / "stand_in.py", folder / "pdregress")
-    shutil.copy(HERE / "stand_in_record.py", folder / "pdrecord")
+    shutil.copy(HERE / "fake_pdregress.py", folder / "pdregress")
+    shutil.copy(HERE / "fake_pdrecord.py", folder / "pdrecord")
     return folder
 
 

@@ -54,39 +54,41 @@ def test_a_file_comes_after_an_equals_sign_or_ends_as_its_form(
     assert parted(words, {"--only"}) == (rest, {"--json": json, "--tap": tap})
 
 
-def test_files_come_beside_the_report_for_people(stand_in: Path, suite: Path, tmp_path: Path, call: Call) -> None:
-    alone = call(stand_in, "run", "suite")
-    called = call(stand_in, "run", "--junit", "out.xml", "--json", "out.json", "--tap=out", "suite")
+def test_files_come_beside_the_report_for_people(fake_program: Path, suite: Path, tmp_path: Path, call: Call) -> None:
+    alone = call(fake_program, "run", "suite")
+    called = call(fake_program, "run", "--junit", "out.xml", "--json", "out.json", "--tap=out", "suite")
     assert (timeless(called.out), called.err, called.status) == (timeless(alone.out), "", 1)
     (tmp_path / "only.xml").write_bytes((tmp_path / "out.xml").read_bytes())
     for word, name in (("--json", "out.json"), ("--tap", "out")):
-        printed = call(stand_in, "run", word, "suite").out
+        printed = call(fake_program, "run", word, "suite").out
         assert timeless((tmp_path / name).read_text()) == timeless(printed)
     assert held("run", (tmp_path / "out.json").read_text())["total"]["known"] == 1
     assert 'tests="3"' in (tmp_path / "only.xml").read_text()
 
 
-def test_one_form_is_printed_and_another_one_written(stand_in: Path, suite: Path, tmp_path: Path, call: Call) -> None:
-    printed = call(stand_in, "run", "--json", "--tap=out.tap", "--shard", "1/1", "suite").out
+def test_one_form_is_printed_and_another_one_written(
+    fake_program: Path, suite: Path, tmp_path: Path, call: Call
+) -> None:
+    printed = call(fake_program, "run", "--json", "--tap=out.tap", "--shard", "1/1", "suite").out
     assert held("run", printed)["shard"] == "1/1"
     assert (tmp_path / "out.tap").read_text().startswith("TAP version 13\n1..3\n")
-    called = call(stand_in, "run", "--json", "out.json", "--tap", "suite")
+    called = call(fake_program, "run", "--json", "out.json", "--tap", "suite")
     assert called.out == (tmp_path / "out.tap").read_text().rsplit(" in ")[0] + " in " + called.out.rsplit(" in ")[1]
     assert called.out.startswith("TAP ")
-    call(stand_in, "run", "--json", "--json=both.json", "suite")
+    call(fake_program, "run", "--json", "--json=both.json", "suite")
     assert held("run", (tmp_path / "both.json").read_text())["total"]["scripts"] == 3
 
 
-def test_a_file_has_the_rows_that_new_leaves_out(stand_in: Path, suite: Path, tmp_path: Path, call: Call) -> None:
+def test_a_file_has_the_rows_that_new_leaves_out(fake_program: Path, suite: Path, tmp_path: Path, call: Call) -> None:
     more = {"XDG_CACHE_HOME": str(tmp_path / "cache")}
-    call(stand_in, "run", "suite", **more)
-    called = call(stand_in, "run", "--new-only", "--json", "out.json", "suite", **more)
+    call(fake_program, "run", "suite", **more)
+    called = call(fake_program, "run", "--new-only", "--json", "out.json", "suite", **more)
     assert called.rows == []
     assert len(held("run", (tmp_path / "out.json").read_text())["scripts"]) == 3
 
 
 @pytest.mark.parametrize(
-    ("words", "said"),
+    ("words", "message"),
     [
         (["--json=no/such/out"], "--json: no/such/out: the folder above it isn't there"),
         (["--tap", "no/out.tap"], "--tap: no/out.tap: the folder above it isn't there"),
@@ -104,20 +106,20 @@ def test_a_file_has_the_rows_that_new_leaves_out(stand_in: Path, suite: Path, tm
     ],
 )
 def test_a_file_that_cannot_be_written_is_named_before_anything_runs(
-    words: list[str], said: str, suite: Path, tmp_path: Path, call: Call
+    words: list[str], message: str, suite: Path, tmp_path: Path, call: Call
 ) -> None:
     (tmp_path / "out").write_text("kept")
     (tmp_path / "there").write_text("kept")
     (tmp_path / "link").symlink_to("there")
     (tmp_path / "pointer").symlink_to("suite/b.pkt")
     called = call(tmp_path / "nowhere", "run", *words, "suite")
-    assert (called.status, called.out, called.err) == (2, "", f"pdsuite: {said}\n")
+    assert (called.status, called.out, called.err) == (2, "", f"pdsuite: {message}\n")
     assert {(tmp_path / it).read_text() for it in ("out", "there")} == {"kept"}
     assert (suite / "b.pkt").read_bytes() == FAILS
 
 
 @pytest.mark.parametrize(
-    ("words", "said"),
+    ("words", "message"),
     [
         (["--json="], "Invalid value for '--json': it is empty, and so names no file."),
         (["--junit", "-"], "Invalid value for '--junit': - is no file, and standard output has the report."),
@@ -128,10 +130,10 @@ def test_a_file_that_cannot_be_written_is_named_before_anything_runs(
     ],
 )
 def test_words_that_name_no_file_are_refused(
-    words: list[str], said: str, stand_in: Path, suite: Path, tmp_path: Path, call: Call
+    words: list[str], message: str, fake_program: Path, suite: Path, tmp_path: Path, call: Call
 ) -> None:
-    called = call(stand_in, "run", *words, *(["suite"] if "Missing" not in said else []))
-    assert (called.status, called.err.splitlines()[-1]) == (2, f"Error: {said}")
+    called = call(fake_program, "run", *words, *(["suite"] if "Missing" not in message else []))
+    assert (called.status, called.err.splitlines()[-1]) == (2, f"Error: {message}")
     assert sorted(it.name for it in tmp_path.iterdir()) == ["suite"]
 
 
@@ -143,26 +145,26 @@ def test_a_folder_that_may_not_be_written_is_named(suite: Path, tmp_path: Path, 
     assert (called.status, called.err) == (2, "pdsuite: --json: shut/out: Permission denied\n")
 
 
-def test_a_full_disk_costs_no_other_report(stand_in: Path, suite: Path, tmp_path: Path, call: Call) -> None:
+def test_a_full_disk_costs_no_other_report(fake_program: Path, suite: Path, tmp_path: Path, call: Call) -> None:
     words = ["--junit", "/dev/full", "--json=out.json", "--tap=/dev/full", "--html", "page"]
-    called = call(stand_in, "run", *words, "suite")
+    called = call(fake_program, "run", *words, "suite")
     full = "pdsuite: /dev/full: No space left on device\n"
     assert (called.status, called.err, called.totals) == (2, 2 * full, {"pass": 1, "fail": 1, "known": 1})
     assert len(held("run", (tmp_path / "out.json").read_text())["scripts"]) == 3
     assert (tmp_path / "page/index.html").is_file()
 
 
-def test_a_device_or_a_pipe_takes_several_reports(stand_in: Path, suite: Path, call: Call) -> None:
-    called = call(stand_in, "run", "--json=/dev/null", "--tap=/dev/null", "suite")
+def test_a_device_or_a_pipe_takes_several_reports(fake_program: Path, suite: Path, call: Call) -> None:
+    called = call(fake_program, "run", "--json=/dev/null", "--tap=/dev/null", "suite")
     assert (called.status, called.err) == (1, "")
-    called = call(stand_in, "run", "--junit", "/dev/stdout", "--tap=/dev/stdout", "suite")
+    called = call(fake_program, "run", "--junit", "/dev/stdout", "--tap=/dev/stdout", "suite")
     assert (called.status, called.err) == (1, "")
     places = [called.out.index(it) for it in ("total 3 ", "<testsuites", "TAP version 13")]
     assert places == sorted(places)
 
 
-def test_no_report_takes_the_place_of_the_one_that_is_shown(stand_in: Path, suite: Path, tmp_path: Path) -> None:
-    environment = {**os.environ, "PDSUITE_PROGRAMS": str(stand_in)}
+def test_no_report_takes_the_place_of_the_one_that_is_shown(fake_program: Path, suite: Path, tmp_path: Path) -> None:
+    environment = {**os.environ, "PDSUITE_PROGRAMS": str(fake_program)}
     for file in ("/dev/stdout", "log"):
         command: list[str | Path] = [TOP / "pdsuite", "run", "--junit", file, "suite"]
         with (tmp_path / "log").open("wb") as log:
@@ -170,12 +172,12 @@ def test_no_report_takes_the_place_of_the_one_that_is_shown(stand_in: Path, suit
         assert (done.returncode, done.stderr) == (2, f"pdsuite: --junit: {file}: standard output goes there\n".encode())
 
 
-def test_what_a_signal_leaves_is_written(stand_in: Path, tmp_path: Path) -> None:
+def test_what_a_signal_leaves_is_written(fake_program: Path, tmp_path: Path) -> None:
     write(tmp_path / "suite", a=b"row pass 9\n")
     for number in range(100):
         write(tmp_path / "suite", **{f"s{number:02}": b"stall mark\n" if number == 80 else b"\n"})
     command: list[str | Path] = [TOP / "pdsuite", "run", "--json", "out.json", "suite"]
-    environment = {**os.environ, "PDSUITE_PROGRAMS": str(stand_in)}
+    environment = {**os.environ, "PDSUITE_PROGRAMS": str(fake_program)}
     process = subprocess.Popen(command, cwd=tmp_path, env=environment, stdout=subprocess.PIPE, stderr=subprocess.PIPE)
     wait_for(tmp_path / "mark", process)
     status, _, err = ends(process, signal.SIGTERM)

@@ -12,7 +12,7 @@ from xml.etree import ElementTree
 import pytest
 from junitparser import Error, Failure, JUnitXml, Skipped
 
-from pdsuite.programs.rows import Row, Verdict
+from pdsuite.programs.verdict import Row, Verdict
 from pdsuite.reports.junit import junit
 from pdsuite.reports.last_run import leave
 from pdsuite.run.outcomes import Outcome
@@ -76,9 +76,9 @@ def parse_tap(folder: Path, text: str) -> tuple[list[list[str]], str]:
     return [it.split("\t") for it in tests], last
 
 
-def test_tap_says_of_each_script_whether_it_passes(stand_in: Path, tmp_path: Path, call: Call) -> None:
+def test_tap_says_of_each_script_whether_it_passes(fake_program: Path, tmp_path: Path, call: Call) -> None:
     make_rows(tmp_path)
-    called = call(stand_in, "run", "--tap", ".")
+    called = call(fake_program, "run", "--tap", ".")
     tests, last = parse_tap(tmp_path, called.out)
     assert [it[0] for it in tests] == ["1", "0", "0", "0", "0", "0"]
     assert [it[2].removeprefix("- ") for it in tests] == [f"{name}.pkt" for name in ROWS]
@@ -91,25 +91,25 @@ def test_tap_says_of_each_script_whether_it_passes(stand_in: Path, tmp_path: Pat
     ]
 
 
-def test_no_name_makes_a_directive_or_a_line_of_tap(stand_in: Path, tmp_path: Path, call: Call) -> None:
+def test_no_name_makes_a_directive_or_a_line_of_tap(fake_program: Path, tmp_path: Path, call: Call) -> None:
     names = make_names(tmp_path)
-    tests, last = parse_tap(tmp_path, call(stand_in, "run", "--tap", ".").out)
+    tests, last = parse_tap(tmp_path, call(fake_program, "run", "--tap", ".").out)
     assert [(it[0], it[3]) for it in tests] == [("0", "")] * len(names)
     assert [it[2] for it in tests] == [name.replace("#", r"\x23") for name in names]
     assert last == f"13 {len(names)} 0"
 
 
-def test_scripts_that_are_not_run_are_not_ok(stand_in: Path, tmp_path: Path, call: Call) -> None:
+def test_scripts_that_are_not_run_are_not_ok(fake_program: Path, tmp_path: Path, call: Call) -> None:
     for number in range(70):
         write(tmp_path, **{f"s{number:02}": b"row fail 1 seq\n" if number == 0 else b"\n"})
-    tests, last = parse_tap(tmp_path, call(stand_in, "run", "--tap", "--fail-fast", ".").out)
+    tests, last = parse_tap(tmp_path, call(fake_program, "run", "--tap", "--fail-fast", ".").out)
     assert "".join(it[0] for it in tests) == "0" + "1" * 63 + "0" * 6
     assert last == "13 70 0"
 
 
-def test_junit_tells_failures_from_errors_and_skips_nothing(stand_in: Path, tmp_path: Path, call: Call) -> None:
+def test_junit_tells_failures_from_errors_and_skips_nothing(fake_program: Path, tmp_path: Path, call: Call) -> None:
     make_rows(tmp_path)
-    assert call(stand_in, "run", "--junit", "out.xml", ".").totals["error"] == 1
+    assert call(fake_program, "run", "--junit", "out.xml", ".").totals["error"] == 1
     (suite,) = JUnitXml.fromfile(str(tmp_path / "out.xml"))
     assert suite.time > 0
     assert (suite.tests, suite.failures, suite.errors, suite.skipped) == (6, 1, 4, 0)
@@ -124,17 +124,17 @@ def test_junit_tells_failures_from_errors_and_skips_nothing(stand_in: Path, tmp_
     assert failure.text == "b fail.pkt:1: fail seq\n  row fail 1 seq"
 
 
-def test_junit_is_xml_whatever_the_names(stand_in: Path, tmp_path: Path, call: Call) -> None:
+def test_junit_is_xml_whatever_the_names(fake_program: Path, tmp_path: Path, call: Call) -> None:
     names = make_names(tmp_path)
-    call(stand_in, "run", "--junit", "out.xml", ".")
+    call(fake_program, "run", "--junit", "out.xml", ".")
     root = ElementTree.parse(tmp_path / "out.xml").getroot()
     assert [case.get("name") for case in root.iter("testcase")] == names
 
 
-def test_json_is_one_object(stand_in: Path, tmp_path: Path, call: Call) -> None:
+def test_json_is_one_object(fake_program: Path, tmp_path: Path, call: Call) -> None:
     make_rows(tmp_path)
     (tmp_path / "pdsuite.toml").write_text('root = true\n["b fail.pkt"]\nmss = 1000\n')
-    report = json.loads(call(stand_in, "run", "--json", ".").out)
+    report = json.loads(call(fake_program, "run", "--json", ".").out)
     scripts = {it["path"]: it for it in report["scripts"]}
     assert [it["verdict"] for it in report["scripts"]] == [name[2:] for name in ROWS]
     assert scripts["a pass.pkt"]["events"] == 9
@@ -150,35 +150,35 @@ def test_json_is_one_object(stand_in: Path, tmp_path: Path, call: Call) -> None:
     assert (report["total"]["scripts"], report["total"]["fail"], report["total"]["not run"]) == (6, 1, 0)
 
 
-def test_json_holds_names_of_any_octets(stand_in: Path, tmp_path: Path, call: Call) -> None:
+def test_json_holds_names_of_any_octets(fake_program: Path, tmp_path: Path, call: Call) -> None:
     names = make_names(tmp_path)
-    report = json.loads(call(stand_in, "run", "--json", ".").out)
+    report = json.loads(call(fake_program, "run", "--json", ".").out)
     assert [it["path"] for it in report["scripts"]] == names
 
 
-def test_github_has_an_annotation_for_each_that_does_not_pass(stand_in: Path, tmp_path: Path, call: Call) -> None:
+def test_github_has_an_annotation_for_each_that_does_not_pass(fake_program: Path, tmp_path: Path, call: Call) -> None:
     write(tmp_path / "a,b:c", **{"50%": b"row fail 1 seq 100%\n"})
     (tmp_path / "a,b:c/50%.pkt").write_bytes(b"row fail 1 seq\n")
     write(tmp_path, good=b"\n")
-    called = call(stand_in, "run", "--github", ".")
+    called = call(fake_program, "run", "--github", ".")
     assert called.out.splitlines()[0] == (
         "::error file=a%2Cb%3Ac/50%25.pkt,line=1,title=fail seq::a,b:c/50%25.pkt:1: fail seq%0A  row fail 1 seq"
     )
     assert called.totals == {"pass": 1, "fail": 1}
 
 
-def test_no_output_holds_a_control_character(stand_in: Path, tmp_path: Path, call: Call) -> None:
+def test_no_output_holds_a_control_character(fake_program: Path, tmp_path: Path, call: Call) -> None:
     make_names(tmp_path)
     write(tmp_path, zz=b"row fail 1 seq \x1b[31m\x07\xff\xc2\x9b\n")
     for words in (["-v"], ["--tap"], ["--json"], ["--github"]):
-        out = call(stand_in, "run", *words, ".").out
+        out = call(fake_program, "run", *words, ".").out
         assert all(line.isprintable() for line in out.split("\n"))
 
 
-def test_scripts_that_are_not_run_are_errors_of_junit(stand_in: Path, tmp_path: Path, call: Call) -> None:
+def test_scripts_that_are_not_run_are_errors_of_junit(fake_program: Path, tmp_path: Path, call: Call) -> None:
     for number in range(70):
         write(tmp_path, **{f"s{number:02}": b"row fail 1 seq\n" if number == 0 else b"\n"})
-    call(stand_in, "run", "--fail-fast", "--junit", "out.xml", ".")
+    call(fake_program, "run", "--fail-fast", "--junit", "out.xml", ".")
     (suite,) = JUnitXml.fromfile(str(tmp_path / "out.xml"))
     assert (suite.tests, suite.failures, suite.errors, suite.skipped) == (70, 1, 6, 0)
 
@@ -186,12 +186,12 @@ def test_scripts_that_are_not_run_are_errors_of_junit(stand_in: Path, tmp_path: 
 MISSING = b"row fail 7 missing\nscript packet: x\nreason: all was sent\nstate: y\n"
 
 
-def test_junit_says_where_and_why_of_each_case(stand_in: Path, tmp_path: Path, call: Call) -> None:
+def test_junit_says_where_and_why_of_each_case(fake_program: Path, tmp_path: Path, call: Call) -> None:
     write(tmp_path / "t", a=MISSING, b=b"row unsupported 3\nrule: a command\n", c=b"row fail 2 time\nearly by: 1\n")
     write(tmp_path / "t/in", d=b"row syntax 4\nreason: x\n", e=b"row pass 5\n", f=b"crash\n")
     write(tmp_path, g=b"row limit 1\n")
     begin = datetime.now(UTC).replace(microsecond=0)
-    call(stand_in, "run", "--junit", "out.xml", "t", "g.pkt")
+    call(fake_program, "run", "--junit", "out.xml", "t", "g.pkt")
     suites = list(JUnitXml.fromfile(str(tmp_path / "out.xml")))
     assert [(it.name, it.tests) for it in suites] == [(".", 1), ("t", 3), ("t/in", 3)]
     assert all(begin <= datetime.fromisoformat(f"{it.timestamp}+00:00") <= datetime.now(UTC) for it in suites)
@@ -244,8 +244,8 @@ def test_junit_names_the_line_before_where_that_one_lacks_something() -> None:
 
 
 def test_junit_of_many_scripts_costs_little_when_a_signal_ends_the_run() -> None:
-    told = ("script packet: x", "reason: y", "state: " + "z" * 200)
-    rows = [(Row(Verdict.FAIL, 10, "missing"), told), (Row(Verdict.PASS, 9), ()), (Row(Verdict.NOT_RUN), ())]
+    reported = ("script packet: x", "reason: y", "state: " + "z" * 200)
+    rows = [(Row(Verdict.FAIL, 10, "missing"), reported), (Row(Verdict.PASS, 9), ()), (Row(Verdict.NOT_RUN), ())]
     outcomes = [Outcome(f"d{number // 500}/s{number}.pkt", (), *_at(rows[number % 3])) for number in range(20_000)]
     begin = time.process_time()
     octets = junit(outcomes, 1.0)
@@ -256,10 +256,10 @@ def _at(row: tuple[Row, tuple[str, ...]]) -> tuple[Row, None, str, tuple[str, ..
     return row[0], None, "", row[1]
 
 
-def test_the_suites_of_junit_share_the_time_of_the_run(stand_in: Path, tmp_path: Path, call: Call) -> None:
+def test_the_suites_of_junit_share_the_time_of_the_run(fake_program: Path, tmp_path: Path, call: Call) -> None:
     write(tmp_path / "a", **{f"s{number}": b"\n" for number in range(30)})
     write(tmp_path / "b", a=b"\n")
-    call(stand_in, "run", "--junit", "out.xml", ".")
+    call(fake_program, "run", "--junit", "out.xml", ".")
     report = JUnitXml.fromfile(str(tmp_path / "out.xml"))
     first, second = report
     assert report.time > 0 and abs(first.time + second.time - report.time) < 0.002
@@ -273,31 +273,33 @@ def files_of(out: str) -> list[str]:
 
 @pytest.mark.parametrize(("words", "level"), [((), "warning"), (("--strict",), "error")])
 def test_a_warning_of_github_is_an_error_where_it_is_strict(
-    words: tuple[str, ...], level: str, stand_in: Path, tmp_path: Path, call: Call
+    words: tuple[str, ...], level: str, fake_program: Path, tmp_path: Path, call: Call
 ) -> None:
     write(tmp_path, a=b"row pass 0")
-    (annotation, *_) = call(stand_in, "run", "--github", *words, ".").out.splitlines()
+    (annotation, *_) = call(fake_program, "run", "--github", *words, ".").out.splitlines()
     assert annotation.startswith(f"::{level} file=")
 
 
-def test_github_gets_paths_from_the_root_of_the_repository(stand_in: Path, tmp_path: Path, call: Call) -> None:
+def test_github_gets_paths_from_the_root_of_the_repository(fake_program: Path, tmp_path: Path, call: Call) -> None:
     write(tmp_path / "in/er", a=b"row fail 1 seq\n")
     whole = str(tmp_path / "in/er")
-    assert files_of(call(stand_in, "run", "--github", whole, "in").out) == [f"{whole}/a.pkt"]
-    named = call(stand_in, "run", "--github", whole, GITHUB_WORKSPACE=str(tmp_path / "in"))
+    assert files_of(call(fake_program, "run", "--github", whole, "in").out) == [f"{whole}/a.pkt"]
+    named = call(fake_program, "run", "--github", whole, GITHUB_WORKSPACE=str(tmp_path / "in"))
     assert files_of(named.out) == ["er/a.pkt"]
-    elsewhere = call(stand_in, "run", "--github", "in", GITHUB_WORKSPACE=str(tmp_path / "elsewhere"))
+    elsewhere = call(fake_program, "run", "--github", "in", GITHUB_WORKSPACE=str(tmp_path / "elsewhere"))
     assert files_of(elsewhere.out) == ["in/er/a.pkt"]
     (tmp_path / "in/.git").touch()  # as in a worktree
     for words in (["in"], [whole], ["in/er/../er"]):
-        assert files_of(call(stand_in, "run", "--github", *words, GITHUB_WORKSPACE="/nowhere").out) == ["er/a.pkt"]
+        assert files_of(call(fake_program, "run", "--github", *words, GITHUB_WORKSPACE="/nowhere").out) == ["er/a.pkt"]
 
 
-def test_github_gets_ten_annotations_of_a_level_and_the_rows_of_all(stand_in: Path, tmp_path: Path, call: Call) -> None:
+def test_github_gets_ten_annotations_of_a_level_and_the_rows_of_all(
+    fake_program: Path, tmp_path: Path, call: Call
+) -> None:
     write(tmp_path, **{f"s{number:02}": MISSING for number in range(13)})
     write(tmp_path, **{f"w{number:02}": b"row pass 0\n" for number in range(11)})
     write(tmp_path, **{"z##[error] a": MISSING})
-    *lines, totals = call(stand_in, "run", "--github", ".").out.splitlines()
+    *lines, totals = call(fake_program, "run", "--github", ".").out.splitlines()
     assert sum(it.startswith("::error ") for it in lines) == sum(it.startswith("::warning ") for it in lines) == 10
     assert [it for it in lines if not it.startswith("::")] == [
         "- s10.pkt:7: fail missing: so it is",
@@ -311,13 +313,13 @@ def test_github_gets_ten_annotations_of_a_level_and_the_rows_of_all(stand_in: Pa
     assert totals.startswith("total 25 pass 11 fail 14 ")
 
 
-def test_github_gets_a_summary_after_those_of_others(stand_in: Path, tmp_path: Path, call: Call) -> None:
+def test_github_gets_a_summary_after_those_of_others(fake_program: Path, tmp_path: Path, call: Call) -> None:
     write(tmp_path, **{"a|b*c_`<d>": MISSING, "e": b"row pass 0\n", "f": b"crash\n", "g": b"row pass 3\n"})
     summary = tmp_path / "summary.md"
     summary.write_text("# Others\n")
-    call(stand_in, "run", ".", GITHUB_STEP_SUMMARY=str(summary))
+    call(fake_program, "run", ".", GITHUB_STEP_SUMMARY=str(summary))
     assert summary.read_text() == "# Others\n"
-    assert call(stand_in, "run", "--github", ".", GITHUB_STEP_SUMMARY=str(summary)).status == 2
+    assert call(fake_program, "run", "--github", ".", GITHUB_STEP_SUMMARY=str(summary)).status == 2
     assert summary.read_text().splitlines() == [
         "# Others",
         "### pdsuite: 4 scripts: 2 pass, 1 fail, 1 error; warnings: 1",
@@ -330,20 +332,20 @@ def test_github_gets_a_summary_after_those_of_others(stand_in: Path, tmp_path: P
     ]
 
 
-def test_a_summary_is_cut_where_github_takes_no_more(stand_in: Path, tmp_path: Path, call: Call) -> None:
+def test_a_summary_is_cut_where_github_takes_no_more(fake_program: Path, tmp_path: Path, call: Call) -> None:
     folder = tmp_path / ("\u00fc" * 125) / ("y" * 250) / ("\u00e4" * 125)
     write(folder, **{f"s{number:04}": b"row fail 1 seq\nreason: " + b"x" * 180 + b"\n" for number in range(1_200)})
     summary = tmp_path / "summary.md"
-    call(stand_in, "run", "--github", ".", GITHUB_STEP_SUMMARY=str(summary))
+    call(fake_program, "run", "--github", ".", GITHUB_STEP_SUMMARY=str(summary))
     text = summary.read_text()
     assert 998_000 < len(text.encode()) < 1 << 20
     rows = text.count("| fail seq |")
     assert text.endswith(f"\n\nand {1_200 - rows} more\n")
 
 
-def test_a_summary_that_cannot_be_written_is_a_fault(stand_in: Path, tmp_path: Path, call: Call) -> None:
+def test_a_summary_that_cannot_be_written_is_a_fault(fake_program: Path, tmp_path: Path, call: Call) -> None:
     write(tmp_path, a=b"\n")
-    called = call(stand_in, "run", "--github", ".", GITHUB_STEP_SUMMARY=str(tmp_path / "no/such"))
+    called = call(fake_program, "run", "--github", ".", GITHUB_STEP_SUMMARY=str(tmp_path / "no/such"))
     assert (called.status, called.err) == (2, f"pdsuite: {tmp_path}/no/such: No such file or directory\n")
 
 
@@ -355,8 +357,8 @@ def test_what_a_signal_leaves_of_20000_scripts_is_written_soon(tmp_path: Path, m
     left = [Outcome(it, (), Row(Verdict.NOT_RUN)) for it in paths]
     begin = time.process_time()
     leave([Path("suite")], left, False, pytest.fail)
-    told = junit(left, 1.0)
+    reported = junit(left, 1.0)
     assert time.process_time() - begin < SLOW
-    case = ElementTree.fromstring(told).find("testsuite/testcase/error")
+    case = ElementTree.fromstring(reported).find("testsuite/testcase/error")
     assert case is not None and case.attrib == {"message": f"{paths[0]}: not run", "type": "not run"}
     assert case.text == f"{paths[0]}: not run"

@@ -10,9 +10,9 @@ import pytest
 
 from pdsuite.programs.program import Program
 from pdsuite.programs.refusals import refusals
+from pdsuite.scripts.config import Claim
 from pdsuite.scripts.defaults import KEYS, Number
 from pdsuite.scripts.settings import Value
-from pdsuite.scripts.suite import Claim
 from pdsuite.signals import Stop
 from tests.helpers import FAILS, PASSES, TOP, Call, write
 
@@ -38,8 +38,8 @@ def test_the_examples_have_their_rows(programs: Path, call: Call) -> None:
     rows = [it.removeprefix(f"{EXAMPLES}/") for it in called.rows]
     assert rows == expected_rows()
     shows = {"01_listen": 0, "03_not_open": 0, "04_times": 0, "06_comments": 0, "14_no_newline": 0, "16_empty": 1}
-    said = ["awaits no packet", "has no event"]
-    assert called.warnings == [f"{EXAMPLES}/{name}.pkt: passes, but {said[it]}" for name, it in shows.items()]
+    message = ["awaits no packet", "has no event"]
+    assert called.warnings == [f"{EXAMPLES}/{name}.pkt: passes, but {message[it]}" for name, it in shows.items()]
     assert (called.status, called.err) == (1, "")
 
 
@@ -101,15 +101,15 @@ def test_a_text_that_breaks_off_is_told_where_it_does_with_what_it_lacks(
     write(tmp_path / "in", a=BROKEN, b=b"+0 bind(3, ..., ...) =\n")
     numbers = "a whole number up to 4,294,967,295, a hexadecimal number up to 0xffffffff or `-`"
     end = f"expected {numbers} at the end of the text"
-    told = ["in/a.pkt:2: syntax: expected `win`", f"in/b.pkt:1: syntax: {end}"]
+    reported = ["in/a.pkt:2: syntax: expected `win`", f"in/b.pkt:1: syntax: {end}"]
     called = call(programs, "run", "--junit", "report.xml", "in")
-    assert [it for it in called.out.splitlines() if ": syntax" in it] == told
+    assert [it for it in called.out.splitlines() if ": syntax" in it] == reported
     xml = (tmp_path / "report.xml").read_text()
-    assert f'line="2"><error message="{told[0]}"' in xml and f'line="1"><error message="{told[1]}"' in xml
+    assert f'line="2"><error message="{reported[0]}"' in xml and f'line="1"><error message="{reported[1]}"' in xml
     github = call(programs, "run", "--github", "in/a.pkt", GITHUB_STEP_SUMMARY=str(tmp_path / "summary"))
-    assert github.out.startswith(f"::error file=in/a.pkt,line=2,title=syntax::{told[0]}%0A")
+    assert github.out.startswith(f"::error file=in/a.pkt,line=2,title=syntax::{reported[0]}%0A")
     assert (tmp_path / "summary").read_text().endswith(r"| in\/a\.pkt | 2 | syntax | expected \`win\` |" + "\n")
-    assert call(programs, "run", "--tap", "in/a.pkt").out.splitlines()[2] == f"# {told[0]}"
+    assert call(programs, "run", "--tap", "in/a.pkt").out.splitlines()[2] == f"# {reported[0]}"
     (script,) = json.loads(call(programs, "run", "--json", "in/a.pkt").out)["scripts"]
     assert (script["line"], script["explanation"]["place"]["line"]) == (5, 2)
     (tmp_path / "in/pdsuite.toml").write_text('["a.pkt"]\nexpect = "syntax 5"\nreason = "so"\n')

@@ -6,8 +6,8 @@ from pathlib import Path
 import pytest
 
 from pdsuite.faults import Fault
-from pdsuite.programs.rows import Row, Verdict
-from pdsuite.reports.as_json import Json, script_text
+from pdsuite.programs.verdict import Row, Verdict
+from pdsuite.reports.as_json import JsonFormatter, script_text
 from pdsuite.reports.saved_reports import SavedReport, SavedRow, joined, read_report, reports_in
 from pdsuite.run.outcomes import Outcome, Totals
 from pdsuite.scripts.settings import Settings
@@ -28,7 +28,7 @@ NAMES = ["a.pkt", "a b/c.pkt", "q\"uo'te.pkt", r"a\x0ab.pkt", r"\xff.pkt", r"a\\
 
 def written(outcomes: list[Outcome], shard: Shard | None = None) -> bytes:
     """A report as `pdsuite run --json` prints it."""
-    form = Json(shard)
+    form = JsonFormatter(shard)
     entries = [form.entry(number, it) for number, it in enumerate(outcomes, 1)]
     parts = [form.head(len(outcomes)), *entries, form.foot(Totals.of(outcomes), 1.5)]
     return "".join(it.plain for it in parts).encode()

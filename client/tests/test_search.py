@@ -5,7 +5,7 @@ from pathlib import Path
 
 import pytest
 
-from pdsuite.scripts.search import find
+from pdsuite.scripts.discover import find
 from pdsuite.signals import Stop
 
 

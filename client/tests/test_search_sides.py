@@ -3,16 +3,16 @@
 from dataclasses import replace
 from typing import Any
 
-from pdsuite.commands.search import _asking
+from pdsuite.commands.search import _side_oracles
 from pdsuite.compare.sides import Side, side_of
 from pdsuite.programs.refusals import Refusal
+from pdsuite.scripts.config import Claim, option_of
 from pdsuite.scripts.renamed import UNKNOWN_KEY
 from pdsuite.scripts.settings import settings_of
-from pdsuite.scripts.suite import Claim, option_of
 
 
-class Asker:
-    """Stands in for what asks a sender, which lacks some keys."""
+class Oracle:
+    """A fake of the oracle of a sender, which lacks some keys."""
 
     def __init__(self, *lacks: str) -> None:
         self.lacks = lacks
@@ -48,10 +48,10 @@ def side(name: str) -> Side:
 
 def test_each_side_is_asked_without_the_keys_that_its_sender_lacks() -> None:
     """Those that are set for both, and those that inputs may set."""
-    askers: Any = (Asker("early", "mss"), Asker())
+    oracles: Any = (Oracle("early", "mss"), Oracle())
     screen: Any = Screen()
     common = option_of("early = 2\nlate = 3")
-    before, after = _asking(askers, (side("old"), side("new")), common, screen)
+    before, after = _side_oracles(oracles, (side("old"), side("new")), common, screen)
     assert sorted(before.side.lacks) == ["early", "mss"] and not after.side.lacks
     assert (before.side.settings((("early", 2), ("late", 3))), after.side.settings((("early", 2),))) == (
         (("late", 3),),
@@ -61,10 +61,10 @@ def test_each_side_is_asked_without_the_keys_that_its_sender_lacks() -> None:
 
 
 def test_a_key_that_a_sender_has_by_its_old_name_has_its_value_there() -> None:
-    askers: Any = (Asker("abc_limit", "recovery_algorithm", "slow_start_after_idle", "restart_after_idle"), Asker())
+    oracles: Any = (Oracle("abc_limit", "recovery_algorithm", "slow_start_after_idle", "restart_after_idle"), Oracle())
     screen: Any = Screen()
     common = option_of('abc_limit = 2\nrecovery_algorithm = "rfc9937"\nslow_start_after_idle = true')
-    old, new = _asking(askers, (side("old"), side("new")), common, screen)
+    old, new = _side_oracles(oracles, (side("old"), side("new")), common, screen)
     given = settings_of(common.keys)
     assert old.side.settings(given) == (("byte_counting", 2), ("recovery_rate", "prr"))
     assert new.side.settings(given) == given and not new.side.renamed

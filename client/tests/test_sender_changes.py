@@ -10,8 +10,8 @@ import pytest
 
 from tests.helpers import PASSES, is_alive, write
 from tests.lsp_client import CAPABILITIES, Json, LspClient
-from tests.trees import HERE, Tree, put_program, stand_in
-from tests.watching import Watching
+from tests.tree_fixture import HERE, Tree, fake_octets, put_program
+from tests.watch_process import Watching
 
 LEFT = "the sender has changed: all rows above are of the sender before\n"
 BEFORE = " (by the sender before)\n"
@@ -19,7 +19,7 @@ ANOTHER = "another program stands: all scripts ran again\n"
 AGAIN = "the sender stands again that was before\n"
 UNPROVED = "  pdregress isn't proved and built, or has changed since: run ./prove pdregress\n"
 SENDER = b"sender\n"
-OTHER = stand_in("fail 1 seq")
+OTHER = fake_octets("fail 1 seq")
 SOURCE = "crates/pdregress/src/rule.rt"
 
 
@@ -28,7 +28,7 @@ def tree(tmp_path: Path) -> Tree:
     """A tree whose programs count as proved, and which builds none without: the row of script `a` is its sender's."""
     made = Tree(tmp_path)
     (made.top / SOURCE).write_text("// a rule\n")
-    made.prove(pdregress=stand_in())
+    made.prove(pdregress=fake_octets())
     write(made.suite, a=SENDER, b=PASSES)
     return made
 
@@ -45,7 +45,7 @@ def folder_of(tmp_path: Path, octets: bytes) -> Path:
 
 def test_a_replaced_program_is_started_and_all_is_asked_of_it(tmp_path: Path) -> None:
     write(tmp_path / "suite", a=SENDER, b=PASSES)
-    programs = folder_of(tmp_path, stand_in())
+    programs = folder_of(tmp_path, fake_octets())
     with Watching(tmp_path, programs, "suite") as watching:
         before = watching.programs()
         folder_of(tmp_path, OTHER)
@@ -54,7 +54,7 @@ def test_a_replaced_program_is_started_and_all_is_asked_of_it(tmp_path: Path) ->
         watching.await_out("total ", 2)
         assert not any(map(is_alive, before)) and watching.err == ""
         watching.await_truth("suite")
-        folder_of(tmp_path, stand_in())
+        folder_of(tmp_path, fake_octets())
         watching.await_out(f"{ANOTHER}suite/a.pkt: pass 1\n")
         watching.await_truth("suite")
 
@@ -101,7 +101,7 @@ def test_another_file_at_the_path_of_a_program_that_ends_is_not_started(tree: Tr
         write(tree.suite, b=b"row fail 1 seq\n")
         time.sleep(0.5)
         assert not mark.exists() and watching.programs() == []
-        tree.prove(pdregress=stand_in())
+        tree.prove(pdregress=fake_octets())
         watching.await_out(f"{ANOTHER}b.pkt:1: fail seq\n")
 
 
@@ -166,11 +166,11 @@ def test_where_it_is_the_same_rows_stay_current(done: str, tree: Tree) -> None:
 
 
 def test_a_row_and_what_explains_it_are_of_one_program(tmp_path: Path) -> None:
-    programs = folder_of(tmp_path, stand_in("fail 1 ack"))
-    other = put_program(tmp_path / "programs/other", stand_in("fail 1 seq"))
+    programs = folder_of(tmp_path, fake_octets("fail 1 ack"))
+    other = put_program(tmp_path / "programs/other", fake_octets("fail 1 seq"))
     write(tmp_path / "suite", a=SENDER, b=PASSES)
     with Watching(tmp_path, programs, "suite") as watching:
-        # Once its scripts are run, and before it tells of them, the program's file is another one.
+        # Once its scripts are run, and before it explains them, the program's file is another one.
         write(tmp_path / "suite", b=f"yield {other}\n".encode(), c=SENDER)
         watching.await_out(f"{ANOTHER}suite/a.pkt:1: fail seq\n")
         watching.await_out("total ", 2)
@@ -203,7 +203,7 @@ def test_what_a_package_has_is_looked_at_without_a_process(tmp_path: Path) -> No
     (tree.top / "version").write_text("0.2.0\n")
     mark = tmp_path / "mark"
     (tree.top / "tools/built.sh").write_text(f"#!/bin/sh\ntouch {mark}\nexit 2\n")
-    put_program(tmp_path / "usr/bin/pdregress", stand_in())
+    put_program(tmp_path / "usr/bin/pdregress", fake_octets())
     write(tree.suite, a=SENDER)
     with watched(tree) as watching:
         (tree.top / SOURCE).write_text("// a rule\n")
@@ -214,7 +214,7 @@ def test_what_a_package_has_is_looked_at_without_a_process(tmp_path: Path) -> No
 
 
 @pytest.mark.parametrize(
-    ("words", "said"),
+    ("words", "message"),
     [
         (("run",), "run the scripts again"),
         (("record", "--write"), "nothing is written"),
@@ -224,9 +224,9 @@ def test_what_a_package_has_is_looked_at_without_a_process(tmp_path: Path) -> No
     ids=["run", "record", "expect", "compare"],
 )
 def test_a_sender_that_changes_in_the_midst_is_said_and_the_status_is_2(
-    words: tuple[str, ...], said: str, tree: Tree
+    words: tuple[str, ...], message: str, tree: Tree
 ) -> None:
-    tree.prove(pdregress=stand_in(), pdrecord=(tree.bin / "pdrecord").read_bytes())
+    tree.prove(pdregress=fake_octets(), pdrecord=(tree.bin / "pdrecord").read_bytes())
     base = tree.suite.parent / "base"
     base.mkdir()
     for name in ("pdregress", "pdrecord"):
@@ -236,7 +236,7 @@ def test_a_sender_that_changes_in_the_midst_is_said_and_the_status_is_2(
     write(tree.suite, a=script, b=b"row fail 1 seq\nfor pdrecord\n")
     called = tree.call(*words, "suite")
     *_, last = called.err.splitlines()
-    assert (called.status, last) == (2, f"pdsuite: the sender has changed meanwhile: {said}")
+    assert (called.status, last) == (2, f"pdsuite: the sender has changed meanwhile: {message}")
     assert not (tree.suite / "pdsuite.toml").exists() and b"row" in (tree.suite / "b.pkt").read_bytes()
 
 
@@ -251,7 +251,7 @@ def test_a_sender_that_changes_in_the_midst_is_said_and_the_status_is_2(
 def test_a_search_whose_sender_changes_in_the_midst_says_so_and_saves_nothing(
     words: tuple[str, ...], tree: Tree
 ) -> None:
-    changing, small = tree.suite.parent / "changing", (HERE / "stand_in_sender.py").read_bytes()
+    changing, small = tree.suite.parent / "changing", (HERE / "fake_sender.py").read_bytes()
     for name in ("pdregress", "pdrecord"):
         put_program(tree.bin / name, small)
         put_program(changing / "real" / name, small)
@@ -286,13 +286,13 @@ DIMS: Json = {
 
 def served(tree: Tree) -> LspClient:
     """A language server of a tree, in which both programs are proved."""
-    tree.prove(pdregress=stand_in(), pdrecord=(tree.bin / "pdrecord").read_bytes())
+    tree.prove(pdregress=fake_octets(), pdrecord=(tree.bin / "pdrecord").read_bytes())
     return LspClient(None, tree.suite, can=DIMS, pdsuite=tree.top / "pdsuite", there=tree.environment)
 
 
-def first(told: Json) -> str:
+def first(reported: Json) -> str:
     """The first line of a diagnostic."""
-    return str(told["message"]).partition("\n")[0]
+    return str(reported["message"]).partition("\n")[0]
 
 
 def lens(client: LspClient, uri: str) -> str:
@@ -304,21 +304,21 @@ def lens(client: LspClient, uri: str) -> str:
 def test_an_editor_is_told_of_a_source_that_changes_and_all_is_marked(tree: Tree) -> None:
     with served(tree) as client:
         uri = client.open(tree.suite / "b.pkt", "row fail 1 seq\n")
-        (told,) = client.settled(uri)
-        assert (first(told), "tags" in told) == ("fail seq", False)
+        (reported,) = client.settled(uri)
+        assert (first(reported), "tags" in reported) == ("fail seq", False)
         assert lens(client, uri) == "fail 1 seq"
         (tree.top / SOURCE).write_text("// another rule\n")
-        (told,) = client.told(uri, lambda it: first(it[0]) != "fail seq", "a mark")
-        assert (first(told), told["tags"]) == ("(by the sender before) fail seq", [1])
+        (reported,) = client.wait_diagnostics(uri, lambda it: first(it[0]) != "fail seq", "a mark")
+        assert (first(reported), reported["tags"]) == ("(by the sender before) fail seq", [1])
         assert lens(client, uri) == "fail 1 seq (by the sender before)"
-        (said,) = client.shown
-        assert said == "pdsuite: the sender has changed: rows are old"
+        (message,) = client.shown
+        assert message == "pdsuite: the sender has changed: rows are old"
         client.put(uri, "row fail 1 ack\n")
-        (told,) = client.settled(uri)
-        assert first(told) == "(by the sender before) fail ack"
+        (reported,) = client.settled(uri)
+        assert first(reported) == "(by the sender before) fail ack"
         (tree.top / SOURCE).write_text("// a rule\n")
-        (told,) = client.told(uri, lambda it: first(it[0]) == "fail ack", "no mark")
-        assert "tags" not in told
+        (reported,) = client.wait_diagnostics(uri, lambda it: first(it[0]) == "fail ack", "no mark")
+        assert "tags" not in reported
 
 
 def test_an_editor_gets_all_anew_of_a_program_that_takes_over(tree: Tree) -> None:
@@ -328,8 +328,8 @@ def test_an_editor_gets_all_anew_of_a_program_that_takes_over(tree: Tree) -> Non
         (tree.top / SOURCE).write_text("// another rule\n")
         client.wait(lambda: bool(client.shown), "a message")
         tree.prove(pdregress=OTHER, pdrecord=(tree.bin / "pdrecord").read_bytes())
-        (told,) = client.told(uri, bool, "a diagnostic")
-        assert first(told) == "fail seq: so it is" and lens(client, uri) == "fail 1 seq"
+        (reported,) = client.wait_diagnostics(uri, bool, "a diagnostic")
+        assert first(reported) == "fail seq: so it is" and lens(client, uri) == "fail 1 seq"
 
 
 def test_an_editor_has_no_program_started_that_is_not_proved(tree: Tree) -> None:
@@ -345,17 +345,19 @@ def test_an_editor_has_no_program_started_that_is_not_proved(tree: Tree) -> None
 
 
 def test_an_editor_has_rows_and_reasons_of_the_program_that_took_a_place(tmp_path: Path) -> None:
-    programs = folder_of(tmp_path, stand_in("fail 1 ack"))
-    put_program(programs / "pdrecord", (HERE / "stand_in_record.py").read_bytes())
-    other = put_program(tmp_path / "other", stand_in("fail 1 seq"))
+    programs = folder_of(tmp_path, fake_octets("fail 1 ack"))
+    put_program(programs / "pdrecord", (HERE / "fake_pdrecord.py").read_bytes())
+    other = put_program(tmp_path / "other", fake_octets("fail 1 seq"))
     write(tmp_path / "suite", a=SENDER, b=PASSES)
     (tmp_path / "suite/pdsuite.toml").write_text("root = true\n")
     with LspClient(programs, tmp_path / "suite", can=DIMS) as client:
         uri = client.open(tmp_path / "suite/a.pkt")
-        (told,) = client.settled(uri)
-        assert first(told) == "fail ack: so it is"
-        # Once its scripts are run, and before it tells of them, the program's file is another one.
+        (reported,) = client.settled(uri)
+        assert first(reported) == "fail ack: so it is"
+        # Once its scripts are run, and before it explains them, the program's file is another one.
         seen = client.open(tmp_path / "suite/b.pkt", f"yield {other}\n")
-        (told,) = client.told(uri, lambda it: first(it[0]) != "fail ack: so it is", "a row of the other program")
-        assert first(told) == "fail seq: so it is" and lens(client, uri) == "fail 1 seq"
+        (reported,) = client.wait_diagnostics(
+            uri, lambda it: first(it[0]) != "fail ack: so it is", "a row of the other program"
+        )
+        assert first(reported) == "fail seq: so it is" and lens(client, uri) == "fail 1 seq"
         assert client.settled(seen) == [] and not other.exists()

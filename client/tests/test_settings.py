@@ -8,9 +8,9 @@ from pathlib import Path
 import pytest
 
 from pdsuite.faults import Fault
-from pdsuite.scripts.search import find
+from pdsuite.scripts.config import Claim, SuiteConfig, layer_of, option_of
+from pdsuite.scripts.discover import find
 from pdsuite.scripts.settings import Settings, Value, set_words, settings_text
-from pdsuite.scripts.suite import Claim, Suite, layer_of, option_of
 from pdsuite.signals import Stop
 
 VALUES: list[tuple[Value, str]] = [
@@ -52,7 +52,7 @@ def test_a_settings_text_is_toml() -> None:
 
 def suite_of(top: Path, paths: list[Path], option: str = "") -> dict[str, Settings]:
     """The settings of each script."""
-    suite = Suite(option_of(option))
+    suite = SuiteConfig(option_of(option))
     with Stop() as stop:
         found = find(paths, (), stop)
     return {os.path.relpath(it.path, top): suite.settings(it) for it in found}
@@ -192,7 +192,7 @@ def test_the_nearest_says_which_scripts_are_strict(tmp_path: Path) -> None:
     make_suite(tmp_path)
     (tmp_path / "pdsuite.toml").write_text('root = true\nstrict = true\n["top.pkt"]\nstrict = false\n')
     (tmp_path / "a/b/pdsuite.toml").write_text("strict = false\nmss = 9\n")
-    suite = Suite(option_of(""))
+    suite = SuiteConfig(option_of(""))
     with Stop() as stop:
         found = find([tmp_path], (), stop)
     strict = {os.path.relpath(it.path, tmp_path): suite.is_strict(it) for it in found}

@@ -7,7 +7,7 @@ from pathlib import Path
 
 import pytest
 
-from pdsuite.scripts.search import find
+from pdsuite.scripts.discover import find
 from pdsuite.scripts.shards import Shard, members, parts, shard_of
 from pdsuite.signals import Stop
 from tests.helpers import Call, write
@@ -123,26 +123,28 @@ def test_one_file_alone_is_in_one_shard(tmp_path: Path) -> None:
     assert shards_of(tmp_path, "a.pkt", count=2) == [["a.pkt"], []]
 
 
-def test_run_and_list_take_a_part_of_what_only_leaves(stand_in: Path, tmp_path: Path, call: Call) -> None:
+def test_run_and_list_take_a_part_of_what_only_leaves(fake_program: Path, tmp_path: Path, call: Call) -> None:
     make_suite(tmp_path)
-    listed = [call(stand_in, "list", "--only", "one/*", "--shard", f"{it}/2", ".").out.splitlines() for it in (1, 2)]
+    listed = [
+        call(fake_program, "list", "--only", "one/*", "--shard", f"{it}/2", ".").out.splitlines() for it in (1, 2)
+    ]
     assert sorted(listed[0] + listed[1]) == sorted(f"one/{it.name}" for it in (tmp_path / "one").iterdir())
     for number, paths in enumerate(listed, 1):
-        called = call(stand_in, "run", "-v", "--only", "one/*", "--shard", f"{number}/2", ".")
+        called = call(fake_program, "run", "-v", "--only", "one/*", "--shard", f"{number}/2", ".")
         assert called.rows == [f"{path}: pass 1" for path in paths]
         assert called.status == 0
 
 
-def test_a_shard_without_a_script_passes_and_is_told(stand_in: Path, tmp_path: Path, call: Call) -> None:
+def test_a_shard_without_a_script_passes_and_is_told(fake_program: Path, tmp_path: Path, call: Call) -> None:
     write(tmp_path, a=b"\n")
-    called = call(stand_in, "run", "--shard", "2/2", "--junit", "out.xml", ".")
+    called = call(fake_program, "run", "--shard", "2/2", "--junit", "out.xml", ".")
     assert (called.status, called.totals, called.err) == (0, {}, "pdsuite: shard 2/2 has no script\n")
     assert (tmp_path / "out.xml").exists()
-    assert call(stand_in, "run", "--tap", "--shard", "2/2", ".").out.splitlines()[1] == "1..0"
+    assert call(fake_program, "run", "--tap", "--shard", "2/2", ".").out.splitlines()[1] == "1..0"
 
 
-def test_another_word_is_refused(stand_in: Path, tmp_path: Path, call: Call) -> None:
+def test_another_word_is_refused(fake_program: Path, tmp_path: Path, call: Call) -> None:
     write(tmp_path, a=b"\n")
-    called = call(stand_in, "run", "--shard", "4/3", ".")
-    said = "Error: Invalid value for '--shard': 4/3 is no K/N, with K from 1 to N."
-    assert (called.status, called.err.splitlines()[-1]) == (2, said)
+    called = call(fake_program, "run", "--shard", "4/3", ".")
+    message = "Error: Invalid value for '--shard': 4/3 is no K/N, with K from 1 to N."
+    assert (called.status, called.err.splitlines()[-1]) == (2, message)

@@ -15,16 +15,16 @@ from pathlib import Path
 
 import pytest
 
-from pdsuite.compare.comparison import ComparedScript, Kind
-from pdsuite.compare.parting import Parting, PlayedEvent
-from pdsuite.programs.rows import Row, Verdict
+from pdsuite.compare.comparison import ComparedScript, ComparisonKind
+from pdsuite.compare.divergence import Divergence, PlayedEvent
+from pdsuite.programs.verdict import Row, Verdict
 from pdsuite.run.outcomes import Outcome
 from pdsuite.scripts.text import text_of
 from pdsuite.watch.folder_moves import moves_of
-from pdsuite.watch.run_changes import WantedScript
+from pdsuite.watch.plan_changes import WantedScript
 from pdsuite.watch.terminal_report import TerminalReport
 from tests.helpers import HANGS, PASSES, TOP, write
-from tests.watching import Watching
+from tests.watch_process import Watching
 
 STATE = (
     "state: ESTABLISHED una:1 next:1001 top:1001 end:1001 cwnd:4000 ssthresh:1073741824 rwnd:32896 FlightSize:1000 "
@@ -38,8 +38,8 @@ Report = dict[str, Outcome]
 
 def report(row: Row, *paths: str) -> Report:
     """A report with this row of each script."""
-    told = ("the packet has other octets", (PACKET, STATE)) if row is FAIL else ("", ())
-    return {path: Outcome(path, (), row, None, *told) for path in paths}
+    reported = ("the packet has other octets", (PACKET, STATE)) if row is FAIL else ("", ())
+    return {path: Outcome(path, (), row, None, *reported) for path in paths}
 
 
 def texts(**texts: bytes) -> Mapping[str, WantedScript]:
@@ -78,8 +78,8 @@ def test_a_state_is_broken_at_blanks_and_a_packet_is_not_broken() -> None:
 
 def test_a_reason_is_broken_at_blanks_and_a_short_line_stays() -> None:
     words = "reason: all that is queued was sent, up to 1001, and only the timer sends the oldest again (RFC 6298)"
-    told = (words, "rule: a command", f"{'x' * 100} y")
-    outcome = Outcome("a.pkt", (), FAIL, None, "so it is", told)
+    reported = (words, "rule: a command", f"{'x' * 100} y")
+    outcome = Outcome("a.pkt", (), FAIL, None, "so it is", reported)
     assert live().first({"a.pkt": outcome}, False, 0.01).plain.splitlines()[1:-1] == [
         "  reason: all that is queued was sent, up to 1001, and only the timer sends the",
         "    oldest again (RFC 6298)",
@@ -91,9 +91,9 @@ def test_a_reason_is_broken_at_blanks_and_a_short_line_stays() -> None:
 def test_the_states_of_two_senders_are_broken_at_blanks_and_packets_are_not() -> None:
     state = "ESTABLISHED una:1 next:6001 top:6001 end:20001 cwnd:4000 ssthresh:2000 DupAcks:2"
     event = PlayedEvent(f"+0 > . 1:1001(1000) ack 1 <nop,nop,{'sack 1:2,' * 6}eol>", "0.310000", state)
-    parting = Parting(event, None, state, f"{state} recovery:none")
+    parting = Divergence(event, None, state, f"{state} recovery:none")
     outcome = Outcome("a.pkt", (), PASS, None, "", ())
-    lines = live().compared([ComparedScript(0, Kind.OTHERWISE, outcome, outcome, parting)]).plain.splitlines()
+    lines = live().compared([ComparedScript(0, ComparisonKind.OTHERWISE, outcome, outcome, parting)]).plain.splitlines()
     assert f"    before: {event}" in lines
     assert lines[-4:] == [
         "    state of the sender before: ESTABLISHED una:1 next:6001 top:6001 end:20001",
@@ -237,10 +237,10 @@ class OnTerminal:
         return re.sub(r"\x1b\[[0-9;?]*[A-Za-z]", "", text)[self._taken :]
 
 
-def test_on_a_terminal_a_save_begins_with_the_time_of_day(stand_in: Path, tmp_path: Path) -> None:
+def test_on_a_terminal_a_save_begins_with_the_time_of_day(fake_program: Path, tmp_path: Path) -> None:
     write(tmp_path / "t", **{f"s{number:02}": PASSES for number in range(30)})
     words = ("--strict", "--only", "s*", "--settings", "mss = 1000", "t")
-    with OnTerminal(tmp_path, stand_in, *words) as terminal:
+    with OnTerminal(tmp_path, fake_program, *words) as terminal:
         terminal.wait_for("total 30 pass 30 in ")
         block = f"row fail 2 seq\n{PACKET}\n{STATE}\n".encode()
         beside = tmp_path / "beside"
@@ -260,9 +260,9 @@ def test_on_a_terminal_a_save_begins_with_the_time_of_day(stand_in: Path, tmp_pa
         terminal.wait_for("t: error: No such file or directory\n")
 
 
-def test_what_no_terminal_shows_is_whole(stand_in: Path, tmp_path: Path) -> None:
+def test_what_no_terminal_shows_is_whole(fake_program: Path, tmp_path: Path) -> None:
     write(tmp_path / "t/in", **{f"s{number:02}": PASSES for number in range(30)})
-    with Watching(tmp_path, stand_in, "t") as watching:
+    with Watching(tmp_path, fake_program, "t") as watching:
         (tmp_path / "t/in").rename(tmp_path / "t/out")
         watching.await_out("t/in/s29.pkt: gone\n")
         watching.await_out("total 30 pass 30 fail 0 syntax 0 unsupported 0 limit 0 error 0 not run 0 in ", 2)

@@ -6,7 +6,7 @@ from pathlib import Path
 
 import pytest
 
-from pdsuite.scripts.text import Text, Unfit, read_text, text_of
+from pdsuite.scripts.text import Text, UnfitTextError, read_text, text_of
 
 
 @pytest.mark.parametrize(
@@ -50,7 +50,7 @@ LARGER = [
 @pytest.mark.parametrize(("octets", "reason"), LARGER, ids=range(len(LARGER)))
 def test_larger_texts_do_not(octets: bytes, reason: str, tmp_path: Path) -> None:
     (tmp_path / "a.pkt").write_bytes(octets)
-    with pytest.raises(Unfit, match=reason):
+    with pytest.raises(UnfitTextError, match=reason):
         read_text(str(tmp_path / "a.pkt"))
 
 
@@ -63,7 +63,7 @@ def test_only_regular_files_are_read(tmp_path: Path) -> None:
         listening.bind(str(tmp_path / "socket.pkt"))
         reasons = {}
         for path in sorted(tmp_path.iterdir()):
-            with pytest.raises(Unfit) as unfit:
+            with pytest.raises(UnfitTextError) as unfit:
                 read_text(str(path))
             reasons[path.stem] = str(unfit.value)
     assert reasons == {

@@ -6,8 +6,8 @@ import tomllib
 import pytest
 
 from pdsuite.faults import Fault
+from pdsuite.scripts.config import layer_of
 from pdsuite.scripts.expectation import Expectation
-from pdsuite.scripts.suite import layer_of
 from pdsuite.scripts.toml_text import edited
 
 SEQ = Expectation("fail 12 seq", 'the peer\'s "window"')

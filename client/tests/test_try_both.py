@@ -4,8 +4,8 @@ import subprocess
 import sys
 from pathlib import Path
 
+from pdsuite.programs.batch_protocol import Answer, Case, answers_in, input_of
 from pdsuite.programs.protocol import add, name_of, set_key
-from pdsuite.programs.starts import Answer, Case, answers_in, input_of
 from pdsuite.scripts.text import text_of
 from tests.helpers import TOP
 
@@ -31,9 +31,9 @@ def test_each_start_of_both_programs_has_its_own_words_input_and_answer(tmp_path
     done = subprocess.run(words, stdin=subprocess.DEVNULL, capture_output=True, timeout=SECONDS)
     assert (done.returncode, done.stdout, done.stderr) == (0, b"", b"")
     output, errors, status = ((answers / f"a.{end}").read_bytes() for end in ("output", "errors", "status"))
-    recorded, told, refused, other = answers_in(output, errors, status.decode(), len(cases))
+    recorded, reported, refused, other = answers_in(output, errors, status.decode(), len(cases))
     assert recorded == Answer(LISTENS + SYN + SYN_ACK % 1_200, b"")
-    assert told.output.startswith(b"s0 fail 5 options\ntotal 1 pass 0 fail 1 ")
-    assert told.errors.startswith(b"s0:5: fail options: the packet has other options\n")
+    assert reported.output.startswith(b"s0 fail 5 options\ntotal 1 pass 0 fail 1 ")
+    assert reported.errors.startswith(b"s0:5: fail options: the packet has other options\n")
     assert refused.fault == "error: unexpected argument '--no-such-word' found"
     assert other == Answer(LISTENS + SYN + SYN_ACK % 1_460, b"")

@@ -8,17 +8,17 @@ from xml.etree import ElementTree
 
 import pytest
 
-from pdsuite.programs.program import Ended
-from pdsuite.programs.protocol import Unexpected
-from pdsuite.programs.refusals import questions, refused_at_once
-from pdsuite.programs.rows import Row, Verdict
-from pdsuite.programs.starts import Answer, Case, answer_of, answers_in, input_of, parted, parts_in
-from pdsuite.run.runs import Script
-from pdsuite.run.unproved_run import Batch, batches_of, read_answers, told_of
-from pdsuite.scripts.suite import Claim
+from pdsuite.programs.batch_protocol import Answer, Case, answer_of, answers_in, batches_of, input_of, parts_in
+from pdsuite.programs.program import ProgramEndedError
+from pdsuite.programs.protocol import UnexpectedAnswerError
+from pdsuite.programs.refusals import distinct_pairs, refused_at_once
+from pdsuite.programs.verdict import Row, Verdict
+from pdsuite.run.batches import Script
+from pdsuite.run.unproved_run import StartBatch, explained_rows, read_answers, start_batches
+from pdsuite.scripts.config import Claim
 from pdsuite.scripts.text import Text, text_of
 from tests.helpers import TOP, ends, is_alive, wait_for, write
-from tests.trees import Tree
+from tests.tree_fixture import Tree
 
 FIRST = "unproved: building first, then running without proofs; {} proves the programs\n"
 TOTAL = b"total %d pass 0 fail 0 syntax 0 unsupported 0 limit 0 pending 0\n"
@@ -35,35 +35,35 @@ def loaded(*texts: bytes) -> list[tuple[Script, Text | str]]:
     return [(Script(index, f"{index}.pkt", ()), text_of(text)) for index, text in enumerate(texts)]
 
 
-def batch(*texts: bytes) -> Batch:
+def batch(*texts: bytes) -> StartBatch:
     """The one batch of scripts with these texts."""
-    (only,) = batches_of(loaded(*texts))
+    (only,) = start_batches(loaded(*texts))
     return only
 
 
 def test_settings_are_commands_before_the_scripts() -> None:
     script = Script(0, "a.pkt", (("mss", 1000), ("nagle", False), ("initial_window", "rfc6928")))
-    (only,) = batches_of([(script, text_of(b"one\ntwo\n"))])
+    (only,) = start_batches([(script, text_of(b"one\ntwo\n"))])
     assert only.given() == b"set mss 1000\nset nagle false\nset initial_window rfc6928\nadd s0 2\none\ntwo\n"
 
 
 def test_a_script_that_cannot_be_read_is_in_no_batch() -> None:
     scripts: list[tuple[Script, Text | str]] = [(Script(0, "a.pkt", ()), "Is a directory"), *loaded(b"x\n")]
-    assert [[script.path for script, _ in it.scripts] for it in batches_of(scripts)] == [["0.pkt"]]
-    assert batches_of(scripts[:1]) == []
+    assert [[script.path for script, _ in it.scripts] for it in start_batches(scripts)] == [["0.pkt"]]
+    assert start_batches(scripts[:1]) == []
 
 
 def test_scripts_of_which_much_may_be_told_are_in_several_batches() -> None:
     # 4,096 and 61,440 octets are expected of each: eight have just the room of a start.
     long = b"x" * 61_439 + b"\n"
-    assert [len(it.scripts) for it in batches_of(loaded(*[long] * 17))] == [8, 8, 1]
-    assert [len(it.scripts) for it in batches_of(loaded(*[b"x\n"] * 64))] == [64]
+    assert [len(it.scripts) for it in start_batches(loaded(*[long] * 17))] == [8, 8, 1]
+    assert [len(it.scripts) for it in start_batches(loaded(*[b"x\n"] * 64))] == [64]
 
 
 def test_rows_and_what_is_told_come_to_their_scripts() -> None:
     rows = b"s0 pass 3\ns1 fail 2 seq\n" + TOTAL % 2
-    told = b'{"name": "s1", "line": 2, "what": "other octets"}\n'
-    found = told_of(batch(b"one\n", b"one\ntwo\n"), Answer(rows, told))
+    reported = b'{"name": "s1", "line": 2, "what": "other octets"}\n'
+    found = explained_rows(batch(b"one\n", b"one\ntwo\n"), Answer(rows, reported))
     cause = {"name": "s1", "line": 2, "what": "other octets"}
     assert found == {0: (Row(Verdict.PASS, 3), None), 1: (Row(Verdict.FAIL, 2, "seq"), cause)}
 
@@ -71,14 +71,14 @@ def test_rows_and_what_is_told_come_to_their_scripts() -> None:
 def test_what_is_told_of_another_line_or_script_is_of_none() -> None:
     rows = b"s0 fail 2 seq\n" + TOTAL % 1
     for name, line in ((b"s0", 3), (b"s1", 2)):
-        told = b'{"name": "%b", "line": %d}\n' % (name, line)
-        assert told_of(batch(b"one\n"), Answer(rows, told)) == {0: (Row(Verdict.FAIL, 2, "seq"), None)}
+        reported = b'{"name": "%b", "line": %d}\n' % (name, line)
+        assert explained_rows(batch(b"one\n"), Answer(rows, reported)) == {0: (Row(Verdict.FAIL, 2, "seq"), None)}
 
 
 @pytest.mark.parametrize("rows", [b"", b"s0 pass 1\n", b"s0 pending\n" + TOTAL % 1, b"s0 pass 1\n" + TOTAL % 2])
 def test_an_answer_that_is_not_the_report_of_the_batch_is_none(rows: bytes) -> None:
-    with pytest.raises(Unexpected):
-        told_of(batch(b"x\n"), Answer(rows, b""))
+    with pytest.raises(UnexpectedAnswerError):
+        explained_rows(batch(b"x\n"), Answer(rows, b""))
     assert read_answers([batch(b"x\n")], [Answer(rows, b"")])[0] == {}
 
 
@@ -90,11 +90,11 @@ def test_a_batch_without_an_answer_is_kept_with_the_reason() -> None:
 
 def test_each_setting_is_asked_once_and_each_claim_of_a_refused_one_is_told() -> None:
     claims = [Claim(place, "", key, value) for place, key, value in (("a", "mss", 0), ("b", "mss", 0), ("b", "x", 1))]
-    assert questions(claims) == [("mss", "0"), ("x", "1")]
+    assert distinct_pairs(claims) == [("mss", "0"), ("x", "1")]
     answer = b"refused 4 BadValue\n" + TOTAL % 0 + TOTAL % 0 + TOTAL % 0
     lines = [it.line for it in refused_at_once(claims, answer)]
     assert [line.split(": ")[:3] for line in lines] == [["a", "mss", "BadValue"], ["b", "mss", "BadValue"]]
-    with pytest.raises(Ended):
+    with pytest.raises(ProgramEndedError):
         refused_at_once(claims, answer + TOTAL % 0)
 
 
@@ -110,8 +110,8 @@ def test_a_start_that_ends_by_a_fault_has_no_answer() -> None:
 def test_starts_share_a_run_as_far_as_its_room_goes_but_for_those_that_are_to_be_alone() -> None:
     small, large, alone = Case(("a",), b"x"), Case(("b",), b"y", 500_000), Case(("c",), b"z", is_alone=True)
     cases = [small, small, large, alone, small, large, large]
-    assert list(parted(cases)) == [[small, small, large], [alone], [small, large], [large]]
-    assert list(parted([])) == []
+    assert list(batches_of(cases)) == [[small, small, large], [alone], [small, large], [large]]
+    assert list(batches_of([])) == []
 
 
 def test_a_run_gets_the_words_and_inputs_of_its_starts_and_answers_each() -> None:
@@ -213,8 +213,8 @@ def test_a_sender_that_does_not_compile_is_told_with_the_places_of_its_errors(tr
 def test_without_the_kit_there_is_a_line_that_says_so(tree: Tree) -> None:
     write(tree.suite, a=b"row pass 9\n")
     called = tree.call("run", "suite", PATH="/usr/bin:/bin")
-    said = "pdsuite: unproved: NoKit: the Rattle kit's command 'rt' has to be on the PATH"
-    assert (called.status, called.err.splitlines()[-1]) == (2, said)
+    message = "pdsuite: unproved: NoKit: the Rattle kit's command 'rt' has to be on the PATH"
+    assert (called.status, called.err.splitlines()[-1]) == (2, message)
 
 
 def test_scripts_of_a_start_that_ends_early_are_run_once_more_one_by_one(tree: Tree) -> None:

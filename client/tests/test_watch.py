@@ -15,7 +15,7 @@ import pytest
 
 from tests.helpers import FAILS, HANGS, PASSES, TOP, Call, is_alive, wait_for, write
 from tests.test_random_changes import act
-from tests.watching import Watching
+from tests.watch_process import Watching
 
 ROW = "a.pkt:1: fail result\n"
 BLOCK = f"""\
@@ -30,8 +30,8 @@ AWAITS_NONE = "passes, but awaits no packet"
 def total(warnings: int = 0, **counts: int) -> str:
     """The line of totals, up to its time."""
     each = {"pass": 0, "fail": 0, "syntax": 0, "unsupported": 0, "limit": 0, "error": 0, "not run": 0, **counts}
-    said = [f"{verdict} {count}" for verdict, count in each.items()] + [f"warnings {warnings}"] * bool(warnings)
-    return f"total {sum(counts.values())} {' '.join(said)} in "
+    message = [f"{verdict} {count}" for verdict, count in each.items()] + [f"warnings {warnings}"] * bool(warnings)
+    return f"total {sum(counts.values())} {' '.join(message)} in "
 
 
 def without_times(out: str) -> list[str]:
@@ -87,9 +87,9 @@ def test_what_does_not_pass_comes_first_then_what_passes_and_what_went(programs:
         lines = without_times(watching.out)
     first = lines.index(total(2, **{"pass": 2, "fail": 1}))
     news = lines[first + 1 :]
-    told = news.index("b.pkt:1: syntax: expected an option of the header, a command, a time or the end of the text")
-    assert news[told + 1] == "  ?"
-    rows = [it for it in heads([*news[:told], *news[told + 1 :]]) if not it.startswith("total ")]
+    reported = news.index("b.pkt:1: syntax: expected an option of the header, a command, a time or the end of the text")
+    assert news[reported + 1] == "  ?"
+    rows = [it for it in heads([*news[:reported], *news[reported + 1 :]]) if not it.startswith("total ")]
     assert rows == ["b.pkt:1: syntax", "a.pkt: pass 1", f"a.pkt: {AWAITS_NONE}", "c.pkt: gone"]
 
 
@@ -209,24 +209,24 @@ def test_more_acts_than_a_history_holds(programs: Path, tmp_path: Path) -> None:
             done = "s0000.pkt:1: fail result\n" if number % 2 else "s0000.pkt: pass 1\n"
             watching.await_out(done, number // 2 + 1)
         watching.await_truth(".")
-        said = re.fullmatch("pdsuite: pdregress: (.*); a new run begins with 1,000 scripts\n", watching.err)
-        assert said is not None and said[1] in ("refused 11 HistoryFull", "11 HistoryFull", "12 NoWorkers")
+        message = re.fullmatch("pdsuite: pdregress: (.*); a new run begins with 1,000 scripts\n", watching.err)
+        assert message is not None and message[1] in ("refused 11 HistoryFull", "11 HistoryFull", "12 NoWorkers")
 
 
 def test_a_program_that_is_killed_is_begun_again_with_all_files(programs: Path, tmp_path: Path) -> None:
     write(tmp_path, a=PASSES, b=FAILS)
-    said = "pdsuite: pdregress was ended by SIGKILL; a new run begins with 2 scripts\n"
+    message = "pdsuite: pdregress was ended by SIGKILL; a new run begins with 2 scripts\n"
     with Watching(tmp_path, programs, ".") as watching:
         (first,) = watching.programs()
         os.kill(first, signal.SIGKILL)
-        watching.await_err(said)
+        watching.await_err(message)
         write(tmp_path, b=PASSES)
         watching.await_out("b.pkt: pass 1\n")
         (second,) = watching.programs()
         os.kill(second, signal.SIGKILL)
         write(tmp_path, a=FAILS)
         watching.await_truth(".")
-        assert second != first and watching.err == said * 2
+        assert second != first and watching.err == message * 2
         assert [it for it in heads(watching.out.splitlines()) if it.startswith("b.pkt")] == [
             BLOCK.splitlines()[0].replace("a.pkt", "b.pkt"),
             "b.pkt: pass 1",
@@ -262,8 +262,8 @@ def test_settings_change_for_folders_and_single_scripts(programs: Path, tmp_path
         watching.await_truth(".")
         assert len(watching.programs()) == 2
         toml.write_text("min_rto_us = 200000\nmss = 10\n")
-        said = "pdsuite.toml:2: mss: BadValue: it takes 64 to 65,495 octets; its last good settings stay\n"
-        watching.await_err(said)
+        message = "pdsuite.toml:2: mss: BadValue: it takes 64 to 65,495 octets; its last good settings stay\n"
+        watching.await_err(message)
         toml.unlink()
         watching.await_truth(".")
         watching.await_out("one.pkt:10: fail missing\n")
@@ -297,27 +297,27 @@ def test_links_are_watched_and_only_what_fits_is_meant(programs: Path, tmp_path:
 
 @pytest.mark.parametrize("others", [2, 0])
 def test_a_script_on_which_the_program_ends_is_an_error_that_the_next_save_mends(
-    others: int, stand_in: Path, tmp_path: Path
+    others: int, fake_program: Path, tmp_path: Path
 ) -> None:
     write(tmp_path / "suite", b=PASSES, **dict.fromkeys("ac"[:others], PASSES))
     write(tmp_path / "far", far=PASSES)
     (tmp_path / "far/pdsuite.toml").write_text("mss = 99\n")
-    with Watching(tmp_path, stand_in, ".") as watching:
+    with Watching(tmp_path, fake_program, ".") as watching:
         write(tmp_path / "suite", b=b"crash\n")
         watching.await_out("b.pkt: error: pdregress was ended by SIGSEGV\n")
         watching.await_out(total(**{"pass": others + 1, "error": 1}))
         begun = "3 scripts" if others else "suite/b.pkt"
-        said = f"pdsuite: pdregress was ended by SIGSEGV; a new run begins with {begun}\n"
-        assert watching.err == said
+        message = f"pdsuite: pdregress was ended by SIGSEGV; a new run begins with {begun}\n"
+        assert watching.err == message
         write(tmp_path / "far", far=b"row fail 1 seq\n")
         watching.await_out("far.pkt:1: fail seq\n")
         write(tmp_path / "suite", b=PASSES)
         watching.await_out("b.pkt: pass 1\n")
-        assert watching.err == said
+        assert watching.err == message
 
 
-def test_where_no_program_starts_all_are_errors_until_one_does(stand_in: Path, tmp_path: Path) -> None:
-    shutil.copytree(stand_in, tmp_path / "bin")
+def test_where_no_program_starts_all_are_errors_until_one_does(fake_program: Path, tmp_path: Path) -> None:
+    shutil.copytree(fake_program, tmp_path / "bin")
     write(tmp_path / "suite", a=PASSES, b=PASSES)
     with Watching(tmp_path, tmp_path / "bin", "suite") as watching:
         (tmp_path / "bin/dead").touch()
@@ -328,10 +328,12 @@ def test_where_no_program_starts_all_are_errors_until_one_does(stand_in: Path, t
         watching.await_out("suite/a.pkt: pass 1\nsuite/b.pkt: pass 1\n")
 
 
-def test_a_terminal_has_a_last_line_that_tells_what_passes_and_what_is_running(stand_in: Path, tmp_path: Path) -> None:
+def test_a_terminal_has_a_last_line_that_tells_what_passes_and_what_is_running(
+    fake_program: Path, tmp_path: Path
+) -> None:
     write(tmp_path, a=PASSES, b=PASSES)
     near, far = pty.openpty()
-    environment = {**os.environ, "PDSUITE_PROGRAMS": str(stand_in), "TERM": "xterm-256color"}
+    environment = {**os.environ, "PDSUITE_PROGRAMS": str(fake_program), "TERM": "xterm-256color"}
     process = subprocess.Popen([TOP / "pdsuite", "watch", "."], cwd=tmp_path, env=environment, stdout=far, stderr=far)
     os.close(far)
     shown = b""
@@ -359,9 +361,9 @@ def test_a_terminal_has_a_last_line_that_tells_what_passes_and_what_is_running(s
     assert process.wait(60) == 1
 
 
-def test_a_signal_before_the_first_report_ends_it_with_its_own_status(stand_in: Path, tmp_path: Path) -> None:
+def test_a_signal_before_the_first_report_ends_it_with_its_own_status(fake_program: Path, tmp_path: Path) -> None:
     write(tmp_path, a=b"stall mark\n")
-    watching = Watching(tmp_path, stand_in, ".")
+    watching = Watching(tmp_path, fake_program, ".")
     wait_for(tmp_path / "mark")
     ended = watching.ends(signal.SIGTERM)
     assert (ended.status, ended.out, ended.err) == (143, "", "")
@@ -379,8 +381,8 @@ def test_a_folder_without_scripts_is_watched_for_the_first(programs: Path, tmp_p
 def test_standard_input_is_not_watched() -> None:
     words = [str(TOP / "pdsuite"), "watch", "-"]
     called = subprocess.run(words, stdin=subprocess.DEVNULL, capture_output=True, timeout=30)
-    said = b"pdsuite: -: standard input is read once, and nothing of it is watched\n"
-    assert (called.returncode, called.stdout, called.stderr) == (2, b"", said)
+    message = b"pdsuite: -: standard input is read once, and nothing of it is watched\n"
+    assert (called.returncode, called.stdout, called.stderr) == (2, b"", message)
 
 
 def test_settings_on_the_line_that_are_refused_end_it(programs: Path, tmp_path: Path, call: Call) -> None:

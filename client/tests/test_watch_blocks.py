@@ -1,4 +1,4 @@
-"""What `pdsuite watch` tells below the rows that don't pass."""
+"""What `pdsuite watch` prints below the rows that don't pass."""
 
 import os
 import signal
@@ -8,7 +8,7 @@ from pathlib import Path
 import pytest
 
 from tests.helpers import PASSES, Call, is_alive, wait_for, wrapped, write
-from tests.watching import Watching
+from tests.watch_process import Watching
 
 BLOCK = b"script packet: x\nactual packet: y\n"
 BELOW = ["  script packet: x", "  actual packet: y"]
@@ -21,21 +21,21 @@ def without_totals(out: str) -> list[str]:
 
 
 @pytest.fixture
-def counting(stand_in: Path, tmp_path: Path) -> Path:
-    """A folder with a stand-in that notes in `calls` by which words it is started."""
+def counting(fake_program: Path, tmp_path: Path) -> Path:
+    """A folder with a fake program that notes in `calls` by which words it is started."""
     noted = 'printf "%s\\n" "$*" >>calls'
-    return wrapped(tmp_path / "programs", stand_in, runs=noted, explains=noted)
+    return wrapped(tmp_path / "programs", fake_program, runs=noted, explains=noted)
 
 
-def test_the_first_report_is_that_of_a_run(stand_in: Path, tmp_path: Path, call: Call) -> None:
+def test_the_first_report_is_that_of_a_run(fake_program: Path, tmp_path: Path, call: Call) -> None:
     write(tmp_path, a=FAILS, b=PASSES, c=b"row limit 1\nrule: why\n")
-    with Watching(tmp_path, stand_in, ".") as watching:
-        assert without_totals(watching.out) == without_totals(call(stand_in, "run", ".").out)
+    with Watching(tmp_path, fake_program, ".") as watching:
+        assert without_totals(watching.out) == without_totals(call(fake_program, "run", ".").out)
 
 
-def test_rows_come_first_then_their_blocks_and_then_the_totals(stand_in: Path, tmp_path: Path) -> None:
+def test_rows_come_first_then_their_blocks_and_then_the_totals(fake_program: Path, tmp_path: Path) -> None:
     write(tmp_path, a=PASSES, b=FAILS, c=PASSES)
-    with Watching(tmp_path, stand_in, ".") as watching:
+    with Watching(tmp_path, fake_program, ".") as watching:
         (tmp_path / "pdsuite.toml").write_text("root = true\n")
         os.kill(watching.process, signal.SIGSTOP)
         write(tmp_path, a=FAILS, b=PASSES, c=b"row limit 1\nrule: why\n")
@@ -57,21 +57,23 @@ def test_a_save_starts_no_program(counting: Path, tmp_path: Path) -> None:
     (tmp_path / "suite/in/pdsuite.toml").write_text("mss = 1000\n")
     calls = tmp_path / "calls"
     with Watching(tmp_path, counting, "suite") as watching:
-        asked, *runs = [it for it in calls.read_text().splitlines() if it]
+        requested, *runs = [it for it in calls.read_text().splitlines() if it]
         begin = "--explain --leftovers --json --cache 1024"
-        assert [asked, *runs] == [begin, f"{begin} --settings mss = 1000"]
+        assert [requested, *runs] == [begin, f"{begin} --settings mss = 1000"]
         write(tmp_path / "suite", b=b"row pass 1\nends 1 packet stands untaken at its end\n", a=PASSES)
         watching.await_out("b.pkt: passes, but 1 packet stands untaken at its end\n")
         watching.await_out("total ", 2)
         write(tmp_path / "suite/in", d=b"row fail 2 ack\n" + BLOCK)
         watching.await_out("d.pkt:2: fail ack: so it is\n")
         watching.await_out("total ", 3)
-        assert [it for it in calls.read_text().splitlines() if it] == [asked, *runs]
+        assert [it for it in calls.read_text().splitlines() if it] == [requested, *runs]
 
 
-def test_another_block_of_the_same_row_is_shown_alone_and_an_equal_one_is_not(stand_in: Path, tmp_path: Path) -> None:
+def test_another_block_of_the_same_row_is_shown_alone_and_an_equal_one_is_not(
+    fake_program: Path, tmp_path: Path
+) -> None:
     write(tmp_path / "suite", a=b"row fail 3 seq\n" + BLOCK)
-    with Watching(tmp_path, stand_in, "suite") as watching:
+    with Watching(tmp_path, fake_program, "suite") as watching:
         write(tmp_path / "suite", a=b"row fail 3 seq\n" + BLOCK.replace(b"x", b"z"))
         watching.await_out("total ", 2)
         write(tmp_path / "suite", a=b"row  fail 3 seq\n" + BLOCK.replace(b"x", b"z"))
@@ -84,9 +86,9 @@ def test_another_block_of_the_same_row_is_shown_alone_and_an_equal_one_is_not(st
     ]
 
 
-def test_a_signal_ends_what_tells_of_a_script(stand_in: Path, tmp_path: Path) -> None:
+def test_a_signal_ends_what_tells_of_a_script(fake_program: Path, tmp_path: Path) -> None:
     write(tmp_path, a=PASSES)
-    with Watching(tmp_path, stand_in, ".") as watching:
+    with Watching(tmp_path, fake_program, ".") as watching:
         write(tmp_path, a=b"row fail 1 seq\nstall\n")
         wait_for(tmp_path / "mark")
         ended = watching.ends(signal.SIGTERM)
@@ -94,9 +96,9 @@ def test_a_signal_ends_what_tells_of_a_script(stand_in: Path, tmp_path: Path) ->
     assert not is_alive(int((tmp_path / "mark").read_text()))
 
 
-def test_a_row_that_stays_is_not_shown_without_its_block(stand_in: Path, tmp_path: Path) -> None:
+def test_a_row_that_stays_is_not_shown_without_its_block(fake_program: Path, tmp_path: Path) -> None:
     write(tmp_path, a=b"row fail 1 seq\nreason: why\n")
-    with Watching(tmp_path, stand_in, ".") as watching:
+    with Watching(tmp_path, fake_program, ".") as watching:
         write(tmp_path, a=b"row fail 1 seq\nstall\n")
         wait_for(tmp_path / "mark")
         ended = watching.ends(signal.SIGTERM)
@@ -104,9 +106,9 @@ def test_a_row_that_stays_is_not_shown_without_its_block(stand_in: Path, tmp_pat
     assert (ended.status, ended.err) == (1, "")
 
 
-def test_where_it_ends_the_script_s_line_stands_below_until_the_next_save(stand_in: Path, tmp_path: Path) -> None:
+def test_where_it_ends_the_script_s_line_stands_below_until_the_next_save(fake_program: Path, tmp_path: Path) -> None:
     write(tmp_path, a=PASSES)
-    with Watching(tmp_path, stand_in, ".") as watching:
+    with Watching(tmp_path, fake_program, ".") as watching:
         write(tmp_path, a=b"row fail 1 seq\ncrash\n")
         watching.await_out("total ", 2)
         write(tmp_path, a=b"row fail 1 seq\nreason: why\n")
@@ -119,10 +121,10 @@ def test_where_it_ends_the_script_s_line_stands_below_until_the_next_save(stand_
     assert watching.err == ended.format("a new run begins with") + ended.format("nothing is told of")
 
 
-def test_a_setting_that_the_client_does_not_know_comes_changes_and_goes(stand_in: Path, tmp_path: Path) -> None:
+def test_a_setting_that_the_client_does_not_know_comes_changes_and_goes(fake_program: Path, tmp_path: Path) -> None:
     write(tmp_path, a=b"told later\n", b=b"told later\n")
     toml = tmp_path / "pdsuite.toml"
-    with Watching(tmp_path, stand_in, "-v", ".") as watching:
+    with Watching(tmp_path, fake_program, "-v", ".") as watching:
         (first,) = watching.programs()
         for value in (7, 8):
             toml.write_text(f"later = {value}\n")

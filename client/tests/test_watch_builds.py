@@ -10,11 +10,11 @@ import pytest
 
 from pdsuite.scripts.text import text_of
 from pdsuite.signals import Stop
-from pdsuite.watch.run_changes import WantedScript
-from pdsuite.watch.turned import Base, Shown
+from pdsuite.watch.plan_changes import WantedScript
+from pdsuite.watch.turned_scripts import BaseSender, ShownScripts
 from tests.helpers import HANGS, PASSES, Replay, is_alive, write
-from tests.trees import Tree, put_program, stand_in
-from tests.watching import Watching
+from tests.tree_fixture import Tree, fake_octets, put_program
+from tests.watch_process import Watching
 
 LEFT = "the sender has changed: all rows above are of the sender before\n"
 BUILT = "the sender is built without proofs: all scripts ran again\n"
@@ -30,7 +30,7 @@ RECORDED = b"sender\n+0 rule() = RULE\n//= at 0.000001 ESTABLISHED\n"
 def tree(tmp_path: Path) -> Tree:
     """A tree in which nothing is proved, with two scripts: the row of `a` depends on the sender."""
     made = Tree(tmp_path)
-    made.build_stand_ins()
+    made.build_fake_programs()
     put_rule(made, "pass 1")
     write(made.suite, a=SENDER, b=PASSES)
     return made
@@ -39,7 +39,7 @@ def tree(tmp_path: Path) -> Tree:
 def tree_of_one_script(folder: Path) -> Tree:
     """A tree in which nothing is proved, with a script whose row depends on the sender."""
     made = Tree(folder)
-    made.build_stand_ins()
+    made.build_fake_programs()
     put_rule(made, "pass 1")
     write(made.suite, a=SENDER)
     (made.suite / "pdsuite.toml").write_text("root = true\n")
@@ -141,7 +141,7 @@ def test_a_sender_that_is_taken_back_stands_again(tree: Tree) -> None:
 
 def test_a_proof_takes_over_and_its_label_goes(tree: Tree) -> None:
     with watched(tree) as watching:
-        tree.prove(pdregress=stand_in("pass 1"))
+        tree.prove(pdregress=fake_octets("pass 1"))
         watching.await_out(PROVED)
         watching.await_out("total ", 2)
         assert not watching.out.endswith("UNPROVED\n")
@@ -168,7 +168,7 @@ def test_the_page_tells_of_a_refused_proof_until_its_source_changes(tree: Tree) 
 def test_turned_scripts_are_told_against_a_base(tree: Tree) -> None:
     base = tree.suite.parent / "base"
     base.mkdir()
-    for name, octets in (("pdregress", stand_in("pass 7")), ("pdrecord", (tree.bin / "pdrecord").read_bytes())):
+    for name, octets in (("pdregress", fake_octets("pass 7")), ("pdrecord", (tree.bin / "pdrecord").read_bytes())):
         (base / name).write_bytes(octets)
         (base / name).chmod(0o755)
     with watched(tree, "--base", str(base)) as watching:
@@ -181,12 +181,12 @@ def test_turned_scripts_are_told_against_a_base(tree: Tree) -> None:
 
 def test_a_base_runs_anew_what_was_edited_since(tmp_path: Path) -> None:
     program = tmp_path / "pdregress"
-    put_program(program, stand_in("pass 7"))
+    put_program(program, fake_octets("pass 7"))
     rows = []
     with Stop(()) as stop:
-        base = Base((program, None), 1, stop, print)
+        base = BaseSender((program, None), 1, stop, print)
         for text in (SENDER, b"row fail 1 seq\n"):
-            now = Shown({}, {"a.pkt": WantedScript((), text_of(text))})
+            now = ShownScripts({}, {"a.pkt": WantedScript((), text_of(text))})
             rows += [str(it.row.whole) for it in base.outcomes(now, now).values()]
     assert rows == ["pass 7", "fail 1 seq"]
 
@@ -228,11 +228,11 @@ def test_the_page_says_why_the_sender_is_not_built_and_how_it_turned_scripts(tre
         await_page(page, "the sender isn't built:", f"{tree.top / SOURCE}:1:4: error[mismatch]: wrong\n")
         put_rule(tree, "fail 1 seq")
         watching.await_out("a.pkt:1: fail seq\n")
-        told = ["1 script that the sender turned", "before: pass 1\n", "after: line 1: fail seq: so it is\n"]
-        told += ["the first event that differs:\n  before: +0 rule() = pass 1", "  after:  +0 rule() = fail 1 seq"]
-        await_page(page, *told, without="isn't built")
+        reported = ["1 script that the sender turned", "before: pass 1\n", "after: line 1: fail seq: so it is\n"]
+        reported += ["the first event that differs:\n  before: +0 rule() = pass 1", "  after:  +0 rule() = fail 1 seq"]
+        await_page(page, *reported, without="isn't built")
         write(tree.suite, b=b"row fail 1 ack\n")
-        await_page(page, "ack", *told)
+        await_page(page, "ack", *reported)
         write(tree.suite, a=PASSES)
         await_page(page, without="the sender turned")
         assert watching.err.count("\n") == 1

@@ -9,9 +9,9 @@ from pathlib import Path
 
 import pytest
 
-from pdsuite.scripts.search import ScriptFile
-from pdsuite.scripts.text import Text, text_of
 from pdsuite.file_stamps import StampedValue
+from pdsuite.scripts.discover import ScriptFile
+from pdsuite.scripts.text import Text, text_of
 from pdsuite.watch.watched_files import GRACE, Update, WatchedFile, WatchedFiles, is_other, update_of, watched_file
 from pdsuite.watch.watched_files import watched_files
 

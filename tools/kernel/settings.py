@@ -11,7 +11,7 @@ from typing import Any
 from kernel.script import Event
 from pdsuite.faults import Fault
 from pdsuite.packetdrill.items import Packet
-from pdsuite.scripts.suite import OPTION, Claim, old_names
+from pdsuite.scripts.config import OPTION, Claim, old_names
 from pdsuite.scripts.toml_places import TomlPlaces, places_in
 
 NO_MSS = 536

@@ -6,14 +6,14 @@ from collections.abc import Iterable, Sequence
 from pathlib import Path
 
 from pdsuite.faults import Fault
-from pdsuite.reports.differences import Difference, Kind, differences
+from pdsuite.output.octets import shown_path
+from pdsuite.output.screen import Screen
+from pdsuite.output.styled_text import StyledText, unstyled
 from pdsuite.reports.report_cache import newest
+from pdsuite.reports.row_changes import RowChange, RowChangeKind, row_changes
 from pdsuite.reports.saved_reports import SavedReport, read_report
-from pdsuite.show.octets import shown_path
-from pdsuite.show.screen import Screen
-from pdsuite.show.styled_text import StyledText, unstyled
 
-_STYLES = {Kind.AGAIN: "green", Kind.NEW: "", Kind.GONE: "dim", Kind.NOT_RUN: "dim"}
+_STYLES = {RowChangeKind.AGAIN: "green", RowChangeKind.NEW: "", RowChangeKind.GONE: "dim", RowChangeKind.NOT_RUN: "dim"}
 _WORSE = "bold red"
 
 
@@ -25,7 +25,7 @@ def diff(old: Path, new: Sequence[Path], screen: Screen) -> int:
     else:
         before, now = _beside_the_last(before)
     _refuse(before, now)
-    turned = differences(before.rows, now.rows)
+    turned = row_changes(before.rows, now.rows)
     same = len({**before.rows, **now.rows}) - len(turned)
     screen.show(_text(turned, same))
     return 1 if any(it.is_worse for it in turned) else 0
@@ -54,24 +54,24 @@ def _refuse(before: SavedReport, now: SavedReport) -> None:
         raise Fault(f"{before.place} and {now.place} have no script in common: paths count as they stand there")
 
 
-def _text(turned: Iterable[Difference], same: int) -> StyledText:
+def _text(turned: Iterable[RowChange], same: int) -> StyledText:
     text = StyledText()
-    counts: Counter[Kind] = Counter()
+    counts: Counter[RowChangeKind] = Counter()
     for it in turned:
         counts[it.kind] += 1
         text.append_text(_line(it))
-    each = " ".join(f"{kind} {counts[kind]}" for kind in Kind)
+    each = " ".join(f"{kind} {counts[kind]}" for kind in RowChangeKind)
     return text.append(f"total {counts.total() + same} {each} as before {same}\n")
 
 
-def _line(it: Difference) -> StyledText:
+def _line(it: RowChange) -> StyledText:
     """The line of a script: how it turned, its row, and the one that it had before."""
     row = None if it.now is None else it.now.row
     place = it.path if row is None or row.line is None else f"{it.path}:{row.line}"
     style = _WORSE if it.is_worse else _STYLES.get(it.kind, "")
     line = unstyled(f"{place}: ").append(it.kind, style)
-    if row is not None and it.kind is not Kind.NOT_RUN:
+    if row is not None and it.kind is not RowChangeKind.NOT_RUN:
         line.append(f": {'known: ' if it.now is not None and it.now.is_known else ''}{row}")
-    if it.before is not None and it.kind is not Kind.NEW:
+    if it.before is not None and it.kind is not RowChangeKind.NEW:
         line.append(f", was {it.before.row.whole}")
     return line.append("\n")

@@ -8,18 +8,18 @@ from pathlib import Path
 from pdsuite.faults import Fault, FileFault
 from pdsuite.files import new_folder, write_folder
 from pdsuite.imports.as_json import as_json
-from pdsuite.imports.conversion import Imported, Left, Source, convert
+from pdsuite.imports.conversion import ImportSource, Imported, NotImported, convert
 from pdsuite.imports.findings import Reason
 from pdsuite.imports.listing import Listed, lines_of, status, summary
 from pdsuite.imports.tables import is_key, tables_of
-from pdsuite.scripts.search import SUFFIX, ScriptFile, find
+from pdsuite.output.octets import shown_path
+from pdsuite.output.screen import Screen
+from pdsuite.output.styled_text import unstyled
+from pdsuite.scripts.config import SuiteConfig, old_names, option_of
+from pdsuite.scripts.discover import SUFFIX, ScriptFile, find
 from pdsuite.scripts.settings import set_words
-from pdsuite.scripts.suite import Suite, old_names, option_of
-from pdsuite.scripts.text import LONGEST_FILE, Unfit, read_file, text_of
+from pdsuite.scripts.text import LONGEST_FILE, UnfitTextError, read_file, text_of
 from pdsuite.scripts.unused_tables import unused_in
-from pdsuite.show.octets import shown_path
-from pdsuite.show.screen import Screen
-from pdsuite.show.styled_text import unstyled
 from pdsuite.signals import Stop
 
 _NO_WORD = "?"
@@ -35,7 +35,7 @@ def import_scripts(source: Path, target: Path, keep_packets: bool, is_json: bool
         place = new_folder(target)
         if place.is_relative_to(os.path.realpath(source)):
             raise Fault(f"{shown_path(target)}: lies in the folder that is imported")
-        suite = Suite(option_of(""))
+        suite = SuiteConfig(option_of(""))
         found = find([source], (), stop)
         if not found:
             raise Fault("no script found")
@@ -53,27 +53,27 @@ def _text_of(scripts: Sequence[Listed]) -> str:
     return "".join(f"{line}\n" for line in [*lines, *summary(scripts)])
 
 
-def _imported(found: Sequence[ScriptFile], suite: Suite, keep_packets: bool, stop: Stop) -> Iterator[Listed]:
+def _imported(found: Sequence[ScriptFile], suite: SuiteConfig, keep_packets: bool, stop: Stop) -> Iterator[Listed]:
     for it in found:
         stop.check()
         yield Listed(it.path, it.fault or _import(it, suite, keep_packets))
 
 
-def _import(found: ScriptFile, suite: Suite, keep_packets: bool) -> Imported | Left | str:
+def _import(found: ScriptFile, suite: SuiteConfig, keep_packets: bool) -> Imported | NotImported | str:
     """What comes of a script; or why it can't be read."""
     try:
         octets = read_file(found.path, LONGEST_FILE + 1)
-    except Unfit as unfit:
+    except UnfitTextError as unfit:
         return str(unfit)
-    own = dict(suite.settings(found)) if suite.is_told(found) else None
+    own = dict(suite.settings(found)) if suite.has_file(found) else None
     try:
         text_of(octets)
-    except Unfit as unfit:
-        return Left((Reason(1, str(unfit)),))
-    source = Source(_text(octets), own, lambda path: _load(found.path, path))
+    except UnfitTextError as unfit:
+        return NotImported((Reason(1, str(unfit)),))
+    source = ImportSource(_text(octets), own, lambda path: _load(found.path, path))
     came = convert(source, keep_packets)
     if isinstance(came, Imported) and came.settings and not is_key(os.path.basename(found.path)):
-        return Left((Reason(1, "a name that isn't UTF-8, which no pdsuite.toml can have"),))
+        return NotImported((Reason(1, "a name that isn't UTF-8, which no pdsuite.toml can have"),))
     return came
 
 
@@ -87,7 +87,7 @@ def _text(octets: bytes) -> str:
     return octets.decode("utf-8", "surrogateescape")
 
 
-def _refuse(suite: Suite, source: Path) -> None:
+def _refuse(suite: SuiteConfig, source: Path) -> None:
     """Refuses settings of a pdsuite.toml that no run could be given, or no script has."""
     for line in [*unused_in(suite, [source]), *old_names(suite.claims())]:
         raise FileFault(line)

@@ -4,16 +4,16 @@ from collections.abc import Sequence
 from pathlib import Path
 
 
+from pdsuite.output.octets import shown_path, shown_text
+from pdsuite.output.screen import Screen, print_error
+from pdsuite.output.styled_text import unstyled
 from pdsuite.reports.last_run import failed_last
-from pdsuite.run.choice import Part, found_of, scripts_of
-from pdsuite.run.runs import Script
+from pdsuite.run.batches import Script
+from pdsuite.run.collect import Selection, found_of, scripts_of
+from pdsuite.scripts.config import SuiteConfig, old_names, option_of
 from pdsuite.scripts.settings import Settings, shown_value
 from pdsuite.scripts.shards import Shard
-from pdsuite.scripts.suite import Suite, old_names, option_of
 from pdsuite.scripts.unused_tables import unused_in
-from pdsuite.show.octets import shown_path, shown_text
-from pdsuite.show.screen import Screen, say
-from pdsuite.show.styled_text import unstyled
 from pdsuite.signals import Stop
 
 
@@ -27,12 +27,12 @@ def list_scripts(
 ) -> int:
     """Lists the scripts, and answers the exit status."""
     with Stop() as stop:
-        part = Part(shard, failed_last(paths) if last_failed else None)
-        suite = Suite(option_of(settings))
+        part = Selection(shard, failed_last(paths) if last_failed else None)
+        suite = SuiteConfig(option_of(settings))
         scripts = scripts_of(found_of(paths, only, suite, stop, part), suite)
         if lines := [*unused_in(suite, paths), *old_names(suite.claims())]:
             for line in lines:
-                say(line)
+                print_error(line)
             return 2
         if not scripts:
             screen.note(f"pdsuite: {part.nothing()}")

@@ -7,6 +7,6 @@ def lsp(settings: str) -> int:
     """Serves a client until it ends the server, and answers the exit status."""
     need("pylsp_jsonrpc")
     # Only who has it serve pays for what reads messages.
-    from pdsuite.lsp.serving import serve
+    from pdsuite.lsp.main_loop import serve
 
     return serve(settings)

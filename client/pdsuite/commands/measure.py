@@ -7,24 +7,24 @@ from pathlib import Path
 from tempfile import TemporaryDirectory
 
 from pdsuite.compare.built_senders import with_programs
-from pdsuite.compare.senders import last_proved, sender_of, standing
-from pdsuite.compare.sides import Side, SettingsRefused, refuse_common, side_of, tell_lacks
+from pdsuite.compare.senders import current_sender, last_proved, sender_of
+from pdsuite.compare.sides import Side, SideSettingsError, refuse_common, report_lacks, side_of
 from pdsuite.faults import Fault
-from pdsuite.measure.measuring import Measured, Measuring, cases_of, program_of
-from pdsuite.measure.page import Page
+from pdsuite.measure.measurement import MeasureResult, Measurement, cases_of, program_of
+from pdsuite.measure.page import MeasurePage
 from pdsuite.measure.paths import paths_of
 from pdsuite.measure.report import MeasureReport, as_json, plain, totals_of
-from pdsuite.measure.saving import Kept
 from pdsuite.measure.statistics import tables_of
-from pdsuite.programs.places import REGRESS
+from pdsuite.measure.transfer_folder import TransferFolder
+from pdsuite.output.fitting import columns_of
+from pdsuite.output.screen import Screen, print_error
+from pdsuite.programs.locate import REGRESS
+from pdsuite.programs.lookup import SenderGuard
 from pdsuite.programs.program import Program
 from pdsuite.programs.refusals import refused_of
-from pdsuite.programs.standing import Steady
+from pdsuite.scripts.config import BASE_OPTION, WITH_OPTION, Claim, Layer, claims_of, option_of
 from pdsuite.scripts.settings import Settings, settings_of
-from pdsuite.scripts.suite import BASE_OPTION, WITH_OPTION, Claim, Layer, claims_of, option_of
-from pdsuite.show.fitting import columns_of
-from pdsuite.show.screen import Screen, say
-from pdsuite.signals import Stop, Stopped
+from pdsuite.signals import Stop, StoppedError
 
 _FAULT = 2
 _AGAIN = "measure again"
@@ -32,7 +32,7 @@ _AGAIN = "measure again"
 
 @dataclass(frozen=True)
 class MeasureOptions:
-    """What a call asks for: which senders, over which paths, how often, and how it is reported."""
+    """What a call requests: which senders, over which paths, how often, and how it is reported."""
 
     settings: str
     base_settings: str
@@ -56,11 +56,11 @@ def measure(options: MeasureOptions, screen: Screen) -> int:
         with Stop() as stop, TemporaryDirectory(prefix="pdsuite-") as room:
             named = _sides(options, Path(room))
             screen.note(f"pdsuite: before: {named[0].sender}; after: {named[1].sender}")
-            steady = Steady(*(it.sender.look for it in named))
+            steady = SenderGuard(*(it.sender.look for it in named))
             sides = _with_programs(named, option_of(options.settings), stop, screen)
             common = settings_of(option_of(options.settings).keys)
-            keeping = _Keeping(options, sides, common)
-            measuring = Measuring(cases, sides, common, options.seed)
+            keeping = _MeasureOutputs(options, sides, common)
+            measuring = Measurement(cases, sides, common, options.seed)
             measured = measuring.run(stop, lambda done, count: screen.advance(done, count, "transfers"))
             screen.clear()
             steady.need_same(_AGAIN)
@@ -73,19 +73,19 @@ def measure(options: MeasureOptions, screen: Screen) -> int:
                     keeping.write(report, unheeded)
                 return measured.status
             keeping.write(report, stop)
-            return _FAULT if any(it.unplayed for it in measured.cases) else 0
-    except SettingsRefused as refused:
+            return _FAULT if any(it.unfinished for it in measured.cases) else 0
+    except SideSettingsError as refused:
         for line in refused.lines:
-            say(line)
+            print_error(line)
         return _FAULT
-    except Stopped as stopped:
+    except StoppedError as stopped:
         return stopped.status
 
 
 def _sides(options: MeasureOptions, room: Path) -> tuple[Side, Side]:
     """The sender before the change, and the one after it; what is checked out goes into a folder."""
     before = last_proved() if options.base is None else sender_of(options.base, "--base", room / "before")
-    after = standing() if options.other is None else sender_of(options.other, "--with", room / "after")
+    after = current_sender() if options.other is None else sender_of(options.other, "--with", room / "after")
     return side_of(before, options.base_settings, BASE_OPTION), side_of(after, options.with_settings, WITH_OPTION)
 
 
@@ -95,19 +95,19 @@ def _with_programs(named: tuple[Side, Side], common: Layer, stop: Stop, screen: 
     if lacking := [it for it in built if not it.has_programs]:
         raise Fault(f"{lacking[0]}: no program of it can be built and kept here, and measuring needs one")
     claims = list(claims_of([common]))
-    sides = [_asked(replace(side, sender=it), claims, stop) for side, it in zip(named, built)]
+    sides = [_accepted(replace(side, sender=it), claims, stop) for side, it in zip(named, built)]
     refuse_common(sides, claims)
-    tell_lacks(sides, screen.note)
+    report_lacks(sides, screen.note)
     return sides[0], sides[1]
 
 
-def _asked(side: Side, claims: Sequence[Claim], stop: Stop) -> Side:
+def _accepted(side: Side, claims: Sequence[Claim], stop: Stop) -> Side:
     """A side without the keys that its sender lacks."""
     program = program_of(side, REGRESS)
-    return side.asked(claims, lambda each: refused_of(each, lambda: Program([program], stop)))
+    return side.accepted(claims, lambda each: refused_of(each, lambda: Program([program], stop)))
 
 
-def _report_of(measured: Measured, sides: tuple[Side, Side], seed: int, seconds: float) -> MeasureReport:
+def _report_of(measured: MeasureResult, sides: tuple[Side, Side], seed: int, seconds: float) -> MeasureReport:
     """The report of what was measured."""
     return MeasureReport(
         tables_of(measured.cases),
@@ -120,14 +120,14 @@ def _report_of(measured: Measured, sides: tuple[Side, Side], seed: int, seconds:
     )
 
 
-class _Keeping:
-    """The page and the scripts, where they are asked for; that they can be written is seen first."""
+class _MeasureOutputs:
+    """The page and the scripts, where they are requested; that they can be written is seen first."""
 
     def __init__(self, options: MeasureOptions, sides: tuple[Side, Side], common: Settings) -> None:
         self._sides = sides
         self._common = common
-        self._page = None if options.html is None else Page(options.html, sides, common)
-        self._kept = None if options.save is None else Kept(options.save, sides)
+        self._page = None if options.html is None else MeasurePage(options.html, sides, common)
+        self._kept = None if options.save is None else TransferFolder(options.save, sides)
 
     def write(self, report: MeasureReport, stop: Stop) -> None:
         if self._kept is not None:

@@ -7,18 +7,18 @@ from typing import TypeVar
 
 import click
 
-from pdsuite.page.plots import MOST
+from pdsuite.output.octets import shown_text
+from pdsuite.page.diagram_choice import MOST
 from pdsuite.scripts.shards import Shard, shard_of
-from pdsuite.show.octets import shown_text
 
 MOST_WORKERS = 64
 MOST_SECONDS = 86_400
 MOST_RUNS = 5_000
 
-Command = TypeVar("Command", bound=Callable[..., int])
+CommandFunction = TypeVar("CommandFunction", bound=Callable[..., int])
 
 
-class PlaceWord(click.Path):
+class PathParam(click.Path):
     """The path of a file or folder. An empty word, as a shell makes of a variable that isn't set, names none."""
 
     def convert(self, value: str | os.PathLike[str], param: click.Parameter | None, ctx: click.Context | None) -> Path:
@@ -27,7 +27,7 @@ class PlaceWord(click.Path):
         return Path(value)
 
 
-class ShardWord(click.ParamType):
+class ShardParam(click.ParamType):
     """A shard, as K/N."""
 
     name = "shard"
@@ -39,7 +39,7 @@ class ShardWord(click.ParamType):
         return shard
 
 
-class ReasonWord(click.ParamType):
+class ReasonParam(click.ParamType):
     """Why a script is known not to pass, in a line."""
 
     name = "text"
@@ -55,33 +55,33 @@ class ReasonWord(click.ParamType):
 no_color_option = click.option("--no-color", is_flag=True, help="No colours on a terminal.")
 
 
-def choice_options(command: Command) -> Command:
+def choice_options(command: CommandFunction) -> CommandFunction:
     """The words that say which scripts are meant, and with which settings."""
     return _choice(command, is_required=True)
 
 
-def free_choice_options(command: Command) -> Command:
+def free_choice_options(command: CommandFunction) -> CommandFunction:
     """The same words, where no script may be meant."""
     return _choice(command, is_required=False)
 
 
-def _choice(command: Command, is_required: bool) -> Command:
+def _choice(command: CommandFunction, is_required: bool) -> CommandFunction:
     for option in (
         no_color_option,
         click.option("--settings", default="", metavar="TEXT", help="Settings before all others."),
         click.option(
             "--only", metavar="PATTERN", multiple=True, help="Only scripts whose path or name fits; again for more."
         ),
-        click.argument("paths", nargs=-1, required=is_required, type=PlaceWord()),
+        click.argument("paths", nargs=-1, required=is_required, type=PathParam()),
     ):
         command = option(command)
     return command
 
 
-def search_options(command: Command) -> Command:
+def search_options(command: CommandFunction) -> CommandFunction:
     """The words that say how a search goes, and where its find is saved."""
     for option in (
-        click.option("--save", metavar="FILE", type=PlaceWord(), help="Save what is found as this script."),
+        click.option("--save", metavar="FILE", type=PathParam(), help="Save what is found as this script."),
         click.option(
             "--seed", metavar="N", type=click.IntRange(0), help="Make the inputs of this number, not of chance."
         ),
@@ -90,12 +90,12 @@ def search_options(command: Command) -> Command:
     return command
 
 
-def part_options(command: Command) -> Command:
+def part_options(command: CommandFunction) -> CommandFunction:
     """The words that choose among the scripts that are found."""
     for option in (
         click.option("--last-failed", is_flag=True, help="Only what didn't pass in the last run of these paths."),
         click.option(
-            "--shard", metavar="K/N", type=ShardWord(), help="Only the K-th of N parts of about as many octets."
+            "--shard", metavar="K/N", type=ShardParam(), help="Only the K-th of N parts of about as many octets."
         ),
     ):
         command = option(command)
@@ -111,12 +111,12 @@ strict_option = click.option("--strict", is_flag=True, help="A warning makes a s
 html_option = click.option(
     "--html",
     metavar="FOLDER",
-    type=PlaceWord(),
+    type=PathParam(),
     help="Write a page into this folder, too.",
 )
 
 
-def plot_options(command: Command) -> Command:
+def plot_options(command: CommandFunction) -> CommandFunction:
     """The words that say of which scripts the page has diagrams."""
     for option in (
         click.option("--plots", metavar="N", type=click.IntRange(0), help=f"Draw the first N that fail, not {MOST}."),

@@ -8,17 +8,17 @@ from pathlib import Path
 
 import click
 
-from pdsuite.commands.options import PlaceWord
+from pdsuite.commands.options import PathParam
 from pdsuite.faults import Fault
 from pdsuite.files import check_writable, is_special, write
-from pdsuite.reports.as_json import Json
-from pdsuite.reports.form import Form, whole
-from pdsuite.reports.tap import Tap
+from pdsuite.output.octets import shown_path
+from pdsuite.reports.as_json import JsonFormatter
+from pdsuite.reports.formatter import Formatter, whole
+from pdsuite.reports.tap import TapFormatter
 from pdsuite.run.outcomes import Outcome, Totals
-from pdsuite.scripts.search import SUFFIX
+from pdsuite.scripts.config import CONFIG_FILE as SETTINGS
+from pdsuite.scripts.discover import SUFFIX
 from pdsuite.scripts.shards import Shard
-from pdsuite.scripts.suite import FILE as SETTINGS
-from pdsuite.show.octets import shown_path
 
 # Flags that print a report, or write it where a file comes after `=`, or as the next word if that ends so.
 _SUFFIXES = {"--json": ".json", "--tap": ".tap"}
@@ -29,7 +29,7 @@ _OUTPUT = "-"
 _END = "--"
 
 
-class FileWord(PlaceWord):
+class FileParam(PathParam):
     """The path of a file to write."""
 
     def convert(self, value: str | os.PathLike[str], param: click.Parameter | None, ctx: click.Context | None) -> Path:
@@ -38,7 +38,7 @@ class FileWord(PlaceWord):
         return super().convert(value, param, ctx)
 
 
-class FormOption(click.Option):
+class FormatOption(click.Option):
     """A flag that may have a file."""
 
     def get_help_record(self, ctx: click.Context) -> tuple[str, str] | None:
@@ -71,7 +71,7 @@ def _printed(words: Sequence[str], taking: Collection[str]) -> list[str]:
 
 def _file_of(option: click.Option, named: Sequence[str], ctx: click.Context) -> Path | None:
     """The file that a flag has, if it has one."""
-    paths = list(dict.fromkeys(FileWord().convert(it, option, ctx) for it in named))
+    paths = list(dict.fromkeys(FileParam().convert(it, option, ctx) for it in named))
     if len(paths) > 1:
         first, second, *_ = map(shown_path, paths)
         raise click.UsageError(f"{option.opts[0]} names two files: {first} and {second}", ctx)
@@ -113,7 +113,7 @@ def _is_file(word: str, suffix: str) -> bool:
 
 @dataclass(frozen=True)
 class ReportFiles:
-    """The files of a run's reports, where they are asked for."""
+    """The files of a run's reports, where they are requested."""
 
     junit: Path | None
     json: Path | None
@@ -156,11 +156,11 @@ class ReportFiles:
 
 def _octets(word: str, outcomes: Sequence[Outcome], totals: Totals, seconds: float, shard: Shard | None) -> bytes:
     if word == _JUNIT:
-        # Only who asks for this file pays for what writes it.
+        # Only who requests this file pays for what writes it.
         from pdsuite.reports.junit import junit
 
         return junit(outcomes, seconds, totals.is_unproved)
-    forms: dict[str, Form] = {_JSON: Json(shard), _TAP: Tap()}
+    forms: dict[str, Formatter] = {_JSON: JsonFormatter(shard), _TAP: TapFormatter()}
     return whole(forms[word], outcomes, totals, seconds).encode()
 
 
@@ -175,7 +175,7 @@ def _check_others(files: Iterable[tuple[str, Path]], scripts: Iterable[str]) -> 
 
 
 def _identity(path: str | Path | int) -> tuple[int, int] | None:
-    """What tells a file that is there, or is open, from all others; None where none is."""
+    """What distinguishes a file that is there, or is open, from all others; None where none is."""
     try:
         found = os.stat(path)
     except (OSError, ValueError):

@@ -8,30 +8,30 @@ from tempfile import TemporaryDirectory
 
 from pdsuite.compare.affected import names_changed
 from pdsuite.compare.built_senders import with_programs
-from pdsuite.compare.senders import Sender, sender_of, standing
-from pdsuite.compare.sides import Side, refuse_common, tell_lacks
+from pdsuite.compare.senders import Sender, current_sender, sender_of
+from pdsuite.compare.sides import Side, refuse_common, report_lacks
 from pdsuite.faults import Fault
-from pdsuite.programs.places import TOP
-from pdsuite.programs.rows import Row
-from pdsuite.programs.standing import Steady
+from pdsuite.output.octets import shown_text
+from pdsuite.output.screen import Screen
+from pdsuite.output.styled_text import unstyled
+from pdsuite.programs.locate import TOP
+from pdsuite.programs.lookup import SenderGuard
+from pdsuite.programs.verdict import Row
 from pdsuite.reports.search import found, offered, totals
+from pdsuite.scripts.config import Layer, claims_of
 from pdsuite.scripts.settings import settings_of
-from pdsuite.scripts.suite import Layer, claims_of
-from pdsuite.search.asking import ClaimAsker, SideAsker, askers_of, sizes
-from pdsuite.search.beginnings import beginnings, scripts_in
-from pdsuite.search.finds import Differs, Fails, Find, Reaches, script_of
-from pdsuite.search.finishing import below, finished, with_head
-from pdsuite.search.drawing import Drawing
-from pdsuite.search.making import KEYS
-from pdsuite.search.plans import Emphasis
+from pdsuite.search.candidates import Candidates
+from pdsuite.search.coverage import state_pattern
+from pdsuite.search.find import DiffersTest, FailsTest, Find, ReachesTest, script_of
+from pdsuite.search.finished_script import below, finished_script, with_head
+from pdsuite.search.generate import KEYS
+from pdsuite.search.initial_inputs import initial_inputs, scripts_in
+from pdsuite.search.oracle import SettingsOracle, SideOracle, oracles_of, sizes
 from pdsuite.search.relevance import emphasis_of, offer
-from pdsuite.search.reached import pattern_of
-from pdsuite.search.saving import check_place, save
-from pdsuite.search.searching import Search
-from pdsuite.show.octets import shown_text
-from pdsuite.show.screen import Screen
-from pdsuite.show.styled_text import unstyled
-from pdsuite.signals import Stop, Stopped
+from pdsuite.search.save import check_place, save
+from pdsuite.search.scenario import Emphasis
+from pdsuite.search.search import Search
+from pdsuite.signals import Stop, StoppedError
 
 _SEEDS = 1_000_000
 _AGAIN = "search again"
@@ -48,22 +48,24 @@ class SearchOptions:
 
 def search_state(text: str, word: str | None, options: SearchOptions, screen: Screen) -> int:
     """Searches for a state, and answers the exit status: 1 where no input reaches it."""
-    pattern = pattern_of(text)
+    pattern = state_pattern(text)
     if pattern is None:
         raise Fault(f"--for: {shown_text(text)}: no facts as NAME:VALUE with blanks between them")
     if options.save is not None:
         check_place(options.save)
     try:
         with Stop() as stop, TemporaryDirectory(prefix="pdsuite-") as room:
-            sender = standing() if word is None else sender_of(word, "--with", Path(room) / "sender")
+            sender = current_sender() if word is None else sender_of(word, "--with", Path(room) / "sender")
             _need_recorder([sender])
-            seed, steady = _seed(options), Steady(sender.look)
+            seed, steady = _seed(options), SenderGuard(sender.look)
             if not sender.is_proved:
                 screen.note(f"pdsuite: {sender}")
             (sender,) = with_programs([sender], "optimised", stop, screen)
-            with askers_of([sender], stop) as (asker,):
-                drawing = Drawing(seed, sizes(), Emphasis(), beginnings(scripts_in(TOP, stop), asker, frozenset()))
-                searched = Search(asker, Reaches(pattern), None, drawing, options.seconds).run(_progress(screen))
+            with oracles_of([sender], stop) as (oracle,):
+                drawing = Candidates(
+                    seed, sizes(), Emphasis(), initial_inputs(scripts_in(TOP, stop), oracle, frozenset())
+                )
+                searched = Search(oracle, ReachesTest(pattern), None, drawing, options.seconds).run(_progress(screen))
             steady.need_same(_AGAIN)
             if searched.find is not None:
                 settings = searched.find.inputs.settings
@@ -75,7 +77,7 @@ def search_state(text: str, word: str | None, options: SearchOptions, screen: Sc
                 screen.show(unstyled(f"no input reaches {shown_text(text)}\n"))
             screen.show(totals(searched, seed, not sender.is_proved))
             return 1 if searched.find is None else 0
-    except Stopped as stopped:
+    except StoppedError as stopped:
         return stopped.status
 
 
@@ -96,15 +98,15 @@ def search_difference(
         check_place(options.save)
     senders = [it.sender for it in sides]
     _need_recorder(senders)
-    seed, steady = _seed(options), Steady(*(it.look for it in senders))
+    seed, steady = _seed(options), SenderGuard(*(it.look for it in senders))
     senders = with_programs(senders, "optimised", stop, screen)
-    with askers_of(senders, stop) as askers:
-        before, after = _asking(askers, sides, common, screen)
+    with oracles_of(senders, stop) as oracles:
+        before, after = _side_oracles(oracles, sides, common, screen)
         changed = names_changed(*trees)
         emphasis = emphasis_of(changed, _fixed(before.side, after.side, common))
         scripts = scripts_in(trees[0] or TOP, stop)
-        drawing = Drawing(seed, sizes(), emphasis, beginnings(scripts, before, emphasis.fixed))
-        searched = Search(before, Fails(after), Differs(after), drawing, options.seconds).run(_progress(screen))
+        drawing = Candidates(seed, sizes(), emphasis, initial_inputs(scripts, before, emphasis.fixed))
+        searched = Search(before, FailsTest(after), DiffersTest(after), drawing, options.seconds).run(_progress(screen))
         steady.need_same(_AGAIN)
         find = searched.find or searched.unshown
         if find is not None:
@@ -114,18 +116,18 @@ def search_difference(
     return 0 if find is None else 1
 
 
-def _asking(
-    askers: Sequence[ClaimAsker], sides: Sequence[Side], common: Layer, screen: Screen
-) -> tuple[SideAsker, SideAsker]:
-    """What asks each sender under the settings of its side, without keys that it lacks."""
+def _side_oracles(
+    oracles: Sequence[SettingsOracle], sides: Sequence[Side], common: Layer, screen: Screen
+) -> tuple[SideOracle, SideOracle]:
+    """The oracle of each sender under the settings of its side, without keys that it lacks."""
     claims = list(claims_of([common]))
-    found = [side.asked(claims, asker.refused) for asker, side in zip(askers, sides)]
+    found = [side.accepted(claims, oracle.refused) for oracle, side in zip(oracles, sides)]
     refuse_common(found, claims)
-    tell_lacks(found, screen.note)
+    report_lacks(found, screen.note)
     # An input sets no key that either of them lacks.
     drawn = list(claims_of([replace(common, keys={key: values[0] for key, values in KEYS.items()})]))
-    known = [side.asked(drawn, asker.refused) for asker, side in zip(askers, found)]
-    before, after = (SideAsker(asker, side, settings_of(common.keys)) for asker, side in zip(askers, known))
+    known = [side.accepted(drawn, oracle.refused) for oracle, side in zip(oracles, found)]
+    before, after = (SideOracle(oracle, side, settings_of(common.keys)) for oracle, side in zip(oracles, known))
     return before, after
 
 
@@ -134,9 +136,9 @@ def _fixed(before: Side, after: Side, common: Layer) -> frozenset[str]:
     return frozenset().union(common.keys, *(it.option.keys for it in (before, after)), before.lacks, after.lacks)
 
 
-def _finish(find: Find, before: SideAsker, after: SideAsker, options: SearchOptions, screen: Screen) -> None:
+def _finish(find: Find, before: SideOracle, after: SideOracle, options: SearchOptions, screen: Screen) -> None:
     """Shows what was found, as it is saved."""
-    script = finished(find, before, after)
+    script = finished_script(find, before, after)
     if options.save is not None:
         script = with_head(script, lambda row: _head(row, before, after), after)
     (other,) = after.recordings([find.inputs])
@@ -146,12 +148,12 @@ def _finish(find: Find, before: SideAsker, after: SideAsker, options: SearchOpti
         screen.show(found(find, what, settings, other.text, script.row, ()))
     else:
         what = "a script fails under the sender after"
-        screen.show(found(find, what, settings, other.text, script.row, after.told(script.script)))
+        screen.show(found(find, what, settings, other.text, script.row, after.explain(script.script)))
     if options.save is not None:
         save(options.save, script.script.octets, before.settings(find.inputs.settings))
 
 
-def _head(row: Row | None, before: SideAsker, after: SideAsker) -> list[str]:
+def _head(row: Row | None, before: SideOracle, after: SideOracle) -> list[str]:
     """The comment of a saved script, which has this row under the sender after, if it fails there."""
     fails = "It passes under" if row is None else f"It fails ({row.whole}) under"
     return [f"Recorded by {before.side.sender}.", f"{fails} {after.side.sender}."]

@@ -3,19 +3,19 @@
 from collections.abc import Iterator
 
 from pdsuite.faults import Fault
-from pdsuite.programs.places import RECORD, REGRESS, commit, digest, locate
-from pdsuite.show.octets import shown_path
-from pdsuite.show.screen import say
+from pdsuite.output.octets import shown_path
+from pdsuite.output.screen import print_error
+from pdsuite.programs.locate import RECORD, REGRESS, commit, digest, locate
 
 
 def version() -> Iterator[str]:
-    """The commit of the client, and each program with its SHA-256. That pdrecord isn't there is said, and no fault."""
+    """The commit of the client, and each program with its SHA-256. Where pdrecord isn't there, a line says so."""
     yield f"pdsuite {commit()}"
     yield _program(REGRESS)
     try:
         yield _program(RECORD)
     except Fault as fault:
-        say(f"pdsuite: {fault}; nothing is recorded")
+        print_error(f"pdsuite: {fault}; nothing is recorded")
 
 
 def _program(name: str) -> str:

@@ -11,32 +11,32 @@ from typing import TYPE_CHECKING
 from pdsuite.commands.options import threads_of
 from pdsuite.compare.senders import sender_of
 from pdsuite.faults import Fault
-from pdsuite.page.plots import plots_asked
-from pdsuite.programs.building import built, kept
-from pdsuite.programs.places import RECORD, REGRESS
-from pdsuite.programs.standing import buildable, own_look
-from pdsuite.programs.unproved import first_line, progress
-from pdsuite.run.choice import INPUT
-from pdsuite.scripts.suite import option_of
-from pdsuite.show.octets import shown_text
-from pdsuite.show.screen import Screen, say
-from pdsuite.signals import Stop, Stopped
+from pdsuite.output.octets import shown_text
+from pdsuite.output.screen import Screen, print_error
+from pdsuite.page.diagram_choice import diagram_choice
+from pdsuite.programs.build import built_folder, kept_build
+from pdsuite.programs.locate import RECORD, REGRESS
+from pdsuite.programs.lookup import buildable, own_lookup
+from pdsuite.programs.unproved_programs import first_line, progress
+from pdsuite.run.collect import INPUT
+from pdsuite.scripts.config import option_of
+from pdsuite.signals import Stop, StoppedError
 from pdsuite.watch.change_report import ChangeReport
-from pdsuite.watch.folders import Choice
+from pdsuite.watch.folders import WatchChoice
 from pdsuite.watch.sender import WAY, SenderFollower
-from pdsuite.watch.session import Refused, Session, Watched
-from pdsuite.watch.turned import Base
+from pdsuite.watch.session import Session, SessionSettingsError, WatchedSuite
+from pdsuite.watch.turned_scripts import BaseSender
 from pdsuite.watch.view import View
 
 if TYPE_CHECKING:
-    from pdsuite.page.drawing import Drawing
+    from pdsuite.page.page_updates import PageUpdates
 
 _WIDTH = 80
 
 
 @dataclass(frozen=True)
 class WatchOptions:
-    """What a call asks for: which scripts, how they are run and shown, and against which sender."""
+    """What a call requests: which scripts, how they are run and shown, and against which sender."""
 
     paths: Sequence[Path]
     only: Sequence[str]
@@ -55,49 +55,51 @@ def watch(options: WatchOptions, screen: Screen) -> int:
     if INPUT in options.paths:
         raise Fault(f"{INPUT}: standard input is read once, and nothing of it is watched")
     option = option_of(options.settings)
-    choice = Choice(options.paths, options.only, options.strict)
+    choice = WatchChoice(options.paths, options.only, options.strict)
     with Stop() as stop, ExitStack() as held:
-        view = View(screen, None, options.verbose, _news(options, screen), options.html is not None)
+        view = View(screen, None, options.verbose, _change_report(options, screen), options.html is not None)
         try:
             tree = buildable()
-            follower = held.enter_context(SenderFollower(own_look(REGRESS, RECORD), (REGRESS,), tree))
+            follower = held.enter_context(SenderFollower(own_lookup(REGRESS, RECORD), (REGRESS,), tree))
             follower.look(0.0)
             if follower.sender is None:
-                _say_unproved(follower, tree, screen)
-            drawing = held.enter_context(_drawing(options, screen))
+                _print_unproved(follower, tree, screen)
+            page = held.enter_context(_page_updates(options, screen))
             base = _base(options, Path(held.enter_context(TemporaryDirectory(prefix="pdsuite-"))), screen, stop)
-            watched = Watched(choice, option, base)
-            Session(watched, view, screen, follower, drawing, stop, held).follow()
-        except Refused as refused:
+            watched = WatchedSuite(choice, option, base)
+            Session(watched, view, screen, follower, page, stop, held).follow()
+        except SessionSettingsError as refused:
             lines = refused.lines
-        except Stopped as stopped:
+        except StoppedError as stopped:
             return stopped.status if view.status is None else view.status
     for line in lines:
-        say(line)
+        print_error(line)
     return 2
 
 
-def _say_unproved(follower: SenderFollower, tree: Path | None, screen: Screen) -> None:
+def _print_unproved(follower: SenderFollower, tree: Path | None, screen: Screen) -> None:
     """Says that the sender isn't proved; a fault where none can be built."""
     if tree is None:
         raise Fault(follower.reason)
-    screen.note(f"pdsuite: {first_line(kept(tree, WAY) is not None)}")
+    screen.note(f"pdsuite: {first_line(kept_build(tree, WAY) is not None)}")
 
 
-def _base(options: WatchOptions, room: Path, screen: Screen, stop: Stop) -> Base | None:
-    """The sender against which turned scripts are told, built now where that has to be."""
+def _base(options: WatchOptions, room: Path, screen: Screen, stop: Stop) -> BaseSender | None:
+    """The sender against which turned scripts are compared, built now where that has to be."""
     if options.base is None:
         return None
     sender = sender_of(options.base, "--base", room / "base")
     if sender.programs is None:
-        folder = kept(sender.top, WAY) or built(sender.top, WAY, stop, progress(screen, f" {sender.name}"))
+        folder = kept_build(sender.top, WAY) or built_folder(sender.top, WAY, stop, progress(screen, f" {sender.name}"))
         programs = (folder / REGRESS, folder / RECORD)
-        return Base(programs, threads_of(options.workers), stop, screen.note)
-    return Base((sender.programs[REGRESS], sender.programs.get(RECORD)), threads_of(options.workers), stop, screen.note)
+        return BaseSender(programs, threads_of(options.workers), stop, screen.note)
+    return BaseSender(
+        (sender.programs[REGRESS], sender.programs.get(RECORD)), threads_of(options.workers), stop, screen.note
+    )
 
 
-def _news(options: WatchOptions, screen: Screen) -> ChangeReport:
-    """How changes are told: on a terminal a few of them."""
+def _change_report(options: WatchOptions, screen: Screen) -> ChangeReport:
+    """How changes are reported: on a terminal a few of them."""
     if screen.width is None:
         return ChangeReport()
     # Only who watches on a terminal pays for what breaks lines.
@@ -111,10 +113,10 @@ def _news(options: WatchOptions, screen: Screen) -> ChangeReport:
     return TerminalReport(lambda: screen.width or _WIDTH, shown_text(shlex.join([*words, *end, *paths])))
 
 
-def _drawing(options: WatchOptions, screen: Screen) -> "AbstractContextManager[Drawing | None]":
-    """The page, if one is asked for."""
+def _page_updates(options: WatchOptions, screen: Screen) -> "AbstractContextManager[PageUpdates | None]":
+    """The page, if one is requested."""
     if options.html is None:
         return nullcontext()
-    from pdsuite.page.drawing import Drawing
+    from pdsuite.page.page_updates import PageUpdates
 
-    return Drawing(options.html, plots_asked(options.plot, options.plots), screen.note)
+    return PageUpdates(options.html, diagram_choice(options.plot, options.plots), screen.note)

@@ -12,21 +12,21 @@ from typing import Any
 
 from pdsuite.compare.senders import Sender
 from pdsuite.faults import Fault
-from pdsuite.programs.places import RECORD, REGRESS, TOP
-from pdsuite.programs.program import Ended, Program
-from pdsuite.programs.starts import Answer, Case, Said, part, parts_in
-from pdsuite.programs.tree import Build, try_all
-from pdsuite.show.octets import shown, shown_path
+from pdsuite.output.octets import shown, shown_path
+from pdsuite.programs.batch_protocol import Answer, Case, ProcessOutput, part, parts_in
+from pdsuite.programs.locate import RECORD, REGRESS, TOP
+from pdsuite.programs.program import Program, ProgramEndedError
+from pdsuite.programs.unproved_batch import ProgramCases, run_cases
 from pdsuite.signals import Stop
 
-# In a tree that has tests: what says how these are told, and which of them say otherwise.
+# In a tree that has tests: what says how these are run, and which of them say otherwise.
 _TOOL = "tools/owed.py"
 _ROWS = "tests/cases"
 _LONGEST = 8 << 20
 
 
 @dataclass(frozen=True)
-class Row:
+class AffectedRow:
     """A row that says otherwise now: its file and line, and the title of a run."""
 
     file: str
@@ -51,9 +51,9 @@ class Paragraph:
 
 @dataclass(frozen=True)
 class Affected:
-    """What is affected, and how many rows nothing was heard of. Paragraphs are unknown where the sources before are."""
+    """What is affected, and how many rows have no answer. Paragraphs are unknown where the sources before are."""
 
-    rows: tuple[Row, ...]
+    rows: tuple[AffectedRow, ...]
     unheard: int
     paragraphs: tuple[Paragraph, ...] | None
 
@@ -63,8 +63,8 @@ class Affected:
 
 
 @dataclass(frozen=True)
-class Telling:
-    """What the rows of a tree tell the programs: starts, each with the name of its program."""
+class RowStarts:
+    """The rows of a tree as starts of programs, each with the name of its program."""
 
     tree: Path
     starts: Sequence[tuple[str, Case]]
@@ -73,22 +73,22 @@ class Telling:
         """The starts of a program."""
         return tuple(case for name, case in self.starts if name == program)
 
-    def builds(self, tree: Path) -> list[Build]:
+    def program_cases(self, tree: Path) -> list[ProgramCases]:
         """The same, of a tree that has to be built."""
-        return [Build(tree, it, (), self.of(it)) for it in (REGRESS, RECORD)]
+        return [ProgramCases(tree, it, (), self.of(it)) for it in (REGRESS, RECORD)]
 
 
-def telling_of(sender: Sender, room: Path) -> Telling:
-    """What the rows of a sender's tree tell."""
+def row_starts_of(sender: Sender, room: Path) -> RowStarts:
+    """The rows of a sender's tree as starts of programs."""
     tree = sender.sources(room)
     if tree is None or not (tree / _TOOL).is_file() or not (tree / _ROWS).is_dir():
         raise Fault(f"--affected: {sender} is no tree with {_ROWS} and {_TOOL}")
-    return Telling(tree, list(_starts(_output_of(tree, "starts"))))
+    return RowStarts(tree, list(_starts(_output_of(tree, "starts"))))
 
 
-def _starts(told: bytes) -> Iterator[tuple[str, Case]]:
-    """The starts: words, an input, and how much is said at most."""
-    each = parts_in(bytearray(told))
+def _starts(output: bytes) -> Iterator[tuple[str, Case]]:
+    """The starts: words, an input, and how much is printed at most."""
+    each = parts_in(bytearray(output))
     for joined, given, room in zip(each, each, each):
         program, *words = joined.decode().split("\0")
         yield program, Case(tuple(words), given, int(room))
@@ -116,56 +116,58 @@ def names_changed(before: Path | None, after: Path | None) -> list[dict[str, Any
     return changed
 
 
-def heard_of_programs(programs: dict[str, Path], telling: Telling, stop: Stop) -> list[Said]:
+def program_outputs(programs: dict[str, Path], row_starts: RowStarts, stop: Stop) -> list[ProcessOutput]:
     """What proved programs say, several at a time."""
 
-    def answer_of(each: tuple[str, Case]) -> Said:
+    def answer_of(each: tuple[str, Case]) -> ProcessOutput:
         name, case = each
         try:
             with Program([programs[name], *case.words], stop) as program:
                 return program.run(case.given, _LONGEST)
-        except Ended:
-            return Said()
+        except ProgramEndedError:
+            return ProcessOutput()
 
-    # One that isn't there has said nothing.
-    there = [each if each[0] in programs else None for each in telling.starts]
+    # One that isn't there has printed nothing.
+    there = [each if each[0] in programs else None for each in row_starts.starts]
     with ThreadPoolExecutor(len(os.sched_getaffinity(0))) as pool:
-        return list(pool.map(lambda each: answer_of(each) if each else Said(), there))
+        return list(pool.map(lambda each: answer_of(each) if each else ProcessOutput(), there))
 
 
-def heard_of_builds(
-    telling: Telling, answers: Sequence[Sequence[Answer]], tree: Path, stop: Stop, note: Callable[[str], None]
-) -> list[Said]:
+def build_outputs(
+    row_starts: RowStarts, answers: Sequence[Sequence[Answer]], tree: Path, stop: Stop, note: Callable[[str], None]
+) -> list[ProcessOutput]:
     """What a tree's programs say, which were built for it. Those that another one may have ended are started alone."""
-    heard = [list(it) for it in answers]
-    lost = [[place for place, it in enumerate(each) if it.is_shared] for each in heard]
+    answered = [list(it) for it in answers]
+    lost = [[place for place, it in enumerate(each) if it.is_shared] for each in answered]
     if count := sum(map(len, lost)):
         note(f"pdsuite: {count:,} starts on rows are tried again, each by itself")
-        cases = [telling.of(it) for it in (REGRESS, RECORD)]
+        cases = [row_starts.of(it) for it in (REGRESS, RECORD)]
         alone = [
-            Build(tree, name, (), tuple(replace(mine[place], is_alone=True) for place in places))
+            ProgramCases(tree, name, (), tuple(replace(mine[place], is_alone=True) for place in places))
             for name, mine, places in zip((REGRESS, RECORD), cases, lost)
         ]
-        for each, places, again in zip(heard, lost, try_all(alone, stop)):
+        for each, places, again in zip(answered, lost, run_cases(alone, stop)):
             for place, it in zip(places, again):
                 each[place] = it
-    by_name = {name: iter(each) for name, each in zip((REGRESS, RECORD), heard)}
-    return [next(by_name[name]).said for name, _ in telling.starts]
+    by_name = {name: iter(each) for name, each in zip((REGRESS, RECORD), answered)}
+    return [next(by_name[name]).raw for name, _ in row_starts.starts]
 
 
-def affected_by(telling: Telling, heard: Sequence[Sequence[Said]], before: Path | None, room: Path) -> Affected:
-    """What is affected, by what both senders said, and by the sources of the one before, if these are known."""
+def affected_by(
+    row_starts: RowStarts, outputs: Sequence[Sequence[ProcessOutput]], before: Path | None, room: Path
+) -> Affected:
+    """What is affected, by the outputs of both senders, and by the sources of the one before, if these are known."""
     file = room / "answers"
     with file.open("wb") as answers:
-        for each in zip(*heard):
+        for each in zip(*outputs):
             for it in each:
                 answers.writelines(map(part, (it.output, it.errors, it.status.encode())))
     words: list[str | Path] = [] if before is None else ["--before", before]
-    told = json.loads(_output_of(telling.tree, "list", *words, file))
-    paragraphs = told["sections"]
+    found = json.loads(_output_of(row_starts.tree, "list", *words, file))
+    paragraphs = found["sections"]
     return Affected(
-        tuple(Row(**it) for it in told["rows"]),
-        told["unheard"],
+        tuple(AffectedRow(**it) for it in found["rows"]),
+        found["unheard"],
         None if paragraphs is None else tuple(map(_paragraph, paragraphs)),
     )
 

@@ -6,18 +6,18 @@ from dataclasses import replace
 from pathlib import Path
 
 from pdsuite.compare.senders import Sender
-from pdsuite.programs.building import NoBuild, Untried, Way, built, kept
-from pdsuite.programs.places import RECORD, REGRESS
-from pdsuite.programs.unproved import progress
-from pdsuite.show.screen import Screen
+from pdsuite.output.screen import Screen
+from pdsuite.programs.build import BuildError, BuildMode, NoKeptBuildError, built_folder, kept_build
+from pdsuite.programs.locate import RECORD, REGRESS
+from pdsuite.programs.unproved_programs import progress
 from pdsuite.signals import Stop
 
 
-def with_programs(senders: Sequence[Sender], way: Way, stop: Stop, screen: Screen) -> list[Sender]:
+def with_programs(senders: Sequence[Sender], way: BuildMode, stop: Stop, screen: Screen) -> list[Sender]:
     """The senders, each with programs; where none can be built and kept, one stays a tree."""
     trees = list(dict.fromkeys(it.top for it in senders if not it.has_programs))
     with ThreadPoolExecutor() as pool:
-        folders = dict(zip(trees, pool.map(lambda tree: kept(tree, way), trees)))
+        folders = dict(zip(trees, pool.map(lambda tree: kept_build(tree, way), trees)))
     if lacking := [it for it, folder in folders.items() if folder is None]:
         what = "the sender" if len(lacking) == 1 else "both senders"
         screen.note(f"pdsuite: building {what} first")
@@ -25,21 +25,21 @@ def with_programs(senders: Sequence[Sender], way: Way, stop: Stop, screen: Scree
     return [it if it.has_programs else _with(it, folders[it.top]) for it in senders]
 
 
-def _built_side_by_side(trees: Sequence[Path], way: Way, stop: Stop, screen: Screen) -> dict[Path, Path | None]:
+def _built_side_by_side(trees: Sequence[Path], way: BuildMode, stop: Stop, screen: Screen) -> dict[Path, Path | None]:
     """The folders of both programs of each tree."""
     # Of several the line at the bottom of a terminal says how far the one is that spoke last.
-    tell = progress(screen, "" if len(trees) == 1 else " one of both")
+    show_progress = progress(screen, "" if len(trees) == 1 else " one of both")
     try:
         with ThreadPoolExecutor(len(trees)) as pool:
-            return dict(zip(trees, pool.map(lambda tree: _built(tree, way, stop, tell), trees)))
+            return dict(zip(trees, pool.map(lambda tree: _built(tree, way, stop, show_progress), trees)))
     finally:
         screen.clear()
 
 
-def _built(tree: Path, way: Way, stop: Stop, tell: Callable[[str, float], None]) -> Path | None:
+def _built(tree: Path, way: BuildMode, stop: Stop, show_progress: Callable[[str, float], None]) -> Path | None:
     try:
-        return built(tree, way, stop, tell)
-    except NoBuild:
+        return built_folder(tree, way, stop, show_progress)
+    except NoKeptBuildError:
         return None
 
 
@@ -49,8 +49,8 @@ def plain_of(sender: Sender, stop: Stop) -> Sender | None:
     if not sender.is_build or programs[REGRESS].parent.name != "optimised":
         return None
     try:
-        return _with(sender, built(sender.top, "plain", stop))
-    except (NoBuild, Untried):
+        return _with(sender, built_folder(sender.top, "plain", stop))
+    except (NoKeptBuildError, BuildError):
         return None
 
 

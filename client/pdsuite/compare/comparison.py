@@ -6,16 +6,16 @@ from collections.abc import Iterable, Iterator, Mapping, Sequence
 from dataclasses import dataclass, field
 from enum import StrEnum
 
-from pdsuite.compare.parting import Parting, parting_of
+from pdsuite.compare.divergence import Divergence, divergence_of
+from pdsuite.output.octets import shown
+from pdsuite.programs.batch_protocol import ProcessOutput
 from pdsuite.programs.protocol import Cause
 from pdsuite.programs.recorder import Recording
-from pdsuite.programs.starts import Said
 from pdsuite.run.outcomes import Outcome
 from pdsuite.scripts.text import Text
-from pdsuite.show.octets import shown
 
 
-class Kind(StrEnum):
+class ComparisonKind(StrEnum):
     """How what two senders do with a script compares."""
 
     TURNED = "turned"  # the row is another
@@ -25,17 +25,17 @@ class Kind(StrEnum):
 
 
 @dataclass(frozen=True)
-class Results:
-    """What a sender did: by the places of scripts their outcomes, texts, recordings, and what is told by keys.
+class SenderResults:
+    """What a sender did: by the places of scripts their outcomes, texts, recordings, and explanations by keys.
 
-    Last comes what it said of rows, in their order.
+    Last come its outputs on rows, in their order.
     """
 
     outcomes: Mapping[int, Outcome]
     texts: Mapping[int, Text] = field(default_factory=dict)
     recordings: Mapping[int, Recording] = field(default_factory=dict)
     causes: Mapping[int, Cause] = field(default_factory=dict)
-    said: Sequence[Said] = ()
+    outputs: Sequence[ProcessOutput] = ()
 
 
 @dataclass(frozen=True)
@@ -43,10 +43,10 @@ class ComparedScript:
     """A script: its place, what came of it under both senders, and where their recordings part."""
 
     index: int
-    kind: Kind
+    kind: ComparisonKind
     before: Outcome
     after: Outcome
-    parting: Parting | None = None
+    divergence: Divergence | None = None
     unrecorded: tuple[str, str] = ("", "")  # why there is no recording before and after
     recordings: tuple[str, str] = ("", "")  # with their traces, before and after
     comment: str = ""  # the first line of its text, if that is a comment
@@ -57,25 +57,25 @@ class ComparedScript:
 
     @property
     def differs(self) -> bool:
-        return self.kind in (Kind.TURNED, Kind.OTHERWISE)
+        return self.kind in (ComparisonKind.TURNED, ComparisonKind.OTHERWISE)
 
 
-def compare(before: Results, after: Results) -> list[ComparedScript]:
+def compare(before: SenderResults, after: SenderResults) -> list[ComparedScript]:
     """The scripts in the order of their places."""
     return [_compared(index, before, after) for index in sorted(after.outcomes)]
 
 
-def _compared(index: int, before: Results, after: Results) -> ComparedScript:
+def _compared(index: int, before: SenderResults, after: SenderResults) -> ComparedScript:
     old, new = before.outcomes[index], after.outcomes[index]
     one, other = (it.recordings.get(index, _NO_RECORDING) for it in (before, after))
     why = (one.fault if not one.text else "", other.fault if not other.text else "")
-    parting = parting_of(one.text, other.text) if one.text and other.text else None
+    parting = divergence_of(one.text, other.text) if one.text and other.text else None
     if old.row != new.row:
-        kind = Kind.TURNED
+        kind = ComparisonKind.TURNED
     elif parting is not None or bool(one.text) != bool(other.text):
-        kind = Kind.OTHERWISE
+        kind = ComparisonKind.OTHERWISE
     else:
-        kind = Kind.SAME if one.text else Kind.UNKNOWN
+        kind = ComparisonKind.SAME if one.text else ComparisonKind.UNKNOWN
     return ComparedScript(index, kind, old, new, parting, why, (one.text, other.text), _comment(after.texts.get(index)))
 
 
@@ -90,11 +90,11 @@ _NO_RECORDING = Recording("", "nothing is recorded")
 
 
 @dataclass(frozen=True)
-class Count:
+class KindCounts:
     """How many scripts of a folder, or of all, compare in which way."""
 
     name: str
-    counts: Mapping[Kind, int]
+    counts: Mapping[ComparisonKind, int]
 
     def __str__(self) -> str:
         """The counts as the last line of a report has them."""
@@ -111,19 +111,19 @@ class Count:
         return sum(self.counts.values())
 
     @property
-    def _kinds(self) -> list[Kind]:
-        return [it for it in Kind if it is not Kind.UNKNOWN or self.counts[it]]
+    def _kinds(self) -> list[ComparisonKind]:
+        return [it for it in ComparisonKind if it is not ComparisonKind.UNKNOWN or self.counts[it]]
 
 
-def counts_of(compared: Sequence[ComparedScript]) -> Iterator[Count]:
+def counts_of(compared: Sequence[ComparedScript]) -> Iterator[KindCounts]:
     """The count of each folder in the order of paths, and that of all last."""
-    folders: dict[str, list[Kind]] = {}
+    folders: dict[str, list[ComparisonKind]] = {}
     for it in compared:
         folders.setdefault(os.path.dirname(it.path), []).append(it.kind)
     for name, kinds in folders.items():
-        yield Count(name or os.curdir, _counted(kinds))
-    yield Count("total", _counted(it.kind for it in compared))
+        yield KindCounts(name or os.curdir, _counted(kinds))
+    yield KindCounts("total", _counted(it.kind for it in compared))
 
 
-def _counted(kinds: Iterable[Kind]) -> Mapping[Kind, int]:
+def _counted(kinds: Iterable[ComparisonKind]) -> Mapping[ComparisonKind, int]:
     return Counter(kinds)

@@ -5,7 +5,7 @@ from dataclasses import dataclass
 from itertools import zip_longest
 
 from pdsuite.compare.comparison import ComparedScript
-from pdsuite.compare.parting import PlayedEvent, played_events
+from pdsuite.compare.divergence import PlayedEvent, played_events
 from pdsuite.packetdrill.columns import Mark, columns
 
 _LESS = "nothing more is played"

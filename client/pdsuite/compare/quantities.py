@@ -59,7 +59,7 @@ def quantities_of(recording: str) -> Quantities:
 
 
 @dataclass(frozen=True)
-class Change:
+class QuantityChange:
     """The quantities of a script under both senders."""
 
     path: str
@@ -71,21 +71,21 @@ class Change:
         return abs(self.after.named()[quantity] - self.before.named()[quantity])
 
 
-def changes_of(compared: Iterable[ComparedScript], quantity: Quantity) -> list[Change]:
+def changes_of(compared: Iterable[ComparedScript], quantity: Quantity) -> list[QuantityChange]:
     """The scripts whose quantities changed, the largest change of one of them first."""
     found = [it for it in _all(compared) if it.before != it.after]
     return sorted(found, key=lambda it: (-it.by(quantity), *(-it.by(other) for other in Quantity)))
 
 
-def total_of(compared: Sequence[ComparedScript]) -> Change:
+def total_of(compared: Sequence[ComparedScript]) -> QuantityChange:
     """The sums over all scripts that both senders record."""
     both = list(_all(compared))
     before, after = (sum((getattr(it, side) for it in both), Quantities()) for side in ("before", "after"))
-    return Change("", before, after)
+    return QuantityChange("", before, after)
 
 
-def _all(compared: Iterable[ComparedScript]) -> Iterator[Change]:
+def _all(compared: Iterable[ComparedScript]) -> Iterator[QuantityChange]:
     for it in compared:
         before, after = it.recordings
         if before and after:
-            yield Change(it.path, quantities_of(before), quantities_of(after))
+            yield QuantityChange(it.path, quantities_of(before), quantities_of(after))

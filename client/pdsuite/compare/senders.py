@@ -9,14 +9,14 @@ from dataclasses import dataclass
 from pathlib import Path
 
 from pdsuite.faults import Fault, why
-from pdsuite.programs.places import FOLDER, PACKED, RECORD, REGRESS, TOOL, TOP
-from pdsuite.programs.places import Unproved, built, commit, launched_from, locate
-from pdsuite.programs.standing import Look, programs_look, tree_look
-from pdsuite.show.octets import shown, shown_path, shown_text
+from pdsuite.output.octets import shown, shown_path, shown_text
+from pdsuite.programs.locate import BATCH_TOOL, PACKAGE_VERSION, PROGRAMS_VARIABLE, RECORD, REGRESS, TOP
+from pdsuite.programs.locate import UnprovedError, commit, launched_from, locate, proved_program
+from pdsuite.programs.lookup import ProgramLookup, programs_lookup, tree_lookup
 
 _KEPT = TOP / "tools/kept_programs.py"
 _COMMIT = "commit"
-# What of a commit a program is built from, and by what its rows are told.
+# What of a commit a program is built from, and by what its rows are run.
 _PARTS = ("crates", "crates.txt", "HANDLES", "docs", "examples", "tests", "tools")
 _DIRTY = "-dirty"
 
@@ -51,11 +51,11 @@ class Sender:
         return self.programs is None or RECORD in self.programs
 
     @property
-    def look(self) -> Look:
+    def look(self) -> ProgramLookup:
         """A look at its programs, or at the tree that it is built from."""
         if self.programs is not None:
-            return programs_look(self.programs) if self.tree is None else tree_look(self.tree, *self.programs)
-        return tree_look(self.top, REGRESS)
+            return programs_lookup(self.programs) if self.tree is None else tree_lookup(self.tree, *self.programs)
+        return tree_lookup(self.top, REGRESS)
 
     def sources(self, place: Path) -> Path | None:
         """The tree of its sources, if it is known; that of a commit is put into a new folder."""
@@ -85,42 +85,42 @@ def sender_of(word: str, option: str, place: Path) -> Sender:
         return Sender(shown_path(folder), _programs_in(folder, option), None)
     if folder.is_dir():
         raise Fault(f"{option}: {shown_path(folder)}: no folder of programs: it has no {REGRESS}")
-    if not TOOL.is_file():
+    if not BATCH_TOOL.is_file():
         raise Fault(f"{option}: {shown_text(word)}: no folder, and here is no tree with commits")
     place.mkdir()
     return Sender(_checked_out(word, option, place), None, place)
 
 
-def standing() -> Sender:
+def current_sender() -> Sender:
     """The tree as it stands, or the programs of a package or of PDSUITE_PROGRAMS."""
-    if (folder := os.environ.get(FOLDER)) and (tree := launched_from(Path(folder))):
+    if (folder := os.environ.get(PROGRAMS_VARIABLE)) and (tree := launched_from(Path(folder))):
         return _of_tree(tree, shown_path(Path(folder)))
     try:
         programs = {name: locate(name) for name in (REGRESS, RECORD)}
-    except Unproved:
-        if not TOOL.is_file():
+    except UnprovedError:
+        if not BATCH_TOOL.is_file():
             raise
         return Sender(f"the tree as it stands, {commit()}", None)
-    is_elsewhere = PACKED.exists() or os.environ.get(FOLDER)
+    is_elsewhere = PACKAGE_VERSION.exists() or os.environ.get(PROGRAMS_VARIABLE)
     return Sender(f"the proved programs, {commit()}", programs, None if is_elsewhere else TOP)
 
 
 def _of_tree(tree: Path, name: str) -> Sender:
     """A tree's sender: its programs if both are proved."""
     try:
-        return Sender(name, {it: built(it, tree) for it in (REGRESS, RECORD)}, tree)
-    except Unproved:
+        return Sender(name, {it: proved_program(it, tree) for it in (REGRESS, RECORD)}, tree)
+    except UnprovedError:
         return Sender(name, None, tree)
 
 
 def last_proved() -> Sender:
     """The sender that was last proved in this tree, whose programs ./prove has kept."""
-    if PACKED.exists() or not _KEPT.is_file():
+    if PACKAGE_VERSION.exists() or not _KEPT.is_file():
         raise Fault("here nothing is proved: name another sender by --base")
-    said = subprocess.run([sys.executable, "-B", _KEPT], stdin=subprocess.DEVNULL, capture_output=True)
-    if said.returncode:
-        raise Fault(f"{shown(said.stderr.strip())}: name a sender by --base, or run ./prove")
-    folder = Path(os.fsdecode(said.stdout.removesuffix(b"\n")))
+    done = subprocess.run([sys.executable, "-B", _KEPT], stdin=subprocess.DEVNULL, capture_output=True)
+    if done.returncode:
+        raise Fault(f"{shown(done.stderr.strip())}: name a sender by --base, or run ./prove")
+    folder = Path(os.fsdecode(done.stdout.removesuffix(b"\n")))
     try:
         name = shown((folder / _COMMIT).read_bytes().strip())
     except OSError as error:
@@ -139,10 +139,10 @@ def _programs_in(folder: Path, option: str) -> dict[str, Path]:
 
 def _checked_out(word: str, option: str, place: Path) -> str:
     """The name of a commit, whose crates are put into a folder."""
-    asked = _git("rev-parse", "--verify", "--quiet", "--end-of-options", f"{word}^{{commit}}")
-    if asked is None:
+    commit = _git("rev-parse", "--verify", "--quiet", "--end-of-options", f"{word}^{{commit}}")
+    if commit is None:
         raise Fault(f"{option}: {shown_text(word)}: neither a folder of programs nor a commit")
-    number = asked.strip().decode()
+    number = commit.strip().decode()
     there = _git("ls-tree", "--name-only", number) or b""
     parts = [it for it in _PARTS if it.encode() in there.split(b"\n")]
     archive = place / "archive.tar"
@@ -167,9 +167,9 @@ def _unpack(archive: Path, place: Path) -> None:
 
 
 def _git(*words: str) -> bytes | None:
-    """What git says in this tree, if it does what it is asked for."""
+    """What git prints in this tree, if it does what is requested."""
     try:
-        said = subprocess.run(["git", "-C", TOP, *words], stdin=subprocess.DEVNULL, capture_output=True)
+        done = subprocess.run(["git", "-C", TOP, *words], stdin=subprocess.DEVNULL, capture_output=True)
     except OSError as error:
         raise Fault(f"git: {why(error)}") from error
-    return said.stdout if said.returncode == 0 else None
+    return done.stdout if done.returncode == 0 else None

@@ -5,13 +5,13 @@ from dataclasses import dataclass, replace
 
 from pdsuite.compare.senders import Sender
 from pdsuite.programs.refusals import Refusal
-from pdsuite.run.runs import Script
+from pdsuite.run.batches import Script
+from pdsuite.scripts.config import Claim, Layer, claims_of, option_of
 from pdsuite.scripts.renamed import KEYS, OLD_KEYS, UNKNOWN_KEY, old_setting, old_word
 from pdsuite.scripts.settings import Settings, Value, settings_of, settings_text
-from pdsuite.scripts.suite import Claim, Layer, claims_of, option_of
 
 
-class SettingsRefused(Exception):
+class SideSettingsError(Exception):
     """That a sender refuses settings; the lines say which."""
 
     def __init__(self, sender: Sender, refused: Iterable[Refusal]) -> None:
@@ -34,9 +34,9 @@ class Side:
         return settings_of(self.option.keys)
 
     def claims(self, common: Iterable[Claim]) -> list[Claim]:
-        """What the sender is asked about: claims that hold for both sides, but for what it lacks, and its own."""
-        asked = [it for it in common if it.key not in self.lacks]
-        named = [replace(it, key=self._name(it.key), value=self._word(it.key, it.value)) for it in asked]
+        """The claims for the sender: those that hold for both sides, but for what it lacks, and its own."""
+        known = [it for it in common if it.key not in self.lacks]
+        named = [replace(it, key=self._name(it.key), value=self._word(it.key, it.value)) for it in known]
         return [*named, *claims_of([self.option])]
 
     def settings(self, given: Settings) -> Settings:
@@ -49,23 +49,23 @@ class Side:
         """Scripts under the settings that hold here."""
         return [it if it.fault else replace(it, settings=self.settings(it.settings)) for it in scripts]
 
-    def asked(self, common: Sequence[Claim], ask: Callable[[list[Claim]], list[Refusal]]) -> "Side":
-        """The side as its sender takes it, which is asked until it refuses nothing, by the old names of keys too."""
+    def accepted(self, common: Sequence[Claim], query: Callable[[list[Claim]], list[Refusal]]) -> "Side":
+        """The side as its sender takes it, which is queried until it refuses nothing, by the old names of keys too."""
         side = self
-        while refused := ask(side.claims(common)):
-            side = side.without(refused, asks_again=True)
+        while refused := query(side.claims(common)):
+            side = side.without(refused, may_retry=True)
         return side
 
-    def without(self, refused: Sequence[Refusal], asks_again: bool = False) -> "Side":
+    def without(self, refused: Sequence[Refusal], may_retry: bool = False) -> "Side":
         """The side without keys that its sender is found to lack; a fault where it refuses more than such a key.
 
-        Who asks again gets a key by its old name, if it has one, before it counts as lacking.
+        Who queries again gets a key by its old name, if it has one, before it counts as lacking.
         """
         if wrong := [it for it in refused if it.reason != UNKNOWN_KEY or it.claim.place == self.option.place]:
-            raise SettingsRefused(self.sender, wrong)
-        told = {it.claim.key for it in refused}
-        keys = {KEYS[it] if KEYS.get(it) in self.renamed else it for it in told}
-        old = {it for it in keys - self.renamed if asks_again and it in OLD_KEYS}
+            raise SideSettingsError(self.sender, wrong)
+        refused_keys = {it.claim.key for it in refused}
+        keys = {KEYS[it] if KEYS.get(it) in self.renamed else it for it in refused_keys}
+        old = {it for it in keys - self.renamed if may_retry and it in OLD_KEYS}
         return replace(self, lacks=self.lacks | (keys - old), renamed=(self.renamed - keys) | old)
 
     def _name(self, key: str) -> str:
@@ -88,10 +88,10 @@ def refuse_common(sides: Sequence[Side], claims: Iterable[Claim]) -> None:
     """Raises a fault where a claim of both sides is of a key that both lack."""
     lacked = frozenset.intersection(*(it.lacks for it in sides))
     if wrong := [Refusal(it, UNKNOWN_KEY) for it in claims if it.key in lacked]:
-        raise SettingsRefused(sides[0].sender, wrong)
+        raise SideSettingsError(sides[0].sender, wrong)
 
 
-def tell_lacks(sides: Sequence[Side], note: Callable[[str], None]) -> None:
+def report_lacks(sides: Sequence[Side], note: Callable[[str], None]) -> None:
     """Says once of each key that a sender has by its old name, and of each that it lacks, where it has no effect."""
     for side in sides:
         for key in sorted(side.renamed):

@@ -10,9 +10,9 @@ from matplotlib.lines import Line2D
 from matplotlib.patches import Patch
 from matplotlib.ticker import FuncFormatter, MaxNLocator
 
-from pdsuite.diagram.labels import Label, Placed
+from pdsuite.diagram.labels import Label, PlacedLabel
 from pdsuite.diagram.palette import LIGHT
-from pdsuite.diagram.values import Step
+from pdsuite.diagram.timeline_parts import Stair
 
 # What a picture is of besides its strokes: the same octets for the same strokes, and no text that is more than a text.
 SETTINGS = {
@@ -117,7 +117,7 @@ class Canvas:
         if places:
             self.legend.append((Line2D([], [], linestyle="none", **style), words))
 
-    def area(self, role: str, steps: Sequence[Step], words: str) -> None:
+    def area(self, role: str, steps: Sequence[Stair], words: str) -> None:
         """What is on the way, as an area below its staircase."""
         for xs, ys, is_later in _runs(steps, self.end):
             alpha = 0.3 * alpha_of(is_later)
@@ -128,7 +128,7 @@ class Canvas:
             self.legend.append((Patch(color=LIGHT[role], alpha=0.3, linewidth=0), words))
 
     def stairs(
-        self, axes: Axes, role: str, steps: Sequence[Step], words: str, wide: float, style: object = "-"
+        self, axes: Axes, role: str, steps: Sequence[Stair], words: str, wide: float, style: object = "-"
     ) -> None:
         """A staircase, pale from the failing line on."""
         for xs, ys, is_later in _runs(steps, self.end):
@@ -146,7 +146,7 @@ class Canvas:
         if steps:
             self.legend.append((Line2D([], [], color=LIGHT[role], linewidth=wide, linestyle=style), words))
 
-    def lay_out(self, title: str, labels: Sequence[Placed]) -> None:
+    def lay_out(self, title: str, labels: Sequence[PlacedLabel]) -> None:
         """Gives each part its place, once all strokes are drawn: a title, words, octets, windows, the legend."""
         size = self.size
         rows = max((it.row + 1 for it in labels if it.row is not None), default=0)
@@ -192,7 +192,7 @@ class Canvas:
         scale = _SECOND if in_seconds else 1_000
         self.windows.xaxis.set_major_formatter(FuncFormatter(lambda it, _: f"{it / scale:,.10g}"))
 
-    def _draw_words(self, labels: Sequence[Placed], bottom: float, height: float) -> None:
+    def _draw_words(self, labels: Sequence[PlacedLabel], bottom: float, height: float) -> None:
         """The words, in rows above the octets."""
         size = self.size
         for it in labels:
@@ -237,7 +237,7 @@ def alpha_of(is_later: bool) -> float:
     return _PALE if is_later else 1.0
 
 
-def _runs(steps: Sequence[Step], end: float) -> Iterable[tuple[list[float], list[int], bool]]:
+def _runs(steps: Sequence[Stair], end: float) -> Iterable[tuple[list[float], list[int], bool]]:
     """The pieces of a staircase, each without gaps and of one paleness, up to the next piece or the end."""
     xs: list[float] = []
     ys: list[int] = []

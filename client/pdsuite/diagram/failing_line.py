@@ -32,7 +32,7 @@ class FailingLine:
 
 
 def failing_line_of(script: str, line: int, cause: Cause) -> FailingLine | None:
-    """The failing line of a script, as the program that explains tells it; None where the text has no such event."""
+    """The failing line of a script, as the program that explains reports it; None where the text has no such event."""
     items = [it for it in read(script).items if isinstance(it.what, Packet | Call)]
     expected, actual = _packet(cause, "script_packet"), _packet(cause, "actual_packet")
     place = _place(items, line, expected)

@@ -3,7 +3,7 @@
 from collections.abc import Sequence
 from dataclasses import dataclass
 
-from pdsuite.diagram.values import Strokes
+from pdsuite.diagram.timeline_parts import Timeline
 
 MOST_ROWS = 5
 _GAP = 8.0
@@ -20,7 +20,7 @@ class Label:
 
 
 @dataclass(frozen=True, slots=True)
-class Placed:
+class PlacedLabel:
     """A label, where its words begin, and in which row, counted from the lowest; without a row it has no room."""
 
     label: Label
@@ -28,15 +28,15 @@ class Placed:
     row: int | None
 
 
-def labels_of(strokes: Strokes) -> list[Label]:
+def labels_of(timeline: Timeline) -> list[Label]:
     """What has a name in a diagram, in the order of time."""
-    labels = [Label(it.at, it.words, it.is_later) for it in strokes.notes]
-    if strokes.failure is not None:
-        labels.append(Label(strokes.failure.at, f"line {strokes.failure.line} fails", is_failure=True))
+    labels = [Label(it.at, it.words, it.is_later) for it in timeline.notes]
+    if timeline.failure is not None:
+        labels.append(Label(timeline.failure.at, f"line {timeline.failure.line} fails", is_failure=True))
     return sorted(labels, key=lambda it: it.at)
 
 
-def placed(labels: Sequence[Label], places: Sequence[float], letter: float, width: float) -> list[Placed]:
+def placed(labels: Sequence[Label], places: Sequence[float], letter: float, width: float) -> list[PlacedLabel]:
     """The labels in rows, each in the lowest that has room. `places` are theirs, in a width of so many units."""
     ends = [-_GAP] * MOST_ROWS
     done = []
@@ -46,5 +46,5 @@ def placed(labels: Sequence[Label], places: Sequence[float], letter: float, widt
         row = next((it for it, end in enumerate(ends) if end + _GAP <= left), None)
         if row is not None:
             ends[row] = left + long
-        done.append(Placed(label, left, row))
+        done.append(PlacedLabel(label, left, row))
     return done

@@ -10,7 +10,7 @@ import matplotlib
 from pdsuite.diagram.canvas import NARROW, SETTINGS, WIDE, Size
 from pdsuite.diagram.palette import LIGHT, rules
 from pdsuite.diagram.plot import figure_of
-from pdsuite.diagram.values import Strokes
+from pdsuite.diagram.timeline_parts import Timeline
 
 _DPI = 144
 _WORDS = "Time-sequence diagram: octets over time, and below it the windows over the same time"
@@ -32,26 +32,26 @@ _STYLE = (
 )
 
 
-def for_page(strokes: Strokes) -> str:
+def for_page(timeline: Timeline) -> str:
     """Two pictures for a page, of which it shows the one that fits: for wide and for narrow windows."""
-    return _svg(strokes, WIDE, "wide") + _svg(strokes, NARROW, "narrow")
+    return _svg(timeline, WIDE, "wide") + _svg(timeline, NARROW, "narrow")
 
 
-def svg_file(strokes: Strokes, title: str) -> bytes:
+def svg_file(timeline: Timeline, title: str) -> bytes:
     """A picture as a file of its own, dark where the reader prefers it."""
-    first, rest = _svg(strokes, WIDE, "wide", _TITLE).split(">", 1)
+    first, rest = _svg(timeline, WIDE, "wide", _TITLE).split(">", 1)
     text = f"{first} {_NAMESPACES}><style>{_STYLE}</style>{rest}"
     return text.replace(_TITLE, escape(_cut(title))).encode("utf-8", "replace")
 
 
-def png_file(strokes: Strokes, title: str) -> bytes:
+def png_file(timeline: Timeline, title: str) -> bytes:
     """A picture as dots, on white."""
-    return _saved(strokes, WIDE, _cut(title), "png", dpi=_DPI, facecolor="white", metadata={"Software": None})
+    return _saved(timeline, WIDE, _cut(title), "png", dpi=_DPI, facecolor="white", metadata={"Software": None})
 
 
-def _svg(strokes: Strokes, size: Size, name: str, title: str = "") -> str:
+def _svg(timeline: Timeline, size: Size, name: str, title: str = "") -> str:
     """A picture as SVG that stands in another text: with classes, and colours by variables."""
-    return in_page(_saved(strokes, size, title, "svg", metadata={"Date": None}).decode(), name, _WORDS)
+    return in_page(_saved(timeline, size, title, "svg", metadata={"Date": None}).decode(), name, _WORDS)
 
 
 def in_page(text: str, name: str, words: str) -> str:
@@ -63,14 +63,14 @@ def in_page(text: str, name: str, words: str) -> str:
     return _FONT.sub(r"font-size: \1px", text)
 
 
-def _saved(strokes: Strokes, size: Size, title: str, form: str, **words: object) -> bytes:
+def _saved(timeline: Timeline, size: Size, title: str, form: str, **words: object) -> bytes:
     octets = io.BytesIO()
     # Neither the user's own settings nor letters that a font hasn't make a difference.
     with matplotlib.rc_context(), warnings.catch_warnings():
         warnings.simplefilter("ignore")
         matplotlib.rcdefaults()
         matplotlib.rcParams.update(SETTINGS)
-        figure_of(strokes, size, title).savefig(octets, format=form, **words)
+        figure_of(timeline, size, title).savefig(octets, format=form, **words)
     return octets.getvalue()
 
 

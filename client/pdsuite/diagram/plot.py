@@ -8,65 +8,67 @@ from matplotlib.markers import TICKDOWN
 from matplotlib.patches import Patch
 
 from pdsuite.diagram.canvas import Canvas, Size, alpha_of, at_least, box, color_of
-from pdsuite.diagram.labels import Placed, labels_of, placed
+from pdsuite.diagram.labels import PlacedLabel, labels_of, placed
 from pdsuite.diagram.palette import LIGHT
-from pdsuite.diagram.values import Expected, Flag, Kind, Segment, Strokes
+from pdsuite.diagram.timeline_parts import ExpectedSegment, Flag, Segment, SegmentKind, Timeline
 
 _MARKERS = {Flag.SYN: "D", Flag.FIN: "v", Flag.RST: "X"}
-_KINDS = {Kind.NEW: "new", Kind.AGAIN: "again", Kind.EMPTY: "empty"}
+_KINDS = {SegmentKind.NEW: "new", SegmentKind.AGAIN: "again", SegmentKind.EMPTY: "empty"}
 
 
-def figure_of(strokes: Strokes, size: Size, title: str = "") -> Figure:
+def figure_of(timeline: Timeline, size: Size, title: str = "") -> Figure:
     """The picture of a diagram, with a title above if there is one."""
-    canvas = Canvas(size, strokes.begin, strokes.end, _height(strokes))
-    labels = _placed(strokes, canvas)
-    _draw_octets(strokes, canvas)
-    _draw_windows(strokes, canvas)
+    canvas = Canvas(size, timeline.begin, timeline.end, _height(timeline))
+    labels = _placed(timeline, canvas)
+    _draw_octets(timeline, canvas)
+    _draw_windows(timeline, canvas)
     _draw_lines(labels, canvas)
     canvas.lay_out(title, labels)
     return canvas.figure
 
 
-def _height(strokes: Strokes) -> float:
+def _height(timeline: Timeline) -> float:
     """The octet up to which the diagram goes: all that is sent, and the window's edge where it isn't far above."""
     ends = (
-        [it.end for it in strokes.segments] + [it.end for it in strokes.blocks] + [it.octet for it in strokes.arrivals]
+        [it.end for it in timeline.segments]
+        + [it.end for it in timeline.blocks]
+        + [it.octet for it in timeline.arrivals]
     )
-    if strokes.failure is not None:
-        ends += [it.end for it in (strokes.failure.expected, strokes.failure.actual) if it is not None]
+    if timeline.failure is not None:
+        ends += [it.end for it in (timeline.failure.expected, timeline.failure.actual) if it is not None]
     most = max(ends, default=1)
-    edges = [it.value for it in strokes.edge if it.value is not None and it.value <= 1.6 * most]
+    edges = [it.value for it in timeline.edge if it.value is not None and it.value <= 1.6 * most]
     return max([most, *edges, 4]) * 1.05
 
 
-def _placed(strokes: Strokes, canvas: Canvas) -> list[Placed]:
-    labels = labels_of(strokes)
+def _placed(timeline: Timeline, canvas: Canvas) -> list[PlacedLabel]:
+    labels = labels_of(timeline)
     places = [(it.at - canvas.begin) / canvas.unit for it in labels]
     return placed(labels, places, canvas.size.letter, canvas.size.width - canvas.size.left - canvas.size.right)
 
 
-def _draw_octets(strokes: Strokes, canvas: Canvas) -> None:
+def _draw_octets(timeline: Timeline, canvas: Canvas) -> None:
     axes = canvas.octets
-    for span in strokes.spans:
+    for span in timeline.spans:
         for each in (axes, canvas.windows):
             each.axvspan(
                 span.begin, span.end, color=LIGHT["span"], linewidth=0, alpha=alpha_of(span.is_later), gid="span"
             )
-    if strokes.spans:
+    if timeline.spans:
         canvas.legend.append((Patch(color=LIGHT["span"], linewidth=0), "recovery from a loss"))
-    for kind, words in ((Kind.NEW, "segment sent"), (Kind.AGAIN, "segment sent again")):
-        found = [it for it in strokes.segments if it.kind is kind]
+    for kind, words in ((SegmentKind.NEW, "segment sent"), (SegmentKind.AGAIN, "segment sent again")):
+        found = [it for it in timeline.segments if it.kind is kind]
         canvas.bars(_KINDS[kind], [(it.at, it.start, it.end, it.is_later) for it in found], 4.5, words)
-    blocks = [(it.at, it.start, it.end, it.is_later) for it in strokes.blocks]
+    blocks = [(it.at, it.start, it.end, it.is_later) for it in timeline.blocks]
     canvas.bars("sack", blocks, 2.0, "SACK block that arrives")
-    canvas.stairs(axes, "edge", strokes.edge, _edge_words(strokes, canvas.high), 1.3)
-    canvas.stairs(axes, "ack", strokes.acknowledged, "acknowledged up to here", 1.3)
-    _draw_failure(strokes, canvas)
-    _draw_marks(strokes, canvas)
+    canvas.stairs(axes, "edge", timeline.edge, _edge_words(timeline, canvas.high), 1.3)
+    canvas.stairs(axes, "ack", timeline.acknowledged, "acknowledged up to here", 1.3)
+    _draw_failure(timeline, canvas)
+    _draw_marks(timeline, canvas)
 
 
-def _edge_words(strokes: Strokes, high: float) -> str:
-    values = [it.value for it in strokes.edge if it.value is not None]
+def _edge_words(timeline: Timeline, high: float) -> str:
+    values = [it.value for it in timeline.edge if it.value is not None]
     above = [it for it in values if it > high]
     if not above:
         return "edge of the peer's window"
@@ -75,28 +77,28 @@ def _edge_words(strokes: Strokes, high: float) -> str:
     return f"edge of the peer's window: above, {_range(values)}"
 
 
-def _draw_marks(strokes: Strokes, canvas: Canvas) -> None:
+def _draw_marks(timeline: Timeline, canvas: Canvas) -> None:
     """Segments without octets, flags of those that leave, and what arrives."""
-    empty = [it for it in strokes.segments if it.kind is Kind.EMPTY and it.flag is Flag.NONE]
+    empty = [it for it in timeline.segments if it.kind is SegmentKind.EMPTY and it.flag is Flag.NONE]
     canvas.points("empty", [(it.at, it.start, it.is_later) for it in empty], "|", 9, "segment without octets")
-    twice = [it for it in strokes.arrivals if it.is_duplicate]
+    twice = [it for it in timeline.arrivals if it.is_duplicate]
     canvas.points("ack", [(it.at, it.octet, it.is_later) for it in twice], TICKDOWN, 8, "duplicate ACK")
     for flag, marker in _MARKERS.items():
         for kind, role in _KINDS.items():
-            sent = [it for it in strokes.segments if it.flag is flag and it.kind is kind]
-            again = " again" if kind is Kind.AGAIN else ""
+            sent = [it for it in timeline.segments if it.flag is flag and it.kind is kind]
+            again = " again" if kind is SegmentKind.AGAIN else ""
             canvas.points(role, _places(sent, 7 * canvas.octet), marker, 7, f"{flag.value} sent{again}")
         # Just below what is acknowledged, since what leaves at the same moment lies there.
-        came = [it for it in strokes.arrivals if it.flag is flag and not it.is_dropped]
+        came = [it for it in timeline.arrivals if it.flag is flag and not it.is_dropped]
         below = [(it.at, it.octet - 10 * canvas.octet, it.is_later) for it in came]
         canvas.points("ack", below, marker, 6.5, f"{flag.value} arrives", is_hollow=True)
-        lost = [it for it in strokes.arrivals if it.flag is flag and it.is_dropped]
+        lost = [it for it in timeline.arrivals if it.flag is flag and it.is_dropped]
         above = [(it.at, it.octet + 10 * canvas.octet, it.is_later) for it in lost]
         canvas.points("again", above, marker, 6.5, f"{flag.value} arrives and is dropped", is_hollow=True)
 
 
-def _draw_failure(strokes: Strokes, canvas: Canvas) -> None:
-    failure = strokes.failure
+def _draw_failure(timeline: Timeline, canvas: Canvas) -> None:
+    failure = timeline.failure
     if failure is not None and failure.actual is not None:
         _draw_actual(failure.actual, canvas)
     if failure is not None and failure.expected is not None:
@@ -109,11 +111,11 @@ def _draw_actual(it: Segment, canvas: Canvas) -> None:
     place = box(it.at - 4 * canvas.unit, it.at + 4 * canvas.unit, *at_least(it.start, it.end, 3 * canvas.octet))
     bar = PolyCollection([place], facecolors=LIGHT[role], edgecolors="none", zorder=4, gid=role)
     canvas.octets.add_collection(bar, autolim=False)
-    again = " again" if it.kind is Kind.AGAIN else ""
+    again = " again" if it.kind is SegmentKind.AGAIN else ""
     canvas.legend.append((Patch(facecolor=LIGHT[role], linewidth=0), f"packet sent{again}, but not expected so"))
 
 
-def _draw_expected(it: Expected, line: int, canvas: Canvas) -> None:
+def _draw_expected(it: ExpectedSegment, line: int, canvas: Canvas) -> None:
     """The packet that the failing line expects, as an outline as wide as its time."""
     octets = at_least(it.start, it.end, 6 * canvas.octet)
     place = box(it.first - 7 * canvas.unit, it.last + 7 * canvas.unit, *octets)
@@ -123,21 +125,21 @@ def _draw_expected(it: Expected, line: int, canvas: Canvas) -> None:
     canvas.legend.append((Patch(**style), f"packet expected by line {line}"))
 
 
-def _draw_windows(strokes: Strokes, canvas: Canvas) -> None:
+def _draw_windows(timeline: Timeline, canvas: Canvas) -> None:
     axes = canvas.windows
-    curves = (strokes.cwnd, strokes.flight_size, strokes.pipe)
+    curves = (timeline.cwnd, timeline.flight_size, timeline.pipe)
     most = max((it.value for curve in curves for it in curve if it.value is not None), default=1)
-    most = max(most, *(it.value for it in strokes.ssthresh if it.value is not None and it.value <= 3 * most), 1)
+    most = max(most, *(it.value for it in timeline.ssthresh if it.value is not None and it.value <= 3 * most), 1)
     axes.set_ylim(0, most * 1.12)
-    canvas.area("flight", strokes.flight_size, "FlightSize")
-    canvas.area("pipe", strokes.pipe, "pipe")
-    canvas.stairs(axes, "cwnd", strokes.cwnd, "cwnd", 2.0)
-    limits = [it.value for it in strokes.ssthresh if it.value is not None]
+    canvas.area("flight", timeline.flight_size, "FlightSize")
+    canvas.area("pipe", timeline.pipe, "pipe")
+    canvas.stairs(axes, "cwnd", timeline.cwnd, "cwnd", 2.0)
+    limits = [it.value for it in timeline.ssthresh if it.value is not None]
     words = "ssthresh" if not limits or max(limits) <= most else f"ssthresh, up to {max(limits):,}"
-    canvas.stairs(axes, "ssthresh", strokes.ssthresh, words, 1.4, (0, (4, 2)))
+    canvas.stairs(axes, "ssthresh", timeline.ssthresh, words, 1.4, (0, (4, 2)))
 
 
-def _draw_lines(labels: Sequence[Placed], canvas: Canvas) -> None:
+def _draw_lines(labels: Sequence[PlacedLabel], canvas: Canvas) -> None:
     """A line through both axes at each moment that has words."""
     for it in labels:
         for axes in (canvas.octets, canvas.windows):

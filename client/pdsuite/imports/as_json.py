@@ -4,10 +4,10 @@ import json
 from collections import Counter
 from collections.abc import Iterable, Iterator, Sequence
 
-from pdsuite.imports.conversion import Imported, Left
+from pdsuite.imports.conversion import Imported, NotImported
 from pdsuite.imports.findings import Heading
 from pdsuite.imports.listing import Listed, alone_in
-from pdsuite.show.octets import shown_path, shown_text
+from pdsuite.output.octets import shown_path, shown_text
 
 # Of the object, as docs/import.schema.json has it.
 VERSION = 2
@@ -18,7 +18,7 @@ def as_json(scripts: Sequence[Listed]) -> str:
     """The object of an import, with a line for each script."""
     lines = ",".join(f"\n{_encoded(_script(it))}" for it in scripts)
     imported = [it.came for it in scripts if isinstance(it.came, Imported)]
-    left = [it.came for it in scripts if isinstance(it.came, Left)]
+    left = [it.came for it in scripts if isinstance(it.came, NotImported)]
     kept = sum(not it.changed for it in imported)
     rest = {
         "reasons": list(_reasons(left)),
@@ -42,12 +42,14 @@ def _script(listed: Listed) -> dict[str, object]:
             return {"path": path, "came": "error", "reason": shown_text(reason)}
         case Imported(changed=changed, settings=settings):
             return {"path": path, "came": "imported", "changed": changed, "settings": dict(settings)}
-        case Left(reasons):
-            told = [{"line": it.line, "words": shown_text(it.words), "what": shown_text(it.what)} for it in reasons]
-            return {"path": path, "came": "not imported", "reasons": told}
+        case NotImported(reasons):
+            reason_objects = [
+                {"line": it.line, "words": shown_text(it.words), "what": shown_text(it.what)} for it in reasons
+            ]
+            return {"path": path, "came": "not imported", "reasons": reason_objects}
 
 
-def _reasons(left: Sequence[Left]) -> Iterator[dict[str, object]]:
+def _reasons(left: Sequence[NotImported]) -> Iterator[dict[str, object]]:
     """Each reason: how many scripts have it, and how many no other."""
     alone = Counter(alone_in(left))
     for words, count in _counted(reason.words for it in left for reason in it.reasons):

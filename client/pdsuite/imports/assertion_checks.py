@@ -7,13 +7,13 @@ from dataclasses import dataclass
 from pdsuite.imports.assertions import Assertion, assertion_in
 from pdsuite.imports.packets import LEAST_SMSS, smss_of
 from pdsuite.packetdrill.reader import read
-from pdsuite.programs.trace import Event, events_in
+from pdsuite.programs.trace import TracedEvent, events_in
 
 _LINE = re.compile(r"^.*$", re.MULTILINE)
 
 
 @dataclass(frozen=True, slots=True)
-class State:
+class CheckedState:
     """The sender after an event: its facts by their names, and whether it repairs what an expiry lost."""
 
     facts: Mapping[str, str]
@@ -38,7 +38,7 @@ class _Input:
     """A packet that arrives or a call: where it ends, the state after it, and whether an expiry follows it."""
 
     end: int
-    state: State
+    state: CheckedState
     expires: bool
 
 
@@ -68,7 +68,7 @@ def compare(script: str, recording: str, row_line: int | None, mss: int) -> list
     return compared
 
 
-def _beside(line: int, assertion: Assertion, state: State, smss: int) -> CheckedAssertion:
+def _beside(line: int, assertion: Assertion, state: CheckedState, smss: int) -> CheckedAssertion:
     facts = state.facts
     if "cwnd" not in facts or smss < LEAST_SMSS:
         return CheckedAssertion(line, assertion, None)
@@ -90,10 +90,10 @@ def _inputs(recording: str) -> Iterator[_Input]:
     for number, after in zip(acts, [*acts[1:], len(events)]):
         event = events[number]
         expires = any(it.moment != event.moment for it in events[number + 1 : after])
-        yield _Input(event.end, State(event.facts, lossy[number]), expires)
+        yield _Input(event.end, CheckedState(event.facts, lossy[number]), expires)
 
 
-def _losses(events: Sequence[Event]) -> Iterator[bool]:
+def _losses(events: Sequence[TracedEvent]) -> Iterator[bool]:
     """Whether the sender repairs what an expiry lost, after each event; a moment that no input has is an expiry's."""
     lost: int | None = None
     moment = 0

@@ -32,14 +32,14 @@ class Assertion:
 
 
 @dataclass(frozen=True, slots=True)
-class Asserted:
+class ParsedAssertions:
     """What a code asserts that is compared, and what isn't compared of it, in words that are counted."""
 
     assertions: tuple[Assertion, ...]
     others: tuple[str, ...]
 
 
-def asserted(code: str) -> Asserted:
+def asserted(code: str) -> ParsedAssertions:
     """What a code asserts. It is read, and never run."""
     assertions: list[Assertion] = []
     others: list[str] = []
@@ -49,7 +49,7 @@ def asserted(code: str) -> Asserted:
             assertions.append(found)
         else:
             others.append(_words(statement))
-    return Asserted(tuple(assertions), tuple(others))
+    return ParsedAssertions(tuple(assertions), tuple(others))
 
 
 def comment(assertion: Assertion) -> str:
@@ -95,9 +95,9 @@ def _assertion(name: str, value: str) -> Assertion | None:
 
 
 def _words(statement: ast.stmt | None) -> str:
-    """What isn't compared: the names that a statement asks about."""
+    """What isn't compared: the names that a statement reads."""
     if not isinstance(statement, ast.Assert):
         return "other code"
     names = sorted({it.id for it in ast.walk(statement.test) if isinstance(it, ast.Name) and it.id.isascii()})
-    told = [it for it in names if it.startswith("tcpi_")]
-    return " and ".join(told[:3]) or "other assertions"
+    tcp_info_names = [it for it in names if it.startswith("tcpi_")]
+    return " and ".join(tcp_info_names[:3]) or "other assertions"

@@ -95,7 +95,7 @@ def is_buffer(call: Call) -> bool:
 
 
 def written(call: Call) -> int:
-    """How many octets a call asks to be written."""
+    """How many octets a call is to write."""
     if call.name != "write" or len(call.arguments) != 3 or not _WHOLE.fullmatch(call.arguments[2]):
         return 0
     digits = call.arguments[2].lstrip("0")

@@ -8,17 +8,17 @@ from pdsuite.imports.assertions import asserted, comment
 from pdsuite.imports.calls import Spelling, is_buffer, spelled, spelling_of, written
 from pdsuite.imports.findings import Finding, Heading, Reason
 from pdsuite.imports.packets import Sending, as_sent, count_of_pieces, moments_of, smss_of, writes_of
-from pdsuite.imports.profile import MSS, header_settings, is_place, tolerance_of, unrun
+from pdsuite.imports.profile import MSS, header_settings, is_place, tolerance_of, unsupported_reasons
 from pdsuite.imports.rewrite import Rewrite, kept, rewritten
 from pdsuite.imports.setup import ABC_LIMIT, RUN
-from pdsuite.imports.setup import Load, Looked, Place, Setup, Words, joined, look_at, setup_of
+from pdsuite.imports.setup import CommandPlace, LoadSetup, ParsedCommand, Setup, SetupWords, joined, look_at, setup_of
 from pdsuite.imports.slow_start import initial_window, limit_of
 from pdsuite.packetdrill.items import Call, Code, Command, HeaderOption, Item, Packet, Time
 from pdsuite.packetdrill.reader import Reading, read
 from pdsuite.packetdrill.tokens import line_of
 from pdsuite.scripts.defaults import DEFAULTS
 from pdsuite.scripts.settings import Settings, Value, settings_of
-from pdsuite.scripts.text import LINES, Unfit, text_of
+from pdsuite.scripts.text import LINES, UnfitTextError, text_of
 
 MOST_EVENTS = 4_096
 # Why the commands of an imported script's set-up are comments.
@@ -28,12 +28,12 @@ _SETTINGS = "settings in pdsuite.toml: "
 
 
 @dataclass(frozen=True)
-class Source:
+class ImportSource:
     """A script to import: its text, the settings that a pdsuite.toml has for it, if any, and what it may load."""
 
     text: str
     own: Mapping[str, Value] | None
-    load: Load
+    load: LoadSetup
 
 
 @dataclass(frozen=True)
@@ -45,17 +45,17 @@ class Imported:
     findings: tuple[Finding, ...]
     changed: int  # how many of its packets were
     is_own: bool  # a pdsuite.toml has its settings, and none are a kernel's
-    shared: Words  # what files of set-up say that scripts share
+    shared: SetupWords  # what files of set-up say that scripts share
 
 
 @dataclass(frozen=True)
-class Left:
+class NotImported:
     """A script that isn't imported, and why, in the order of lines."""
 
     reasons: tuple[Reason, ...]
 
 
-def convert(source: Source, keep_packets: bool) -> Imported | Left:
+def convert(source: ImportSource, keep_packets: bool) -> Imported | NotImported:
     """Imports a script. With `keep_packets`, and where a pdsuite.toml has settings for it, packets stay as they are."""
     reading = read(source.text)
     spellings = _spellings(reading.items)
@@ -64,14 +64,14 @@ def convert(source: Source, keep_packets: bool) -> Imported | Left:
     header = header_settings(items)
     smss = smss_of(items, _number({**DEFAULTS, **header, **(source.own or {})}, MSS))
     first = _first_act(items)
-    told = [told for number in range(first) if number in looked for told in looked[number].told]
-    setup = setup_of(told, max(smss, 1), header, source.own)
-    reasons = [*_reasons(items, setup, looked), *_unread(reading, source.text)]
+    lines = [lines for number in range(first) if number in looked for lines in looked[number].lines]
+    setup = setup_of(lines, max(smss, 1), header, source.own)
+    reasons = [*_reasons(items, setup, looked), *_syntax_reasons(reading, source.text)]
     keeps = keep_packets or source.own is not None
     if not keeps:
         reasons.extend(_long(items, smss))
     if reasons:
-        return Left(_in_order(reasons))
+        return NotImported(_in_order(reasons))
     tolerance = tolerance_of(items)
     if tolerance is None:
         tolerance = _number({**DEFAULTS, **setup.settings}, "tolerance_us")
@@ -90,16 +90,16 @@ def _limited(settings: Mapping[str, Value], items: Sequence[Item], smss: int) ->
     return {**settings, ABC_LIMIT: limit_of(items, smss, initial_window(settings["initial_window"], smss))}
 
 
-def _reasons(items: Sequence[Item], setup: Setup, looked: Mapping[int, Looked]) -> Iterator[Reason]:
-    """Why a script isn't imported, as its items and its set-up tell."""
+def _reasons(items: Sequence[Item], setup: Setup, looked: Mapping[int, ParsedCommand]) -> Iterator[Reason]:
+    """Why a script isn't imported, as its items and its set-up say."""
     yield from setup.reasons
-    yield from unrun(items, setup.has_timestamps)
+    yield from unsupported_reasons(items, setup.has_timestamps)
     yield from _unshifted(items)
     yield from (reason for it in looked.values() for reason in it.reasons)
     yield from _buffer(items, _number({**DEFAULTS, **setup.settings}, "sndbuf"))
 
 
-def _unread(reading: Reading, text: str) -> Iterator[Reason]:
+def _syntax_reasons(reading: Reading, text: str) -> Iterator[Reason]:
     """Where the text is no script's, if it isn't."""
     if reading.fault is not None:
         yield Reason(line_of(text, reading.fault.place), reading.fault.words, reading.fault.what)
@@ -123,11 +123,11 @@ def _spellings(items: Sequence[Item]) -> dict[int, Spelling]:
     return {number: it for number, it in found.items() if it is not None}
 
 
-def _looked(items: Sequence[Item], load: Load) -> dict[int, Looked]:
+def _looked(items: Sequence[Item], load: LoadSetup) -> dict[int, ParsedCommand]:
     """What each command says, by the places of the items."""
     first = _first_act(items)
     return {
-        number: look_at(it.what.text, it.line, Place.SETUP if number < first else Place.MIDST, load)
+        number: look_at(it.what.text, it.line, CommandPlace.SETUP if number < first else CommandPlace.MIDST, load)
         for number, it in enumerate(items)
         if isinstance(it.what, Command)
     }
@@ -143,10 +143,12 @@ def _in_order(reasons: Sequence[Reason]) -> tuple[Reason, ...]:
 
 def _buffer(items: Sequence[Item], sndbuf: int) -> Iterator[Reason]:
     """A send buffer that the default can't stand for, since more is written."""
-    asked = sum(written(it.what) for it in items if isinstance(it.what, Call))
+    written_octets = sum(written(it.what) for it in items if isinstance(it.what, Call))
     for item in items:
-        if isinstance(item.what, Call) and is_buffer(item.what) and asked > sndbuf:
-            yield Reason(item.line, "SO_SNDBUF, where more is written than the default holds", f"{asked} octets")
+        if isinstance(item.what, Call) and is_buffer(item.what) and written_octets > sndbuf:
+            yield Reason(
+                item.line, "SO_SNDBUF, where more is written than the default holds", f"{written_octets} octets"
+            )
 
 
 def _long(items: Sequence[Item], smss: int) -> Iterator[Reason]:
@@ -160,15 +162,15 @@ def _long(items: Sequence[Item], smss: int) -> Iterator[Reason]:
                 return
 
 
-def _within_limits(text: str) -> Left | None:
+def _within_limits(text: str) -> NotImported | None:
     """Why the text of an import is no script's, if it isn't."""
     octets = text.encode("utf-8", "surrogateescape")
     try:
         text_of(octets)
-    except Unfit as unfit:
-        return Left((Reason(min(octets.count(b"\n"), LINES), str(unfit)),))
+    except UnfitTextError as unfit:
+        return NotImported((Reason(min(octets.count(b"\n"), LINES), str(unfit)),))
     events = sum(it.time is not None for it in read(text).items)
-    return Left((Reason(LINES, "more than 4,096 events"),)) if events > MOST_EVENTS else None
+    return NotImported((Reason(LINES, "more than 4,096 events"),)) if events > MOST_EVENTS else None
 
 
 # ---- times
@@ -179,7 +181,7 @@ def _is_dropped(what: object) -> bool:
 
 
 def _shifted(carried: Time, time: Time) -> Time | None:
-    """A time after another one that is dropped; None where it can't be said."""
+    """A time after another one that is dropped; None where it can't be written."""
     if carried == _NOW or (time.first is not None and not time.is_relative):
         return time
     if time.first is None or carried.first is None or carried.last is not None:
@@ -213,7 +215,7 @@ class _Known:
     Packets stay where there is no SMSS.
     """
 
-    looked: Mapping[int, Looked]
+    looked: Mapping[int, ParsedCommand]
     spellings: Mapping[int, Spelling]
     smss: int | None
     tolerance: int
@@ -258,9 +260,9 @@ def _dropped(item: Item, old: str, reasons: Sequence[str], findings: Sequence[Fi
     return Rewrite(item.start, item.end, (), kept("dropped", old, reasons)), tuple(findings)
 
 
-def _command(item: Item, old: str, looked: Looked, is_setup: bool) -> Rewritten:
+def _command(item: Item, old: str, looked: ParsedCommand, is_setup: bool) -> Rewritten:
     reasons = [SETUP] if is_setup else []
-    if looked.shared != Words():
+    if looked.shared != SetupWords():
         reasons.append("what the file says stands in pdsuite.toml")
     for begin, words in (
         (_SETTINGS, looked.own.settings),

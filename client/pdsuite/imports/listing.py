@@ -1,13 +1,13 @@
-"""What an import tells people: a line or a block for each script, and then a list by kind and count."""
+"""What an import prints for people: a line or a block for each script, and then a list by kind and count."""
 
 from collections import Counter
 from collections.abc import Iterable, Iterator, Sequence
 from dataclasses import dataclass
 
-from pdsuite.imports.conversion import Imported, Left
+from pdsuite.imports.conversion import Imported, NotImported
 from pdsuite.imports.findings import Finding, Heading, Reason
+from pdsuite.output.octets import shown_path, shown_text
 from pdsuite.scripts.settings import shown_value
-from pdsuite.show.octets import shown_path, shown_text
 
 _MOST = 120
 _FLOOR = "  of a kernel, min_rto_us: RFC 6298 puts this floor under the whole RTO, Linux under 4 RTTVAR alone"
@@ -18,7 +18,7 @@ class Listed:
     """What came of a script: it is imported, or left where it was, or it couldn't be read."""
 
     path: str
-    came: Imported | Left | str
+    came: Imported | NotImported | str
 
 
 def lines_of(listed: Listed) -> Iterator[str]:
@@ -31,7 +31,7 @@ def lines_of(listed: Listed) -> Iterator[str]:
             yield f"{path}: imported, packets kept"
         case Imported(changed=changed):
             yield f"{path}: imported, changed to this profile: {_counted(changed, 'packet')}"
-        case Left(reasons):
+        case NotImported(reasons):
             yield f"{path}: not imported"
             yield from map(_reason, reasons)
 
@@ -39,7 +39,7 @@ def lines_of(listed: Listed) -> Iterator[str]:
 def summary(scripts: Sequence[Listed]) -> Iterator[str]:
     """The list by kind and count, and the totals."""
     imported = [it.came for it in scripts if isinstance(it.came, Imported)]
-    left = [it.came for it in scripts if isinstance(it.came, Left)]
+    left = [it.came for it in scripts if isinstance(it.came, NotImported)]
     findings = [finding for it in imported for finding in it.findings]
     yield from _table("not imported, scripts", (reason.words for it in left for reason in it.reasons))
     yield from _table("not imported for this alone, scripts", alone_in(left))
@@ -57,7 +57,7 @@ def summary(scripts: Sequence[Listed]) -> Iterator[str]:
     )
 
 
-def alone_in(left: Iterable[Left]) -> Iterator[str]:
+def alone_in(left: Iterable[NotImported]) -> Iterator[str]:
     """The reason of each script that has no other."""
     return (it.reasons[0].words for it in left if len(it.reasons) == 1)
 

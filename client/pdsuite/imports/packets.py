@@ -42,7 +42,7 @@ def smss_of(items: Iterable[Item], mss: int) -> int:
 
 
 def moments_of(items: Sequence[Item]) -> list[int | None]:
-    """The moment of each item in microseconds after the start; None where no text tells it."""
+    """The moment of each item in microseconds after the start; None where no text has it."""
     moments: list[int | None] = []
     base: int | None = 0
     for item in items:
@@ -118,7 +118,7 @@ def _with_push(packet: Packet, sending: Sending) -> Packet:
 def _is_pushed(packet: Packet, sending: Sending) -> bool | None:
     """Whether the packet has the last octet that is queued when it leaves.
 
-    None where its last octet is that of an earlier write, and nothing tells whether it left before the next one.
+    None where its last octet is that of an earlier write, and nothing says whether it left before the next one.
     """
     if packet.length == 0:
         return False
@@ -135,7 +135,7 @@ def _is_pushed(packet: Packet, sending: Sending) -> bool | None:
 
 
 def peer_mss(syn: Packet) -> int:
-    """The MSS that a SYN tells: the first that counts (docs/SENDER.md)."""
+    """The MSS that a SYN has: the first that counts (docs/SENDER.md)."""
     for option in syn.options:
         if option.name == "eol":
             break

@@ -25,7 +25,7 @@ MSS = "mss"
 _DIGITS = re.compile(r"[0-9]+")
 
 
-def unrun(items: Sequence[Item], has_timestamps: bool) -> Iterator[Reason]:
+def unsupported_reasons(items: Sequence[Item], has_timestamps: bool) -> Iterator[Reason]:
     """What of these items isn't run; commands and code are looked at elsewhere."""
     is_header = True
     for item in items:
@@ -50,14 +50,14 @@ def is_place(option: HeaderOption) -> bool:
 
 def tolerance_of(items: Iterable[Item]) -> int | None:
     """The tolerance in microseconds that a header says."""
-    told = _values_of(TOLERANCE, items)
-    return _tolerance(told[-1]) if told else None
+    values = _values_of(TOLERANCE, items)
+    return _tolerance(values[-1]) if values else None
 
 
 def header_settings(items: Iterable[Item]) -> dict[str, int]:
     """The settings that a header says."""
-    told = _values_of(MSS, items)
-    octets = _mss(told[-1]) if told else None
+    values = _values_of(MSS, items)
+    octets = _mss(values[-1]) if values else None
     return {} if octets is None else {MSS: octets}
 
 

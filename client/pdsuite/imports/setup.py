@@ -7,13 +7,13 @@ from enum import Enum, auto
 
 from pdsuite.imports.findings import Reason
 from pdsuite.imports.kernel import Meaning, Use, command_meaning, meaning
-from pdsuite.imports.shell import Command, Defaults, Metric, Other, Switch, commands_in
+from pdsuite.imports.shell import Defaults, Metric, Other, SetupCommand, Switch, commands_in
 from pdsuite.scripts.defaults import KEYS
 from pdsuite.scripts.settings import Value
-from pdsuite.scripts.text import Unfit
+from pdsuite.scripts.text import UnfitTextError
 
-# The text of a `defaults.sh`, by its path from the script's folder, or `Unfit`.
-Load = Callable[[str], str]
+# The text of a `defaults.sh`, by its path from the script's folder, or `UnfitTextError`.
+LoadSetup = Callable[[str], str]
 
 # The third number of tcp_rmem where none is written: Linux's usual default.
 USUAL_RMEM = 6_291_456
@@ -41,7 +41,7 @@ _TRUTHS = frozenset({"net.ipv4.tcp_sack", "net.ipv4.tcp_slow_start_after_idle"})
 _TIMESTAMPS = "net.ipv4.tcp_timestamps"
 
 
-class Place(Enum):
+class CommandPlace(Enum):
     """Where a command stands."""
 
     SETUP = auto()  # before the first packet or call
@@ -53,7 +53,7 @@ class SetupLine:
     """A command with the line of the script that it belongs to, and whether it stands in a file that scripts share."""
 
     line: int
-    command: Command
+    command: SetupCommand
     is_shared: bool = False
 
 
@@ -67,7 +67,7 @@ class Setup:
 
 
 @dataclass(frozen=True)
-class Words:
+class SetupWords:
     """What commands say, each once: settings, features that this sender hasn't, and what it does anyway."""
 
     settings: tuple[str, ...] = ()
@@ -76,12 +76,12 @@ class Words:
 
 
 @dataclass(frozen=True)
-class Looked:
+class ParsedCommand:
     """A command that was looked at: what it says, itself and by a file that scripts share, and why none is imported."""
 
-    told: tuple[SetupLine, ...]
-    own: Words
-    shared: Words
+    lines: tuple[SetupLine, ...]
+    own: SetupWords
+    shared: SetupWords
     reasons: tuple[Reason, ...]
 
     @property
@@ -91,38 +91,38 @@ class Looked:
         return tuple(dict.fromkeys((*own.features, *shared.features, *own.alike, *shared.alike)))
 
 
-def look_at(text: str, line: int, place: Place, load: Load) -> Looked:
+def look_at(text: str, line: int, place: CommandPlace, load: LoadSetup) -> ParsedCommand:
     """What the commands of a text mean, each by itself."""
-    told = tuple(_lines_of(text, line, load))
-    found = [(it, _meaning(it.command, place)) for it in told]
+    lines = tuple(_lines_of(text, line, load))
+    found = [(it, _meaning(it.command, place)) for it in lines]
     reasons: list[Reason] = []
     for it, meant in found:
-        if meant.use is Use.SETTING and place is Place.MIDST:
+        if meant.use is Use.SETTING and place is CommandPlace.MIDST:
             reasons.append(Reason(line, "a setting in the midst", _shown(it.command)))
-        elif meant.use is Use.REFUSED and (place is Place.MIDST or not isinstance(it.command, Switch)):
+        elif meant.use is Use.REFUSED and (place is CommandPlace.MIDST or not isinstance(it.command, Switch)):
             reasons.append(Reason(line, meant.words, _shown(it.command)))
     own = [meant for it, meant in found if not it.is_shared]
     shared = [meant for it, meant in found if it.is_shared]
-    return Looked(told, _words(own), _words(shared), tuple(reasons))
+    return ParsedCommand(lines, _words(own), _words(shared), tuple(reasons))
 
 
-def _words(meanings: Sequence[Meaning]) -> Words:
+def _words(meanings: Sequence[Meaning]) -> SetupWords:
     """What meanings say in words."""
-    said = {use: tuple(dict.fromkeys(it.words for it in meanings if it.use is use)) for use in Use}
-    return Words(said[Use.SETTING], said[Use.FEATURE], said[Use.ALIKE])
+    words = {use: tuple(dict.fromkeys(it.words for it in meanings if it.use is use)) for use in Use}
+    return SetupWords(words[Use.SETTING], words[Use.FEATURE], words[Use.ALIKE])
 
 
-def joined(each: Iterable[Words]) -> Words:
+def joined(each: Iterable[SetupWords]) -> SetupWords:
     """What several say together."""
     words = list(each)
-    return Words(
+    return SetupWords(
         tuple(dict.fromkeys(word for it in words for word in it.settings)),
         tuple(dict.fromkeys(word for it in words for word in it.features)),
         tuple(dict.fromkeys(word for it in words for word in it.alike)),
     )
 
 
-def _meaning(command: Command, place: Place) -> Meaning:
+def _meaning(command: SetupCommand, place: CommandPlace) -> Meaning:
     """What a command comes to. Of the switches of set-up the last one counts, so they are refused later."""
     match command:
         case Switch(name, value):
@@ -131,12 +131,12 @@ def _meaning(command: Command, place: Place) -> Meaning:
             return Meaning(Use.SETTING, "initial_window" if name == "initcwnd" else "min_rto_us")
         case Other(words) if known := command_meaning(words):
             return known
-    if place is Place.MIDST:
+    if place is CommandPlace.MIDST:
         return Meaning(Use.FEATURE, RUN)
     return Meaning(Use.REFUSED, "a command of set-up")
 
 
-def _shown(command: Command) -> str:
+def _shown(command: SetupCommand) -> str:
     match command:
         case Switch(name, value):
             return f"{name}={value}"
@@ -149,7 +149,7 @@ def _shown(command: Command) -> str:
 
 
 def setup_of(
-    told: Iterable[SetupLine], smss: int, header: Mapping[str, Value], own: Mapping[str, Value] | None
+    lines: Iterable[SetupLine], smss: int, header: Mapping[str, Value], own: Mapping[str, Value] | None
 ) -> Setup:
     """The settings that commands lead to, one after another, after those of the header.
 
@@ -157,23 +157,23 @@ def setup_of(
     """
     switches: dict[str, tuple[str, int]] = {}
     metrics: dict[str, tuple[str, int]] = {}
-    for it in told:
+    for it in lines:
         if isinstance(it.command, Switch):
             switches[it.command.name] = it.command.value, it.line
         elif isinstance(it.command, Metric):
             metrics[it.command.name] = it.command.value, it.line
     settings: dict[str, Value] = {**({} if own is not None else KERNEL), **header}
     reasons: list[Reason] = []
-    for said in (*_of_switches(switches, own is None), *_of_metrics(metrics, smss)):
-        if isinstance(said, Reason):
-            reasons.append(said)
+    for found in (*_of_switches(switches, own is None), *_of_metrics(metrics, smss)):
+        if isinstance(found, Reason):
+            reasons.append(found)
         else:
-            settings.update([said])
+            settings.update([found])
     has_timestamps = switches.get(_TIMESTAMPS, ("0" if own is not None else "1", 0))[0] != "0"
     return Setup({**settings, **(own or {})}, has_timestamps, tuple(reasons))
 
 
-def _lines_of(text: str, line: int, load: Load) -> Iterator[SetupLine]:
+def _lines_of(text: str, line: int, load: LoadSetup) -> Iterator[SetupLine]:
     """The commands of a text, those of a `defaults.sh` in the place of its name."""
     for command in commands_in(text):
         if not isinstance(command, Defaults):
@@ -181,7 +181,7 @@ def _lines_of(text: str, line: int, load: Load) -> Iterator[SetupLine]:
             continue
         try:
             inside = load(command.path)
-        except Unfit as unfit:
+        except UnfitTextError as unfit:
             yield SetupLine(line, Other((command.path, f"({unfit})")))
             continue
         for other in commands_in(_without_comments(inside)):

@@ -37,7 +37,7 @@ class Other:
     words: tuple[str, ...]
 
 
-Command = Switch | Metric | Defaults | Other
+SetupCommand = Switch | Metric | Defaults | Other
 
 _FILE = "defaults.sh"
 _PRODUCT = re.compile(r"\$\(\([ \t]*([0-9]{1,18}(?:[ \t]*\*[ \t]*[0-9]{1,18}){0,7})[ \t]*\)\)")
@@ -58,7 +58,7 @@ _WHERE = ("via", "dev", "proto", "scope", "src", "metric", "table")
 _METRICS = ("initcwnd", "rto_min")
 
 
-def commands_in(text: str) -> Iterator[Command]:
+def commands_in(text: str) -> Iterator[SetupCommand]:
     """The commands of a text for the shell, one after another."""
     for line in _GOES_ON.sub(" ", text).split("\n"):
         for words in _split(line):
@@ -114,10 +114,10 @@ def _without_redirections(words: list[str]) -> list[str]:
     return kept
 
 
-def _read(words: tuple[str, ...]) -> Iterator[Command]:
+def _read(words: tuple[str, ...]) -> Iterator[SetupCommand]:
     """What a command says, where it is one of those that are read and all of its words are."""
     name, *rest = words
-    commands: list[Command] | None = None
+    commands: list[SetupCommand] | None = None
     if not any(map(_UNREAD.search, words)):
         if name in _SYSCTL:
             commands = _switches([it for it in rest if it not in _SYSCTL_FLAGS])
@@ -130,7 +130,7 @@ def _read(words: tuple[str, ...]) -> Iterator[Command]:
     yield from commands or [Other(words)]
 
 
-def _switches(words: list[str]) -> list[Command] | None:
+def _switches(words: list[str]) -> list[SetupCommand] | None:
     found = [_ASSIGNED.fullmatch(it) for it in words]
     return [Switch(_dotted(it[1]), " ".join(it[2].split())) for it in found if it] if all(found) else None
 
@@ -145,11 +145,11 @@ def _dotted(name: str) -> str:
     return name
 
 
-def _metrics(words: list[str]) -> list[Command] | None:
+def _metrics(words: list[str]) -> list[SetupCommand] | None:
     """The metrics of a route, where it has one that is read and none that isn't."""
     if not words or words[0] not in _ROUTE_VERBS:
         return None
-    metrics: list[Command] = []
+    metrics: list[SetupCommand] = []
     rest = iter(words[2:])
     for word in rest:
         value = next(rest, None)

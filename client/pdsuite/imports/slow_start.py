@@ -17,7 +17,7 @@ _CWND = "tcpi_snd_cwnd"
 
 def limit_of(items: Iterable[Item], smss: int, initial_window: int) -> int:
     """The greatest limit under which just the packets leave that a script has; where there is none, the greatest."""
-    play = _Play(smss, dict.fromkeys(LIMITS, initial_window))
+    play = _SlowStart(smss, dict.fromkeys(LIMITS, initial_window))
     for item in items:
         if not play.takes(item):
             break
@@ -33,7 +33,7 @@ def initial_window(word: object, smss: int) -> int:
 
 
 @dataclass
-class _Play:
+class _SlowStart:
     """What a sender has sent, and its cwnd under each limit that fits what leaves in the script."""
 
     smss: int
@@ -106,5 +106,5 @@ class _Play:
         """Leaves out limits under which cwnd isn't what code asserts."""
         for it in assertions:
             if it.name == _CWND:
-                told = int(it.value)
-                self.windows = {at: cwnd for at, cwnd in self.windows.items() if cwnd // self.smss == told}
+                asserted_value = int(it.value)
+                self.windows = {at: cwnd for at, cwnd in self.windows.items() if cwnd // self.smss == asserted_value}

@@ -5,32 +5,32 @@ import os
 import textwrap
 from collections.abc import Iterator, Mapping, Sequence
 
-from pdsuite.imports.setup import Words, joined
+from pdsuite.imports.setup import SetupWords, joined
+from pdsuite.scripts.config import CONFIG_FILE
 from pdsuite.scripts.settings import Settings, settings_text
-from pdsuite.scripts.suite import FILE
 
 _HEAD = "# The settings of the scripts in this folder, as pdsuite import read them.\n"
 _ROOT = "root = true\n"
 _WIDTH = 100
 
 
-def tables_of(scripts: Mapping[str, tuple[Settings, Words]]) -> Iterator[tuple[str, bytes]]:
+def tables_of(scripts: Mapping[str, tuple[Settings, SetupWords]]) -> Iterator[tuple[str, bytes]]:
     """The files, by their paths from the top, for scripts by theirs. The one in the top lets no other in above it.
 
     What the set-up says that scripts of a folder share stands once, in the head.
     """
-    folders: dict[str, list[tuple[str, Settings, Words]]] = {"": []}
+    folders: dict[str, list[tuple[str, Settings, SetupWords]]] = {"": []}
     for path, (settings, shared) in scripts.items():
         folder, name = os.path.split(path)
         if settings:
             folders.setdefault(folder, []).append((name, settings, shared))
     for folder, tables in folders.items():
-        head = _HEAD + _said(joined(it for _, _, it in tables)) + ("" if folder else _ROOT)
+        head = _HEAD + _setup_comments(joined(it for _, _, it in tables)) + ("" if folder else _ROOT)
         text = head + "".join(table(name, settings) for name, settings, _ in tables)
-        yield os.path.join(folder, FILE), text.encode()
+        yield os.path.join(folder, CONFIG_FILE), text.encode()
 
 
-def _said(shared: Words) -> str:
+def _setup_comments(shared: SetupWords) -> str:
     """What a set-up says of all that no setting stands for, as comments."""
     return _comment("Of what defaults.sh says, this sender hasn't: ", shared.features) + _comment(
         "As defaults.sh says, this sender has: ", shared.alike

@@ -7,16 +7,16 @@ from dataclasses import dataclass
 from pdsuite.lsp.comments import comments_of
 from pdsuite.lsp.documents import text_edit
 from pdsuite.lsp.json_values import Json
-from pdsuite.lsp.packets_sent import Sent, as_lines, sent_in, sent_of, taken
+from pdsuite.lsp.packets_sent import SentPacket, as_lines, sent_in, sent_of, with_sent_packet
 from pdsuite.lsp.positions import Lines
-from pdsuite.packetdrill.recorded import Recorded, recorded_in, without_trace
 from pdsuite.packetdrill.items import SECOND
 from pdsuite.packetdrill.layout import Event, Layout
 from pdsuite.packetdrill.lines import Extent
-from pdsuite.packetdrill.tokens import Unread, tokens_of
+from pdsuite.packetdrill.recorded import RecordedEvent, recorded_in, without_trace
+from pdsuite.packetdrill.tokens import ScriptSyntaxError, tokens_of
 from pdsuite.programs.protocol import Cause
-from pdsuite.programs.rows import Row, Verdict
-from pdsuite.run.row_place import failing_event
+from pdsuite.programs.verdict import Row, Verdict
+from pdsuite.run.locate_row import failing_event
 
 QUICK = "quickfix"
 REWRITE = "refactor.rewrite"
@@ -34,7 +34,7 @@ class Action:
 
 
 @dataclass(frozen=True)
-class Failing:
+class FailingScript:
     """A script that doesn't pass: its text, its row, and what the program tells of it."""
 
     lines: Lines
@@ -62,18 +62,18 @@ def leads_past(action: Action, before: Row, after: Row) -> bool:
     return after.line is not None and before.line is not None and after.line > before.line + action.shift
 
 
-def taking(failing: Failing) -> Iterator[Action]:
+def taking(failing: FailingScript) -> Iterator[Action]:
     """What takes over what was sent or answered, in place of what the line says, or before it; best first."""
     event = failing.event
     if event is None:
         return
     sent = sent_of(failing.cause.get("actual_packet"))
-    untaken = sent_in(failing.cause.get("untaken_packets"))
+    unmatched = sent_in(failing.cause.get("untaken_packets"))
     if sent is not None and failing.row.word in _PACKET_KINDS:
-        packets = [sent, *untaken]
+        packets = [sent, *unmatched]
         count = failing.cause.get("unasked_packets")
-        unasked = packets[:count] if isinstance(count, int) else packets
-        each = [_inserting(failing, event, unasked), _taking_packet(failing, event, sent)]
+        unexpected = packets[:count] if isinstance(count, int) else packets
+        each = [_inserting(failing, event, unexpected), _taking_packet(failing, event, sent)]
         yield from each if count else reversed(each)
     result = failing.cause.get("actual_result")
     if isinstance(result, str) and "result" in event.fields:
@@ -81,17 +81,17 @@ def taking(failing: Failing) -> Iterator[Action]:
         yield Action(f"Take the result {result}", QUICK, _put(failing.lines.text, place, result))
 
 
-def _taking_packet(failing: Failing, event: Event, sent: Sent) -> Action:
+def _taking_packet(failing: FailingScript, event: Event, sent: SentPacket) -> Action:
     text = failing.lines.text
     with_time = failing.row.word == "time"
-    packet = taken(text, event, sent, with_time)
+    packet = with_sent_packet(text, event, sent, with_time)
     time = event.fields["time"]
     is_time_alone = _put(text, time, sent.time)[event.item.start :].startswith(packet)
     title = "Take the time at which it was sent" if with_time and is_time_alone else "Take the packet that was sent"
     return Action(title, QUICK, _put(text, event.extent, packet))
 
 
-def _inserting(failing: Failing, event: Event, packets: Sequence[Sent]) -> Action:
+def _inserting(failing: FailingScript, event: Event, packets: Sequence[SentPacket]) -> Action:
     """Before the line come packets that no line takes."""
     text = failing.lines.text
     start = event.item.start
@@ -102,7 +102,7 @@ def _inserting(failing: Failing, event: Event, packets: Sequence[Sent]) -> Actio
     return Action(f"Insert {what} before it", QUICK, text[:start] + put + text[start:], len(packets))
 
 
-def switching_off(failing: Failing) -> Iterator[Action]:
+def switching_off(failing: FailingScript) -> Iterator[Action]:
     """The event as a comment, with all that stands in its lines; one between other events in a comment of its own."""
     line = failing.row.line
     if line is None:
@@ -130,7 +130,7 @@ def _as_comment(lines: Lines, first: int, last: int, shift: int = 0) -> Action:
     return Action(title, QUICK, text, shift)
 
 
-def _begun(failing: Failing) -> int:
+def _begun(failing: FailingScript) -> int:
     """The line in which the event begins that the text breaks off in; a large number where it isn't that."""
     if failing.row.verdict is not Verdict.SYNTAX:
         return failing.lines.count
@@ -144,11 +144,11 @@ def _tokens(text: str, start: int) -> Iterator[int]:
     """Where the tokens of a text begin from a place on, up to where none does."""
     try:
         yield from (start + it.start for it in tokens_of(text[start:]))
-    except Unread:
+    except ScriptSyntaxError:
         return
 
 
-def _has_others(failing: Failing, event: Event, first: int, last: int) -> bool:
+def _has_others(failing: FailingScript, event: Event, first: int, last: int) -> bool:
     """Whether other items begin or end in these lines, and this one can stand in a comment of its own."""
     lines = failing.lines
     begin, end = lines.start(first), lines.end(last)
@@ -158,19 +158,19 @@ def _has_others(failing: Failing, event: Event, first: int, last: int) -> bool:
     return is_shared and not has_comment
 
 
-def mending_all(failing: Failing, mended: str) -> Iterator[Action]:
+def mending_all(failing: FailingScript, mended: str) -> Iterator[Action]:
     """The script with as little changed as makes it pass."""
     if mended:
         yield Action("Mend each line that fails", REWRITE, _ended(failing, mended))
 
 
-def recording_all(failing: Failing, recording: str) -> Iterator[Action]:
+def recording_all(failing: FailingScript, recording: str) -> Iterator[Action]:
     """The whole script as it is recorded."""
     if recording:
         yield Action("Record the whole script", REWRITE, _ended(failing, without_trace(recording)))
 
 
-def recording_what_leaves(failing: Failing, mended: str, recording: str) -> Iterator[Action]:
+def recording_what_leaves(failing: FailingScript, mended: str, recording: str) -> Iterator[Action]:
     """A script that passes, with a line for each packet that it leaves: as it stands but for these, or recorded."""
     outputs = sum(not it.is_input for it in recorded_in(recording))
     if outputs <= sum(it.is_expected for it in failing.layout.events):
@@ -182,7 +182,7 @@ def recording_what_leaves(failing: Failing, mended: str, recording: str) -> Iter
     yield from recording_all(failing, recording)
 
 
-def recording_from_here(failing: Failing, recording: str) -> Iterator[Action]:
+def recording_from_here(failing: FailingScript, recording: str) -> Iterator[Action]:
     """What stands before the event, and from it on the recording: by its times, or by moments where those don't fit."""
     event, events = failing.event, failing.layout.events
     recorded = recorded_in(recording)
@@ -194,8 +194,8 @@ def recording_from_here(failing: Failing, recording: str) -> Iterator[Action]:
     front = _front(failing, passed[-1])
     outputs = sum(not it.is_input for it in passed)
     place = _place_after(recorded, len(passed) - outputs, outputs)
-    untaken = [it for it in recorded[:place] if not it.is_input][outputs:]
-    stars = [f"* {recording[it.action : it.end]}\n" for it in untaken]
+    unmatched = [it for it in recorded[:place] if not it.is_input][outputs:]
+    stars = [f"* {recording[it.action : it.end]}\n" for it in unmatched]
     begin = recorded[place - 1].after if place else 0
     rests = [recording[begin:]]
     if place < len(recorded):
@@ -204,12 +204,12 @@ def recording_from_here(failing: Failing, recording: str) -> Iterator[Action]:
         times = [f"{moment // SECOND}.{moment % SECOND:06}".rstrip("0").rstrip(".")]
         times += [] if it.is_input else ["*"]
         rests += [f"{recording[begin : it.start]}{time} {recording[it.action :]}" for time in times]
-    for rest in rests[1:] if untaken and len(rests) > 1 else rests:
+    for rest in rests[1:] if unmatched and len(rests) > 1 else rests:
         text = front + _ended(failing, "".join(stars) + without_trace(rest))
         yield Action("Record from here to the end", QUICK, text)
 
 
-def _place_after(recorded: Sequence[Recorded], inputs: int, outputs: int) -> int:
+def _place_after(recorded: Sequence[RecordedEvent], inputs: int, outputs: int) -> int:
     """The place after so many inputs and so many packets that left."""
     place = 0
     for it in recorded:
@@ -221,7 +221,7 @@ def _place_after(recorded: Sequence[Recorded], inputs: int, outputs: int) -> int
     return place
 
 
-def _front(failing: Failing, last: Event) -> str:
+def _front(failing: FailingScript, last: Event) -> str:
     """The text up to the end of the line in which the last event that stays ends."""
     lines = failing.lines
     line = lines.line_of(last.item.end)
@@ -232,7 +232,7 @@ def _front(failing: Failing, last: Event) -> str:
     return lines.text[:end].removesuffix("\r") + failing.newline
 
 
-def _ended(failing: Failing, text: str) -> str:
+def _ended(failing: FailingScript, text: str) -> str:
     """A recording with the ends of lines that the script has."""
     return text.replace("\n", failing.newline)
 

@@ -1,11 +1,11 @@
-"""What the server offers a client, and what the client has said that it can do."""
+"""What the server offers a client, and what the client has declared that it can do."""
 
 import os
 from dataclasses import dataclass
 from pathlib import Path
 
-from pdsuite.lsp.answers import DRAW
 from pdsuite.lsp.documents import path_of
+from pdsuite.lsp.features import DRAW
 from pdsuite.lsp.json_values import Json, optional
 
 _INCREMENTAL = 2
@@ -34,7 +34,7 @@ REGISTRATION: Json = {
 
 
 @dataclass(frozen=True)
-class Client:
+class ClientCapabilities:
     """What a client can do, and the folders that are open in it."""
 
     roots: tuple[Path, ...] = ()
@@ -49,10 +49,10 @@ class Client:
     takes_progress: bool = False
 
 
-def client_of(params: object) -> Client:
+def client_of(params: object) -> ClientCapabilities:
     """The client that initializes the server with these."""
     can = optional(params, "capabilities")
-    return Client(
+    return ClientCapabilities(
         roots=tuple(_roots(params)),
         watches=optional(can, "workspace", "didChangeWatchedFiles", "dynamicRegistration") is True,
         has_related=optional(can, "textDocument", "publishDiagnostics", "relatedInformation") is True,

@@ -7,7 +7,7 @@ from dataclasses import dataclass
 from pdsuite.lsp.json_values import Json
 from pdsuite.lsp.positions import Lines
 from pdsuite.packetdrill.lines import Extent
-from pdsuite.packetdrill.tokens import Unread, tokens_of
+from pdsuite.packetdrill.tokens import ScriptSyntaxError, tokens_of
 
 _COMMENT = re.compile(r"//[^\n]*|/\*.*?\*/", re.DOTALL)
 _NAMESPACE = 3
@@ -17,7 +17,7 @@ _MARKS = re.compile(r"^(?://+|/\*+)\s*|\s*\*+/$")
 
 
 @dataclass(frozen=True, slots=True)
-class Block:
+class CommentBlock:
     """Lines that have comments and nothing else, one after another: the first and the last."""
 
     first: int
@@ -32,7 +32,7 @@ def comments_of(text: str) -> Iterator[Extent]:
             yield from _between(text, end, token.start)
             end = token.end
         yield from _between(text, end, len(text))
-    except Unread as unread:
+    except ScriptSyntaxError as unread:
         yield from _between(text, end, unread.place)
 
 
@@ -40,17 +40,17 @@ def _between(text: str, start: int, end: int) -> Iterator[Extent]:
     return (Extent(it.start(), it.end()) for it in _COMMENT.finditer(text, start, end))
 
 
-def blocks_of(lines: Lines) -> list[Block]:
+def blocks_of(lines: Lines) -> list[CommentBlock]:
     """The blocks of comments that have lines of their own."""
-    blocks: list[Block] = []
+    blocks: list[CommentBlock] = []
     for comment in comments_of(lines.text):
         first, last = lines.line_of(comment.start), lines.line_of(comment.end)
         if not _is_alone(lines, comment):
             continue
         if blocks and blocks[-1].last + 1 == first:
-            blocks[-1] = Block(blocks[-1].first, last)
+            blocks[-1] = CommentBlock(blocks[-1].first, last)
         elif not blocks or blocks[-1].last < first:
-            blocks.append(Block(first, last))
+            blocks.append(CommentBlock(first, last))
     return blocks
 
 
@@ -77,7 +77,7 @@ def symbols_of(lines: Lines) -> list[Json]:
     ]
 
 
-def _name(lines: Lines, block: Block) -> str:
+def _name(lines: Lines, block: CommentBlock) -> str:
     names = (_MARKS.sub("", lines.content(line).strip()) for line in range(block.first, block.last + 1))
     return next((it for it in names if it), "")[:_LONGEST_NAME]
 

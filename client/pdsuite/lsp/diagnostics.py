@@ -9,12 +9,12 @@ from pdsuite.lsp.positions import Lines
 from pdsuite.packetdrill.layout import Event, Layout
 from pdsuite.packetdrill.lines import Extent
 from pdsuite.packetdrill.recorded import last_input_before
+from pdsuite.programs.cause_text import WORDS, dropped_segments, unmatched, value_of, with_sender
 from pdsuite.programs.protocol import Cause
-from pdsuite.programs.rows import Verdict
-from pdsuite.programs.told import WORDS, dropped_segments, sent, untaken, value_of
-from pdsuite.reports.outcome_text import said, warnings
+from pdsuite.programs.verdict import Verdict
+from pdsuite.reports.outcome_text import row_text, warnings
+from pdsuite.run.locate_row import locate_row
 from pdsuite.run.outcomes import Outcome
-from pdsuite.run.row_place import place_of
 
 SOURCE = "pdsuite"
 ERROR, WARNING, HINT = 1, 2, 4
@@ -73,7 +73,7 @@ def diagnostics_of(outcome: Outcome, cause: Cause | None, layout: Layout, lines:
         return
     if row.verdict is not Verdict.PASS or outcome.is_unexpected:
         yield Diagnostic(
-            place_of(row, cause, layout, lines).extent,
+            locate_row(row, cause, layout, lines).extent,
             _severity(outcome),
             row.word or row.verdict.value,
             _message(outcome, cause),
@@ -83,14 +83,14 @@ def diagnostics_of(outcome: Outcome, cause: Cause | None, layout: Layout, lines:
 
 
 def with_related(diagnostic: Diagnostic, layout: Layout, cause: Cause) -> Diagnostic:
-    """The diagnostic with the packets that stand untaken, each at the event after which it left."""
-    found = [(_sending(it, layout), packet) for packet, it in untaken(cause)]
+    """The diagnostic with the packets that stay unmatched, each at the event after which it left."""
+    found = [(_sending(it, layout), packet) for packet, it in unmatched(cause)]
     related = [Related(event.extent, f"untaken packet: {packet}") for event, packet in found if event is not None]
     return replace(diagnostic, related=tuple(related))
 
 
 def _sending(origin: object, layout: Layout) -> Event | None:
-    """The event that sent a packet; of one that the timer sent, the last input before that, as far as times tell."""
+    """The event that sent a packet; of one that the timer sent, the last input before that, as far as times say."""
     match origin:
         case {"line": int(line)}:
             return next((it for it in layout.events if it.item.line == line and it.is_input), None)
@@ -104,7 +104,7 @@ def _severity(outcome: Outcome) -> int:
 
 
 def _message(outcome: Outcome, cause: Cause | None) -> str:
-    words = said(outcome)
+    words = row_text(outcome)
     if outcome.row.verdict is Verdict.ERROR:
         words = outcome.row.word if outcome.expected is None else words
     first = f"{words}: {_what(cause)}" if cause is not None and "what" in cause else words
@@ -125,10 +125,10 @@ def _facts(cause: Mapping[str, object]) -> Iterator[str]:
     for key, words in {**WORDS, **_MORE}.items():
         if key in cause and key not in _LEFT_OUT:
             value = _shown(key, cause[key])
-            yield f"{words}: {sent(value, cause.get('sent_by')) if key == 'actual_packet' else value}"
+            yield f"{words}: {with_sender(value, cause.get('sent_by')) if key == 'actual_packet' else value}"
     for it in dropped_segments(cause):
         yield f"dropped: {it}"
-    count = len(list(untaken(cause)))
+    count = len(list(unmatched(cause)))
     more = cause.get("more_untaken_packets")
     count += more if isinstance(more, int) else 0
     if count:

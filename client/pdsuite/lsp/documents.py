@@ -5,9 +5,9 @@ from collections.abc import Iterable
 from dataclasses import dataclass, field
 from urllib.parse import quote, unquote_to_bytes, urlsplit
 
-from pdsuite.lsp.json_values import Json, Malformed, member, number_in, optional, text_in
+from pdsuite.lsp.json_values import Json, MalformedMessageError, member, number_in, optional, text_in
 from pdsuite.lsp.positions import Lines, Position
-from pdsuite.scripts.text import Text, Unfit, text_of
+from pdsuite.scripts.text import Text, UnfitTextError, text_of
 
 _FILE = "file"
 _SAFE = "/-._~!$&'()*+,;=:@"
@@ -34,7 +34,7 @@ class Document:
         """The text as a script, or why it can't be run."""
         try:
             return text_of(self.octets)
-        except Unfit as unfit:
+        except UnfitTextError as unfit:
             return str(unfit)
 
     def changed(self, version: int, changes: Iterable[object]) -> "Document":
@@ -63,7 +63,7 @@ def _applied(lines: Lines, change: object) -> str:
         return put
     start, end = (lines.offset(position_in(member(span, name))) for name in ("start", "end"))
     if end < start:
-        raise Malformed("a range ends before it begins")
+        raise MalformedMessageError("a range ends before it begins")
     return lines.text[:start] + put + lines.text[end:]
 
 

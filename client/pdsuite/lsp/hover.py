@@ -3,27 +3,27 @@
 import re
 from collections.abc import Iterator, Mapping, Sequence
 
-from pdsuite.lsp import pages
-from pdsuite.packetdrill.recorded import Met, Recorded, State
+from pdsuite.lsp import doc_lookup
 from pdsuite.packetdrill.items import SECOND, Call, HeaderOption
 from pdsuite.packetdrill.layout import Event
+from pdsuite.packetdrill.recorded import MatchedEvent, RecordedEvent, SenderState
 
 _MARKS = re.compile(r"^```.*\n?|`|\*\*", re.MULTILINE)
 _FIELDS = ("flags", "options", "ack", "win", "seq")
 _TIMER = "timer"
 
 
-def hover_of(event: Event, offset: int, met: Sequence[Met], recording: str) -> str:
+def hover_of(event: Event, offset: int, met: Sequence[MatchedEvent], recording: str) -> str:
     """What is shown of an event, in Markdown; `met` is what the recording has of the script's events."""
-    parts = [_sent(event, met, recording), _states(event, met), _said(event, offset)]
+    parts = [_sent(event, met, recording), _states(event, met), _documented(event, offset)]
     return "\n\n".join(it for it in parts if it)
 
 
-def _of(event: Event, met: Sequence[Met]) -> int | None:
+def _of(event: Event, met: Sequence[MatchedEvent]) -> int | None:
     return next((place for place, it in enumerate(met) if it.event is event), None)
 
 
-def _sent(event: Event, met: Sequence[Met], recording: str) -> str:
+def _sent(event: Event, met: Sequence[MatchedEvent], recording: str) -> str:
     """The packet that an expected one met, with its moment."""
     place = _of(event, met)
     if place is None or not event.is_expected:
@@ -35,7 +35,7 @@ def _sent(event: Event, met: Sequence[Met], recording: str) -> str:
     return f"{packet}{_by(place, met)}"
 
 
-def _by(place: int, met: Sequence[Met]) -> str:
+def _by(place: int, met: Sequence[MatchedEvent]) -> str:
     """What let a packet go: the timer, or the last input before it, by its line in the script."""
     recorded = met[place].recorded
     if recorded is None or recorded.sent_by is None:
@@ -46,7 +46,7 @@ def _by(place: int, met: Sequence[Met]) -> str:
     return f", by line {inputs[-1].event.item.line}" if inputs else ""
 
 
-def _states(event: Event, met: Sequence[Met]) -> str:
+def _states(event: Event, met: Sequence[MatchedEvent]) -> str:
     """How the sender stands after an event, with what was otherwise after the event before."""
     place = _of(event, met)
     if place is None or (after := met[place].after) is None:
@@ -57,16 +57,16 @@ def _states(event: Event, met: Sequence[Met]) -> str:
     return f"After it{moment}: {_name(after.state, _state(before))}\n```text\n{facts}\n```"
 
 
-def _state(recorded: Recorded | None) -> State | None:
+def _state(recorded: RecordedEvent | None) -> SenderState | None:
     return None if recorded is None else recorded.state
 
 
-def _name(after: State, before: State | None) -> str:
+def _name(after: SenderState, before: SenderState | None) -> str:
     was = f", was {before.name}" if before is not None and before.name != after.name else ""
     return f"{after.name}{was}"
 
 
-def _facts(after: State, before: State | None) -> Iterator[str]:
+def _facts(after: SenderState, before: SenderState | None) -> Iterator[str]:
     old: Mapping[str, str] = {} if before is None else before.facts
     width = max(map(len, after.facts), default=0)
     for name, value in after.facts.items():
@@ -75,14 +75,14 @@ def _facts(after: State, before: State | None) -> Iterator[str]:
         yield f"{name:<{width}}  {value}{was}{new}"
 
 
-def _said(event: Event, offset: int) -> str:
+def _documented(event: Event, offset: int) -> str:
     """What the documents say of what stands at a place."""
     what = event.item.what
     if isinstance(what, HeaderOption):
-        return pages.of_field("header")
+        return doc_lookup.of_field("header")
     if isinstance(what, Call):
-        return pages.of_call(what.name) if offset in event.fields["call"] else ""
-    return next((pages.of_field(it) for it in _FIELDS if it in event.fields and offset in event.fields[it]), "")
+        return doc_lookup.of_call(what.name) if offset in event.fields["call"] else ""
+    return next((doc_lookup.of_field(it) for it in _FIELDS if it in event.fields and offset in event.fields[it]), "")
 
 
 def plain(words: str) -> str:

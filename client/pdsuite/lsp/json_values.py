@@ -1,4 +1,4 @@
-"""The values of messages, and what is read of them; whatever has another shape is `Malformed`."""
+"""The values of messages, and what is read of them; whatever has another shape is `MalformedMessageError`."""
 
 from collections.abc import Mapping
 from typing import Any
@@ -7,14 +7,14 @@ Json = dict[str, Any]
 _MOST = 2**31 - 1
 
 
-class Malformed(Exception):
+class MalformedMessageError(Exception):
     """That a message lacks something, or has another value there."""
 
 
 def member(value: object, name: str) -> Any:
     """What an object has under a name, which it has to have."""
     if not isinstance(value, Mapping) or name not in value:
-        raise Malformed(f"no {name}")
+        raise MalformedMessageError(f"no {name}")
     return value[name]
 
 
@@ -31,7 +31,7 @@ def text_in(value: object, name: str) -> str:
     """A text under a name."""
     found = member(value, name)
     if not isinstance(found, str):
-        raise Malformed(f"{name} is no text")
+        raise MalformedMessageError(f"{name} is no text")
     return found
 
 
@@ -39,7 +39,7 @@ def list_in(value: object, name: str) -> list[Any]:
     """A list under a name."""
     found = member(value, name)
     if not isinstance(found, list):
-        raise Malformed(f"{name} is no list")
+        raise MalformedMessageError(f"{name} is no list")
     return found
 
 
@@ -47,5 +47,5 @@ def number_in(value: object, name: str) -> int:
     """A whole number under a name, which isn't negative."""
     found = member(value, name)
     if not isinstance(found, int) or isinstance(found, bool) or not 0 <= found <= _MOST:
-        raise Malformed(f"{name} is no number of this kind")
+        raise MalformedMessageError(f"{name} is no number of this kind")
     return found

@@ -19,7 +19,7 @@ _LEFT_OUT = ("ack", "win", "options")
 
 
 @dataclass(frozen=True, slots=True)
-class Sent:
+class SentPacket:
     """A packet that was sent: its fields as they are written, and its moment in microseconds."""
 
     time: str  # from the base on, or `*` where it left before that
@@ -40,23 +40,23 @@ class Sent:
         return {"ack": self.ack, "win": self.win, "options": self.options, "flags": self.flags, "seq": self.seq}[name]
 
 
-def sent_of(shown: object) -> Sent | None:
+def sent_of(shown: object) -> SentPacket | None:
     """A packet that the program shows."""
     found = _SHOWN.fullmatch(shown) if isinstance(shown, str) else None
     if found is None:
         return None
     ack, win = (f"{name} {found[name]}" if found[name] else "" for name in ("ack", "win"))
     moment = int(found["moment"].replace(".", ""))
-    return Sent(found["time"], found["flags"], found["seq"], ack, win, found["options"] or "", moment)
+    return SentPacket(found["time"], found["flags"], found["seq"], ack, win, found["options"] or "", moment)
 
 
-def sent_in(shown: object) -> list[Sent]:
+def sent_in(shown: object) -> list[SentPacket]:
     """The packets of a list that the program shows."""
     each = shown if isinstance(shown, list) else []
     return [it for it in map(sent_of, each) if it is not None]
 
 
-def taken(text: str, event: Event, sent: Sent, with_time: bool) -> str:
+def with_sent_packet(text: str, event: Event, sent: SentPacket, with_time: bool) -> str:
     """The event with what was sent in place of what it says: only fields that it writes, and options that it lacks."""
     put = [it for name in ("flags", "seq", *_LEFT_OUT) for it in _field(text, event, name, sent.field(name))]
     if with_time:
@@ -86,7 +86,7 @@ def _field(text: str, event: Event, name: str, value: str) -> list[tuple[int, in
     return [(start, place.end, value)]
 
 
-def as_lines(sents: Sequence[Sent]) -> list[str]:
+def as_lines(sents: Sequence[SentPacket]) -> list[str]:
     """Events that take packets one after another, each time counted from what the one before it left as the base.
 
     A packet that left before the base has any time, which leaves the base as it is.

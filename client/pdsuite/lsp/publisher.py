@@ -1,19 +1,19 @@
-"""Which diagnostics a client was told, and what it is told next: none is older than its text."""
+"""Which diagnostics a client was sent, and what it is sent next: none is older than its text."""
 
 from collections.abc import Callable, Iterable, Mapping, Sequence
 from pathlib import Path
 
-from pdsuite.lsp.answers import Running
 from pdsuite.lsp.diagnostics import ERROR, Diagnostic, diagnostics_of
 from pdsuite.lsp.documents import Document, path_of, uri_of
+from pdsuite.lsp.features import SenderSession
 from pdsuite.lsp.json_values import Json
 from pdsuite.lsp.positions import Lines
-from pdsuite.lsp.settings_places import diagnostic_of
+from pdsuite.lsp.toml_positions import diagnostic_of
 from pdsuite.lsp.workspace import Result, settings_path
 from pdsuite.packetdrill.layout import layout_of
 from pdsuite.packetdrill.lines import Extent
-from pdsuite.scripts.suite import LONGEST
-from pdsuite.scripts.text import Unfit, read_file
+from pdsuite.scripts.config import LONGEST
+from pdsuite.scripts.text import UnfitTextError, read_file
 
 _METHOD = "textDocument/publishDiagnostics"
 # The tag of what is shown dimmed.
@@ -36,94 +36,96 @@ class Publisher:
         self._published: dict[str, list[Json]] = {}
         self._uris: dict[str, str] = {}
         self._faulty: set[str] = set()  # the settings files that have faults
-        self._running: Running | None = None
+        self._session: SenderSession | None = None
 
-    def publish(self, running: Running, changed: Iterable[str], mark: str = "") -> None:
-        """Tells what came of scripts that changed, with a mark if there is one, and the faults of settings files."""
+    def publish(self, session: SenderSession, changed: Iterable[str], mark: str = "") -> None:
+        """Sends what came of scripts that changed, with a mark if there is one, and the faults of settings files."""
         self._mark = mark
-        for path in dict.fromkeys([*changed, *self._left_by(running)]):
-            result = running.workspace.results.get(path)
-            uri = running.workspace.uri(path) or _uri(path)
+        for path in dict.fromkeys([*changed, *self._left_by(session)]):
+            result = session.workspace.results.get(path)
+            uri = session.workspace.uri(path) or _uri(path)
             before = self._uris.pop(path, uri)
             if before != uri:
-                self._say(before, [], None)
+                self._send(before, [], None)
             if result is None:
-                self._say(uri, [], None)
+                self._send(uri, [], None)
                 continue
             self._uris[path] = uri
             if uri in self._documents:
-                self._publish_open(running, self._documents[uri], result)
+                self._publish_open(session, self._documents[uri], result)
             else:
                 self._publish_file(uri, result)
-        self._publish_settings(running.workspace.faults(), running.workspace.settings_uris)
+        self._publish_settings(session.workspace.faults(), session.workspace.settings_uris)
 
-    def _left_by(self, running: Running) -> list[str]:
+    def _left_by(self, session: SenderSession) -> list[str]:
         """The scripts of what ran before, where that is something else, which this doesn't follow."""
-        if running is self._running:
+        if session is self._session:
             return []
-        self._running = running
-        return [path for path in self._uris if path not in running.workspace.results]
+        self._session = session
+        return [path for path in self._uris if path not in session.workspace.results]
 
     def publish_unproved(self, reason: str) -> None:
-        """Tells of open texts that are no scripts, as far as the client's own reader knows."""
+        """Sends the faults of open texts that are no scripts, as far as the client's own reader knows."""
         for uri, document in self._documents.items():
             fault = None if settings_path(uri) else layout_of(document.text).fault
             found = (
-                [] if fault is None else [_unread(document, fault.place, f"{fault.words}; nothing was run: {reason}")]
+                []
+                if fault is None
+                else [_syntax_diagnostic(document, fault.place, f"{fault.words}; nothing was run: {reason}")]
             )
-            self._say(uri, [self._json(uri, document.lines, it) for it in found], document.version)
+            self._send(uri, [self._json(uri, document.lines, it) for it in found], document.version)
 
     def close(self, uri: str, has_file: bool) -> None:
-        """Takes back what was told of a text that is closed, unless its file has that URI and is told of next."""
+        """Takes back the diagnostics of a text that is closed, unless its file has that URI and comes next."""
         path = path_of(uri)
         if path is None or uri_of(path) != uri or not has_file:
-            self._say(uri, [], None)
+            self._send(uri, [], None)
 
-    def _publish_open(self, running: Running, document: Document, result: Result) -> None:
+    def _publish_open(self, session: SenderSession, document: Document, result: Result) -> None:
         if result.version != document.version:
             return  # the next one comes at once
-        found = running.answers.diagnostics(document, result)
-        said = [self._marked(self._json(document.uri, document.lines, it)) for it in found]
-        self._published[document.uri] = said
-        self._notify(_METHOD, {"uri": document.uri, "version": document.version, "diagnostics": said})
+        found = session.features.diagnostics(document, result)
+        diagnostics = [self._marked(self._json(document.uri, document.lines, it)) for it in found]
+        self._published[document.uri] = diagnostics
+        self._notify(_METHOD, {"uri": document.uri, "version": document.version, "diagnostics": diagnostics})
 
     def _publish_file(self, uri: str, result: Result) -> None:
         octets = b"" if result.text is None else result.text.octets
         text = octets.decode("utf-8", "surrogateescape")
         lines = Lines(text)
-        found = diagnostics_of(result.outcome, result.cause, layout_of(text), lines) if result.is_told else ()
-        self._say(uri, [self._marked(self._json(uri, lines, it)) for it in found], None)
+        found = diagnostics_of(result.outcome, result.cause, layout_of(text), lines) if result.has_diagnostics else ()
+        self._send(uri, [self._marked(self._json(uri, lines, it)) for it in found], None)
 
-    def _marked(self, told: Json) -> Json:
+    def _marked(self, diagnostic: Json) -> Json:
         """A diagnostic that says first whose it is, where its sender doesn't stand; dimmed where the client can."""
         if not self._mark:
-            return told
-        marked = {**told, "message": f"{self._mark.strip()} {told['message']}"}
+            return diagnostic
+        marked = {**diagnostic, "message": f"{self._mark.strip()} {diagnostic['message']}"}
         return {**marked, "tags": [_UNNECESSARY]} if self.has_tags else marked
 
     def _publish_settings(self, faults: Mapping[Path, Sequence[str]], places: Mapping[Path, str]) -> None:
-        told = {places.get(path) or uri_of(str(path)): (path, lines) for path, lines in faults.items()}
-        for uri in [*told, *(self._faulty - told.keys())]:
-            path, said = told.get(uri, (Path(), ()))
+        by_uri = {places.get(path) or uri_of(str(path)): (path, lines) for path, lines in faults.items()}
+        for uri in [*by_uri, *(self._faulty - by_uri.keys())]:
+            path, fault_lines = by_uri.get(uri, (Path(), ()))
             document = self._documents.get(uri)
-            lines = document.lines if document is not None else Lines(_read(path) if said else "")
+            lines = document.lines if document is not None else Lines(_read(path) if fault_lines else "")
             version = None if document is None else document.version
-            self._say(uri, [self._json(uri, lines, diagnostic_of(it, lines)) for it in said], version)
-        self._faulty = set(told)
+            self._send(uri, [self._json(uri, lines, diagnostic_of(it, lines)) for it in fault_lines], version)
+        self._faulty = set(by_uri)
 
     def _json(self, uri: str, lines: Lines, it: Diagnostic) -> Json:
         return it.as_json(uri, lines, self.has_related)
 
-    def _say(self, uri: str, found: list[Json], version: int | None) -> None:
-        """Tells the diagnostics of a text, where they are others."""
+    def _send(self, uri: str, found: list[Json], version: int | None) -> None:
+        """Sends the diagnostics of a text, where they are others."""
         if self._published.get(uri, []) == found:
             return
         if found:
             self._published[uri] = found
         else:
             del self._published[uri]
-        told: Json = {"uri": uri, "diagnostics": found}
-        self._notify(_METHOD, told if version is None else {**told, "version": version})
+        params: Json = {"uri": uri, "diagnostics": found}
+        self._notify(_METHOD, params if version is None else {**params, "version": version})
 
 
 def _uri(path: str) -> str:
@@ -134,11 +136,11 @@ def _uri(path: str) -> str:
 def _read(path: Path) -> str:
     try:
         return read_file(path, LONGEST).decode("utf-8", "replace")
-    except Unfit:
+    except UnfitTextError:
         return ""
 
 
-def _unread(document: Document, place: int, words: str) -> Diagnostic:
+def _syntax_diagnostic(document: Document, place: int, words: str) -> Diagnostic:
     line = document.lines.line_of(min(place, len(document.text)))
     end = max(place, document.lines.end(line))
     return Diagnostic(Extent(min(place, len(document.text)), end), ERROR, "syntax", words)

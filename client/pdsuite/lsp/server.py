@@ -1,4 +1,4 @@
-"""The server: it takes what a client says, and tells it what came of its scripts."""
+"""The server: it takes what a client sends, and sends it what came of its scripts."""
 
 import os
 from collections.abc import Callable, Mapping, Sequence
@@ -9,24 +9,24 @@ from typing import Any
 
 from pdsuite.compare.comparison import ComparedScript
 from pdsuite.faults import Fault
-from pdsuite.lsp.answers import DRAW, Running, lenses, turned_between
-from pdsuite.lsp.capabilities import OFFERED, REGISTRATION, Client, client_of, folders_of
+from pdsuite.lsp.capabilities import OFFERED, REGISTRATION, ClientCapabilities, client_of, folders_of
 from pdsuite.lsp.comments import foldings_of, symbols_of
+from pdsuite.lsp.diagram_page import DiagramPage
 from pdsuite.lsp.documents import Document, opened, path_of, position_in, uri_of
-from pdsuite.lsp.drawing import Drawn
+from pdsuite.lsp.features import DRAW, SenderSession, lenses, turned_between
 from pdsuite.lsp.hover import plain
-from pdsuite.lsp.json_values import Json, Malformed, list_in, member, optional, text_in
+from pdsuite.lsp.json_values import Json, MalformedMessageError, list_in, member, optional, text_in
 from pdsuite.lsp.publisher import Publisher
-from pdsuite.lsp.sender_news import SenderNews
-from pdsuite.lsp.streams import CONTENT_MODIFIED, INTERNAL, INVALID_PARAMS, INVALID_REQUEST, NOT_INITIALIZED
-from pdsuite.lsp.streams import Promise, Refused, Streams
+from pdsuite.lsp.sender_status import SenderStatus
+from pdsuite.lsp.transport import CONTENT_MODIFIED, INTERNAL_ERROR, INVALID_PARAMS, INVALID_REQUEST, NOT_INITIALIZED
+from pdsuite.lsp.transport import Promise, RequestError, Transport
 from pdsuite.packetdrill.lines import Extent
-from pdsuite.programs.places import commit
-from pdsuite.programs.program import Ended
-from pdsuite.programs.standing import SenderChanged
-from pdsuite.signals import Stopped
+from pdsuite.programs.locate import commit
+from pdsuite.programs.lookup import SenderChangedError
+from pdsuite.programs.program import ProgramEndedError
+from pdsuite.signals import StoppedError
 from pdsuite.watch.change_report import BEFORE
-from pdsuite.watch.watcher import Event, Kind
+from pdsuite.watch.watcher import FileEvent, FileEventKind
 
 _ERROR, _WARNING, _INFO = 1, 2, 3
 _DELETED = 3
@@ -45,26 +45,26 @@ class Request:
 
 
 class Server:
-    """What a client has said, and what it waits for. `run` looks for the programs, and answers what runs by them."""
+    """What a client has sent, and what it waits for. `run` looks for the programs, and answers what runs by them."""
 
-    def __init__(self, run: Callable[["Server"], Running]) -> None:
-        self.client = Client()
+    def __init__(self, run: Callable[["Server"], SenderSession]) -> None:
+        self.client = ClientCapabilities()
         self.status: int | None = None
-        self.running: Running | None = None
-        self.events: list[Event] = []
+        self.session: SenderSession | None = None
+        self.events: list[FileEvent] = []
         self.documents: dict[str, Document] = {}
-        self.drawn: dict[str, Drawn] = {}
+        self.pages: dict[str, DiagramPage] = {}
         self._run = run
         self._is_initialized = False
         self._is_ready = False
         self._is_shut_down = False
         self._pending: list[Request] = []
-        self._told = ""
+        self._shown_fault = ""
         self._is_awaiting = False
         self._turned: Callable[[], Sequence[ComparedScript]] | None = None
-        self._streams: Streams | None = None
+        self._transport: Transport | None = None
         self._publisher: Publisher | None = None
-        self._news: SenderNews | None = None
+        self._sender_status: SenderStatus | None = None
 
     # ---- how it is used
 
@@ -73,23 +73,23 @@ class Server:
         """Whether a client has begun, and not ended."""
         return self._is_ready and not self._is_shut_down
 
-    def attach(self, streams: Streams) -> None:
-        """Takes the streams on which it is heard."""
-        self._streams = streams
-        self._publisher = Publisher(streams.notify, self.documents)
-        self._news = SenderNews(streams.notify, streams.request)
+    def attach(self, transport: Transport) -> None:
+        """Takes the transport that its messages come by."""
+        self._transport = transport
+        self._publisher = Publisher(transport.notify, self.documents)
+        self._sender_status = SenderStatus(transport.notify, transport.request)
 
     @property
-    def news(self) -> SenderNews:
-        """What the client is told of the sender."""
-        assert self._news is not None
-        return self._news
+    def sender_status(self) -> SenderStatus:
+        """What the client is shown of the sender."""
+        assert self._sender_status is not None
+        return self._sender_status
 
     @property
-    def streams(self) -> Streams:
+    def transport(self) -> Transport:
         """The streams."""
-        assert self._streams is not None
-        return self._streams
+        assert self._transport is not None
+        return self._transport
 
     def handlers(self) -> Mapping[str, Callable[[Any], Any]]:
         """What is done at each message."""
@@ -106,54 +106,54 @@ class Server:
             "textDocument/didChange": self._change,
             "textDocument/didSave": self._save,
             "textDocument/didClose": self._close,
-            "workspace/didChangeWatchedFiles": self._hear_files,
+            "workspace/didChangeWatchedFiles": self._files_changed,
             "workspace/didChangeWorkspaceFolders": self._change_folders,
         }
 
     def begin(self) -> None:
         """Looks for the programs, and begins with what is open; where they aren't there, says so once."""
-        before, self.running = self.running, None
+        before, self.session = self.session, None
         self._is_awaiting = False
         try:
-            self.running = self._run(self)
+            self.session = self._run(self)
         except Fault as fault:
-            if self._told != str(fault):
-                self._told = str(fault)
+            if self._shown_fault != str(fault):
+                self._shown_fault = str(fault)
                 self.show(_ERROR, f"pdsuite: {fault}")
                 self.publish_unproved()
             return
         for document in self.documents.values():
-            self.running.workspace.put(document)
-        self._turned = None if before is None else partial(turned_between, before, self.running)
+            self.session.workspace.put(document)
+        self._turned = None if before is None else partial(turned_between, before, self.session)
 
     def await_sender(self, reason: str) -> None:
-        """Tells what is known without a sender, while one is built or can't be."""
-        self.running, self._is_awaiting = None, True
-        if self._told != reason:
-            self._told = reason
+        """Sends what is known without a sender, while one is built or can't be."""
+        self.session, self._is_awaiting = None, True
+        if self._shown_fault != reason:
+            self._shown_fault = reason
             self.publish_unproved()
 
     @property
     def is_behind(self) -> bool:
         """Whether a text has changed since its results were worked out."""
-        return self.running is not None and self.running.workspace.is_behind
+        return self.session is not None and self.session.workspace.is_behind
 
-    def settle(self, events: list[Event], now: float, is_at_rest: bool) -> None:
-        """Has run again what changed, and tells the client what came of it."""
-        if self.running is None or self._publisher is None:
+    def settle(self, events: list[FileEvent], now: float, is_at_rest: bool) -> None:
+        """Has run again what changed, and sends the client what came of it."""
+        if self.session is None or self._publisher is None:
             return
         reported, self.events = [*events, *self.events], []
-        changed = self.running.workspace.settle(reported, now, is_at_rest)
-        if changed and self.streams.is_waiting:
-            self.streams.take()
-        if self.news.is_anew():
-            changed = list(dict.fromkeys([*changed, *self.running.workspace.results]))
-        self._publisher.publish(self.running, changed, BEFORE if self.news.is_of_before else "")
+        changed = self.session.workspace.settle(reported, now, is_at_rest)
+        if changed and self.transport.is_waiting:
+            self.transport.take()
+        if self.sender_status.is_anew():
+            changed = list(dict.fromkeys([*changed, *self.session.workspace.results]))
+        self._publisher.publish(self.session, changed, BEFORE if self.sender_status.is_of_before else "")
         if self._turned is not None:
             turned, self._turned = self._turned, None
-            self.news.tell_turned(turned())
+            self.sender_status.show_turned(turned())
         if changed and self.client.refreshes_lenses:
-            self.streams.request("workspace/codeLens/refresh", None)
+            self.transport.request("workspace/codeLens/refresh", None)
 
     def answer(self) -> bool:
         """Answers the request that waits longest; whether one did."""
@@ -164,44 +164,44 @@ class Server:
                 return True
         return False
 
-    def look_at_drawn(self) -> None:
+    def look_at_pages(self) -> None:
         """Has pages opened that are drawn."""
-        for uri, it in list(self.drawn.items()):
+        for uri, it in list(self.pages.items()):
             if it.has_ended():
-                del self.drawn[uri]
+                del self.pages[uri]
                 self._show_page(it)
 
     def log(self, line: str) -> None:
-        """Tells of something that people may look up."""
-        self.streams.notify("window/logMessage", {"type": _WARNING, "message": line})
+        """Logs something that people may look up."""
+        self.transport.notify("window/logMessage", {"type": _WARNING, "message": line})
 
     def show(self, kind: int, line: str) -> None:
-        """Tells people something at once."""
-        self.streams.notify("window/showMessage", {"type": kind, "message": line})
+        """Shows people something at once."""
+        self.transport.notify("window/showMessage", {"type": kind, "message": line})
 
     def publish_unproved(self) -> None:
-        """Tells of texts that are no scripts, as far as that is known without a program."""
+        """Sends the faults of texts that are no scripts, as far as that is known without a program."""
         if self._publisher is not None:
-            self._publisher.publish_unproved(self._told)
+            self._publisher.publish_unproved(self._shown_fault)
 
     # ---- the client's life
 
     def _initialize(self, params: object) -> Json:
         if self._is_initialized:
-            raise Refused("it is initialized already", INVALID_REQUEST)
+            raise RequestError("it is initialized already", INVALID_REQUEST)
         self._is_initialized = True
         self.client = client_of(params)
         if self._publisher is not None:
             self._publisher.has_related = self.client.has_related
             self._publisher.has_tags = self.client.has_tags
-        if self._news is not None:
-            self._news.takes_progress = self.client.takes_progress
+        if self._sender_status is not None:
+            self._sender_status.takes_progress = self.client.takes_progress
         return {"capabilities": OFFERED, "serverInfo": {"name": "pdsuite", "version": commit()}}
 
     def _initialized(self, params: object) -> None:
         self._is_ready = True
         if self.client.watches:
-            self.streams.request("client/registerCapability", REGISTRATION)
+            self.transport.request("client/registerCapability", REGISTRATION)
 
     def _shut_down(self, params: object) -> None:
         self._is_shut_down = True
@@ -224,23 +224,23 @@ class Server:
     def _put(self, document: Document) -> None:
         self._give_up(document.uri)
         self.documents[document.uri] = document
-        if self.running is not None:
-            self.running.workspace.put(document)
-        elif self._told:
+        if self.session is not None:
+            self.session.workspace.put(document)
+        elif self._shown_fault:
             self.publish_unproved()
 
     def _save(self, params: object) -> None:
-        if self.running is None and self._is_initialized and not self._is_awaiting:
+        if self.session is None and self._is_initialized and not self._is_awaiting:
             self.begin()
 
     def _close(self, params: object) -> None:
         uri = text_in(member(params, "textDocument"), "uri")
         self._give_up(uri)
-        if self.documents.pop(uri, None) is not None and self.running is not None:
-            self.running.workspace.close(uri)
-            self.running.answers.forget(uri)
+        if self.documents.pop(uri, None) is not None and self.session is not None:
+            self.session.workspace.close(uri)
+            self.session.features.forget(uri)
         if self._publisher is not None:
-            self._publisher.close(uri, has_file=self.running is not None)
+            self._publisher.close(uri, has_file=self.session is not None)
 
     def _give_up(self, uri: str) -> None:
         """Gives up requests about a text that is another now."""
@@ -250,16 +250,16 @@ class Server:
 
     def _document(self, uri: str) -> Document:
         if uri not in self.documents:
-            raise Malformed(f"{uri} isn't open")
+            raise MalformedMessageError(f"{uri} isn't open")
         return self.documents[uri]
 
-    def _hear_files(self, params: object) -> None:
+    def _files_changed(self, params: object) -> None:
         for change in list_in(params, "changes"):
             path = path_of(text_in(change, "uri"))
             if path is not None:
                 folder, name = os.path.split(path)
-                kind = Kind.GONE if optional(change, "type") == _DELETED else Kind.CLOSED
-                self.events.append(Event(kind, os.path.realpath(folder), name))
+                kind = FileEventKind.GONE if optional(change, "type") == _DELETED else FileEventKind.CLOSED
+                self.events.append(FileEvent(kind, os.path.realpath(folder), name))
 
     def _change_folders(self, params: object) -> None:
         event = member(params, "event")
@@ -267,7 +267,7 @@ class Server:
         new = folders_of([text_in(it, "uri") for it in optional(event, "added") or []])
         roots = dict.fromkeys([*(it for it in self.client.roots if it not in gone), *new])
         self.client = replace(self.client, roots=tuple(roots))
-        if self.running is not None:
+        if self.session is not None:
             self.begin()
 
     # ---- requests
@@ -276,7 +276,7 @@ class Server:
         def wait(params: object) -> Promise:
             if not self._is_initialized or self._is_shut_down:
                 code = INVALID_REQUEST if self._is_initialized else NOT_INITIALIZED
-                raise Refused("it isn't initialized, or shut down", code)
+                raise RequestError("it isn't initialized, or shut down", code)
             promise = Promise()
             uri = optional(params, "textDocument", "uri")
             self._pending.append(Request(promise, method, params, uri if isinstance(uri, str) else None))
@@ -292,30 +292,30 @@ class Server:
             else:
                 document = self._document(text_in(member(request.params, "textDocument"), "uri"))
                 found = _ANSWERS[request.method](self, document, request.params)
-                if self.running is not None:
-                    self.running.sender.check()
+                if self.session is not None:
+                    self.session.sender.check()
                 request.promise.answer(found)
-        except SenderChanged:
+        except SenderChangedError:
             request.promise.refuse(CONTENT_MODIFIED, "the sender has changed")
             raise
-        except Malformed as malformed:
+        except MalformedMessageError as malformed:
             request.promise.refuse(INVALID_PARAMS, str(malformed))
-        except (Ended, Fault) as fault:
-            request.promise.refuse(INTERNAL, str(fault))
-        except Stopped:
+        except (ProgramEndedError, Fault) as fault:
+            request.promise.refuse(INTERNAL_ERROR, str(fault))
+        except StoppedError:
             raise
         except Exception as error:
-            request.promise.refuse(INTERNAL, f"{type(error).__name__}: {error}")
+            request.promise.refuse(INTERNAL_ERROR, f"{type(error).__name__}: {error}")
 
     def _hover(self, document: Document, params: object) -> Json | None:
-        if self.running is None:
+        if self.session is None:
             return None
-        result = self.running.workspace.result(document.uri)
-        found = self.running.answers.hover(document, result, position_in(member(params, "position")))
+        result = self.session.workspace.result(document.uri)
+        found = self.session.features.hover(document, result, position_in(member(params, "position")))
         if found is None:
             return None
         words, extent = found
-        words += f"\n\n{self.news.mark.strip(' ()')}" if self.news.mark else ""
+        words += f"\n\n{self.sender_status.mark.strip(' ()')}" if self.sender_status.mark else ""
         kind = "markdown" if self.client.takes_markdown else "plaintext"
         shown = words if self.client.takes_markdown else plain(words)
         return {"contents": {"kind": kind, "value": shown}, "range": document.lines.range(extent)}
@@ -323,14 +323,14 @@ class Server:
     def _actions(self, document: Document, params: object) -> list[Json]:
         span = member(params, "range")
         start, end = (document.lines.offset(position_in(member(span, it))) for it in ("start", "end"))
-        if self.running is None or (result := self.running.workspace.result(document.uri)) is None:
+        if self.session is None or (result := self.session.workspace.result(document.uri)) is None:
             return []
         only = optional(params, "context", "only")
-        offers = self.running.answers.actions(document, result, Extent(start, end))
+        offers = self.session.features.actions(document, result, Extent(start, end))
         found = optional(params, "context", "diagnostics")
         return [
             {
-                "title": f"{it.action.title}{BEFORE if self.news.is_of_before else ''}",
+                "title": f"{it.action.title}{BEFORE if self.sender_status.is_of_before else ''}",
                 "kind": it.action.kind,
                 "diagnostics": found if isinstance(found, list) else [],
                 "isPreferred": number == 0,
@@ -347,11 +347,11 @@ class Server:
         return {"documentChanges": [{"textDocument": text, "edits": edits}]}
 
     def _lenses(self, document: Document, params: object) -> list[Json]:
-        if self.running is None:
+        if self.session is None:
             return []
-        if self.running.workspace.path(document.uri) is None:
+        if self.session.workspace.path(document.uri) is None:
             return []
-        return lenses(document.uri, self.running.workspace.result(document.uri), self.news.mark)
+        return lenses(document.uri, self.session.workspace.result(document.uri), self.sender_status.mark)
 
     def _symbols(self, document: Document, params: object) -> list[Json]:
         return symbols_of(document.lines)
@@ -360,34 +360,34 @@ class Server:
         return foldings_of(document.lines)
 
     def _completion(self, document: Document, params: object) -> list[Json]:
-        if self.running is None:
+        if self.session is None:
             return []
-        result = self.running.workspace.result(document.uri)
+        result = self.session.workspace.result(document.uri)
         position = position_in(member(params, "position"))
-        return self.running.answers.completion(document, result, position, self.client.takes_snippets)
+        return self.session.features.completion(document, result, position, self.client.takes_snippets)
 
     # ---- drawing
 
     def _execute(self, params: object) -> None:
         command, words = text_in(params, "command"), optional(params, "arguments")
         if command != DRAW or not isinstance(words, list) or len(words) != 1 or not isinstance(words[0], str):
-            raise Malformed(f"{DRAW} takes a URI")
+            raise MalformedMessageError(f"{DRAW} takes a URI")
         document = self._document(words[0])
-        result = None if self.running is None else self.running.workspace.result(document.uri)
-        if self.running is None or result is None or result.text is None:
+        result = None if self.session is None else self.session.workspace.result(document.uri)
+        if self.session is None or result is None or result.text is None:
             raise Fault("nothing was run that could be drawn")
-        if self.news.is_of_before:
+        if self.sender_status.is_of_before:
             raise Fault("the sender has changed: what would be drawn is of the one before")
-        if document.uri in self.drawn:
-            self.drawn.pop(document.uri).close()
-        self.drawn[document.uri] = Drawn(result, self.running.sender)
+        if document.uri in self.pages:
+            self.pages.pop(document.uri).close()
+        self.pages[document.uri] = DiagramPage(result, self.session.sender)
 
-    def _show_page(self, drawn: Drawn) -> None:
+    def _show_page(self, drawn: DiagramPage) -> None:
         if drawn.fault:
             self.show(_WARNING, f"pdsuite: {drawn.fault}")
         if drawn.page.exists():
             if self.client.shows_documents:
-                self.streams.request("window/showDocument", {"uri": uri_of(str(drawn.page)), "external": True})
+                self.transport.request("window/showDocument", {"uri": uri_of(str(drawn.page)), "external": True})
             else:
                 self.show(_INFO, f"pdsuite: drawn in {drawn.page}")
 
@@ -396,7 +396,7 @@ def _is_kind(kind: str, wanted: object) -> bool:
     return isinstance(wanted, str) and (wanted == "" or kind == wanted or kind.startswith(f"{wanted}."))
 
 
-def home_of(client: Client) -> Path:
+def home_of(client: ClientCapabilities) -> Path:
     """The folder in which texts count that have no file."""
     return client.roots[0] if client.roots else Path.cwd()
 

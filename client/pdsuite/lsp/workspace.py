@@ -6,17 +6,17 @@ from dataclasses import dataclass, replace
 from pathlib import Path
 
 from pdsuite.lsp.documents import Document, path_of
-from pdsuite.lsp.settings_open import OpenSettings
+from pdsuite.lsp.open_settings import OpenSettings
 from pdsuite.programs.protocol import Cause
-from pdsuite.programs.rows import Row, Verdict
+from pdsuite.programs.verdict import Row, Verdict
 from pdsuite.run.outcomes import Outcome, at_end
-from pdsuite.scripts.search import ScriptFile
-from pdsuite.scripts.suite import FILE, ScriptRules
+from pdsuite.scripts.config import CONFIG_FILE, ScriptRules
+from pdsuite.scripts.discover import ScriptFile
 from pdsuite.scripts.text import Text
-from pdsuite.watch.fleet import Fleet
 from pdsuite.watch.folders import Folders
-from pdsuite.watch.run_changes import WantedScript
-from pdsuite.watch.watcher import Event, Kind
+from pdsuite.watch.live_pool import LivePool
+from pdsuite.watch.plan_changes import WantedScript
+from pdsuite.watch.watcher import FileEvent, FileEventKind
 
 # A run gives way to a new one when its history has so many acts at most, and nothing else is to be done; and always
 # when it has so many. It holds 65,536.
@@ -26,7 +26,7 @@ SPENT = 60_000
 
 @dataclass(frozen=True)
 class Result:
-    """What came of a script, what is told of it, and of which text that is; `version` is that of an open text."""
+    """What came of a script, its explanation, and of which text that is; `version` is that of an open text."""
 
     file: ScriptFile
     outcome: Outcome
@@ -36,8 +36,8 @@ class Result:
     steps: int | None = None
 
     @property
-    def is_told(self) -> bool:
-        """Whether there is anything to tell of it."""
+    def has_diagnostics(self) -> bool:
+        """Whether there is anything to report of it."""
         return not self.outcome.passes or bool(self.outcome.warnings) or self.outcome.is_known
 
 
@@ -57,22 +57,22 @@ class Workspace:
         self,
         folders: Folders,
         settings: OpenSettings,
-        fleet: Fleet,
+        pool: LivePool,
         home: Path,
         check: Callable[[], None] = lambda: None,
     ) -> None:
         self.results: Mapping[str, Result] = {}
         self._folders = folders
         self._settings = settings
-        self._fleet = fleet
+        self._pool = pool
         self._home = home
-        self._check = check  # raises SenderChanged where what was told isn't surely of the program that ran
+        self._check = check  # raises SenderChangedError where what was printed isn't surely of the program that ran
         self._documents: dict[str, Document] = {}
         self._open: dict[str, OpenScript] = {}
         self._paths: dict[str, str] = {}
         self._uris: dict[str, str] = {}
         self._settings_uris: dict[Path, str] = {}
-        self._events: list[Event] = []
+        self._events: list[FileEvent] = []
         self._seen: tuple[Mapping[str, WantedScript], Mapping[str, str]] = ({}, {})
         self._is_dirty = True
 
@@ -97,7 +97,7 @@ class Workspace:
         if path := settings_path(document.uri):
             self._settings.open(path, document.octets)
             self._settings_uris[path] = document.uri
-            self._events.append(Event(Kind.CLOSED, str(path.parent), FILE))
+            self._events.append(FileEvent(FileEventKind.CLOSED, str(path.parent), CONFIG_FILE))
         else:
             file = self._script_file(document.uri) if known is None else known.file
             self._open[document.uri] = OpenScript(document, file, document.script())
@@ -114,7 +114,7 @@ class Workspace:
         if path := settings_path(uri):
             self._settings.open(path, None)
             self._settings_uris.pop(path, None)
-            self._events.append(Event(Kind.CLOSED, str(path.parent), FILE))
+            self._events.append(FileEvent(FileEventKind.CLOSED, str(path.parent), CONFIG_FILE))
         self._is_dirty = True
 
     def path(self, uri: str) -> str | None:
@@ -131,7 +131,7 @@ class Workspace:
         document = self._documents.get(uri)
         return found if document is not None and found is not None and found.version == document.version else None
 
-    def settle(self, events: Sequence[Event], now: float, is_at_rest: bool = True) -> list[str]:
+    def settle(self, events: Sequence[FileEvent], now: float, is_at_rest: bool = True) -> list[str]:
         """Looks at what is reported or, at rest, due, and has run again what that changes: the paths whose results are
         others."""
         reported = [*events, *self._events]
@@ -139,20 +139,20 @@ class Workspace:
         has_changed = bool(is_at_rest or reported) and self._folders.look(reported, now)
         if has_changed:
             self._seen = self._folders.wanted()
-        has_ended = self._fleet.mend()
+        has_ended = self._pool.mend()
         if not (has_changed or has_ended or self._is_dirty):
             return []
         self._is_dirty = False
         files = {path: it.found for path, it in self._folders.files.items()}
         wanted, unfit = dict(self._seen[0]), dict(self._seen[1])
         versions = self._lay_open(files, wanted, unfit)
-        self._fleet.renew(SPENT)
-        self._fleet.follow(wanted)
+        self._pool.renew(SPENT)
+        self._pool.follow(wanted)
         return self._take_results(files, wanted, unfit, versions)
 
     def rest(self) -> None:
         """Does what can wait: starts new runs in place of those whose histories are long."""
-        self._fleet.renew(WORN)
+        self._pool.renew(WORN)
 
     def due(self) -> float:
         """The moment at which something has to be looked at, whatever is reported."""
@@ -160,7 +160,7 @@ class Workspace:
 
     def filenos(self) -> list[int]:
         """What can be read once a program has ended by itself."""
-        return [it.program.fileno() for it in self._fleet.runs]
+        return [it.program.fileno() for it in self._pool.runs]
 
     def _look_for_tables(self) -> None:
         """Says which scripts tables may be about though no file is there."""
@@ -205,14 +205,14 @@ class Workspace:
         unfit: Mapping[str, str],
         versions: Mapping[str, int],
     ) -> list[str]:
-        rows, causes, steps = dict(self._fleet.rows()), self._fleet.causes(), self._fleet.steps()
+        rows, causes, steps = dict(self._pool.rows()), self._pool.causes(), self._pool.steps()
         before, results, changed = self.results, {}, []
         for path, file in files.items():
             row = rows.get(path) if path in wanted else Row(Verdict.ERROR, word=unfit.get(path, ""))
             if row is None:
                 continue
-            told = self._result(file, row, wanted.get(path), causes.get(path))
-            result = replace(told, version=versions.get(path), steps=steps.get(path))
+            new_result = self._result(file, row, wanted.get(path), causes.get(path))
+            result = replace(new_result, version=versions.get(path), steps=steps.get(path))
             old = before.get(path)
             results[path] = kept = _merged(old, result)
             if kept is not old:
@@ -235,9 +235,9 @@ class Workspace:
 def settings_path(uri: str) -> Path | None:
     """The file pdsuite.toml that a URI names, without links; None where it names another."""
     path = path_of(uri)
-    if path is None or os.path.basename(path) != FILE:
+    if path is None or os.path.basename(path) != CONFIG_FILE:
         return None
-    return Path(os.path.realpath(os.path.dirname(path)), FILE)
+    return Path(os.path.realpath(os.path.dirname(path)), CONFIG_FILE)
 
 
 def _merged(old: Result | None, new: Result) -> Result:

@@ -11,7 +11,7 @@ _MICROSECOND = 1_000  # nanoseconds
 _OCTET = 8_000_000_000  # nanoseconds at one bit a second
 
 
-class Fate(Enum):
+class PacketFate(Enum):
     """What becomes of a packet."""
 
     ARRIVES = "arrives"
@@ -21,19 +21,19 @@ class Fate(Enum):
 
 
 @dataclass(frozen=True, slots=True)
-class Carried:
+class CarriedPacket:
     """What becomes of a packet, when it reaches the peer, in microseconds, and how long it waited, in nanoseconds."""
 
-    fate: Fate
+    fate: PacketFate
     at: int = 0
     waited: int = 0
 
     @property
     def arrives(self) -> bool:
-        return self.fate in (Fate.ARRIVES, Fate.LATE)
+        return self.fate in (PacketFate.ARRIVES, PacketFate.LATE)
 
 
-class Losses:
+class LossModel:
     """Which packets are lost: each for itself, or in bursts by Gilbert and Elliott's model, in time.
 
     A good and a bad state take turns, each for a time that is drawn, whatever is sent; in the bad one a share is lost.
@@ -63,31 +63,31 @@ class Link:
 
     def __init__(self, path: NetworkPath, seed: str) -> None:
         self._path = path
-        self._losses = Losses(path, f"{seed} loss")
+        self._losses = LossModel(path, f"{seed} loss")
         self._late = Random(f"{seed} late")
         # When the last packet that it took has left it, and when each that waits begins to leave, with its octets.
         self._free = 0
         self._waiting: deque[tuple[int, int]] = deque()
         self._queued = 0
 
-    def carry(self, at: int, octets: int) -> Carried:
+    def carry(self, at: int, octets: int) -> CarriedPacket:
         """What becomes of a packet with so many octets, headers too, that leaves at a moment in microseconds."""
         now = at * _MICROSECOND
         is_lost = self._losses.lose(max(now, self._free) // _MICROSECOND)
         is_late = self._late.random() < self._path.reorder
         self._let_out(now)
         if now < self._free and self._queued + octets > self._path.queue:
-            return Carried(Fate.OVERFLOW)
+            return CarriedPacket(PacketFate.OVERFLOW)
         begin = max(now, self._free)
         self._free = begin + self._takes(octets)
         if begin > now:
             self._waiting.append((begin, octets))
             self._queued += octets
         if is_lost:
-            return Carried(Fate.LOST, waited=begin - now)
+            return CarriedPacket(PacketFate.LOST, waited=begin - now)
         more = self._path.reorder_us if is_late else 0
         arrival = -(-self._free // _MICROSECOND) + self._path.delay_us + more
-        return Carried(Fate.LATE if is_late else Fate.ARRIVES, arrival, begin - now)
+        return CarriedPacket(PacketFate.LATE if is_late else PacketFate.ARRIVES, arrival, begin - now)
 
     def earliest(self, at: int) -> int:
         """A moment before which nothing that leaves from this one on reaches the peer, in microseconds."""

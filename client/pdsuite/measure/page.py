@@ -4,27 +4,32 @@ from collections.abc import Iterator, Sequence
 from pathlib import Path
 
 from pdsuite.compare.sides import Side
-from pdsuite.diagram.strokes import strokes_of
+from pdsuite.diagram.timeline import timeline_of
 from pdsuite.files import write
-from pdsuite.measure.measuring import Case, Pair, program_of, settings_for
+from pdsuite.measure.measurement import Pair, TransferCase, program_of, settings_for
 from pdsuite.measure.report import MeasureReport, cells_of, title_of, unplayed_of
-from pdsuite.measure.statistics import Table, Verdict
+from pdsuite.measure.statistics import ChangeVerdict, FigureTable
 from pdsuite.measure.transfer import Delivery
 from pdsuite.packages import missing
 from pdsuite.page.folder import TABLE, prepare, sweep
-from pdsuite.page.measured import MeasurePicture, MeasureRow, MeasureSection
+from pdsuite.page.measure_view import MeasurePicture, MeasureRow, MeasureSection
 from pdsuite.page.render import measure_page
-from pdsuite.programs.places import RECORD
+from pdsuite.programs.locate import RECORD
 from pdsuite.programs.recorder import TRACE, record_all
 from pdsuite.programs.trace import events_in
 from pdsuite.scripts.settings import Settings
 from pdsuite.signals import Stop
 
 _SIDES = ("before", "after")
-_STYLES = {Verdict.BETTER: "pass", Verdict.WORSE: "fail", Verdict.UNSHOWN: "gloss", Verdict.SAME: "gloss"}
+_STYLES = {
+    ChangeVerdict.BETTER: "pass",
+    ChangeVerdict.WORSE: "fail",
+    ChangeVerdict.UNSHOWN: "gloss",
+    ChangeVerdict.SAME: "gloss",
+}
 
 
-class Page:
+class MeasurePage:
     """The page in a folder. Worst runs are recorded by the programs of both sides."""
 
     def __init__(self, folder: Path, sides: tuple[Side, Side], common: Settings) -> None:
@@ -39,19 +44,19 @@ class Page:
         write(self._folder / TABLE, measure_page(sections, totals, report.names, report.is_unproved))
         sweep(self._folder, (), ())
 
-    def _section(self, number: int, table: Table, stop: Stop) -> MeasureSection:
+    def _section(self, number: int, table: FigureTable, stop: Stop) -> MeasureSection:
         measured = table.measured
         case = measured.case
         pictures = tuple(self._pictures(case, measured.pairs, stop)) if measured.pairs else ()
         rows = tuple(MeasureRow(cells_of(it), it.verdict, _STYLES[it.verdict]) for it in table.rows)
-        unplayed = unplayed_of(table) if measured.unplayed else ""
+        unplayed = unplayed_of(table) if measured.unfinished else ""
         title = title_of(case, len(measured.pairs))
         return MeasureSection(f"case-{number}", title, case.path.source, rows, pictures, unplayed)
 
-    def _pictures(self, case: Case, pairs: Sequence[Pair], stop: Stop) -> Iterator[MeasurePicture]:
+    def _pictures(self, case: TransferCase, pairs: Sequence[Pair], stop: Stop) -> Iterator[MeasurePicture]:
         """The distributions of both sides, and the diagrams of the run that is worst for the sender after."""
-        if said := missing("matplotlib"):
-            yield MeasurePicture("pictures", "", f"Nothing is drawn: {said}")
+        if reason := missing("matplotlib"):
+            yield MeasurePicture("pictures", "", f"Nothing is drawn: {reason}")
             return
         # Only who draws pays for what draws.
         from pdsuite.diagram.distributions import distributions
@@ -63,16 +68,16 @@ class Page:
             title = f"run {worst.run}, the worst for the sender after: {_SIDES[side]}"
             yield self._diagram(case, self._sides[side], delivery, title, stop)
 
-    def _diagram(self, case: Case, side: Side, delivery: Delivery, title: str, stop: Stop) -> MeasurePicture:
+    def _diagram(self, case: TransferCase, side: Side, delivery: Delivery, title: str, stop: Stop) -> MeasurePicture:
         """The time-sequence diagram of a transfer, as the side's own program records it."""
         if not side.sender.records:
             return MeasurePicture(title, "", "It isn't drawn: there is no pdrecord.")
         settings = settings_for(side, self._common, case.path)
         script = [delivery.script()]
         (recording,) = record_all(program_of(side, RECORD), script, settings, stop, (TRACE,))
-        strokes = strokes_of(events_in(recording.text))
-        if strokes is None:
+        timeline = timeline_of(events_in(recording.text))
+        if timeline is None:
             return MeasurePicture(title, "", f"It isn't drawn: {recording.fault or 'nothing is recorded'}.")
         from pdsuite.diagram.pictures import for_page
 
-        return MeasurePicture(title, for_page(strokes))
+        return MeasurePicture(title, for_page(timeline))

@@ -9,10 +9,10 @@ from pathlib import Path
 from typing import Any
 
 from pdsuite.faults import Fault
+from pdsuite.output.octets import shown_text
+from pdsuite.scripts.config import place_of, read_octets
 from pdsuite.scripts.defaults import nearest
-from pdsuite.scripts.suite import place_of, read_octets
 from pdsuite.scripts.toml_places import TomlPlaces, places_in
-from pdsuite.show.octets import shown_text
 
 # The paths that come with the client.
 FILE = Path(__file__).with_name("paths.toml")

@@ -5,7 +5,7 @@ from dataclasses import dataclass
 # So many blocks fit beside timestamps.
 _MOST_BLOCKS = 3
 
-Span = tuple[int, int]
+OctetRange = tuple[int, int]
 
 
 @dataclass(frozen=True, slots=True)
@@ -13,7 +13,7 @@ class Ack:
     """An acknowledgment: of all octets below a number, and blocks above it, that with the newest octets first."""
 
     number: int
-    blocks: tuple[Span, ...] = ()
+    blocks: tuple[OctetRange, ...] = ()
 
 
 class Receiver:
@@ -27,9 +27,9 @@ class Receiver:
         self.taken = 0
         self.waiting = 0
         # What came above a gap, apart from one another, the newest first.
-        self._spans: list[Span] = []
+        self._spans: list[OctetRange] = []
 
-    def take(self, span: Span) -> bool:
+    def take(self, span: OctetRange) -> bool:
         """Takes a segment; whether it has to be acknowledged at once."""
         begin = self.next
         had_gap = bool(self._spans)
@@ -43,7 +43,7 @@ class Receiver:
         self.waiting = 0
         return Ack(self.next, tuple(self._spans[:_MOST_BLOCKS]) if self._has_sack else ())
 
-    def _add(self, span: Span) -> None:
+    def _add(self, span: OctetRange) -> None:
         start, end = max(span[0], self.next), span[1]
         if start >= end:
             return

@@ -5,26 +5,31 @@ from collections import Counter
 from collections.abc import Iterator, Sequence
 from dataclasses import dataclass
 
-from pdsuite.measure.statistics import Row, Table, Unit, Verdict
-from pdsuite.measure.measuring import Case
+from pdsuite.measure.measurement import TransferCase
+from pdsuite.measure.statistics import ChangeVerdict, FigureRow, FigureTable, Unit
+from pdsuite.output.fitting import wrapped
+from pdsuite.output.octets import shown_text
+from pdsuite.output.styled_text import StyledText, unstyled
 from pdsuite.run.outcomes import UNPROVED
-from pdsuite.show.fitting import wrapped
-from pdsuite.show.octets import shown_text
-from pdsuite.show.styled_text import StyledText, unstyled
 
 # Of the JSON, as docs/measure.schema.json has it.
 VERSION = 1
 _INDENT = "  "
-# Times below so many microseconds are told in these.
+# Times below so many microseconds are written in these.
 _SHORT = 100
-_STYLES = {Verdict.BETTER: "green", Verdict.WORSE: "bold red", Verdict.UNSHOWN: "dim", Verdict.SAME: "dim"}
+_STYLES = {
+    ChangeVerdict.BETTER: "green",
+    ChangeVerdict.WORSE: "bold red",
+    ChangeVerdict.UNSHOWN: "dim",
+    ChangeVerdict.SAME: "dim",
+}
 
 
 @dataclass(frozen=True)
 class MeasureReport:
     """Tables, senders, seed, counts of transfers and seconds, and whether it is unproved or ended by a signal."""
 
-    tables: Sequence[Table]
+    tables: Sequence[FigureTable]
     names: tuple[str, str]
     seed: int
     transfers: int
@@ -33,12 +38,12 @@ class MeasureReport:
     is_cut: bool = False  # a signal ended it early
 
     @property
-    def verdicts(self) -> Counter[Verdict]:
+    def verdicts(self) -> Counter[ChangeVerdict]:
         """How many rows have which verdict."""
         return Counter(row.verdict for table in self.tables for row in table.rows)
 
 
-def title_of(case: Case, runs: int) -> str:
+def title_of(case: TransferCase, runs: int) -> str:
     """A case in words."""
     twice = f", twice, {number_of(Unit.TIME, case.path.idle_us)} apart" if case.path.idle_us else ""
     count = "1 run, without chance" if not case.path.has_chance else f"{runs:,} run{'s' * (runs != 1)}"
@@ -46,14 +51,14 @@ def title_of(case: Case, runs: int) -> str:
 
 
 def plain(report: MeasureReport, columns: int | None = None) -> StyledText:
-    """A table of each case, and the totals, in lines of so many columns at most if they are said."""
+    """A table of each case, and the totals, in lines of so many columns at most where that is given."""
     text = StyledText()
     for table in report.tables:
         text.append(f"{title_of(table.measured.case, len(table.measured.pairs))}\n", "bold")
         for line, verdict, below in lines_of(table, columns):
             text.append(f"{_INDENT}{line}  ").append(verdict, _STYLES[verdict]).append("\n")
             text.append("".join(f"{2 * _INDENT}{it}\n" for it in below))
-        if table.measured.unplayed:
+        if table.measured.unfinished:
             text.append(f"{_fitted(f'{_INDENT}{unplayed_of(table)}', columns)}\n", "bold red")
     return text.append("".join(f"{_fitted(line, columns)}\n" for line in totals_of(report)))
 
@@ -66,17 +71,17 @@ def totals_of(report: MeasureReport) -> tuple[str, str]:
     """The last lines: how many figures show what, and how many transfers were played."""
     mark = f" {UNPROVED}" if report.is_unproved else ""
     cut = " until a signal came" if report.is_cut else ""
-    counts = ", ".join(f"{report.verdicts[it]} {it}" for it in Verdict)
+    counts = ", ".join(f"{report.verdicts[it]} {it}" for it in ChangeVerdict)
     return counts, f"total {report.transfers:,} transfers in {report.seconds:.2f} s{cut}, seed {report.seed}{mark}"
 
 
-def unplayed_of(table: Table) -> str:
+def unplayed_of(table: FigureTable) -> str:
     """How many transfers came to no end, and why the first didn't."""
-    first, *more = table.measured.unplayed
+    first, *more = table.measured.unfinished
     return f"not played: {shown_text(first)}" + (f", and {len(more)} more" if more else "")
 
 
-def lines_of(table: Table, columns: int | None) -> Iterator[tuple[str, Verdict, Sequence[str]]]:
+def lines_of(table: FigureTable, columns: int | None) -> Iterator[tuple[str, ChangeVerdict, Sequence[str]]]:
     """The rows of a case, each with its verdict: in columns, or where these don't fit with their numbers below."""
     cells = [cells_of(it) for it in table.rows]
     widths = [max(len(row[column]) for row in cells) for column in range(len(cells[0]))] if cells else []
@@ -99,7 +104,7 @@ def _below(numbers: Sequence[str], columns: int) -> Sequence[str]:
     return [line] if len(f"{2 * _INDENT}{line}") <= columns else ["  ".join(numbers[:-1]), numbers[-1]]
 
 
-def cells_of(row: Row) -> tuple[str, ...]:
+def cells_of(row: FigureRow) -> tuple[str, ...]:
     """A row in words: its name, both sides, the difference, and where that lies."""
     unit = row.figure.unit
     is_short = max(row.before, row.after) < _SHORT
@@ -127,7 +132,7 @@ def as_json(report: MeasureReport) -> StyledText:
         "after": report.names[1],
         "seed": report.seed,
         "cases": [_case(it) for it in report.tables],
-        "verdicts": {it.value: report.verdicts[it] for it in Verdict},
+        "verdicts": {it.value: report.verdicts[it] for it in ChangeVerdict},
         "transfers": report.transfers,
         "seconds": round(report.seconds, 2),
     }
@@ -138,7 +143,7 @@ def as_json(report: MeasureReport) -> StyledText:
     return unstyled(json.dumps(whole, ensure_ascii=False, indent=1) + "\n")
 
 
-def _case(table: Table) -> dict[str, object]:
+def _case(table: FigureTable) -> dict[str, object]:
     measured = table.measured
     case: dict[str, object] = {
         "path": measured.case.path.name,
@@ -147,12 +152,12 @@ def _case(table: Table) -> dict[str, object]:
         "figures": {it.figure.key: _row(it) for it in table.rows},
         "runs": [{"run": it.run, "before_us": it.before.time, "after_us": it.after.time} for it in measured.pairs],
     }
-    if measured.unplayed:
-        case["unplayed"] = [shown_text(it) for it in measured.unplayed]
+    if measured.unfinished:
+        case["unplayed"] = [shown_text(it) for it in measured.unfinished]
     return case
 
 
-def _row(row: Row) -> dict[str, object]:
+def _row(row: FigureRow) -> dict[str, object]:
     return {
         "words": row.figure.words,
         "unit": row.figure.unit.value,

@@ -8,20 +8,20 @@ from typing import Any
 
 import numpy
 
-from pdsuite.measure.measuring import MeasuredCase
+from pdsuite.measure.measurement import MeasuredCase
 from pdsuite.measure.transfer import Delivery
 
 # Samples of a bootstrap, and how many are looked at at once.
 _SAMPLES = 9_999
 _BLOCK = 1_111
 _SEED = 1
-# What is told is wrong, over all of a table, as often as this at most, and an interval holds what is so but for this.
+# What is shown is wrong, over all of a table, as often as this at most, and an interval holds what is so but for this.
 LEVEL = 0.05
 
 Array = Any
 
 
-class Verdict(StrEnum):
+class ChangeVerdict(StrEnum):
     """What a difference shows."""
 
     BETTER = "better"
@@ -54,7 +54,7 @@ class Figure:
 
 
 @dataclass(frozen=True)
-class Row:
+class FigureRow:
     """A figure under both senders: the difference, where it lies by the runs, and what that shows.
 
     There is no chance where nothing is drawn: the difference is exact, and `chance` None. Else that is the share of
@@ -67,7 +67,7 @@ class Row:
     low: float
     high: float
     chance: float | None
-    verdict: Verdict = Verdict.UNSHOWN
+    verdict: ChangeVerdict = ChangeVerdict.UNSHOWN
 
     @property
     def difference(self) -> float:
@@ -75,11 +75,11 @@ class Row:
 
 
 @dataclass(frozen=True)
-class Table:
+class FigureTable:
     """A case with its rows; without runs it has none."""
 
     measured: MeasuredCase
-    rows: tuple[Row, ...]
+    rows: tuple[FigureRow, ...]
 
 
 FIGURES = (
@@ -104,9 +104,9 @@ def goodput(it: Delivery, rate: int) -> float:
     return it.octets * 8_000_000 / it.time / rate
 
 
-def tables_of(cases: Sequence[MeasuredCase]) -> list[Table]:
+def tables_of(cases: Sequence[MeasuredCase]) -> list[FigureTable]:
     """The tables of all cases, with verdicts that hold together."""
-    tables = [Table(it, tuple(_rows(it)) if it.pairs else ()) for it in cases]
+    tables = [FigureTable(it, tuple(_rows(it)) if it.pairs else ()) for it in cases]
     shown = _shown([row.chance for table in tables for row in table.rows])
     verdicts = iter(shown)
     return [
@@ -115,7 +115,7 @@ def tables_of(cases: Sequence[MeasuredCase]) -> list[Table]:
     ]
 
 
-def _rows(it: MeasuredCase) -> Iterator[Row]:
+def _rows(it: MeasuredCase) -> Iterator[FigureRow]:
     """The figures of a case, whose verdicts are open. All are of the same samples of runs."""
     rate = it.case.path.rate
     count = len(it.pairs)
@@ -123,13 +123,13 @@ def _rows(it: MeasuredCase) -> Iterator[Row]:
         sides = [numpy.array([figure.of(pair.sides[side], rate) for pair in it.pairs], float) for side in (0, 1)]
         before, after = (float(_estimates(each, numpy.ones((1, count)), figure.share)[0]) for each in sides)
         if not it.case.path.has_chance:
-            yield Row(figure, before, after, after - before, after - before, None)
+            yield FigureRow(figure, before, after, after - before, after - before, None)
         elif (sides[0] == sides[1]).all():
-            yield Row(figure, before, after, 0.0, 0.0, 1.0)
+            yield FigureRow(figure, before, after, 0.0, 0.0, 1.0)
         else:
             differences = _differences(sides, figure.share)
             low, high = numpy.quantile(differences, (LEVEL / 2, 1 - LEVEL / 2))
-            yield Row(
+            yield FigureRow(
                 figure, before, after, float(low), float(high), _chance(differences, int((sides[0] != sides[1]).sum()))
             )
 
@@ -175,9 +175,9 @@ def _shown(chances: Sequence[float | None]) -> list[bool]:
     return shown
 
 
-def _verdict(row: Row, is_shown: bool) -> Verdict:
+def _verdict(row: FigureRow, is_shown: bool) -> ChangeVerdict:
     if row.low == row.high == row.difference == 0:
-        return Verdict.SAME
+        return ChangeVerdict.SAME
     if not is_shown or row.difference == 0:
-        return Verdict.UNSHOWN
-    return Verdict.BETTER if (row.difference > 0) is row.figure.is_more_better else Verdict.WORSE
+        return ChangeVerdict.UNSHOWN
+    return ChangeVerdict.BETTER if (row.difference > 0) is row.figure.is_more_better else ChangeVerdict.WORSE

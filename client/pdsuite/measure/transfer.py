@@ -1,6 +1,6 @@
-"""One transfer over a modelled path: what a sender is told to send goes over the link, and the peer's ACKs come back.
+"""One transfer over a modelled path: what a sender is made to send goes over the link, and the peer's ACKs come back.
 
-The sender is asked for by whoever plays: it gets inputs as lines of a script, and tells what left.
+Whoever plays provides the sender: it gets inputs as lines of a script, and reports what left.
 """
 
 import heapq
@@ -9,9 +9,9 @@ from dataclasses import dataclass, field
 from itertools import count
 from random import Random
 
-from pdsuite.measure.link import Fate, Link
+from pdsuite.measure.link import Link, PacketFate
 from pdsuite.measure.paths import HEADER, NetworkPath
-from pdsuite.measure.receiver import Ack, Receiver, Span
+from pdsuite.measure.receiver import Ack, OctetRange, Receiver
 from pdsuite.measure.writer import Writer
 from pdsuite.packetdrill.items import SECOND
 from pdsuite.search.inputs import EXACT
@@ -41,7 +41,7 @@ class Departure:
 
 @dataclass(frozen=True, slots=True)
 class SenderReply:
-    """What a sender tells after inputs: what left since it was asked last, and when its timer expires, if it runs."""
+    """What a sender reports after inputs: what left since the last reply, and when its timer expires, if it runs."""
 
     departures: tuple[Departure, ...]
     expiry: int | None
@@ -76,15 +76,15 @@ class Delivery:
         return tuple(Departure(it.at, it.start, it.end) for it in self.departures)
 
 
-class Stalled(Exception):
+class StalledTransferError(Exception):
     """That neither the sender nor the peer has anything to do, and not all was delivered."""
 
 
 # Hands out inputs as lines, and gets what the sender tells.
-Playing = Generator[Sequence[str], SenderReply, Delivery]
+TransferSteps = Generator[Sequence[str], SenderReply, Delivery]
 
 
-def play(path: NetworkPath, size: int, seed: str, room: int) -> Playing:
+def play(path: NetworkPath, size: int, seed: str, room: int) -> TransferSteps:
     """Plays a transfer of so many octets; the sender's buffer has this room."""
     return (yield from Transfer(path, size, seed, room).play())
 
@@ -99,7 +99,7 @@ class Transfer:
         self._receiver = Receiver(path.ack_every, path.sack)
         self._writer = Writer(path, size, room)
         # What reaches the peer and the sender: segments and ACKs in their order, and of a moment last a timer, as None.
-        self._at_peer: list[tuple[int, int, Span | None]] = []
+        self._at_peer: list[tuple[int, int, OctetRange | None]] = []
         self._at_sender: list[tuple[int, int, Ack | None]] = []
         self._acks = count()
         # An ACK that waits for newer ones, and when what is due at the peer by itself is.
@@ -110,9 +110,9 @@ class Transfer:
         self._now = 0
         self._departures: list[Departure] = []
         self._waits: list[int] = []
-        self._fates = {it: 0 for it in Fate}
+        self._fates = {it: 0 for it in PacketFate}
 
-    def play(self) -> Playing:
+    def play(self) -> TransferSteps:
         reply = yield self._handshake()
         self._carry(reply)
         while not self._writer.is_over:
@@ -142,15 +142,17 @@ class Transfer:
         while len(self._lines) == begin:
             first = self._first(expiry)
             if first is None:
-                raise Stalled(f"nothing is due, and {self._receiver.taken:,} of {self._writer.total:,} octets arrived")
+                raise StalledTransferError(
+                    f"nothing is due, and {self._receiver.taken:,} of {self._writer.total:,} octets arrived"
+                )
             horizon = self.horizon(first)
-            is_told = self._tell_peer(horizon)
+            is_delivered = self._deliver_to_peer(horizon)
             while self._at_sender and self._at_sender[0][0] < horizon + self._path.delay_us:
                 at, _, ack = heapq.heappop(self._at_sender)
                 if ack is not None:
                     self._acknowledge(at, ack)
                 self._write(at)
-            if not is_told and len(self._lines) == begin and first == expiry:
+            if not is_delivered and len(self._lines) == begin and first == expiry:
                 self._put(first, _TICK)
         return self._lines[begin:]
 
@@ -191,14 +193,14 @@ class Transfer:
             self._departures.append(it)
             carried = self._link.carry(it.at, it.end - it.start + HEADER)
             self._fates[carried.fate] += 1
-            if carried.fate is not Fate.OVERFLOW:
+            if carried.fate is not PacketFate.OVERFLOW:
                 self._waits.append(carried.waited)
             if carried.arrives:
                 heapq.heappush(self._at_peer, (carried.at, len(self._departures), (it.start, it.end)))
 
     # ---- the peer
 
-    def _tell_peer(self, until: int) -> bool:
+    def _deliver_to_peer(self, until: int) -> bool:
         """Lets come what reaches the peer before a moment; whether there was anything."""
         is_any = False
         while self._at_peer and self._at_peer[0][0] < until:
@@ -258,8 +260,8 @@ class Transfer:
             octets_again=octets,
             expiries=len({it.at for it in self._departures if it.is_by_timer}),
             queue=sum(self._waits) / max(len(self._waits), 1) / 1_000,
-            overflows=self._fates[Fate.OVERFLOW],
-            losses=self._fates[Fate.LOST],
+            overflows=self._fates[PacketFate.OVERFLOW],
+            losses=self._fates[PacketFate.LOST],
             lines=tuple(self._lines),
             departures=tuple(self._departures),
         )

@@ -46,21 +46,21 @@ class Writer:
             yield octets
 
     def wakes(self, at: int) -> int | None:
-        """When it wants to write next, if that is later and it hasn't said so before."""
+        """When it wants to write next, if that is later and it hasn't answered so before."""
         if self._due is None or self._due <= at or self._due == self._woken:
             return None
         self._woken = self._due
         return self._due
 
     def acknowledge(self, at: int, number: int) -> None:
-        """Hears that all octets below a number are acknowledged."""
+        """Takes note that all octets below a number are acknowledged."""
         self._una = max(self._una, number)
         if self._una == self._ends[self._part] and self._part + 1 < len(self._ends):
             self._part += 1
             self._due = at + self._path.idle_us
 
     def deliver(self, at: int, number: int) -> None:
-        """Hears that the peer has all octets below a number."""
+        """Takes note that the peer has all octets below a number."""
         while self._delivered < len(self._ends) and number >= self._ends[self._delivered]:
             self.time += at - self._begins[self._delivered]
             self._delivered += 1

@@ -31,7 +31,7 @@ class Mark(Enum):
 
 
 @dataclass(frozen=True, slots=True)
-class Part:
+class PacketField:
     """A field as it is written, its mark, and how many blanks follow it."""
 
     text: str
@@ -39,14 +39,14 @@ class Part:
     blanks: int = 0
 
 
-Packet = tuple[Part, ...]
+PacketColumns = tuple[PacketField, ...]
 
 
-def columns(script: str, actual: str, kind: str) -> tuple[Packet, Packet]:
+def columns(script: str, actual: str, kind: str) -> tuple[PacketColumns, PacketColumns]:
     """Both packets field by field. `kind` is the field by which the script fails, as the program names it."""
     one, other = _PACKET.fullmatch(script), _PACKET.fullmatch(actual)
     if one is None or other is None:
-        return (Part(script),), (Part(actual),)
+        return (PacketField(script),), (PacketField(actual),)
     fields = [(name, one[name], other[name], _mark(name, one[name], other[name], kind)) for name in _FORMS]
     pairs = [(_part(name, left, mark), _part(name, right, mark)) for name, left, right, mark in fields if left or right]
     widths = [max(len(left.text), len(right.text)) for left, right in pairs]
@@ -68,15 +68,15 @@ def _agree(name: str, script: str, actual: str | None) -> bool:
     return script == actual or (name == "options" and script == _ANY_OPTIONS)
 
 
-def _part(name: str, value: str | None, mark: Mark) -> Part:
-    return Part("", Mark.NONE) if value is None else Part(_FORMS[name].format(value), mark)
+def _part(name: str, value: str | None, mark: Mark) -> PacketField:
+    return PacketField("", Mark.NONE) if value is None else PacketField(_FORMS[name].format(value), mark)
 
 
-def _padded(parts: list[Part], widths: list[int]) -> Packet:
+def _padded(parts: list[PacketField], widths: list[int]) -> PacketColumns:
     """The parts, each with the blanks up to the next column; the last one with none."""
     last = max(number for number, it in enumerate(parts) if it.text)
     padded = [
-        Part(it.text, it.mark, width - len(it.text) + 1 if number < last else 0)
+        PacketField(it.text, it.mark, width - len(it.text) + 1 if number < last else 0)
         for number, (it, width) in enumerate(zip(parts, widths))
     ]
     return tuple(padded[: last + 1])

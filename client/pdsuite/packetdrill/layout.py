@@ -7,7 +7,7 @@ from functools import cached_property
 from pdsuite.packetdrill.items import Call, Item, Packet
 from pdsuite.packetdrill.lines import Extent
 from pdsuite.packetdrill.reader import read
-from pdsuite.packetdrill.tokens import Kind, Token, Unread, tokens_of
+from pdsuite.packetdrill.tokens import ScriptSyntaxError, Token, TokenKind, tokens_of
 
 
 @dataclass(frozen=True, eq=False)
@@ -48,7 +48,7 @@ class Layout:
 
     text: str
     items: tuple[Event, ...]
-    fault: Unread | None
+    fault: ScriptSyntaxError | None
 
     @property
     def events(self) -> list[Event]:
@@ -59,10 +59,10 @@ class Layout:
         """The item that stands at a place."""
         return next((it for it in self.items if offset in it.extent), None)
 
-    def of_line(self, line: int, said: str = "") -> Event | None:
-        """The item that begins in a line, counted from 1; of several the one that the program shows as `said`."""
+    def of_line(self, line: int, printed: str = "") -> Event | None:
+        """The item that begins in a line, counted from 1; of several the one that the program shows as `printed`."""
         found = [it for it in self.items if it.item.line == line]
-        alike = [it for it in found if _squeezed(self.text[it.item.start : it.item.end]) == _squeezed(said)]
+        alike = [it for it in found if _squeezed(self.text[it.item.start : it.item.end]) == _squeezed(printed)]
         return next(iter([*alike, *found]), None)
 
 
@@ -98,7 +98,7 @@ def _fields(text: str, item: Item) -> Mapping[str, Extent]:
 def _packet_fields(tokens: list[Token]) -> Iterator[tuple[str, Extent]]:
     """The fields after the arrow, which may come after the end of a blocking call."""
     arrow = next(place for place, it in enumerate(tokens) if it.text in ("<", ">"))
-    number = next(place for place, it in enumerate(tokens) if place > arrow and it.kind is Kind.NUMBER)
+    number = next(place for place, it in enumerate(tokens) if place > arrow and it.kind is TokenKind.NUMBER)
     yield "flags", _span(tokens[arrow + 1 : number])
     yield "seq", _span(tokens[number : number + 6])
     rest = tokens[number + 6 :]
@@ -111,7 +111,7 @@ def _packet_fields(tokens: list[Token]) -> Iterator[tuple[str, Extent]]:
 
 def _call_fields(tokens: list[Token]) -> Iterator[tuple[str, Extent]]:
     """The name, what stands in its brackets, and the result with the name of an error."""
-    name = next(place for place, it in enumerate(tokens) if it.kind is Kind.WORD)
+    name = next(place for place, it in enumerate(tokens) if it.kind is TokenKind.WORD)
     yield "call", _span(tokens[name : name + 1])
     depth = 0
     for place, it in enumerate(tokens[name + 1 :], name + 1):

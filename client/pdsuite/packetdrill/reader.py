@@ -5,13 +5,13 @@ from collections.abc import Sequence
 from dataclasses import dataclass
 
 from pdsuite.packetdrill.items import SECOND, Call, Code, Command, HeaderOption, Item, Packet, TcpOption, Time
-from pdsuite.packetdrill.tokens import Kind, Token, Unread, line_of, tokens_of
+from pdsuite.packetdrill.tokens import ScriptSyntaxError, Token, TokenKind, line_of, tokens_of
 
 MOST_NUMBER = (1 << 32) - 1
 MOST_PAIRS = 16
 _FLAGS = re.compile(r"[FSRPUEWC]+")
 _CLOSING = {"(": ")", "[": "]", "{": "}"}
-_END = Token(Kind.SYMBOL, "", 0)
+_END = Token(TokenKind.SYMBOL, "", 0)
 
 # What a text that isn't read says by its token.
 _KNOWN = {
@@ -38,7 +38,7 @@ class Reading:
     """The items of a text, up to its end or to where no script goes on."""
 
     items: tuple[Item, ...]
-    fault: Unread | None = None
+    fault: ScriptSyntaxError | None = None
 
 
 def read(text: str) -> Reading:
@@ -48,23 +48,23 @@ def read(text: str) -> Reading:
     try:
         while not reader.is_at_end():
             items.append(reader.item())
-    except Unread as unread:
+    except ScriptSyntaxError as unread:
         return Reading(tuple(items), unread)
     return Reading(tuple(items))
 
 
 class _Reader:
-    """A place among the tokens of a text; each method takes what its name says, or raises `Unread`."""
+    """A place among the tokens of a text; each method takes what its name says, or raises `ScriptSyntaxError`."""
 
     def __init__(self, text: str) -> None:
         self._text = text
         self._tokens: list[Token] = []
-        self._stuck: Unread | None = None
+        self._stuck: ScriptSyntaxError | None = None
         self._at = 0
         try:
             for token in tokens_of(text):
                 self._tokens.append(token)
-        except Unread as unread:
+        except ScriptSyntaxError as unread:
             self._stuck = unread
 
     def is_at_end(self) -> bool:
@@ -75,12 +75,12 @@ class _Reader:
         token = self._next()
         line = line_of(self._text, token.start)
         match token.kind:
-            case Kind.OPTION:
+            case TokenKind.OPTION:
                 self._at += 1
                 name, equals, value = token.text.removeprefix("--").partition("=")
                 what = HeaderOption(name, value if equals else None)
                 return Item(what, line, token.start, token.end, token.start)
-            case Kind.COMMAND | Kind.CODE:
+            case TokenKind.COMMAND | TokenKind.CODE:
                 self._at += 1
                 return Item(_quoted(token), line, token.start, token.end, token.start)
         return self._event(token, line)
@@ -91,10 +91,10 @@ class _Reader:
         is_blocking = self._takes_dots()
         token = self._next()
         match token.kind, token.text:
-            case (Kind.COMMAND | Kind.CODE), _:
+            case (TokenKind.COMMAND | TokenKind.CODE), _:
                 self._at += 1
                 what: Packet | Call | Command | Code = _quoted(token)
-            case Kind.SYMBOL, ("<" | ">"):
+            case TokenKind.SYMBOL, ("<" | ">"):
                 self._at += 1
                 what = self._packet(token.text == "<")
             case _:
@@ -116,7 +116,7 @@ class _Reader:
 
     def _takes_dots(self) -> bool:
         """Takes the end of a blocking call, where there is one."""
-        if self._next().kind is not Kind.DOTS:
+        if self._next().kind is not TokenKind.DOTS:
             return False
         self._at += 1
         self._takes("+")
@@ -126,13 +126,13 @@ class _Reader:
     def _seconds(self, least: int) -> int:
         """Seconds as microseconds; digits after the sixth decimal are dropped."""
         token = self._next()
-        if token.kind not in (Kind.NUMBER, Kind.DECIMAL):
-            raise self._unread(token)
+        if token.kind not in (TokenKind.NUMBER, TokenKind.DECIMAL):
+            raise self._syntax_error(token)
         whole, _, part = token.text.partition(".")
         seconds = _number(whole or "0")
         microseconds = seconds * SECOND + int(part[:6].ljust(6, "0"))
         if seconds > MOST_NUMBER or microseconds < least:
-            raise self._unread(token)
+            raise self._syntax_error(token)
         self._at += 1
         return microseconds
 
@@ -149,7 +149,7 @@ class _Reader:
         ack = self._named("ack")
         win = self._named("win")
         if win is None and is_inbound:
-            raise self._unread(self._peek())
+            raise self._syntax_error(self._peek())
         first = self._at
         options = self._options(is_inbound)
         return Packet(is_inbound, flags, start, end, ack, win, options, self._flat(first, self._at))
@@ -160,15 +160,15 @@ class _Reader:
         if self._takes("."):
             return "."
         token = self._next()
-        if token.kind is not Kind.WORD or not _FLAGS.fullmatch(token.text):
-            raise self._unread(token)
+        if token.kind is not TokenKind.WORD or not _FLAGS.fullmatch(token.text):
+            raise self._syntax_error(token)
         self._at += 1
         return "".join(dict.fromkeys(token.text)) + ("." if self._takes(".") else "")
 
     def _named(self, name: str) -> int | None:
         """A number after its name, where that stands here."""
         token = self._peek()
-        if token.kind is not Kind.WORD or token.text != name:
+        if token.kind is not TokenKind.WORD or token.text != name:
             return None
         self._at += 1
         return self._int()
@@ -176,7 +176,7 @@ class _Reader:
     def _options(self, is_inbound: bool) -> tuple[TcpOption, ...]:
         if not self._takes("<") or self._takes(">"):
             return ()
-        if not is_inbound and self._next().kind is Kind.DOTS:
+        if not is_inbound and self._next().kind is TokenKind.DOTS:
             self._at += 1
             self._expect(">")
             return ()
@@ -199,19 +199,19 @@ class _Reader:
             case "sack":
                 return TcpOption("sack", self._blocks())
         self._at -= 1
-        raise self._unread(token)
+        raise self._syntax_error(token)
 
     def _after(self, name: str) -> int:
         token = self._next()
         if token.text != name:
-            raise self._unread(token)
+            raise self._syntax_error(token)
         self._at += 1
         return self._int()
 
     def _blocks(self) -> tuple[int, ...]:
         """The edges of one block or more."""
         edges: list[int] = []
-        while not edges or self._peek().kind is Kind.NUMBER:
+        while not edges or self._peek().kind is TokenKind.NUMBER:
             edges.append(self._int())
             self._expect(":")
             edges.append(self._int())
@@ -221,8 +221,8 @@ class _Reader:
 
     def _call(self) -> Call:
         token = self._next()
-        if token.kind is not Kind.WORD:
-            raise self._unread(token)
+        if token.kind is not TokenKind.WORD:
+            raise self._syntax_error(token)
         self._at += 1
         self._expect("(")
         arguments = self._arguments()
@@ -248,34 +248,34 @@ class _Reader:
         closing: list[str] = []
         while closing or not self._ends_here(parted):
             token = self._next()
-            if token.kind is Kind.SYMBOL:
+            if token.kind is TokenKind.SYMBOL:
                 self._pair(token, closing, most)
             self._at += 1
         if parted and first == self._at:
-            raise self._unread(self._next())
+            raise self._syntax_error(self._next())
         return self._flat(first, self._at)
 
     def _ends_here(self, parted: bool) -> bool:
         token = self._next()
-        return token.kind is Kind.SYMBOL and (token.text == ")" or (parted and token.text == ","))
+        return token.kind is TokenKind.SYMBOL and (token.text == ")" or (parted and token.text == ","))
 
     def _pair(self, token: Token, closing: list[str], most: int) -> None:
         """Opens a pair of brackets, or closes the innermost one."""
         if token.text in _CLOSING:
             if len(closing) == most:
-                raise self._unread(token)
+                raise self._syntax_error(token)
             closing.append(_CLOSING[token.text])
         elif token.text in _CLOSING.values():
             if not closing or closing.pop() != token.text:
-                raise self._unread(token)
+                raise self._syntax_error(token)
 
     def _result(self) -> tuple[int, str | None]:
-        """A result, and where it is negative the error that it may be told with."""
+        """A result, and where it is negative the error that it may be written with."""
         if not self._takes("-"):
-            return self._int(also=Kind.HEX), None
+            return self._int(also=TokenKind.HEX), None
         number = self._int()
         error = self._peek()
-        if error.kind is not Kind.WORD:
+        if error.kind is not TokenKind.WORD:
             return -number, None
         self._at += 1
         return -number, error.text
@@ -286,7 +286,7 @@ class _Reader:
         """The token that stands here, which there has to be."""
         if self._at < len(self._tokens):
             return self._tokens[self._at]
-        raise self._stuck or Unread(max(len(self._text.rstrip("\n")) - 1, 0), "the script breaks off here")
+        raise self._stuck or ScriptSyntaxError(max(len(self._text.rstrip("\n")) - 1, 0), "the script breaks off here")
 
     def _peek(self) -> Token:
         """The token that stands here, if there is one."""
@@ -294,31 +294,31 @@ class _Reader:
 
     def _takes(self, symbol: str) -> bool:
         token = self._peek()
-        if token.kind is not Kind.SYMBOL or token.text != symbol:
+        if token.kind is not TokenKind.SYMBOL or token.text != symbol:
             return False
         self._at += 1
         return True
 
     def _expect(self, symbol: str) -> None:
         if not self._takes(symbol):
-            raise self._unread(self._next())
+            raise self._syntax_error(self._next())
 
-    def _int(self, least: int = 0, most: int = MOST_NUMBER, also: Kind = Kind.NUMBER) -> int:
+    def _int(self, least: int = 0, most: int = MOST_NUMBER, also: TokenKind = TokenKind.NUMBER) -> int:
         token = self._next()
-        if token.kind not in (Kind.NUMBER, also):
-            raise self._unread(token)
+        if token.kind not in (TokenKind.NUMBER, also):
+            raise self._syntax_error(token)
         number = _number(token.text)
         if not least <= number <= most:
-            raise self._unread(token)
+            raise self._syntax_error(token)
         self._at += 1
         return number
 
-    def _unread(self, token: Token) -> Unread:
+    def _syntax_error(self, token: Token) -> ScriptSyntaxError:
         if token is _END:
-            return Unread(max(len(self._text) - 1, 0), "the script breaks off here")
+            return ScriptSyntaxError(max(len(self._text) - 1, 0), "the script breaks off here")
         if _ACCURATE.fullmatch(token.text):
-            return Unread(token.start, "AccECN", token.text)
-        return Unread(token.start, _KNOWN.get(token.text, _NO_SCRIPT), token.text)
+            return ScriptSyntaxError(token.start, "AccECN", token.text)
+        return ScriptSyntaxError(token.start, _KNOWN.get(token.text, _NO_SCRIPT), token.text)
 
     def _flat(self, first: int, last: int) -> str:
         """Tokens in one line: a blank stands where blanks or comments stood."""
@@ -344,6 +344,6 @@ def _number(digits: str) -> int:
 
 
 def _quoted(token: Token) -> Command | Code:
-    if token.kind is Kind.COMMAND:
+    if token.kind is TokenKind.COMMAND:
         return Command(token.text[1:-1])
     return Code(token.text[2:-2])

@@ -26,7 +26,7 @@ _NO_FIELDS = Fields(frozenset(), (0, 0), None, None, None)
 
 
 @dataclass(frozen=True, slots=True)
-class State:
+class SenderState:
     """How a sender stands: the name of its state, and facts as they are shown."""
 
     name: str
@@ -34,7 +34,7 @@ class State:
 
 
 @dataclass(frozen=True, slots=True)
-class Recorded:
+class RecordedEvent:
     """An event of a recording: where it and its action begin, its packet ends, and its lines end with their trace.
 
     And its moment in microseconds, the sender after it, and of a packet that left what sent it, as the trace says it.
@@ -46,26 +46,26 @@ class Recorded:
     after: int
     is_input: bool  # a packet that arrives, or a call
     moment: int
-    state: State
+    state: SenderState
     sent_by: str | None = None
     fields: Fields | None = None  # of a packet
 
 
 @dataclass(frozen=True, slots=True)
-class Met:
+class MatchedEvent:
     """An event of a script, and what it is in the recording: nothing where nothing was sent for it."""
 
     event: Event
-    recorded: Recorded | None
-    after: Recorded | None  # what was recorded last when the event was over
+    recorded: RecordedEvent | None
+    after: RecordedEvent | None  # what was recorded last when the event was over
     first: float = 0  # the first moment of the event's time, and the last
     last: float = inf
 
 
-def recorded_in(recording: str) -> tuple[Recorded, ...]:
+def recorded_in(recording: str) -> tuple[RecordedEvent, ...]:
     """The events of a recording that was made with a trace, whose line comes after each."""
     begin = 0
-    each: list[Recorded] = []
+    each: list[RecordedEvent] = []
     for found in _TRACE.finditer(recording):
         each.append(_recorded(recording, begin, found))
         begin = found.end()
@@ -77,7 +77,7 @@ def without_trace(recording: str) -> str:
     return _TRACE.sub("", recording)
 
 
-def _recorded(recording: str, begin: int, trace: "re.Match[str]") -> Recorded:
+def _recorded(recording: str, begin: int, trace: "re.Match[str]") -> RecordedEvent:
     """The event before a line of the trace; comments and the header may come before it."""
     gap = _BEFORE.match(recording, begin, trace.start())
     start = begin if gap is None else gap.end()
@@ -85,14 +85,14 @@ def _recorded(recording: str, begin: int, trace: "re.Match[str]") -> Recorded:
     time = _TIME.match(recording, start, trace.start())
     facts = dict(it.split(":", 1) for it in trace["facts"].split())
     sent_by = facts.pop("sent_by", None)
-    return Recorded(
+    return RecordedEvent(
         start=start,
         action=start if time is None else time.end(),
         end=trace.start() if packet is None else packet.end(),
         after=trace.end(),
         is_input=packet is None or packet["arrow"] == "<",
         moment=int(trace["whole"]) * SECOND + int(trace["part"]),
-        state=State(trace["name"], facts),
+        state=SenderState(trace["name"], facts),
         sent_by=sent_by,
         fields=None if packet is None else _fields(packet),
     )
@@ -107,13 +107,13 @@ def _fields(packet: "re.Match[str]") -> Fields:
 def tolerance_of(items: Sequence[Event], settings: int) -> int:
     """The tolerance in microseconds: the last one of the header, else that of the settings."""
     header = [it.item.what for it in items if isinstance(it.item.what, HeaderOption)]
-    said = [it.value for it in header if it.name == _TOLERANCE and it.value is not None and it.value.isdecimal()]
-    return int(said[-1]) if said else settings
+    values = [it.value for it in header if it.name == _TOLERANCE and it.value is not None and it.value.isdecimal()]
+    return int(values[-1]) if values else settings
 
 
-def met_by(
-    events: Sequence[Event], recorded: Sequence[Recorded], passed: int, tolerance: int, begin: int = 0
-) -> Iterator[Met]:
+def match_events(
+    events: Sequence[Event], recorded: Sequence[RecordedEvent], passed: int, tolerance: int, begin: int = 0
+) -> Iterator[MatchedEvent]:
     """What each event is in the recording. The first events, `passed` in number, are known to have passed.
 
     Packets are met in the order in which they left. Past the events that passed, those are met that are most alike, and
@@ -122,7 +122,7 @@ def met_by(
     inputs = [place for place, it in enumerate(recorded) if it.is_input]
     pairs = _pairs(events, recorded, passed)
     base = clock = begin
-    after: Recorded | None = None
+    after: RecordedEvent | None = None
     for number, event in enumerate(events):
         first, end = _first(event.item.time, base), _last(event.item.time, base)
         if event.is_input:
@@ -137,10 +137,10 @@ def met_by(
         if found is not None:
             after = recorded[found]
             clock = max(clock, after.moment)
-        yield Met(event, None if found is None else recorded[found], after, first, end)
+        yield MatchedEvent(event, None if found is None else recorded[found], after, first, end)
 
 
-def _pairs(events: Sequence[Event], recorded: Sequence[Recorded], passed: int) -> dict[int, int]:
+def _pairs(events: Sequence[Event], recorded: Sequence[RecordedEvent], passed: int) -> dict[int, int]:
     """The place of the packet beside each event that awaits one: those that passed met theirs in order."""
     awaited = [number for number, it in enumerate(events) if not it.is_input]
     outputs = [place for place, it in enumerate(recorded) if not it.is_input]
@@ -158,7 +158,7 @@ def _pairs(events: Sequence[Event], recorded: Sequence[Recorded], passed: int) -
     return pairs | {left[one]: sent[other] for one, other in found.items()}
 
 
-def _untils(events: Sequence[Event], recorded: Sequence[Recorded]) -> list[int]:
+def _untils(events: Sequence[Event], recorded: Sequence[RecordedEvent]) -> list[int]:
     """For each event the place of the next input after it in the recording, or its end."""
     inputs = [place for place, it in enumerate(recorded) if it.is_input]
     untils, count = [], 0
@@ -168,7 +168,7 @@ def _untils(events: Sequence[Event], recorded: Sequence[Recorded]) -> list[int]:
     return untils
 
 
-def _is_met(recorded: Sequence[Recorded], place: int, until: int, last: float) -> bool:
+def _is_met(recorded: Sequence[RecordedEvent], place: int, until: int, last: float) -> bool:
     return place < until and recorded[place].moment <= last
 
 

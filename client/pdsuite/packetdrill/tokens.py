@@ -6,7 +6,7 @@ from dataclasses import dataclass
 from enum import Enum
 
 
-class Kind(Enum):
+class TokenKind(Enum):
     """What a token is."""
 
     NUMBER = "number"
@@ -25,7 +25,7 @@ class Kind(Enum):
 class Token:
     """A token, and where it begins and ends in its text."""
 
-    kind: Kind
+    kind: TokenKind
     text: str
     start: int
 
@@ -34,7 +34,7 @@ class Token:
         return self.start + len(self.text)
 
 
-class Unread(Exception):
+class ScriptSyntaxError(Exception):
     """Why no script goes on, and at which place of the text."""
 
     def __init__(self, place: int, words: str, what: str = "") -> None:
@@ -59,13 +59,13 @@ _HEX = re.compile(r"0x[0-9A-Fa-f]+")
 
 # The first that fits is the longest.
 _PIECES = (
-    (Kind.CODE, _CODE),
-    (Kind.COMMAND, _COMMAND),
-    (Kind.STRING, _STRING),
-    (Kind.OPTION, _OPTION),
-    (Kind.DECIMAL, _DECIMAL),
-    (Kind.DOTS, _DOTS),
-    (Kind.WORD, _LETTERS),
+    (TokenKind.CODE, _CODE),
+    (TokenKind.COMMAND, _COMMAND),
+    (TokenKind.STRING, _STRING),
+    (TokenKind.OPTION, _OPTION),
+    (TokenKind.DECIMAL, _DECIMAL),
+    (TokenKind.DOTS, _DOTS),
+    (TokenKind.WORD, _LETTERS),
 )
 _PIECE = re.compile("|".join(f"(?P<{kind.name}>{piece.pattern})" for kind, piece in _PIECES), re.DOTALL)
 
@@ -92,16 +92,16 @@ def _after_gap(text: str, place: int) -> int:
 
 def _token_at(text: str, place: int) -> Token:
     if found := _PIECE.match(text, place):
-        kind = Kind[found.lastgroup or ""]
-        return Token(_kind_of(found[0]) if kind is Kind.WORD else kind, found[0], place)
+        kind = TokenKind[found.lastgroup or ""]
+        return Token(_kind_of(found[0]) if kind is TokenKind.WORD else kind, found[0], place)
     if _OPENING.match(text, place):
-        raise Unread(place, "what is opened here is never closed")
+        raise ScriptSyntaxError(place, "what is opened here is never closed")
     if found := _SYMBOL.match(text, place):
-        return Token(Kind.SYMBOL, found[0], place)
-    raise Unread(place, "an octet that no script has here")
+        return Token(TokenKind.SYMBOL, found[0], place)
+    raise ScriptSyntaxError(place, "an octet that no script has here")
 
 
-def _kind_of(letters: str) -> Kind:
+def _kind_of(letters: str) -> TokenKind:
     if _DIGITS.fullmatch(letters):
-        return Kind.NUMBER
-    return Kind.HEX if _HEX.fullmatch(letters) else Kind.WORD
+        return TokenKind.NUMBER
+    return TokenKind.HEX if _HEX.fullmatch(letters) else TokenKind.WORD

@@ -1,23 +1,23 @@
-"""A script's diagram for its page, or the words why there is none; and its files, where these are asked for."""
+"""A script's diagram for its page, or the words why there is none; and its files, where these are requested."""
 
 from collections.abc import Iterator
 from dataclasses import dataclass
 from pathlib import Path
 
 from pdsuite.diagram.failing_line import FailingLine, failing_line_of
-from pdsuite.diagram.strokes import strokes_of
-from pdsuite.diagram.values import Strokes
+from pdsuite.diagram.timeline import timeline_of
+from pdsuite.diagram.timeline_parts import Timeline
 from pdsuite.files import write
+from pdsuite.output.octets import shown_path
 from pdsuite.packages import missing
+from pdsuite.page.diagram_choice import Plot
 from pdsuite.page.links import PLOTS, plot_files
-from pdsuite.page.plots import Plot
 from pdsuite.programs.protocol import Cause
 from pdsuite.programs.recorder import Recorder
-from pdsuite.programs.rows import Row, Verdict
 from pdsuite.programs.trace import events_in
+from pdsuite.programs.verdict import Row, Verdict
 from pdsuite.run.outcomes import Outcome
 from pdsuite.scripts.text import Text
-from pdsuite.show.octets import shown_path
 
 
 @dataclass(frozen=True, slots=True)
@@ -56,19 +56,19 @@ def diagram_of(
     row = outcome.row
     if plot is Plot.NONE or text is None or row.verdict in _NO_RECORDING:
         return undrawn(row)
-    if said := missing("matplotlib"):
-        return Diagram("", (f"It isn't drawn: {said}",))
+    if reason := missing("matplotlib"):
+        return Diagram("", (f"It isn't drawn: {reason}",))
     recording = recorder.record(outcome.path, text.octets, outcome.settings)
     if not recording.text:
         return Diagram("", (f"There is no recording: {recording.fault or 'pdrecord writes nothing'}",))
-    strokes = strokes_of(events_in(recording.text), _failing(text, row, cause))
-    if strokes is None:
+    timeline = timeline_of(events_in(recording.text), _failing(text, row, cause))
+    if timeline is None:
         return Diagram("", ("There is nothing to draw: no packet comes or leaves.",))
     # Only who draws pays for what draws.
     from pdsuite.diagram.pictures import for_page
 
-    files = _write_files(folder, outcome.path, strokes) if plot is Plot.FILES else ()
-    return Diagram(for_page(strokes), tuple(_words(strokes)), files)
+    files = _write_files(folder, outcome.path, timeline) if plot is Plot.FILES else ()
+    return Diagram(for_page(timeline), tuple(_words(timeline)), files)
 
 
 def _failing(text: Text, row: Row, cause: Cause | None) -> FailingLine | None:
@@ -77,26 +77,26 @@ def _failing(text: Text, row: Row, cause: Cause | None) -> FailingLine | None:
     return failing_line_of(text.octets.decode("utf-8", "surrogateescape"), row.line, cause or {})
 
 
-def _words(strokes: Strokes) -> Iterator[str]:
+def _words(timeline: Timeline) -> Iterator[str]:
     yield _RECORDED
-    failure = strokes.failure
+    failure = timeline.failure
     if failure is None:
         return
     if failure.expected is not None and failure.actual is not None:
         yield f"Line {failure.line} expects the packet that is outlined; the filled one was sent."
     elif failure.expected is not None:
         yield f"Line {failure.line} expects the packet that is outlined; none was sent in time."
-    if strokes.has_later:
+    if timeline.has_later:
         yield f"Pale is what comes after line {failure.line}: what the sender would do next."
 
 
-def _write_files(folder: Path, path: str, strokes: Strokes) -> tuple[str, ...]:
+def _write_files(folder: Path, path: str, timeline: Timeline) -> tuple[str, ...]:
     """Writes the picture as files, and answers their names."""
     from pdsuite.diagram.pictures import png_file, svg_file
 
     names = plot_files(path)
     title = shown_path(path)
-    for name, octets in zip(names, (svg_file(strokes, title), png_file(strokes, title))):
+    for name, octets in zip(names, (svg_file(timeline, title), png_file(timeline, title))):
         (folder / PLOTS).mkdir(exist_ok=True)
         write(folder / PLOTS / name, octets)
     return names

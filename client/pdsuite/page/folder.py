@@ -6,9 +6,9 @@ from pathlib import Path
 
 from pdsuite.faults import Fault, why
 from pdsuite.files import write
+from pdsuite.output.octets import shown_path
 from pdsuite.page.links import FOLDER, PLOTS, is_file, is_plot
 from pdsuite.page.render import GENERATOR, STATIC, static
-from pdsuite.show.octets import shown_path
 
 TABLE = "index.html"
 _MARK = f'<meta name="generator" content="{GENERATOR}">'.encode()

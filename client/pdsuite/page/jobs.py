@@ -8,13 +8,13 @@ from pdsuite.files import write
 from pdsuite.page.diagrams import diagram_of
 from pdsuite.page.folder import TABLE, sweep
 from pdsuite.page.links import FOLDER
-from pdsuite.page.notes import Notes
+from pdsuite.page.notes import SenderNotes
 from pdsuite.page.render import script_page, table_page
-from pdsuite.page.sheets import Entry, Row, sheet_of
-from pdsuite.programs.places import are_taken
+from pdsuite.page.view_model import PageEntry, TableRow, script_view
+from pdsuite.programs.locate import is_folder_taken
 from pdsuite.programs.recorder import Recorder
-from pdsuite.programs.rows import Verdict
-from pdsuite.run.met_lines import Differences, differences_of
+from pdsuite.programs.verdict import Verdict
+from pdsuite.run.line_diff import LineDiff, line_diff
 from pdsuite.signals import Stop
 
 
@@ -27,17 +27,17 @@ class Job:
     """
 
     folder: Path
-    rows: tuple[Row, ...] | None
+    rows: tuple[TableRow, ...] | None
     plots: tuple[str, ...]
-    entries: tuple[Entry, ...]
+    entries: tuple[PageEntry, ...]
     is_unproved: bool = False
     regress: Path | None = None
     record: Path | None = None
-    notes: Notes = Notes()
+    notes: SenderNotes = SenderNotes()
 
 
 def carry_out(job: Job, stop: Stop, done: Callable[[int], None]) -> None:
-    """Does a job. `done` is told the place of each script whose page stands."""
+    """Does a job. `done` gets the place of each script whose page stands."""
     if job.rows is not None:
         write(job.folder / TABLE, table_page(job.rows, job.is_unproved, job.notes))
         sweep(job.folder, (it.file for it in job.rows), job.plots)
@@ -49,21 +49,21 @@ def carry_out(job: Job, stop: Stop, done: Callable[[int], None]) -> None:
 
 
 def _has_programs(job: Job) -> bool:
-    """Whether there are programs to ask: proved ones, or a build that is kept."""
-    return not job.is_unproved or job.regress is not None or are_taken()
+    """Whether there are programs to start: proved ones, or a build that is kept."""
+    return not job.is_unproved or job.regress is not None or is_folder_taken()
 
 
-def _write_page(job: Job, entry: Entry, recorder: Recorder) -> None:
+def _write_page(job: Job, entry: PageEntry, recorder: Recorder) -> None:
     diagram = diagram_of(entry.outcome, entry.text, entry.plot, entry.cause, recorder, job.folder)
-    sheet = sheet_of(entry, entry.cause, diagram, _met(entry, recorder if _has_programs(job) else None))
+    sheet = script_view(entry, entry.cause, diagram, _met(entry, recorder if _has_programs(job) else None))
     write(job.folder / FOLDER / sheet.row.file, script_page(sheet, job.is_unproved))
 
 
-def _met(entry: Entry, recorder: Recorder | None) -> Differences | None:
+def _met(entry: PageEntry, recorder: Recorder | None) -> LineDiff | None:
     """What each line of a script that fails was met by, where that can be recorded or is known."""
     outcome, text = entry.outcome, entry.text
-    if recorder is None or text is None or outcome.row.verdict is not Verdict.FAIL or outcome.differences is not None:
-        return outcome.differences
+    if recorder is None or text is None or outcome.row.verdict is not Verdict.FAIL or outcome.line_diff is not None:
+        return outcome.line_diff
     written = text.octets.decode("utf-8", "surrogateescape")
     recording = recorder.record(outcome.path, text.octets, outcome.settings)
-    return differences_of(outcome.row, outcome.told, written, recording, outcome.settings)
+    return line_diff(outcome.row, outcome.block_lines, written, recording, outcome.settings)

@@ -4,7 +4,7 @@ import hashlib
 import os
 import re
 
-from pdsuite.show.octets import shown_path
+from pdsuite.output.octets import shown_path
 
 FOLDER = "scripts"
 PLOTS = "plots"

@@ -4,17 +4,17 @@ from collections.abc import Sequence
 from dataclasses import dataclass
 
 from pdsuite.compare.comparison import ComparedScript
+from pdsuite.output.octets import shown_path
 from pdsuite.page.links import file_of
 from pdsuite.reports.comparison import lines_of
-from pdsuite.show.octets import shown_path
 
-# Of so many scripts it is told how they turned; of all others that they did.
+# Of so many scripts the table shows how they turned; of all others that they did.
 _MOST = 50
 
 
 @dataclass(frozen=True, slots=True)
-class Turned:
-    """A script that the sender turned: its path, its page, and what is told of it."""
+class TurnedScript:
+    """A script that the sender turned: its path, its page, and the lines that show how."""
 
     path: str
     file: str
@@ -22,15 +22,15 @@ class Turned:
 
 
 @dataclass(frozen=True, slots=True)
-class Notes:
-    """What is said of the sender: each refusal by its lines, and the scripts that turned."""
+class SenderNotes:
+    """What the table has of the sender: each refusal by its lines, and the scripts that turned."""
 
     refusals: tuple[tuple[str, ...], ...] = ()
-    turned: tuple[Turned, ...] = ()
+    turned: tuple[TurnedScript, ...] = ()
 
 
-def turned_of(scripts: Sequence[ComparedScript]) -> tuple[Turned, ...]:
+def turned_of(scripts: Sequence[ComparedScript]) -> tuple[TurnedScript, ...]:
     """The scripts that turned, as the table has them."""
-    told = [tuple(lines_of(it)) for it in scripts[:_MOST]]
-    told += [()] * (len(scripts) - len(told))
-    return tuple(Turned(shown_path(it.path), file_of(it.path), lines) for it, lines in zip(scripts, told))
+    line_lists = [tuple(lines_of(it)) for it in scripts[:_MOST]]
+    line_lists += [()] * (len(scripts) - len(line_lists))
+    return tuple(TurnedScript(shown_path(it.path), file_of(it.path), lines) for it, lines in zip(scripts, line_lists))

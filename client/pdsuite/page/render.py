@@ -8,35 +8,35 @@ from typing import TYPE_CHECKING
 
 from jinja2 import Environment, FileSystemLoader, StrictUndefined
 
-from pdsuite.compare.comparison import Count
+from pdsuite.compare.comparison import KindCounts
 from pdsuite.diagram.palette import rules
 from pdsuite.page.links import FOLDER, PLOTS
-from pdsuite.page.notes import Notes
-from pdsuite.page.sheets import Row, Sheet
-from pdsuite.programs.rows import Verdict
-from pdsuite.run.outcomes import Tally
+from pdsuite.page.notes import SenderNotes
+from pdsuite.page.view_model import ScriptView, TableRow
+from pdsuite.programs.verdict import Verdict
+from pdsuite.run.outcomes import CountedAs
 
 if TYPE_CHECKING:
-    from pdsuite.page.comparison import Section
-    from pdsuite.page.measured import MeasureSection
+    from pdsuite.page.comparison import ComparisonSection
+    from pdsuite.page.measure_view import MeasureSection
 
 _HERE = Path(__file__).parent
-# Stands in each page, and tells whose it is.
+# Stands in each page, and shows whose it is.
 GENERATOR = "pdsuite"
 # What all pages use, beside the table.
 _STYLE = "page.css"
 # What says of all pages that their sender doesn't stand any more, so that no page has to be written again for it.
 SENDER = "sender.css"
 STATIC = (_STYLE, "page.js", SENDER)
-_RANKS: tuple[Verdict | Tally, ...] = (
-    Tally.UNEXPECTED,
+_RANKS: tuple[Verdict | CountedAs, ...] = (
+    CountedAs.UNEXPECTED,
     Verdict.FAIL,
     Verdict.ERROR,
     Verdict.SYNTAX,
     Verdict.LIMIT,
     Verdict.UNSUPPORTED,
     Verdict.NOT_RUN,
-    Tally.KNOWN,
+    CountedAs.KNOWN,
     Verdict.PASS,
 )
 
@@ -58,27 +58,27 @@ def sender_style(words: str) -> bytes:
     return f'body::before {{ content: "{shown}"; {mark} }}\nheader, main {{ opacity: 0.5 }}\n'.encode()
 
 
-def table_page(rows: Sequence[Row], is_unproved: bool = False, notes: Notes = Notes()) -> bytes:
+def table_page(rows: Sequence[TableRow], is_unproved: bool = False, notes: SenderNotes = SenderNotes()) -> bytes:
     """The page with the table: what fails stands first, and what is counted alike in the order of paths."""
-    counts = Counter(it.tally for it in rows)
-    tallies = [(it, counts[it]) for it in (*Verdict, *Tally) if counts[it]]
+    counts = Counter(it.counted_as for it in rows)
+    tallies = [(it, counts[it]) for it in (*Verdict, *CountedAs) if counts[it]]
     ranked = sorted(rows, key=_rank)
     values = {"rows": ranked, "tallies": tallies, "folder": FOLDER, "is_unproved": is_unproved}
     return _filled("table.html", notes=notes, **values)
 
 
-def _rank(row: Row) -> tuple[int, bool]:
+def _rank(row: TableRow) -> tuple[int, bool]:
     """Which verdicts come first; of those that pass the ones that are warned of."""
-    return _RANKS.index(row.tally), row.tally is Verdict.PASS and not row.why
+    return _RANKS.index(row.counted_as), row.counted_as is Verdict.PASS and not row.why
 
 
-def script_page(sheet: Sheet, is_unproved: bool = False) -> bytes:
+def script_page(sheet: ScriptView, is_unproved: bool = False) -> bytes:
     """The page of a script."""
     return _filled("script.html", sheet=sheet, row=sheet.row, plots=PLOTS, is_unproved=is_unproved)
 
 
 def compare_page(
-    sections: "Sequence[Section]", counts: Sequence[Count], names: tuple[str, str], is_unproved: bool
+    sections: "Sequence[ComparisonSection]", counts: Sequence[KindCounts], names: tuple[str, str], is_unproved: bool
 ) -> bytes:
     """The page of a comparison."""
     return _filled("compare.html", sections=sections, counts=counts, names=names, is_unproved=is_unproved)

@@ -1,4 +1,4 @@
-"""A program that runs: it is started, asked, and ended. No other module starts a built program."""
+"""A program that runs: it is started, queried, and ended. No other module starts a built program."""
 
 import contextlib
 import fcntl
@@ -14,8 +14,8 @@ from pathlib import Path
 from typing import TypeVar
 
 from pdsuite.faults import why
-from pdsuite.programs.starts import Said
-from pdsuite.show.octets import shown, shown_path
+from pdsuite.output.octets import shown, shown_path
+from pdsuite.programs.batch_protocol import ProcessOutput
 from pdsuite.signals import Stop
 
 _PIPE = 1 << 20
@@ -31,12 +31,12 @@ _REGULAR = (0, 1)
 T = TypeVar("T")
 
 
-class Ended(Exception):
+class ProgramEndedError(Exception):
     """A program ended, or has to be ended; the text says so, in the program's own words where it has any."""
 
 
 class Program:
-    """A started program, in a process group of its own: it is asked, and it ends with the block that uses it."""
+    """A started program, in a process group of its own: it is queried, and it ends with the block that uses it."""
 
     def __init__(self, words: Sequence[str | Path], stop: Stop) -> None:
         self._stop = stop
@@ -51,17 +51,17 @@ class Program:
                 process_group=0,
             )
         except (OSError, ValueError) as error:
-            raise Ended(f"{shown_path(Path(words[0]))}: {why(error)}") from error
+            raise ProgramEndedError(f"{shown_path(Path(words[0]))}: {why(error)}") from error
         try:
             self._in, self._out, self._err = _pipes(self._process)
             self._selector = selectors.EpollSelector()
         except OSError as error:
             self._kill()
-            raise Ended(f"{self._name}: {why(error)}") from error
+            raise ProgramEndedError(f"{self._name}: {why(error)}") from error
         self._unsent = b""
-        # An empty line before what was said lets every line begin after a newline.
+        # An empty line before what was printed lets every line begin after a newline.
         self._got = bytearray(b"\n")
-        self._said = b""
+        self._errors = b""
         self._kept = _KEPT
         self._most: float = inf  # more than so many octets on standard error are too much
         self._is_last = False
@@ -74,28 +74,30 @@ class Program:
     def __exit__(self, *error: object) -> None:
         self.close()
 
-    def ask(self, commands: bytes, longest: int) -> bytes:
+    def query(self, commands: bytes, longest: int) -> bytes:
         """What the program answers, up to the line `total`. It is read while the commands are written."""
         return self._waited(self._answer(commands, longest))
 
-    def ask_and_hear(self, commands: bytes, longest: int, longest_said: int | None = None) -> tuple[bytes, bytes]:
-        """What the program answers, and all that it has said on standard error when the answer is there.
+    def query_with_errors(
+        self, commands: bytes, longest: int, longest_errors: int | None = None
+    ) -> tuple[bytes, bytes]:
+        """What the program answers, and all that it has printed on standard error when the answer is there.
 
-        Neither is longer than `longest`, or what is said than `longest_said`, in octets.
+        Neither is longer than `longest`, or what is printed than `longest_errors`, in octets.
         """
-        return self._waited(self.hearing(commands, longest, longest if longest_said is None else longest_said))
+        return self._waited(self.querying(commands, longest, longest if longest_errors is None else longest_errors))
 
-    def hearing(
-        self, commands: bytes, longest: int, longest_said: int
+    def querying(
+        self, commands: bytes, longest: int, longest_errors: int
     ) -> Generator["Program", None, tuple[bytes, bytes]]:
         """The same, which gives way where it has to wait until the program can be read or written (`fileno`)."""
-        self._most, self._kept, self._said = longest_said, longest_said + 1, b""
+        self._most, self._kept, self._errors = longest_errors, longest_errors + 1, b""
         answer = yield from self._answer(commands, longest)
-        # What was said before the line that ends an answer is in the pipe by then.
+        # What was printed before the line that ends an answer is in the pipe by then.
         while self._work(0):
-            self._check_said()
-        said, self._said = self._said, b""
-        return answer, said
+            self._check_errors()
+        errors, self._errors = self._errors, b""
+        return answer, errors
 
     def wait(self) -> None:
         """Waits until the program can be read or written, or a signal comes."""
@@ -111,40 +113,40 @@ class Program:
                 return self._take(end)
             seen = max(0, start if start >= 0 else len(self._got) - len(b"\ntotal "))
             if len(self._got) > longest:
-                raise Ended(f"{self._name} answered more than was asked")
-            self._check_said()
+                raise ProgramEndedError(f"{self._name} answered more than was asked")
+            self._check_errors()
             if not self._is_open(self._out):
-                raise Ended(self._last_words())
+                raise ProgramEndedError(self._last_words())
             yield self
             self._work(0)
 
-    def _waited(self, asking: Generator["Program", None, T]) -> T:
+    def _waited(self, steps: Generator["Program", None, T]) -> T:
         while True:
             try:
-                next(asking)
+                next(steps)
             except StopIteration as end:
                 answer: T = end.value
                 return answer
             self.wait()
 
-    def _check_said(self) -> None:
-        if len(self._said) > self._most:
-            raise Ended(f"{self._name} said more than was asked")
+    def _check_errors(self) -> None:
+        if len(self._errors) > self._most:
+            raise ProgramEndedError(f"{self._name} said more than was asked")
 
     def finish(self, commands: bytes, longest: int) -> bytes:
-        """What the program says on standard error of these commands. It is asked nothing after them, and ends."""
+        """What the program prints on standard error at these commands. They are its last, and it ends."""
         self._finish(commands, longest)
-        return self._said
+        return self._errors
 
     def record(self, text: bytes, longest: int) -> tuple[bytes, str]:
-        """What the program writes of this text, which is all of its input, and the first line that it says."""
+        """What the program writes of this text, which is all of its input, and its first line on standard error."""
         self._finish(text, longest)
-        return bytes(self._got[1:]), shown(self._said.partition(b"\n")[0], _SHOWN)
+        return bytes(self._got[1:]), shown(self._errors.partition(b"\n")[0], _SHOWN)
 
-    def run(self, given: bytes, longest: int) -> Said:
+    def run(self, given: bytes, longest: int) -> ProcessOutput:
         """All that the program writes of this, which is all of its input, and its status."""
         status = self._end_of(given, longest)
-        return Said(bytes(self._got[1:]), self._said, str(status))
+        return ProcessOutput(bytes(self._got[1:]), self._errors, str(status))
 
     def sections(self, count: int, longest: int) -> Iterator[tuple[bytes, bytes]]:
         """What the program writes of so many files: of each the first word of its title, and the lines after that."""
@@ -153,9 +155,9 @@ class Program:
         for _ in range(count):
             while (section := self._section()) is None:
                 if len(self._got) > longest:
-                    raise Ended(f"{self._name} wrote more than was asked")
+                    raise ProgramEndedError(f"{self._name} wrote more than was asked")
                 if not self._is_open(self._out):
-                    raise Ended(self._last_words())
+                    raise ProgramEndedError(self._last_words())
                 self._work(None)
             yield section
 
@@ -166,7 +168,7 @@ class Program:
             return None
         words = bytes(self._got[1:end]).split(b" ", 2)
         if len(words) < 3 or not words[1].isdigit():
-            raise Ended(f"{self._name} wrote no title")
+            raise ProgramEndedError(f"{self._name} wrote no title")
         lines = self._got.split(b"\n", int(words[1]) + 2)
         if len(lines) < int(words[1]) + 3:
             return None
@@ -177,7 +179,7 @@ class Program:
         """The same, of a program that has to end regularly."""
         status = self._end_of(commands, longest)
         if status not in _REGULAR:
-            raise Ended((self._last_line() if status > 0 else "") or self._end())
+            raise ProgramEndedError((self._last_line() if status > 0 else "") or self._end())
 
     def _end_of(self, commands: bytes, longest: int) -> int:
         """Writes the last of the input, and reads what the program writes until it has ended; its status."""
@@ -186,23 +188,23 @@ class Program:
         self._send(commands)
         while self._is_open(self._out) or self._is_open(self._err):
             self._work(None)
-            if max(len(self._said), len(self._got)) > longest:
-                raise Ended(f"{self._name} said more than was asked")
+            if max(len(self._errors), len(self._got)) > longest:
+                raise ProgramEndedError(f"{self._name} said more than was asked")
         if not self._has_ended():
-            raise Ended(f"{self._name} closed its output")
+            raise ProgramEndedError(f"{self._name} closed its output")
         return self._kill()
 
     def fileno(self) -> int:
-        """What can be read once a program that nobody asks has something to say, or has ended."""
+        """What can be read once a program that nobody queries has something to print, or has ended."""
         return self._selector.fileno()
 
     def check(self) -> None:
-        """Raises Ended where the program has ended since it was asked last, or says what nobody asked."""
+        """Raises ProgramEndedError where the program has ended since the last query, or prints what nobody queried."""
         self._work(0)
         if not self._is_open(self._out):
-            raise Ended(self._last_words())
+            raise ProgramEndedError(self._last_words())
         if len(self._got) > 1:
-            raise Ended(f"{self._name} answered more than was asked")
+            raise ProgramEndedError(f"{self._name} answered more than was asked")
 
     def close(self) -> None:
         """Ends the program."""
@@ -213,7 +215,7 @@ class Program:
                 pipe.close()
 
     def _take(self, end: int) -> bytes:
-        """What was said up to this newline; that newline stays, before what comes next."""
+        """What was printed up to this newline; that newline stays, before what comes next."""
         answer = bytes(self._got[1 : end + 1])
         del self._got[:end]
         return answer
@@ -234,7 +236,7 @@ class Program:
             elif key.fd == self._out:
                 self._got += self._read(self._out)
             elif key.fd == self._err:
-                self._said = (self._said + self._read(self._err))[-self._kept :]
+                self._errors = (self._errors + self._read(self._err))[-self._kept :]
         self._stop.check()
         return bool(ready)
 
@@ -267,7 +269,7 @@ class Program:
         return descriptor in self._selector.get_map()
 
     def _last_words(self) -> str:
-        """Why the program has ended: the last line that it said, else its status."""
+        """Why the program has ended: the last line that it printed, else its status."""
         until = time.monotonic() + _GRACE
         while self._is_open(self._err) and (left := until - time.monotonic()) > 0 and self._work(left):
             pass
@@ -278,8 +280,8 @@ class Program:
         return self._end()
 
     def _last_line(self) -> str:
-        """The last line that the program said, if it said one."""
-        lines = [line for line in self._said.split(b"\n") if line.strip() and not line.startswith(_OF_JOBS)]
+        """The last line that the program printed, if it printed one."""
+        lines = [line for line in self._errors.split(b"\n") if line.strip() and not line.startswith(_OF_JOBS)]
         return shown(lines[-1], _SHOWN) if lines else ""
 
     def _end(self) -> str:

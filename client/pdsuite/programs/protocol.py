@@ -4,10 +4,10 @@ import json
 import re
 from collections.abc import Mapping, Sequence
 
-from pdsuite.programs.rows import Row, Verdict
-from pdsuite.scripts.edits import Edit
+from pdsuite.output.octets import shown
+from pdsuite.programs.verdict import Row, Verdict
 from pdsuite.scripts.text import Text
-from pdsuite.show.octets import shown
+from pdsuite.scripts.text_edit import Edit
 
 SETTLE = b"settle\n"
 SHOW = b"show\n"
@@ -23,7 +23,7 @@ _BLOCK = re.compile(rb"(s\d{1,4}):(\d{1,6}): (.*)")
 _INDENT = b"  "
 _TOTAL = re.compile(rb"total (\d+) pass \d+ fail \d+ syntax \d+ unsupported \d+ limit \d+ pending 0")
 
-# What is told of a script as JSON, by its keys.
+# What is printed of a script as JSON, by its keys.
 Cause = Mapping[str, object]
 # What a program that counts steps says of a job: the script's name, and how many steps it took.
 _STEPS = re.compile(rb"^job \d+ (\S+) steps (\d+)$", re.MULTILINE)
@@ -32,8 +32,8 @@ _WORDS = (Verdict.PASS, Verdict.SYNTAX, Verdict.UNSUPPORTED, Verdict.LIMIT)
 _VERDICTS = {it.value.encode(): it for it in _WORDS}
 
 
-class Unexpected(Exception):
-    """An answer that isn't the one to what was asked; the text says what it has in its place."""
+class UnexpectedAnswerError(Exception):
+    """An answer that isn't the one to the query; the text says what it has in its place."""
 
 
 def name_of(number: int) -> bytes:
@@ -75,35 +75,35 @@ def refusal_in(answer: bytes) -> str | None:
 def rows_in(answer: bytes, before: bytes, names: Sequence[bytes], count: int) -> list[Row]:
     """The rows of these names in an answer, after the ones that came before and before the totals of `count` rows."""
     if not answer.startswith(before):
-        raise Unexpected(_first_other(answer, before))
+        raise UnexpectedAnswerError(_first_other(answer, before))
     lines = answer[len(before) :].split(b"\n")
     known: dict[bytes, Row] = {}
     rows = [_row(line, name, known) for line, name in zip(lines, names)]
     last = lines[len(names)] if len(lines) > len(names) else b""
     total = _TOTAL.fullmatch(last)
     if total is None or int(total[1]) != count or lines[len(names) + 1 :] != [b""]:
-        raise Unexpected(_quoted(last))
+        raise UnexpectedAnswerError(_quoted(last))
     return rows
 
 
-def blocks_in(said: bytes) -> dict[tuple[bytes, int], list[bytes]]:
-    """The blocks that were said, by the names of their scripts and their lines: what each is, and the lines below."""
+def blocks_in(errors: bytes) -> dict[tuple[bytes, int], list[bytes]]:
+    """The printed blocks, by the names of their scripts and their lines: what each is, and the lines below."""
     blocks: dict[tuple[bytes, int], list[bytes]] = {}
     block: list[bytes] = []
-    for line in said.split(b"\n")[:-1]:
+    for line in errors.split(b"\n")[:-1]:
         if found := _BLOCK.fullmatch(line):
             block = blocks[found[1], int(found[2])] = [found[3]]
         elif block and line.startswith(_INDENT):
             block.append(line.removeprefix(_INDENT))
         else:
-            raise Unexpected(f'said "{shown(line, _SHOWN)}", which is no line of a block')
+            raise UnexpectedAnswerError(f'said "{shown(line, _SHOWN)}", which is no line of a block')
     return blocks
 
 
-def causes_in(said: bytes) -> dict[tuple[bytes, int], Cause]:
-    """What was said as JSON, an object a line, by the names of scripts and their lines; other lines tell else."""
+def causes_in(errors: bytes) -> dict[tuple[bytes, int], Cause]:
+    """What was printed as JSON, an object a line, by the names of scripts and their lines; other lines say else."""
     causes: dict[tuple[bytes, int], Cause] = {}
-    for line in said.split(b"\n"):
+    for line in errors.split(b"\n"):
         if not line.startswith(b"{"):
             continue
         cause = _object(line)
@@ -111,13 +111,13 @@ def causes_in(said: bytes) -> dict[tuple[bytes, int], Cause]:
             case {"name": str(name), "line": int(number)}:
                 causes[name.encode(), number] = cause
             case _:
-                raise Unexpected(f'said "{shown(line, _SHOWN)}", which tells of no script')
+                raise UnexpectedAnswerError(f'said "{shown(line, _SHOWN)}", which tells of no script')
     return causes
 
 
-def steps_in(said: bytes) -> dict[bytes, int]:
+def steps_in(errors: bytes) -> dict[bytes, int]:
     """How many steps jobs took, by the names of their scripts, as a program says that counts them."""
-    return {name: int(steps) for name, steps in _STEPS.findall(said)}
+    return {name: int(steps) for name, steps in _STEPS.findall(errors)}
 
 
 def _object(line: bytes) -> Cause:
@@ -135,18 +135,18 @@ def before_total(answer: bytes) -> bytes:
 
 def _row(line: bytes, name: bytes, known: dict[bytes, Row]) -> Row:
     """The row of this name in a line. `known` has what words were read as before, since many rows are equal."""
-    said, _, words = line.partition(b" ")
+    printed_name, _, words = line.partition(b" ")
     if words not in known:
         known[words] = _read_row(words, line)
-    if said != name:
-        raise Unexpected(_quoted(line))
+    if printed_name != name:
+        raise UnexpectedAnswerError(_quoted(line))
     return known[words]
 
 
 def _read_row(words: bytes, line: bytes) -> Row:
     found = _ROW.fullmatch(words)
     if found is None:
-        raise Unexpected(_quoted(line))
+        raise UnexpectedAnswerError(_quoted(line))
     if found[4] is not None:
         return Row(Verdict.FAIL, int(found[3]), found[4].decode())
     return Row(_VERDICTS[found[1]], int(found[2]))

@@ -6,12 +6,12 @@ from dataclasses import dataclass
 from pathlib import Path
 
 from pdsuite.faults import Fault
-from pdsuite.programs.places import RECORD, locate
-from pdsuite.programs.program import Ended, Program
-from pdsuite.programs.starts import Answer, Case
-from pdsuite.programs.tree import Build
+from pdsuite.output.octets import shown, shown_path
+from pdsuite.programs.batch_protocol import Answer, Case
+from pdsuite.programs.locate import RECORD, locate
+from pdsuite.programs.program import Program, ProgramEndedError
+from pdsuite.programs.unproved_batch import ProgramCases
 from pdsuite.scripts.settings import Settings, settings_text
-from pdsuite.show.octets import shown, shown_path
 from pdsuite.signals import Stop
 
 # A recording has at most 4,096 events, each with a line of its state.
@@ -37,7 +37,7 @@ class Recording:
 
 
 class Recorder:
-    """Records scripts; `note` is told, once, that the program isn't there, and of each script on which it ends."""
+    """Records scripts; `note` gets a line where the program isn't there, and for each script on which it ends."""
 
     def __init__(self, stop: Stop, note: Callable[[str], None], program: Path | None = None) -> None:
         self._stop = stop
@@ -48,21 +48,21 @@ class Recorder:
     def record(self, path: str, text: bytes, settings: Settings, word: str = TRACE) -> Recording:
         """The recording of a script, or why there is none: the program refuses it, ends on it, or isn't there.
 
-        It has a trace, or is what another word asks for.
+        It has a trace, or is what another option names.
         """
         program = self._located()
         if program is None:
             return Recording("", self._fault)
         try:
             with Program([program, word, *_settings_words(settings)], self._stop) as started:
-                octets, said = started.record(text, _LONGEST)
-        except Ended as end:
+                octets, reason = started.record(text, _LONGEST)
+        except ProgramEndedError as end:
             self._note(f"pdsuite: {end}; {shown_path(Path(path))} isn't recorded")
             return Recording("", str(end))
-        return Recording(octets.decode("utf-8", "surrogateescape"), said)
+        return Recording(octets.decode("utf-8", "surrogateescape"), reason)
 
     def _located(self) -> Path | None:
-        """The program; that it isn't there is told once."""
+        """The program; that it isn't there is reported once."""
         if self._program is None and not self._fault:
             try:
                 self._program = locate(RECORD)
@@ -90,29 +90,29 @@ def record_all(
                 with Program([program, *words, *_settings_words(settings), *part], stop) as started:
                     for word, octets in started.sections(len(part), _LONGEST):
                         done += 1
-                        yield _told(word, octets)
-            except Ended as end:
+                        yield _recording_in_section(word, octets)
+            except ProgramEndedError as end:
                 done += 1
                 yield Recording("", str(end))
 
 
-def _told(word: bytes, octets: bytes) -> Recording:
-    """A recording, or why there is none, as the lines after a title tell it."""
+def _recording_in_section(word: bytes, octets: bytes) -> Recording:
+    """A recording, or why there is none, as the lines after a title have it."""
     if word == _RECORDED:
         return Recording(octets.decode("utf-8", "surrogateescape"))
     return Recording("", shown(octets.partition(b"\n")[0].removeprefix(b"pdrecord: ")))
 
 
-def recording(tree: Path, scripts: Iterable[tuple[Settings, bytes]], is_alone: bool = False) -> Build:
+def recording_cases(tree: Path, scripts: Iterable[tuple[Settings, bytes]], is_alone: bool = False) -> ProgramCases:
     """What has a tree's program, as it stands, record scripts, which are texts under settings."""
     cases = [Case(_settings_words(it), text, _ROOM + _WRITTEN * len(text), is_alone) for it, text in scripts]
-    return Build(tree, RECORD, (TRACE,), tuple(cases))
+    return ProgramCases(tree, RECORD, (TRACE,), tuple(cases))
 
 
 def recording_of(answer: Answer) -> Recording:
     """What such a start came to."""
-    said = [line for line in answer.errors.split(b"\n") if line.strip()]
-    fault = answer.fault or (shown(said[0]) if said else "")
+    lines = [line for line in answer.errors.split(b"\n") if line.strip()]
+    fault = answer.fault or (shown(lines[0]) if lines else "")
     return Recording(answer.output.decode("utf-8", "surrogateescape"), fault)
 
 

@@ -1,4 +1,4 @@
-"""Asks the program, in a run without scripts, which settings it takes."""
+"""Queries the program, in a run without scripts, which settings it takes."""
 
 import re
 from collections.abc import Callable, Iterable
@@ -6,19 +6,18 @@ from contextlib import suppress
 from dataclasses import dataclass
 
 from pdsuite.faults import Fault
-from pdsuite.programs.program import Ended, Program
-from pdsuite.programs.protocol import LONGEST_LINE, SHOW, Unexpected
-from pdsuite.programs.protocol import refusal_in, rows_in, set_and_show
+from pdsuite.programs.program import Program, ProgramEndedError
+from pdsuite.programs.protocol import LONGEST_LINE, SHOW, UnexpectedAnswerError, refusal_in, rows_in, set_and_show
+from pdsuite.scripts.config import Claim
 from pdsuite.scripts.renamed import BAD_VALUE, UNKNOWN_KEY
 from pdsuite.scripts.settings import set_words
-from pdsuite.scripts.suite import Claim
 
 # Why the program refuses a key or its value; any other refusal ends the run.
 _REFUSALS = (UNKNOWN_KEY, BAD_VALUE)
 # Where the answer to a question ends.
 _AFTER_TOTAL = re.compile(rb"(?<=pending 0\n)")
 
-# What was asked about already, and why it is refused, if it is.
+# What was queried already, and why it is refused, if it is.
 _Known = dict[tuple[str, str], str | None]
 
 
@@ -36,56 +35,56 @@ class Refusal:
 
 
 def refusals(claims: Iterable[Claim], start: Callable[[], Program]) -> list[str]:
-    """The lines of the claims that the program refuses. Without claims it is still asked whether it answers."""
+    """The lines of the claims that the program refuses. Without claims it is still queried whether it answers."""
     return [it.line for it in refused_of(claims, start)]
 
 
 def refused_of(claims: Iterable[Claim], start: Callable[[], Program]) -> list[Refusal]:
-    """The claims that the program refuses. Without claims it is still asked whether it answers."""
+    """The claims that the program refuses. Without claims it is still queried whether it answers."""
     each = list(claims)
     known: _Known = {}
-    with suppress(Ended):  # a new run begins with what is left
+    with suppress(ProgramEndedError):  # a new run begins with what is left
         return _refused(each, known, start)
     try:
         return _refused(each, known, start)
-    except Ended as end:
+    except ProgramEndedError as end:
         raise Fault(str(end)) from end
 
 
 def _refused(claims: list[Claim], known: _Known, start: Callable[[], Program]) -> list[Refusal]:
     with start() as program:
-        _check(program.ask(SHOW, 2 * LONGEST_LINE), b"")
+        _check(program.query(SHOW, 2 * LONGEST_LINE), b"")
         for claim in claims:
             words = set_words(claim.key, claim.value)
             if words not in known:
                 known[words] = _answer(words, program)
-    return _told(claims, known)
+    return _known_refusals(claims, known)
 
 
-def questions(claims: Iterable[Claim]) -> list[tuple[str, str]]:
-    """What is asked where all is asked at once: each key with its value, once."""
+def distinct_pairs(claims: Iterable[Claim]) -> list[tuple[str, str]]:
+    """The queries where all are made at once: each key with its value, once."""
     return list(dict.fromkeys(set_words(it.key, it.value) for it in claims))
 
 
 def refused_at_once(claims: Iterable[Claim], answer: bytes) -> list[Refusal]:
     """The claims that the program refuses, by its answer to `set_and_show` of all questions."""
     each = list(claims)
-    asked = questions(each)
+    pairs = distinct_pairs(each)
     *parts, rest = _AFTER_TOTAL.split(answer)
     # The last part is the report at the end.
-    if rest or len(parts) != len(asked) + 1:
-        raise Ended(f"pdregress answered {len(parts) - 1} of {len(asked)} questions")
-    return _told(each, {words: _reason(part) for words, part in zip(asked, parts)})
+    if rest or len(parts) != len(pairs) + 1:
+        raise ProgramEndedError(f"pdregress answered {len(parts) - 1} of {len(pairs)} questions")
+    return _known_refusals(each, {words: _reason(part) for words, part in zip(pairs, parts)})
 
 
-def _told(claims: Iterable[Claim], known: _Known) -> list[Refusal]:
+def _known_refusals(claims: Iterable[Claim], known: _Known) -> list[Refusal]:
     reasons = ((claim, known[set_words(claim.key, claim.value)]) for claim in claims)
     return [Refusal(claim, reason) for claim, reason in reasons if reason is not None]
 
 
 def _answer(words: tuple[str, str], program: Program) -> str | None:
     """Why the program refuses a key with its value, if it does."""
-    return _reason(program.ask(set_and_show(*words), 3 * LONGEST_LINE))
+    return _reason(program.query(set_and_show(*words), 3 * LONGEST_LINE))
 
 
 def _reason(answer: bytes) -> str | None:
@@ -96,8 +95,8 @@ def _reason(answer: bytes) -> str | None:
 
 
 def _check(answer: bytes, before: bytes) -> None:
-    """Raises Ended where an answer is no report without scripts, behind what may stand before it."""
+    """Raises ProgramEndedError where an answer is no report without scripts, behind what may stand before it."""
     try:
         rows_in(answer, before, (), 0)
-    except Unexpected as unexpected:
-        raise Ended(f"pdregress: {unexpected}") from unexpected
+    except UnexpectedAnswerError as unexpected:
+        raise ProgramEndedError(f"pdregress: {unexpected}") from unexpected

@@ -9,7 +9,7 @@ from pdsuite.packetdrill.recorded import recorded_in
 
 
 @dataclass(frozen=True, slots=True)
-class Event:
+class TracedEvent:
     """A packet or a call: where it ends in the recording, its moment in microseconds, and the sender after it."""
 
     what: Packet | Call
@@ -29,11 +29,11 @@ class Event:
         return int(value) if value.isdecimal() else None
 
 
-def events_in(recording: str) -> tuple[Event, ...]:
+def events_in(recording: str) -> tuple[TracedEvent, ...]:
     """The events of a recording, or none where one of them has no state."""
     items = [(it.what, it.end) for it in read(recording).items if isinstance(it.what, Packet | Call)]
     recorded = recorded_in(recording)
     if len(items) != len(recorded):
         return ()
     each = zip(items, recorded)
-    return tuple(Event(what, end, it.moment, it.state.name, it.state.facts) for (what, end), it in each)
+    return tuple(TracedEvent(what, end, it.moment, it.state.name, it.state.facts) for (what, end), it in each)

@@ -3,8 +3,8 @@
 from collections.abc import Iterator, Sequence
 from itertools import groupby
 
-from pdsuite.compare.affected import Affected, Paragraph, Row
-from pdsuite.show.octets import shown_text
+from pdsuite.compare.affected import Affected, AffectedRow, Paragraph
+from pdsuite.output.octets import shown_text
 
 
 def affected_lines(affected: Affected) -> list[str]:
@@ -26,7 +26,7 @@ def _place(file: str, line: int) -> str:
     return f"{shown_text(file)}:{line}"
 
 
-def _row_lines(rows: Sequence[Row]) -> Iterator[str]:
+def _row_lines(rows: Sequence[AffectedRow]) -> Iterator[str]:
     """The rows of each file: their lines."""
     for file, mine in groupby(rows, key=lambda it: it.file):
         lines = [it.line for it in mine]

@@ -5,13 +5,13 @@ from collections.abc import Mapping
 from dataclasses import dataclass
 from functools import cache
 
-from pdsuite.programs.rows import Verdict
+from pdsuite.output.octets import shown_path
+from pdsuite.output.styled_text import StyledText, unstyled
+from pdsuite.programs.verdict import Verdict
 from pdsuite.reports.outcome_text import block
-from pdsuite.run.outcomes import UNPROVED, Outcome, Tally, Totals
+from pdsuite.run.outcomes import UNPROVED, CountedAs, Outcome, Totals
 from pdsuite.scripts.settings import Settings
 from pdsuite.scripts.shards import Shard
-from pdsuite.show.octets import shown_path
-from pdsuite.show.styled_text import StyledText, unstyled
 
 # Of the object, as docs/run.schema.json has it.
 VERSION = 2
@@ -20,7 +20,7 @@ _encoded = json.JSONEncoder(ensure_ascii=False).encode
 
 
 @dataclass(frozen=True)
-class Json:
+class JsonFormatter:
     """An object with a list of scripts, a line for each, and their totals; and the shard, where they are one."""
 
     shard: Shard | None = None
@@ -34,7 +34,7 @@ class Json:
 
     def foot(self, totals: Totals, seconds: float) -> StyledText:
         counts = {it.value: totals.counts[it] for it in Verdict}
-        counts |= {it.value: totals.counts[it] for it in Tally if totals.counts[it]}
+        counts |= {it.value: totals.counts[it] for it in CountedAs if totals.counts[it]}
         if totals.warnings:
             counts["warnings"] = totals.warnings
         total = json.dumps({"scripts": totals.scripts, **counts})
@@ -44,12 +44,12 @@ class Json:
 
 
 def script_text(outcome: Outcome, path: str, explanation: Mapping[str, object] | None = None) -> str:
-    """A script on one line, under this path, which is safe to print; beside what is told of it the explanation."""
+    """A script on one line, under this path, which is safe to print; beside its lines the explanation."""
     row = outcome.row
     if row.verdict is not _PASS or outcome.warnings or outcome.expected is not None:
         script = _script(outcome, path)
         return _encoded(script if explanation is None else {**script, "explanation": explanation})
-    # Most scripts pass and have nothing else to tell: their line is put together by hand, in a fifth of the time.
+    # Most scripts pass and have nothing else to report: their line is put together by hand, in a fifth of the time.
     quoted = _encoded(path) if '"' in path or "\\" in path else f'"{path}"'
     settings = _settings(outcome.settings) if outcome.settings else "{}"
     return f'{{"path": {quoted}, "verdict": "pass", "events": {row.number}, "below": [], "settings": {settings}}}'
@@ -79,9 +79,9 @@ def _script(outcome: Outcome, path: str) -> dict[str, object]:
         script["expected"] = {"row": expected.row, "reason": expected.reason, "known": outcome.is_known}
     if outcome.warnings:
         script.update(warnings=list(outcome.warnings), strict=outcome.is_strict)
-    if outcome.differences is not None:
-        # Only who asks for it pays for what reads scripts.
-        from pdsuite.reports.met_text import told_by_keys
+    if outcome.line_diff is not None:
+        # Only who requests it pays for what reads scripts.
+        from pdsuite.reports.diff_text import diff_by_keys
 
-        script["met"] = told_by_keys(outcome.differences)
+        script["met"] = diff_by_keys(outcome.line_diff)
     return {**script, "below": block(outcome), "settings": dict(outcome.settings)}

@@ -4,19 +4,19 @@ import json
 from collections.abc import Iterator, Sequence
 from dataclasses import asdict, dataclass
 
-from pdsuite.compare.comparison import ComparedScript, Count, Kind, counts_of
 from pdsuite.compare.affected import Affected
+from pdsuite.compare.comparison import ComparedScript, ComparisonKind, KindCounts, counts_of
+from pdsuite.compare.divergence import Divergence, PlayedEvent
 from pdsuite.compare.groups import Group, groups_of
-from pdsuite.compare.parting import Parting, PlayedEvent
 from pdsuite.compare.quantities import Quantity
-from pdsuite.reports.outcome_text import block, meaning
+from pdsuite.output.octets import shown_path, shown_text
+from pdsuite.output.styled_text import StyledText, unstyled
 from pdsuite.reports.affected import affected_lines
+from pdsuite.reports.outcome_text import block, meaning
 from pdsuite.reports.quantities import quantities_by_keys, quantity_lines
 from pdsuite.run.outcomes import UNPROVED, Outcome
-from pdsuite.show.octets import shown_path, shown_text
-from pdsuite.show.styled_text import StyledText, unstyled
 
-_STYLES = {Kind.TURNED: "bold red", Kind.OTHERWISE: "yellow"}
+_STYLES = {ComparisonKind.TURNED: "bold red", ComparisonKind.OTHERWISE: "yellow"}
 _SIDES = ("before", "after")
 _ENDS = "nothing more"
 # Of the JSON, as docs/compare.schema.json has it.
@@ -25,21 +25,23 @@ VERSION = 2
 
 def lines_of(it: ComparedScript) -> list[str]:
     """The lines below a script: both blocks where it turned, and where the recordings part."""
-    lines = [*_told("before", it.before), *_told("after", it.after)] if it.kind is Kind.TURNED else []
-    if it.parting is not None:
-        return [*lines, *_parting(it.parting)]
-    if it.kind is Kind.OTHERWISE:
+    lines = (
+        [*_explained("before", it.before), *_explained("after", it.after)] if it.kind is ComparisonKind.TURNED else []
+    )
+    if it.divergence is not None:
+        return [*lines, *_divergence_lines(it.divergence)]
+    if it.kind is ComparisonKind.OTHERWISE:
         lines += [f"{side}: {_unrecorded(why)}" for side, why in zip(_SIDES, it.unrecorded)]
     return lines
 
 
-def _told(side: str, outcome: Outcome) -> Iterator[str]:
+def _explained(side: str, outcome: Outcome) -> Iterator[str]:
     line = "" if outcome.line is None else f"line {outcome.line}: "
     yield f"{side}: {line}{outcome.row}{meaning(outcome)}"
     yield from (f"  {it}" for it in block(outcome))
 
 
-def _parting(it: Parting) -> Iterator[str]:
+def _divergence_lines(it: Divergence) -> Iterator[str]:
     yield "the first event that differs:"
     yield f"  before: {_played(it.before)}"
     yield f"  after:  {_played(it.after)}"
@@ -59,10 +61,10 @@ def _unrecorded(why: str) -> str:
 
 
 @dataclass(frozen=True)
-class Told:
-    """What is told of a comparison: scripts, what is affected in a tree, the seconds, and whether it is unproved.
+class ComparisonReport:
+    """The report of a comparison: scripts, what is affected in a tree, the seconds, and whether it is unproved.
 
-    Scripts whose quantities changed are sorted by one of them. With `is_every` all scripts are told whole.
+    Scripts whose quantities changed are sorted by one of them. With `is_every` all scripts are reported whole.
     """
 
     compared: Sequence[ComparedScript]
@@ -72,7 +74,7 @@ class Told:
     sort: Quantity = Quantity.TIME
     is_every: bool = False
 
-    def groups(self) -> Iterator[tuple[Kind, Group]]:
+    def groups(self) -> Iterator[tuple[ComparisonKind, Group]]:
         """The groups of the scripts that turned, and then of those that are played otherwise."""
         for kind in _STYLES:
             for group in groups_of([it for it in self.compared if it.kind is kind]):
@@ -80,16 +82,16 @@ class Told:
 
 
 def entry_of(it: ComparedScript) -> StyledText:
-    """A script that differs, and what is told of it."""
+    """A script that differs, and what is reported of it."""
     text = StyledText().append(f"{shown_path(it.path)}: ").append(it.kind, _STYLES[it.kind]).append("\n")
     return text.append("".join(f"  {line}\n" for line in lines_of(it)), "dim")
 
 
-def plain(told: Told) -> StyledText:
+def plain(report: ComparisonReport) -> StyledText:
     """Scripts that turned, those that are played otherwise, totals by folder, and what is affected in the tree."""
     text = StyledText()
-    for kind, group in told.groups():
-        whole = len(group.scripts) if told.is_every else 1
+    for kind, group in report.groups():
+        whole = len(group.scripts) if report.is_every else 1
         if len(group.scripts) > 1:
             text.append(f"{len(group.scripts)} scripts differ first in {group.title}:\n", "bold")
         for it in group.scripts[:whole]:
@@ -97,38 +99,38 @@ def plain(told: Told) -> StyledText:
         for it in group.scripts[whole:]:
             text.append(f"{shown_path(it.path)}: ").append(kind, _STYLES[kind])
             text.append(f": {it.comment}\n" if it.comment else "\n")
-    text.append("".join(f"{line}\n" for line in quantity_lines(told.compared, told.sort, told.is_every)))
-    *folders, total = counts_of(told.compared)
+    text.append("".join(f"{line}\n" for line in quantity_lines(report.compared, report.sort, report.is_every)))
+    *folders, total = counts_of(report.compared)
     for count in folders:
         text.append(f"{shown_path(count.name)}: {count.words}\n")
-    if told.affected is not None:
-        text.append("".join(f"{line}\n" for line in affected_lines(told.affected)))
-    mark = f" {UNPROVED}" if told.is_unproved else ""
-    return text.append(f"total {total} in {told.seconds:.2f} s{mark}\n")
+    if report.affected is not None:
+        text.append("".join(f"{line}\n" for line in affected_lines(report.affected)))
+    mark = f" {UNPROVED}" if report.is_unproved else ""
+    return text.append(f"total {total} in {report.seconds:.2f} s{mark}\n")
 
 
-def as_json(told: Told, names: tuple[str, str]) -> StyledText:
+def as_json(report: ComparisonReport, names: tuple[str, str]) -> StyledText:
     """One object: the two senders, scripts that differ, totals by folder, and what is affected in the tree."""
-    *folders, total = counts_of(told.compared)
+    *folders, total = counts_of(report.compared)
     whole: dict[str, object] = {
         "version": VERSION,
         **dict(zip(_SIDES, names)),
-        "scripts": [_script(it) for it in told.compared if it.differs],
-        "groups": [_group(kind, it) for kind, it in told.groups()],
-        "quantities": quantities_by_keys(told.compared, told.sort),
+        "scripts": [_script(it) for it in report.compared if it.differs],
+        "groups": [_group(kind, it) for kind, it in report.groups()],
+        "quantities": quantities_by_keys(report.compared, report.sort),
         "folders": {shown_path(it.name): _counts(it) for it in folders},
         "total": _counts(total),
-        "seconds": round(told.seconds, 2),
+        "seconds": round(report.seconds, 2),
     }
-    if told.affected is not None:
-        whole["affected"] = asdict(told.affected)
-    if told.is_unproved:
+    if report.affected is not None:
+        whole["affected"] = asdict(report.affected)
+    if report.is_unproved:
         whole[UNPROVED] = True
     return unstyled(json.dumps(whole, ensure_ascii=False, indent=1) + "\n")
 
 
-def _counts(count: Count) -> dict[str, int]:
-    return {"scripts": sum(count.counts.values()), **{it.value: count.counts[it] for it in Kind}}
+def _counts(count: KindCounts) -> dict[str, int]:
+    return {"scripts": sum(count.counts.values()), **{it.value: count.counts[it] for it in ComparisonKind}}
 
 
 def _script(it: ComparedScript) -> dict[str, object]:
@@ -140,17 +142,17 @@ def _script(it: ComparedScript) -> dict[str, object]:
             "what": outcome.why,
             "below": block(outcome),
         }
-    if it.parting is not None:
+    if it.divergence is not None:
         script["parting"] = {
-            "before": _event(it.parting.before, it.parting.state_before),
-            "after": _event(it.parting.after, it.parting.state_after),
+            "before": _event(it.divergence.before, it.divergence.state_before),
+            "after": _event(it.divergence.after, it.divergence.state_after),
         }
-    elif it.kind is Kind.OTHERWISE:
+    elif it.kind is ComparisonKind.OTHERWISE:
         script["unrecorded"] = dict(zip(_SIDES, it.unrecorded))
     return script
 
 
-def _group(kind: Kind, it: Group) -> dict[str, object]:
+def _group(kind: ComparisonKind, it: Group) -> dict[str, object]:
     return {
         "kind": kind.value,
         "field": it.field,

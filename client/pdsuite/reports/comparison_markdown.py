@@ -2,40 +2,40 @@
 
 from collections.abc import Iterator
 
-from pdsuite.compare.comparison import ComparedScript, Kind, counts_of
+from pdsuite.compare.comparison import ComparedScript, ComparisonKind, counts_of
 from pdsuite.compare.groups import Group
+from pdsuite.output.octets import shown_path
+from pdsuite.output.styled_text import StyledText, unstyled
 from pdsuite.reports.affected import affected_lines
-from pdsuite.reports.comparison import Told, lines_of
+from pdsuite.reports.comparison import ComparisonReport, lines_of
 from pdsuite.reports.quantities import quantity_lines
 from pdsuite.run.outcomes import UNPROVED
-from pdsuite.show.octets import shown_path
-from pdsuite.show.styled_text import StyledText, unstyled
 
 # Longer than any row of backquotes that a script may have is no fence; so the text stands indented.
 _INDENT = "    "
 
 
-def as_markdown(told: Told, names: tuple[str, str]) -> StyledText:
-    """A summary, a part for each group, and what else is told, folded."""
-    return unstyled("".join(f"{line}\n" for line in _lines(told, names)))
+def as_markdown(report: ComparisonReport, names: tuple[str, str]) -> StyledText:
+    """A summary, a part for each group, and what else is reported, folded."""
+    return unstyled("".join(f"{line}\n" for line in _lines(report, names)))
 
 
-def _lines(told: Told, names: tuple[str, str]) -> Iterator[str]:
-    *_, total = counts_of(told.compared)
+def _lines(report: ComparisonReport, names: tuple[str, str]) -> Iterator[str]:
+    *_, total = counts_of(report.compared)
     yield "## Before and after"
     yield ""
     yield f"- before: {_code(names[0])}"
     yield f"- after: {_code(names[1])}"
-    yield f"- {total.words}{f' ({UNPROVED})' if told.is_unproved else ''}"
-    for kind, group in told.groups():
-        yield from _group(kind, group, told.is_every)
-    more = list(quantity_lines(told.compared, told.sort, told.is_every))
-    more += [] if told.affected is None else affected_lines(told.affected)
+    yield f"- {total.words}{f' ({UNPROVED})' if report.is_unproved else ''}"
+    for kind, group in report.groups():
+        yield from _group(kind, group, report.is_every)
+    more = list(quantity_lines(report.compared, report.sort, report.is_every))
+    more += [] if report.affected is None else affected_lines(report.affected)
     if more:
-        yield from _folded("Quantities and what is affected" if told.affected else "Quantities", more)
+        yield from _folded("Quantities and what is affected" if report.affected else "Quantities", more)
 
 
-def _group(kind: Kind, group: Group, is_every: bool) -> Iterator[str]:
+def _group(kind: ComparisonKind, group: Group, is_every: bool) -> Iterator[str]:
     count = len(group.scripts)
     yield ""
     yield f"### {kind}: {count} {'script' if count == 1 else 'scripts'}, first in {group.title}"

@@ -6,11 +6,11 @@ from collections import Counter
 from collections.abc import Iterator, Sequence
 from pathlib import Path
 
-from pdsuite.programs.rows import Verdict
-from pdsuite.reports.outcome_text import block, heading, reason, said, warned, warnings
-from pdsuite.run.outcomes import Outcome, Tally, Totals
-from pdsuite.show.octets import shown_path
-from pdsuite.show.styled_text import StyledText, unstyled
+from pdsuite.output.octets import shown_path
+from pdsuite.output.styled_text import StyledText, unstyled
+from pdsuite.programs.verdict import Verdict
+from pdsuite.reports.outcome_text import block, heading, reason, row_text, warned, warnings
+from pdsuite.run.outcomes import CountedAs, Outcome, Totals
 
 SUMMARY = "GITHUB_STEP_SUMMARY"
 _WORKSPACE = "GITHUB_WORKSPACE"
@@ -24,7 +24,7 @@ _COMMAND = "##["
 _NO_COMMAND = r"\x23\x23["
 
 
-class Github:
+class GithubFormatter:
     """Annotations of scripts that don't pass and of warnings, ten of a level; of all others their rows; the totals.
 
     A script that is known not to pass has a notice.
@@ -41,9 +41,11 @@ class Github:
         if outcome.row.verdict is Verdict.NOT_RUN:
             return None
         lines: list[str] = []
-        if outcome.tally is not Verdict.PASS:
-            told = [heading(outcome), *(f"  {it}" for it in block(outcome))]
-            lines.append(self._annotation("notice" if outcome.is_known else "error", outcome, _title(outcome), told))
+        if outcome.counted_as is not Verdict.PASS:
+            text_lines = [heading(outcome), *(f"  {it}" for it in block(outcome))]
+            lines.append(
+                self._annotation("notice" if outcome.is_known else "error", outcome, _title(outcome), text_lines)
+            )
         level = "error" if outcome.is_strict else "warning"
         each = zip(warnings(outcome), warned(outcome))
         lines += [self._annotation(level, outcome, title, [line]) for title, line in each]
@@ -54,15 +56,15 @@ class Github:
         more = [f"and {count:,} more {level}{'s' if count > 1 else ''}\n" for level, count in sorted(left.items())]
         return unstyled("".join(more) + f"{totals} in {seconds:.2f} s{totals.mark}\n")
 
-    def _annotation(self, level: str, outcome: Outcome, title: str, told: Sequence[str]) -> str:
+    def _annotation(self, level: str, outcome: Outcome, title: str, text_lines: Sequence[str]) -> str:
         """The command that puts lines beside a script, while GitHub shows it; else the first of them alone."""
         self._counts[level] += 1
         if self._counts[level] > _MOST:
-            return f"- {told[0].replace(_COMMAND, _NO_COMMAND)}\n"
+            return f"- {text_lines[0].replace(_COMMAND, _NO_COMMAND)}\n"
         where = f"file={_property(shown_path(self._placed(outcome.path)))}"
         if outcome.line is not None:
             where += f",line={outcome.line}"
-        return f"::{level} {where},title={_property(title)}::{'%0A'.join(map(_data, told))}\n"
+        return f"::{level} {where},title={_property(title)}::{'%0A'.join(map(_data, text_lines))}\n"
 
     def _placed(self, path: str) -> str:
         """A path from the root of the repository that it lies in, if it lies in one."""
@@ -101,10 +103,10 @@ def _title(outcome: Outcome) -> str:
 
 def _summary_rows(outcome: Outcome) -> Iterator[str]:
     path, row = shown_path(outcome.path), outcome.row
-    if outcome.tally is Verdict.ERROR:
+    if outcome.counted_as is Verdict.ERROR:
         yield _cells(path, "", row.verdict.value, row.word)
-    elif outcome.tally not in (Verdict.PASS, Verdict.NOT_RUN, Tally.KNOWN):
-        yield _cells(path, "" if outcome.line is None else str(outcome.line), said(outcome), reason(outcome))
+    elif outcome.counted_as not in (Verdict.PASS, Verdict.NOT_RUN, CountedAs.KNOWN):
+        yield _cells(path, "" if outcome.line is None else str(outcome.line), row_text(outcome), reason(outcome))
     for warning in warnings(outcome):
         yield _cells(path, "", str(row), warning)
 

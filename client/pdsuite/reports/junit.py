@@ -5,10 +5,10 @@ from collections.abc import Iterable, Mapping, Sequence
 from dataclasses import dataclass
 from datetime import UTC, datetime, timedelta
 
-from pdsuite.programs.rows import Verdict
+from pdsuite.output.octets import shown_path
+from pdsuite.programs.verdict import Verdict
 from pdsuite.reports.outcome_text import block, heading, summary, warned
 from pdsuite.run.outcomes import UNPROVED, Outcome
-from pdsuite.show.octets import shown_path
 
 # The line of a script that none is named of.
 _FIRST = 1
@@ -52,7 +52,7 @@ def junit(outcomes: Sequence[Outcome], seconds: float, is_unproved: bool = False
     for outcome in outcomes:
         folders.setdefault(shown_path(os.path.dirname(outcome.path)), []).append((outcome, _results(outcome)))
     suites = [_Suite(*it) for it in folders.items()]
-    told = "".join(_suite(it, begin, seconds * len(it.cases) / len(outcomes), is_unproved) for it in suites)
+    body = "".join(_suite(it, begin, seconds * len(it.cases) / len(outcomes), is_unproved) for it in suites)
     counts = {f"{kind}s": sum(it.count(kind) for it in suites) for kind in (_FAILURE, _ERROR)}
     skipped = sum(it.count(_SKIPPED) for it in suites)
     whole: Attributes = {
@@ -62,7 +62,7 @@ def junit(outcomes: Sequence[Outcome], seconds: float, is_unproved: bool = False
         "skipped": skipped,
         "time": _rounded(seconds),
     }
-    return (_HEAD + _element("testsuites", whole, told)).encode()
+    return (_HEAD + _element("testsuites", whole, body)).encode()
 
 
 def _suite(suite: _Suite, begin: str, seconds: float, is_unproved: bool) -> str:
@@ -79,7 +79,7 @@ def _case(folder: str, outcome: Outcome, results: Iterable[_Result]) -> str:
     """The case of a script in a folder, whose name is quoted already."""
     path = _quoted(shown_path(outcome.path))
     below = "".join(_element(it.kind, {"message": it.message, "type": it.type}, _text(it.text)) for it in results)
-    if outcome.tally is Verdict.PASS and outcome.passes and (lines := warned(outcome)):
+    if outcome.counted_as is Verdict.PASS and outcome.passes and (lines := warned(outcome)):
         below += _element("system-err", {}, _text("\n".join(lines)))
     # Where a case's script is, as GitLab and CircleCI read it.
     place = f'file="{path}" line="{outcome.line or _FIRST}"'
@@ -89,23 +89,23 @@ def _case(folder: str, outcome: Outcome, results: Iterable[_Result]) -> str:
 
 def _results(outcome: Outcome) -> Sequence[_Result]:
     """Why a script's case doesn't count as passed, if it doesn't."""
-    if outcome.tally is Verdict.PASS:
+    if outcome.counted_as is Verdict.PASS:
         return () if outcome.passes else [_Result(_FAILURE, it, "warning") for it in warned(outcome)]
-    told = summary(outcome)
-    # Of a script that wasn't run nothing more is told.
+    text_line = summary(outcome)
+    # Of a script that wasn't run nothing more is reported.
     if outcome.row.verdict is Verdict.NOT_RUN:
-        return (_Result(_ERROR, told, outcome.tally.value, told),)
+        return (_Result(_ERROR, text_line, outcome.counted_as.value, text_line),)
     text = "\n".join([heading(outcome), *(f"  {it}" for it in block(outcome)), *warned(outcome)])
     if outcome.is_known and outcome.expected is not None:
-        return (_Result(_SKIPPED, outcome.expected.reason, outcome.tally.value, text),)
+        return (_Result(_SKIPPED, outcome.expected.reason, outcome.counted_as.value, text),)
     kind = _FAILURE if outcome.row.verdict in (Verdict.FAIL, Verdict.PASS) else _ERROR
-    return (_Result(kind, told, outcome.tally.value, text),)
+    return (_Result(kind, text_line, outcome.counted_as.value, text),)
 
 
 def _element(tag: str, attributes: Attributes, inside: str = "") -> str:
     """An element with what stands inside it, which is XML already."""
-    told = "".join(f' {name}="{_quoted(str(value))}"' for name, value in attributes.items())
-    return f"<{tag}{told}>{inside}</{tag}>" if inside else f"<{tag}{told}/>"
+    attribute_text = "".join(f' {name}="{_quoted(str(value))}"' for name, value in attributes.items())
+    return f"<{tag}{attribute_text}>{inside}</{tag}>" if inside else f"<{tag}{attribute_text}/>"
 
 
 def _text(text: str) -> str:

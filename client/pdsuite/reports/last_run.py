@@ -4,15 +4,14 @@ from collections.abc import Callable, Sequence
 from pathlib import Path
 
 from pdsuite.faults import Fault, why
-from pdsuite.reports.form import Form
-from pdsuite.reports.new_rows import NewRows
+from pdsuite.output.octets import absolute_paths, shown_path
+from pdsuite.reports.formatter import Formatter
+from pdsuite.reports.new_rows import NewRowsFormatter
 from pdsuite.reports.report_cache import LastReport
 from pdsuite.run.outcomes import Outcome
-from pdsuite.show.octets import absolute_paths
-from pdsuite.show.octets import shown_path
 
 # What a run may do with each line that no report holds.
-Note = Callable[[str], None]
+PrintNote = Callable[[str], None]
 
 
 def failed_last(paths: Sequence[Path]) -> frozenset[str]:
@@ -23,16 +22,16 @@ def failed_last(paths: Sequence[Path]) -> frozenset[str]:
     return frozenset(path for path, it in report.rows.items() if it.is_failing)
 
 
-def only_new(form: Form, turned: Form, paths: Sequence[Path], note: Note) -> Form:
+def only_new(form: Formatter, turned: Formatter, paths: Sequence[Path], note: PrintNote) -> Formatter:
     """A form without the rows that are as they were when these paths were run last."""
     report = LastReport(paths).load()
     if report is None:
         note(f"pdsuite: {_shown(paths)}: no run has left a report: all rows are new")
-    return NewRows(form, turned, {} if report is None else report.rows, absolute_paths())
+    return NewRowsFormatter(form, turned, {} if report is None else report.rows, absolute_paths())
 
 
-def leave(paths: Sequence[Path], outcomes: Sequence[Outcome], is_part: bool, note: Note) -> None:
-    """Leaves the report of a run for the next one. Where it can't be written, that is told, and is no fault."""
+def leave(paths: Sequence[Path], outcomes: Sequence[Outcome], is_part: bool, note: PrintNote) -> None:
+    """Leaves the report of a run for the next one. Where it can't be written, that is reported, and is no fault."""
     try:
         LastReport(paths).leave(outcomes, is_part)
     except Fault as fault:

@@ -3,19 +3,19 @@
 from collections.abc import Callable
 from dataclasses import dataclass
 
-from pdsuite.programs.rows import Verdict
-from pdsuite.reports.form import Form
+from pdsuite.output.styled_text import StyledText
+from pdsuite.programs.verdict import Verdict
+from pdsuite.reports.formatter import Formatter
 from pdsuite.reports.saved_reports import SavedRows
 from pdsuite.run.outcomes import Outcome, Totals
-from pdsuite.show.styled_text import StyledText
 
 
 @dataclass(frozen=True)
-class NewRows:
+class NewRowsFormatter:
     """A form of which the rows are left out that were the same before; `turned` shows scripts that had another one."""
 
-    form: Form
-    turned: Form
+    form: Formatter
+    turned: Formatter
     before: SavedRows  # by absolute paths
     absolute: Callable[[str], str]
 

@@ -1,8 +1,8 @@
-"""What is told of a script that doesn't pass: its row in words, and what stands below that; and what is warned of."""
+"""What a report has of a script that doesn't pass: its row in words, the lines below that; and its warnings."""
 
-from pdsuite.programs.rows import Verdict
+from pdsuite.output.octets import shown, shown_path
+from pdsuite.programs.verdict import Verdict
 from pdsuite.run.outcomes import Outcome
-from pdsuite.show.octets import shown, shown_path
 
 _MOST = 200
 _REASON = "reason: "
@@ -18,12 +18,12 @@ def place(outcome: Outcome) -> str:
 
 
 def meaning(outcome: Outcome) -> str:
-    """What comes after the row: what it means, where that is told."""
+    """What comes after the row: what it means, where that is explained."""
     why = _lacking(outcome) if outcome.row.verdict is Verdict.SYNTAX else outcome.why
     return f": {why}" if why else ""
 
 
-def said(outcome: Outcome) -> str:
+def row_text(outcome: Outcome) -> str:
     """The row of an outcome, with the one that is expected of it, where one is."""
     if outcome.expected is None or not (outcome.is_known or outcome.is_unexpected):
         return str(outcome.row)
@@ -35,23 +35,23 @@ def said(outcome: Outcome) -> str:
 
 def heading(outcome: Outcome) -> str:
     """The line of an outcome: its place, its row and what that means."""
-    return f"{place(outcome)}: {said(outcome)}{meaning(outcome)}"
+    return f"{place(outcome)}: {row_text(outcome)}{meaning(outcome)}"
 
 
 def reason(outcome: Outcome) -> str:
-    """Why a row is so, where that is told: the reason, or what the row means, with the rule that stops the script."""
+    """Why a row is so, where that is explained: the reason, or what the row means, with the rule that stops it."""
     if outcome.row.verdict is Verdict.FAIL:
-        found = (it.removeprefix(_REASON) for it in outcome.told if it.startswith(_REASON))
+        found = (it.removeprefix(_REASON) for it in outcome.block_lines if it.startswith(_REASON))
         return next(found, outcome.why)
     if outcome.row.verdict is Verdict.SYNTAX:
         return _lacking(outcome)
-    rule = next((it.removeprefix(_RULE) for it in outcome.told[:1] if it.startswith(_RULE)), "")
+    rule = next((it.removeprefix(_RULE) for it in outcome.block_lines[:1] if it.startswith(_RULE)), "")
     return f"{outcome.why}: {rule}" if rule else outcome.why
 
 
 def _lacking(outcome: Outcome) -> str:
-    """What a text that is no script lacks where it breaks off, as far as that is told."""
-    below = outcome.told[1:]  # the first is the line of the text
+    """What a text that is no script lacks where it breaks off, as far as that is explained."""
+    below = outcome.block_lines[1:]  # the first is the line of the text
     expected = next((it for it in below if it.startswith(_EXPECTED)), "")
     if not expected:
         return outcome.why
@@ -61,7 +61,7 @@ def _lacking(outcome: Outcome) -> str:
 def summary(outcome: Outcome) -> str:
     """An outcome in one line: its place, its row and the reason."""
     why = reason(outcome)
-    return f"{place(outcome)}: {said(outcome)}" + (f": {why}" if why else "")
+    return f"{place(outcome)}: {row_text(outcome)}" + (f": {why}" if why else "")
 
 
 def warnings(outcome: Outcome) -> list[str]:
@@ -76,7 +76,7 @@ def warned(outcome: Outcome) -> list[str]:
 
 
 def block(outcome: Outcome) -> list[str]:
-    """The lines below an outcome's row: what is told of it, else the line of the script that it names."""
-    if outcome.told:
-        return list(outcome.told)
+    """The lines below an outcome's row: its explanation, else the line of the script that it names."""
+    if outcome.block_lines:
+        return list(outcome.block_lines)
     return [] if outcome.text is None else [shown(outcome.text, _MOST)]

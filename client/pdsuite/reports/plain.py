@@ -3,12 +3,12 @@
 from dataclasses import dataclass
 
 
-from pdsuite.programs.rows import Verdict
-from pdsuite.reports.outcome_text import block, meaning, place, said, warned
-from pdsuite.run.outcomes import Outcome, Tally, Totals
-from pdsuite.show.styled_text import StyledText, unstyled
+from pdsuite.output.styled_text import StyledText, unstyled
+from pdsuite.programs.verdict import Verdict
+from pdsuite.reports.outcome_text import block, meaning, place, row_text, warned
+from pdsuite.run.outcomes import CountedAs, Outcome, Totals
 
-_STYLES: dict[Verdict | Tally, str] = {
+_STYLES: dict[Verdict | CountedAs, str] = {
     Verdict.PASS: "green",
     Verdict.FAIL: "bold red",
     Verdict.SYNTAX: "bold magenta",
@@ -16,17 +16,17 @@ _STYLES: dict[Verdict | Tally, str] = {
     Verdict.LIMIT: "yellow",
     Verdict.ERROR: "bold red",
     Verdict.NOT_RUN: "dim",
-    Tally.KNOWN: "dim",
-    Tally.UNEXPECTED: "bold red",
+    CountedAs.KNOWN: "dim",
+    CountedAs.UNEXPECTED: "bold red",
 }
 # What is shown only where every script is.
-_UNSHOWN = (Verdict.PASS, Verdict.NOT_RUN, Tally.KNOWN)
+_UNSHOWN = (Verdict.PASS, Verdict.NOT_RUN, CountedAs.KNOWN)
 _WARNED = "yellow"
 _STRICT = "bold red"
 
 
 @dataclass(frozen=True)
-class Plain:
+class PlainFormatter:
     """A line for each script that doesn't pass, with its block, or for every script; warnings; then the totals."""
 
     every: bool
@@ -35,7 +35,7 @@ class Plain:
         return StyledText()
 
     def entry(self, number: int, outcome: Outcome) -> StyledText | None:
-        if not self.every and outcome.tally in _UNSHOWN:
+        if not self.every and outcome.counted_as in _UNSHOWN:
             return self.warnings(outcome) if outcome.warnings else None
         if outcome.warnings or outcome.is_known:
             return self.changed(outcome)
@@ -45,7 +45,7 @@ class Plain:
 
     def row(self, outcome: Outcome) -> StyledText:
         """A script's row alone."""
-        return unstyled(f"{place(outcome)}: ").append(said(outcome), _STYLES[outcome.tally])
+        return unstyled(f"{place(outcome)}: ").append(row_text(outcome), _STYLES[outcome.counted_as])
 
     def warnings(self, outcome: Outcome) -> StyledText:
         """What is warned of, a line each."""
@@ -66,10 +66,10 @@ def style_of(totals: Totals) -> str:
 
 
 def _met(outcome: Outcome) -> list[str]:
-    """What each line was met by, where that is asked for."""
-    if outcome.differences is None:
+    """What each line was met by, where that is requested."""
+    if outcome.line_diff is None:
         return []
-    # Only who asks for it pays for what reads scripts.
-    from pdsuite.reports.met_text import met_text
+    # Only who requests it pays for what reads scripts.
+    from pdsuite.reports.diff_text import diff_text
 
-    return list(met_text(outcome.differences))
+    return list(diff_text(outcome.line_diff))

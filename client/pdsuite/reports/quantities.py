@@ -3,11 +3,11 @@
 from collections.abc import Iterator, Sequence
 
 from pdsuite.compare.comparison import ComparedScript
-from pdsuite.compare.quantities import Change, Quantities, Quantity, changes_of, total_of
+from pdsuite.compare.quantities import Quantities, Quantity, QuantityChange, changes_of, total_of
+from pdsuite.output.octets import shown_path
 from pdsuite.packetdrill.items import SECOND
-from pdsuite.show.octets import shown_path
 
-# So many scripts are told of, where not all are asked for.
+# So many scripts are reported, where not all are requested.
 _MOST = 10
 _NAMES = {
     Quantity.SEGMENTS: "segments",
@@ -22,14 +22,14 @@ def quantity_lines(compared: Sequence[ComparedScript], sort: Quantity, is_every:
     changes = changes_of(compared, sort)
     if not changes:
         return
-    yield f"quantities of all scripts: {_told(total_of(compared), list(Quantity))}"
+    yield f"quantities of all scripts: {_quantity_line(total_of(compared), list(Quantity))}"
     for it in changes if is_every else changes[:_MOST]:
-        yield f"  {shown_path(it.path)}: {_told(it, [each for each in Quantity if it.by(each)])}"
+        yield f"  {shown_path(it.path)}: {_quantity_line(it, [each for each in Quantity if it.by(each)])}"
     if not is_every and len(changes) > _MOST:
         yield f"  {len(changes) - _MOST} more (--every)"
 
 
-def _told(it: Change, quantities: Sequence[Quantity]) -> str:
+def _quantity_line(it: QuantityChange, quantities: Sequence[Quantity]) -> str:
     before, after = it.before.named(), it.after.named()
     return ", ".join(
         f"{_NAMES[each]} {_number(each, before[each])} to {_number(each, after[each])}" for each in quantities
@@ -49,7 +49,7 @@ def quantities_by_keys(compared: Sequence[ComparedScript], sort: Quantity) -> di
     return {"total": _by_keys(total_of(compared)), "scripts": scripts}
 
 
-def _by_keys(it: Change) -> dict[str, object]:
+def _by_keys(it: QuantityChange) -> dict[str, object]:
     return {"before": _named(it.before), "after": _named(it.after)}
 
 

@@ -4,18 +4,18 @@ from collections.abc import Iterable, Iterator, Sequence
 from dataclasses import replace
 
 
-from pdsuite.programs.rows import Row, Verdict
-from pdsuite.reports.form import Form
+from pdsuite.output.screen import Screen
+from pdsuite.output.styled_text import StyledText
+from pdsuite.programs.verdict import Row, Verdict
+from pdsuite.reports.formatter import Formatter
+from pdsuite.run.batches import Script, outcome_of
 from pdsuite.run.outcomes import Outcome, Totals
-from pdsuite.run.runs import Script, outcome_of
-from pdsuite.show.screen import Screen
-from pdsuite.show.styled_text import StyledText
 
 
 class Report:
     """The outcomes that were shown, and those that wait for earlier ones."""
 
-    def __init__(self, scripts: Sequence[Script], form: Form, screen: Screen, is_unproved: bool = False) -> None:
+    def __init__(self, scripts: Sequence[Script], form: Formatter, screen: Screen, is_unproved: bool = False) -> None:
         self.outcomes: list[Outcome] = []
         self.is_unproved = is_unproved
         self._scripts = scripts

@@ -12,11 +12,11 @@ from itertools import islice
 from pathlib import Path
 
 from pdsuite.faults import Fault, why
-from pdsuite.programs.rows import Verdict
+from pdsuite.output.octets import absolute_paths, shown_path
+from pdsuite.programs.verdict import Verdict
 from pdsuite.reports.as_json import script_text
 from pdsuite.reports.saved_reports import SavedReport, joined, reports_in
 from pdsuite.run.outcomes import Outcome
-from pdsuite.show.octets import absolute_paths, shown_path
 
 # Of so many groups of paths the last reports are kept.
 MOST = 64
@@ -37,9 +37,9 @@ _OTHER = re.compile(r"[^A-Za-z0-9.-]+")
 
 def cache_folder() -> Path:
     """Where reports are kept, by the XDG Base Directory Specification, which counts no relative path."""
-    told = os.environ.get("XDG_CACHE_HOME", "")
-    if os.path.isabs(told):
-        return Path(told, "pdsuite")
+    cache_home = os.environ.get("XDG_CACHE_HOME", "")
+    if os.path.isabs(cache_home):
+        return Path(cache_home, "pdsuite")
     try:
         return Path.home() / ".cache/pdsuite"
     except RuntimeError as error:

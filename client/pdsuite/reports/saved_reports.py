@@ -7,9 +7,9 @@ from dataclasses import dataclass
 from pathlib import Path
 
 from pdsuite.faults import Fault, why
-from pdsuite.programs.rows import Row, Verdict
+from pdsuite.output.octets import shown_path, shown_text
+from pdsuite.programs.verdict import Row, Verdict
 from pdsuite.scripts.shards import Shard, shard_of
-from pdsuite.show.octets import shown_path, shown_text
 
 _BLANKS = re.compile(r"[ \t\r\n]*")
 _REPORTS = "*.json"

@@ -3,22 +3,22 @@
 from collections.abc import Iterator, Mapping, Sequence
 from itertools import zip_longest
 
-from pdsuite.compare.parting import PlayedEvent, played_events
-from pdsuite.programs.rows import Row
+from pdsuite.compare.divergence import PlayedEvent, played_events
+from pdsuite.output.octets import shown_text
+from pdsuite.output.styled_text import StyledText
+from pdsuite.programs.verdict import Row
 from pdsuite.run.outcomes import UNPROVED
 from pdsuite.scripts.settings import Settings, settings_text
-from pdsuite.search.finds import Find
-from pdsuite.search.searching import Searched
-from pdsuite.search.reached import SHARES, Reached
-from pdsuite.show.octets import shown_text
-from pdsuite.show.styled_text import StyledText
+from pdsuite.search.coverage import SHARES, Coverage
+from pdsuite.search.find import Find
+from pdsuite.search.search import SearchResult
 
 _ENDS = "nothing more"
 _SETTINGS = "settings"
 
 
 def found(
-    find: Find, what: str, settings: Sequence[Settings], other: str | None, row: Row | None, told: Sequence[str]
+    find: Find, what: str, settings: Sequence[Settings], other: str | None, row: Row | None, explanation: Sequence[str]
 ) -> StyledText:
     """A find: its recording beside the other sender's, if there is one, each with its settings, and why it fails.
 
@@ -30,7 +30,7 @@ def found(
     text.append("".join(f"  {shown_text(line)}\n" for line in pairs))
     if row is not None:
         line = "" if row.line is None else f"line {row.line}: "
-        meaning, *below = told or [str(row)]
+        meaning, *below = explanation or [str(row)]
         text.append(f"  after: {line}{meaning}\n", "bold")
         text.append("".join(f"    {it}\n" for it in below))
     return text
@@ -81,9 +81,9 @@ def _side(name: str, it: PlayedEvent | None) -> Iterator[str]:
         yield f"    {it.state}"
 
 
-def totals(searched: Searched, seed: int, is_unproved: bool) -> StyledText:
+def totals(searched: SearchResult, seed: int, is_unproved: bool) -> StyledText:
     """The last lines: how many of the inputs met what, and how many there were."""
-    reached = searched.reached
+    reached = searched.coverage
     text = StyledText()
     for name, counts in _named(reached):
         if searched.find is None or name == _SETTINGS:
@@ -96,7 +96,7 @@ def totals(searched: Searched, seed: int, is_unproved: bool) -> StyledText:
     return text.append(f"{'total' if searched.find is None else 'found after'} {tried}{cut}, seed {seed}{mark}\n")
 
 
-def _named(reached: Reached) -> Iterator[tuple[str, Mapping[str, int]]]:
+def _named(reached: Coverage) -> Iterator[tuple[str, Mapping[str, int]]]:
     yield "states", reached.states
     yield "options", reached.options
     yield _SETTINGS, reached.settings

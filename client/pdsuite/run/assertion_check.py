@@ -1,15 +1,15 @@
-"""Which assertions of imported scripts hold, as a recording tells it. No verdict depends on it."""
+"""Which assertions of imported scripts hold, as a recording shows it. No verdict depends on it."""
 
 from collections import Counter
 from collections.abc import Callable, Iterator
 from typing import TYPE_CHECKING
 
+from pdsuite.output.octets import shown_path
 from pdsuite.programs.recorder import Recorder
 from pdsuite.run.outcomes import Outcome
-from pdsuite.run.settling import SettledPiece
+from pdsuite.run.run_batches import SettledPiece
 from pdsuite.scripts.defaults import DEFAULTS
 from pdsuite.scripts.text import Text
-from pdsuite.show.octets import shown_path
 from pdsuite.signals import Stop
 
 if TYPE_CHECKING:
@@ -19,7 +19,7 @@ _MARK = b"// asserts "
 
 
 class AssertionCheck:
-    """The scripts of a run that have assertions; `note` is told of one that can't be recorded."""
+    """The scripts of a run that have assertions; `note` gets a line for one that can't be recorded."""
 
     def __init__(self, stop: Stop, note: Callable[[str], None]) -> None:
         self._recorder = Recorder(stop, note)

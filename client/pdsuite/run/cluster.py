@@ -1,4 +1,4 @@
-"""A Dask cluster as a mapper of runs. No other module knows of `distributed`."""
+"""A Dask cluster as a mapper of batches. No other module knows of `distributed`."""
 
 import gc
 import logging
@@ -23,19 +23,19 @@ from distributed.comm.addressing import resolve_address
 from distributed.scheduler import KilledWorker
 
 import pdsuite
-from pdsuite.faults import Cut, Fault
-from pdsuite.run import parcels
-from pdsuite.run.parcels import Parcel, WantedProgram
-from pdsuite.run.runs import Run, cut
-from pdsuite.run.settling import Mapper, Step, unrun
-from pdsuite.show.octets import shown_text
+from pdsuite.faults import CutShortError, Fault
+from pdsuite.output.octets import shown_text
+from pdsuite.run import serialize
+from pdsuite.run.batches import Batch, cut
+from pdsuite.run.run_batches import Mapper, Step, not_run
+from pdsuite.run.serialize import PackedBatch, WantedProgram
 from pdsuite.signals import Stop
 
 # How long a scheduler is waited for, and a worker where there is none.
 _PATIENCE = 10
-# How often a run is sent to workers that all go away.
+# How often a batch is sent to workers that all go away.
 _SENDINGS = 3
-# How many pieces a run has that is sent, and how many of these each thread of the cluster has before it.
+# How many pieces a batch has that is sent, and how many of these each thread of the cluster has before it.
 _PIECES = 8
 _AHEAD = 4
 # How often it is looked which workers there are.
@@ -44,10 +44,10 @@ _LOOK = 1.0
 
 @dataclass
 class _Task:
-    """A run that was read, and what was sent where."""
+    """A batch that was read, and what was sent where."""
 
-    run: Run
-    parcel: Parcel
+    run: Batch
+    parcel: PackedBatch
     future: Future | None = None
     workers: frozenset[str] = frozenset()
     sendings: int = 0
@@ -55,7 +55,7 @@ class _Task:
 
 @contextmanager
 def cluster(address: str, wanted: WantedProgram, stop: Stop, note: Callable[[str], None]) -> Iterator[Mapper]:
-    """Has runs settled by the workers of a scheduler that have this machine's program."""
+    """Has batches settled by the workers of a scheduler that have this machine's program."""
     client = _connected(address)
     stop.check()
     try:
@@ -69,7 +69,7 @@ def cluster(address: str, wanted: WantedProgram, stop: Stop, note: Callable[[str
 
 
 def _quiet() -> None:
-    """Has the library write nothing: what counts is said here."""
+    """Has the library write nothing: what counts is printed here."""
     logging.disable()
     warnings.filterwarnings("ignore", "Large object of size")
     # A coroutine that is left where a scheduler went away fails once more at the end of the process.
@@ -82,7 +82,7 @@ def _connected(address: str) -> Client:
     dask.config.set({"distributed.comm.timeouts.connect": _PATIENCE})
     # The code goes along, with every call.
     pickle = import_module("cloudpickle")  # it declares no types
-    for module in (pdsuite, parcels):
+    for module in (pdsuite, serialize):
         pickle.register_pickle_by_value(module)
     place = _shown(address)
     try:
@@ -96,7 +96,7 @@ def _connected(address: str) -> Client:
 
 
 class _Cluster:
-    """The workers that may be used, and the runs that they have."""
+    """The workers that may be used, and the batches that they have."""
 
     def __init__(
         self,
@@ -129,16 +129,16 @@ class _Cluster:
             self._wait()
             self._look()
 
-    def settle(self, runs: Iterable[Run]) -> Generator[Step, None, None]:
-        """Has runs settled, some ahead; their steps come in the order of the runs."""
-        left = (Run(run.settings, pieces) for run in runs for pieces in cut(run.pieces, _PIECES))
+    def settle(self, batches: Iterable[Batch]) -> Generator[Step, None, None]:
+        """Has batches settled, some ahead; their steps come in the order of the batches."""
+        left = (Batch(batch.settings, pieces) for batch in batches for pieces in cut(batch.pieces, _PIECES))
         tasks: deque[_Task] = deque()
         while True:
             if self._look():
                 self._send_again(tasks)
             room = max(1, _AHEAD * sum(self._threads.values())) - len(tasks)
-            for run in islice(left, max(0, room)):
-                tasks.append(_Task(run, parcels.packed(run)))
+            for batch in islice(left, max(0, room)):
+                tasks.append(_Task(batch, serialize.pack(batch)))
                 self._send(tasks[-1])
             if not tasks:
                 return
@@ -169,7 +169,7 @@ class _Cluster:
         if isinstance(answer, str):
             self._give_up(task, answer)
             return None
-        return list(parcels.steps_of(task.run, task.parcel, answer, self._note))
+        return list(serialize.steps_of(task.run, task.parcel, answer, self._note))
 
     def _send(self, task: _Task) -> None:
         """Sends a task to the workers that may be used, if there are any."""
@@ -178,7 +178,7 @@ class _Cluster:
         if task.workers and task.sendings < _SENDINGS:
             task.sendings += 1
             task.future = self._client.submit(
-                parcels.work, task.parcel, self._wanted, workers=list(task.workers), pure=False
+                serialize.run_packed, task.parcel, self._wanted, workers=list(task.workers), pure=False
             )
             task.future.add_done_callback(self._ring)
 
@@ -191,7 +191,7 @@ class _Cluster:
 
     def _give_up(self, task: _Task, fault: str) -> None:
         """Uses the worker no longer that has other programs by now, and sends its task elsewhere."""
-        for workers in self._asked(self._client.who_has, [task.future]).values():
+        for workers in self._query(self._client.who_has, [task.future]).values():
             for worker in workers:
                 self._refuse(worker, fault)
         task.sendings -= 1
@@ -203,7 +203,7 @@ class _Cluster:
         if now < self._looked + _LOOK:
             return False
         self._looked = now
-        threads = self._asked(self._client.nthreads)
+        threads = self._query(self._client.nthreads)
         self._faults = {it: fault for it, fault in self._faults.items() if it in threads}
         self._meet([it for it in threads if it not in self._faults])
         self._threads = {it: threads[it] for it, fault in self._faults.items() if not fault}
@@ -212,14 +212,14 @@ class _Cluster:
         return True
 
     def _meet(self, workers: list[str]) -> None:
-        """Asks new workers whether they can be used. One that doesn't answer is asked again."""
+        """Queries new workers whether they can be used. One that doesn't answer is queried again."""
         here = platform.python_version_tuple()[:2]
         pythons = self._answers(workers, platform.python_version_tuple)
         for worker, python in pythons.items():
             if tuple(python[:2]) != here:
                 self._refuse(worker, f"has Python {'.'.join(python)}")
         same = [it for it in pythons if it not in self._faults]
-        for worker, fault in self._answers(same, parcels.fault_of, self._wanted).items():
+        for worker, fault in self._answers(same, serialize.fault_of, self._wanted).items():
             self._faults[worker] = ""
             if fault:
                 self._refuse(worker, _shown(fault))
@@ -233,18 +233,18 @@ class _Cluster:
         """What workers answer to a call, without those that don't."""
         if not workers:
             return {}
-        answers = self._asked(self._client.run, function, *words, workers=workers, on_error="return")
+        answers = self._query(self._client.run, function, *words, workers=workers, on_error="return")
         return {it: answer for it, answer in answers.items() if not isinstance(answer, OSError)}
 
-    def _asked(self, call: Callable[..., Any], *words: Any, **more: Any) -> Any:
+    def _query(self, call: Callable[..., Any], *words: Any, **more: Any) -> Any:
         """What the scheduler answers."""
         try:
             return call(*words, **more)
         except (OSError, CancelledError) as error:
             raise self._gone() from error
 
-    def _gone(self) -> Cut:
-        return Cut(f"{self._address}: the scheduler went away")
+    def _gone(self) -> CutShortError:
+        return CutShortError(f"{self._address}: the scheduler went away")
 
     def _is_deserted(self) -> bool:
         return not self._threads and time.monotonic() > self._served + _PATIENCE
@@ -263,8 +263,8 @@ class _Cluster:
             self._far.send(b"\0")
 
 
-def _unrun(run: Run, reason: str) -> list[Step]:
-    return [unrun(piece, reason) for piece in run.pieces]
+def _unrun(batch: Batch, reason: str) -> list[Step]:
+    return [not_run(piece, reason) for piece in batch.pieces]
 
 
 def _shown(what: object) -> str:

@@ -8,17 +8,17 @@ from pdsuite.packetdrill.layout import Event, Layout, layout_of
 from pdsuite.packetdrill.lines import Extent, TextLines
 from pdsuite.packetdrill.reader import flat
 from pdsuite.packetdrill.tokens import tokens_of
+from pdsuite.programs.cause_text import safe
 from pdsuite.programs.protocol import Cause
-from pdsuite.programs.rows import Row
-from pdsuite.programs.told import safe
+from pdsuite.programs.verdict import Row
+from pdsuite.run.locate_row import RowLocation, failing_event, locate_row
 from pdsuite.run.outcomes import Outcome
-from pdsuite.run.row_place import Place, failing_event, place_of
-from pdsuite.run.settling import SettledPiece, Step
+from pdsuite.run.run_batches import SettledPiece, Step
 from pdsuite.scripts.text import Text
 
 # The name of a script in a run, which nobody else knows.
 _NAME = "name"
-# The packets that are told by field.
+# The packets that are reported by field.
 _SCRIPT_PACKET, _ACTUAL_PACKET = "script_packet", "actual_packet"
 
 
@@ -43,18 +43,18 @@ def explanation_of(row: Row, cause: Cause, text: Text) -> Mapping[str, object]:
     """What the program says of a row, safe to print, with the place in the text and the packets by field."""
     script = text.octets.decode("utf-8", "surrogateescape")
     layout, lines = layout_of(script), TextLines(script)
-    told: dict[str, object] = {key: _safe(value) for key, value in cause.items() if key != _NAME}
-    told["place"] = _told_place(place_of(row, cause, layout, lines), lines)
+    explained: dict[str, object] = {key: _safe(value) for key, value in cause.items() if key != _NAME}
+    explained["place"] = _place_fields(locate_row(row, cause, layout, lines), lines)
     fields = {key: _by_field(event) for key, event in _packets(row, cause, layout) if event is not None}
-    return {**told, "fields": fields} if fields else told
+    return {**explained, "fields": fields} if fields else explained
 
 
-def _told_place(place: Place, lines: TextLines) -> dict[str, object]:
+def _place_fields(place: RowLocation, lines: TextLines) -> dict[str, object]:
     """Lines count from 1, and columns are octets before the place in its line."""
     line, column = _line_and_column(place.extent.start, lines)
     end_line, end_column = _line_and_column(place.extent.end, lines)
-    told: dict[str, object] = {"field": place.field} if place.field else {}
-    return {**told, "line": line, "column": column, "end_line": end_line, "end_column": end_column}
+    fields: dict[str, object] = {"field": place.field} if place.field else {}
+    return {**fields, "line": line, "column": column, "end_line": end_line, "end_column": end_column}
 
 
 def _line_and_column(offset: int, lines: TextLines) -> tuple[int, int]:
@@ -81,10 +81,12 @@ def _by_field(event: Event) -> dict[str, object]:
     """A packet by the names that kinds of failures have, as far as it has these fields."""
     packet = event.item.what
     assert isinstance(packet, Packet)  # what is expected to leave
-    told: dict[str, object] = {it: _written(event, event.fields[it]) for it in ("time", "flags") if it in event.fields}
-    told["seq"] = {"start": packet.start, "end": packet.end}
-    told |= {name: number for name, number in (("ack", packet.ack), ("win", packet.win)) if number is not None}
-    return {**told, "options": packet.options_text} if packet.options_text else told
+    fields: dict[str, object] = {
+        it: _written(event, event.fields[it]) for it in ("time", "flags") if it in event.fields
+    }
+    fields["seq"] = {"start": packet.start, "end": packet.end}
+    fields |= {name: number for name, number in (("ack", packet.ack), ("win", packet.win)) if number is not None}
+    return {**fields, "options": packet.options_text} if packet.options_text else fields
 
 
 def _written(event: Event, extent: Extent) -> str:

@@ -4,11 +4,11 @@ from collections.abc import Callable, Iterable, Iterator
 from dataclasses import replace
 
 from pdsuite.programs.recorder import Recording
-from pdsuite.programs.rows import Verdict
-from pdsuite.run.met_lines import differences_of
+from pdsuite.programs.verdict import Verdict
+from pdsuite.run.batches import Script
+from pdsuite.run.line_diff import line_diff
 from pdsuite.run.outcomes import Outcome
-from pdsuite.run.runs import Script
-from pdsuite.run.settling import SettledPiece, Step
+from pdsuite.run.run_batches import SettledPiece, Step
 from pdsuite.scripts.text import Text
 
 # Records a script.
@@ -30,5 +30,5 @@ def _with_differences(script: Script, outcome: Outcome, text: Text | None, recor
     if outcome.row.verdict is not Verdict.FAIL or outcome.is_known or text is None:
         return outcome
     written = text.octets.decode("utf-8", "surrogateescape")
-    found = differences_of(outcome.row, outcome.told, written, record(script, text), outcome.settings)
-    return replace(outcome, differences=found)
+    found = line_diff(outcome.row, outcome.block_lines, written, record(script, text), outcome.settings)
+    return replace(outcome, line_diff=found)

@@ -1,11 +1,11 @@
-"""Tells of imported scripts that fail which feature that was dropped acts at the line, where one is known to."""
+"""Reports of imported scripts that fail which feature that was dropped acts at the line, where one is known to."""
 
 from collections.abc import Iterable, Iterator
 from dataclasses import replace
 
-from pdsuite.programs.rows import Verdict
+from pdsuite.programs.verdict import Verdict
 from pdsuite.run.outcomes import Outcome
-from pdsuite.run.settling import SettledPiece, Step
+from pdsuite.run.run_batches import SettledPiece, Step
 from pdsuite.scripts.text import Text
 
 # Stands in each script whose set-up an import dropped.
@@ -26,12 +26,16 @@ def _lacking(outcome: Outcome, text: Text | None) -> Outcome:
     if outcome.row.verdict is not Verdict.FAIL or text is None or text.octets.find(MARK) < 0:
         return outcome
     # Only who has imported scripts pays for what reads them.
-    from pdsuite.imports.lacking import acting
+    from pdsuite.imports.dropped_features import acting_feature
     from pdsuite.packetdrill.layout import layout_of
-    from pdsuite.run.met_lines import event_in, passed_before
+    from pdsuite.run.line_diff import event_in, passed_before
 
     layout = layout_of(text.octets.decode("utf-8", "surrogateescape"))
-    place = passed_before(layout, outcome.row, event_in(outcome.told))
-    is_early = any(it.startswith(_EARLY) for it in outcome.told)
-    found = acting(layout.events, place, outcome.row.word, is_early) if place < len(layout.events) else None
-    return outcome if found is None else replace(outcome, told=(*outcome.told, f"of what the import dropped, {found}"))
+    place = passed_before(layout, outcome.row, event_in(outcome.block_lines))
+    is_early = any(it.startswith(_EARLY) for it in outcome.block_lines)
+    found = acting_feature(layout.events, place, outcome.row.word, is_early) if place < len(layout.events) else None
+    return (
+        outcome
+        if found is None
+        else replace(outcome, block_lines=(*outcome.block_lines, f"of what the import dropped, {found}"))
+    )

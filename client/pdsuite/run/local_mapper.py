@@ -1,4 +1,4 @@
-"""This machine's processors as a mapper of runs: so many programs side by side."""
+"""This machine's processors as a mapper of batches: so many programs side by side."""
 
 import select
 from collections import deque
@@ -8,29 +8,31 @@ from dataclasses import dataclass, field
 from pathlib import Path
 
 from pdsuite.programs.program import Program
-from pdsuite.run.runs import Run, cut
-from pdsuite.run.settling import Load, Mapper, Step, load, settling, start_telling, start_with
-from pdsuite.signals import Stop, Stopped
+from pdsuite.run.batches import Batch, cut
+from pdsuite.run.run_batches import LoadText, Mapper, Step, load, run_batch_steps, start_explaining, start_with
+from pdsuite.signals import Stop, StoppedError
 
 # A program has so many pieces at most, so that others have some, too.
 _PIECES = 4
-# So many runs are begun for each program, so that none waits for the steps of those before it to be taken.
+# So many batches are begun for each program, so that none waits for the steps of those before it to be taken.
 _AHEAD = 4
 
 
-def local_mapper(program: Path, tells: tuple[str, ...], workers: int, stop: Stop, load_text: Load = load) -> Mapper:
-    """Has runs settled by programs that are started here, and that tell of scripts as these words say."""
-    start, untelling = start_telling(program, tells, 1, stop), start_with(program, 0, 1, stop)
+def local_mapper(
+    program: Path, options: tuple[str, ...], workers: int, stop: Stop, load_text: LoadText = load
+) -> Mapper:
+    """Has batches settled by programs that are started here, and that explain scripts as these options say."""
+    start, plain_start = start_explaining(program, options, 1, stop), start_with(program, 0, 1, stop)
     most = max(1, workers)
 
-    def settled(runs: Iterable[Run]) -> Generator[Step, None, None]:
-        left = (Run(run.settings, pieces) for run in runs for pieces in cut(run.pieces, _PIECES))
-        begun: deque[_Settling] = deque()
+    def settled(batches: Iterable[Batch]) -> Generator[Step, None, None]:
+        left = (Batch(batch.settings, pieces) for batch in batches for pieces in cut(batch.pieces, _PIECES))
+        begun: deque[_RunningBatch] = deque()
         with ExitStack() as held:
             while True:
-                while _has_room(begun, most) and (run := next(left, None)) is not None:
-                    steps = held.enter_context(closing(settling(run, start, load_text, untelling)))
-                    begun.append(_Settling(steps))
+                while _has_room(begun, most) and (batch := next(left, None)) is not None:
+                    steps = held.enter_context(closing(run_batch_steps(batch, start, load_text, plain_start)))
+                    begun.append(_RunningBatch(steps))
                 if not begun:
                     return
                 first = begun[0]
@@ -41,7 +43,7 @@ def local_mapper(program: Path, tells: tuple[str, ...], workers: int, stop: Stop
                     continue
                 try:
                     _wait([it for it in begun if not it.is_over])
-                except Stopped:
+                except StoppedError:
                     yield from (step for it in begun for step in it.steps)
                     raise
 
@@ -49,8 +51,8 @@ def local_mapper(program: Path, tells: tuple[str, ...], workers: int, stop: Stop
 
 
 @dataclass
-class _Settling:
-    """A run that has begun: what came of it and isn't taken, and its program, which is to be waited for."""
+class _RunningBatch:
+    """A batch that has begun: what came of it and isn't taken, and its program, which is to be waited for."""
 
     left: Generator[Step | Program, None, None]
     steps: deque[Step] = field(default_factory=deque)
@@ -70,12 +72,12 @@ class _Settling:
         self.is_over = True
 
 
-def _has_room(begun: Collection[_Settling], most: int) -> bool:
-    """Whether a further run may begin beside these."""
+def _has_room(begun: Collection[_RunningBatch], most: int) -> bool:
+    """Whether a further batch may begin beside these."""
     return len(begun) < _AHEAD * most and sum(not it.is_over for it in begun) < most
 
 
-def _wait(each: Iterable[_Settling]) -> None:
+def _wait(each: Iterable[_RunningBatch]) -> None:
     """Waits until some can go on, and lets these."""
     poll = select.poll()
     waiting = {it.program.fileno(): it for it in each if it.program is not None}

@@ -5,30 +5,30 @@ from dataclasses import dataclass
 from enum import StrEnum
 from typing import TYPE_CHECKING
 
-from pdsuite.programs.rows import Row, Verdict
-from pdsuite.programs.told import safe
+from pdsuite.programs.cause_text import safe
+from pdsuite.programs.verdict import Row, Verdict
 from pdsuite.scripts.expectation import Expectation
 from pdsuite.scripts.settings import Settings
 
 if TYPE_CHECKING:
-    from pdsuite.run.met_lines import Differences
+    from pdsuite.run.line_diff import LineDiff
 
 # Stands in each report of a sender that isn't proved.
 UNPROVED = "UNPROVED"
-# The line that the program marks, in what it tells by keys.
+# The line that the program marks, in what it explains by keys.
 _TEXT_LINE = "text_line"
 # What the words on the end of a script that passes may begin with.
 _IT = "it "
 
 
-class Tally(StrEnum):
+class CountedAs(StrEnum):
     """How a script is counted of which a row is expected: by whether it has it."""
 
     KNOWN = "known"
     UNEXPECTED = "unexpected"
 
 
-class Warned(StrEnum):
+class PassWarning(StrEnum):
     """Why a script that passes shows nothing, in the words that follow `passes, but`; the program has more."""
 
     NO_EVENT = "has no event"
@@ -38,9 +38,9 @@ class Warned(StrEnum):
 class Outcome:
     """A script's path and settings, its row, the line of its text that the row names, and why it is so.
 
-    That is what the row means and the lines below it, as they are said by the program that explains, and the same as an
-    object where that is asked for. Of a script that passes, the program says what is to be warned of at its end, and of
-    one that fails what each line was met by, where that is asked for. Whoever runs it says whether a warning makes the
+    That is what the row means and the lines below it, as the program prints them that explains, and the same as an
+    object where that is requested. Of a script that passes, the program says what is to be warned of at its end, and of
+    one that fails what each line was met by, where that is requested. Whoever runs it says whether a warning makes the
     script fail, and which row is expected of it.
     """
 
@@ -49,12 +49,12 @@ class Outcome:
     row: Row
     text: bytes | None = None
     why: str = ""
-    told: tuple[str, ...] = ()
+    block_lines: tuple[str, ...] = ()
     is_strict: bool = False
     expected: Expectation | None = None
     explanation: Mapping[str, object] | None = None
     at_end: str = ""
-    differences: "Differences | None" = None
+    line_diff: "LineDiff | None" = None
 
     @property
     def line(self) -> int | None:
@@ -73,20 +73,20 @@ class Outcome:
         return self.expected is not None and self.row.verdict is not Verdict.NOT_RUN and not self.is_known
 
     @property
-    def tally(self) -> Verdict | Tally:
+    def counted_as(self) -> Verdict | CountedAs:
         """How the script is counted. One that couldn't be run is an error, whatever else is expected of it."""
         if self.expected is None or self.row.verdict is Verdict.NOT_RUN:
             return self.row.verdict
         if self.is_known:
-            return Tally.KNOWN
-        return self.row.verdict if self.row.verdict is Verdict.ERROR else Tally.UNEXPECTED
+            return CountedAs.KNOWN
+        return self.row.verdict if self.row.verdict is Verdict.ERROR else CountedAs.UNEXPECTED
 
     @property
     def warnings(self) -> tuple[str, ...]:
         """What is to be warned of, in the words that follow `passes, but`."""
         if self.row.verdict is not Verdict.PASS:
             return ()
-        words = self.at_end if self.row.number else Warned.NO_EVENT
+        words = self.at_end if self.row.number else PassWarning.NO_EVENT
         return (words,) if words else ()
 
     @property
@@ -111,7 +111,7 @@ class Totals:
     And whether the sender isn't proved, which the last line of a report says.
     """
 
-    counts: dict[Verdict | Tally, int]
+    counts: dict[Verdict | CountedAs, int]
     warnings: int = 0
     failing: int = 0
     is_unproved: bool = False
@@ -119,10 +119,10 @@ class Totals:
     @classmethod
     def of(cls, outcomes: Iterable[Outcome]) -> "Totals":
         """The totals of outcomes."""
-        counts: dict[Verdict | Tally, int] = dict.fromkeys((*Verdict, *Tally), 0)
+        counts: dict[Verdict | CountedAs, int] = dict.fromkeys((*Verdict, *CountedAs), 0)
         warned: list[Outcome] = []
         for outcome in outcomes:
-            tally = outcome.row.verdict if outcome.expected is None else outcome.tally
+            tally = outcome.row.verdict if outcome.expected is None else outcome.counted_as
             counts[tally] += 1
             if outcome.warnings:
                 warned.append(outcome)
@@ -158,4 +158,4 @@ class Totals:
         """The exit status: 0 where each script passes or is known not to, 2 where one couldn't be run, else 1."""
         if self.counts[Verdict.ERROR]:
             return 2
-        return 0 if self.passing + self.counts[Tally.KNOWN] == self.scripts else 1
+        return 0 if self.passing + self.counts[CountedAs.KNOWN] == self.scripts else 1

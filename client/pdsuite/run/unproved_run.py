@@ -1,35 +1,34 @@
-"""Runs a suite on a sender as it stands, without proofs: one build runs scripts, tells of them and records them."""
+"""Runs a suite on a sender as it stands, without proofs: one build runs scripts, explains them and records them."""
 
 from collections.abc import Callable, Generator, Iterable, Mapping, Sequence
 from dataclasses import dataclass, field, replace
 from pathlib import Path
 
 from pdsuite.faults import Fault
-from pdsuite.programs.places import RECORD, REGRESS
-from pdsuite.programs.program import Ended
-from pdsuite.programs.protocol import Cause, Unexpected
-from pdsuite.programs.protocol import add, name_of, set_and_show, set_key
-from pdsuite.programs.recorder import Recording, recording, recording_of
-from pdsuite.programs.refusals import Refusal, questions, refused_at_once
-from pdsuite.programs.rows import Row, Verdict
-from pdsuite.programs.starts import ROOM, Answer, Case
-from pdsuite.programs.tree import Build, try_all
-from pdsuite.run.runs import Run, Script
-from pdsuite.run.settling import SettledPiece, Step, load, read_told, settled_piece
+from pdsuite.programs.batch_protocol import ROOM, Answer, Case
+from pdsuite.programs.locate import RECORD, REGRESS
+from pdsuite.programs.program import ProgramEndedError
+from pdsuite.programs.protocol import Cause, UnexpectedAnswerError, add, name_of, set_and_show, set_key
+from pdsuite.programs.recorder import Recording, recording_cases, recording_of
+from pdsuite.programs.refusals import Refusal, distinct_pairs, refused_at_once
+from pdsuite.programs.unproved_batch import ProgramCases, run_cases
+from pdsuite.programs.verdict import Row, Verdict
+from pdsuite.run.batches import Batch, Script
+from pdsuite.run.run_batches import SettledPiece, Step, load, read_rows_and_causes, settled_piece
+from pdsuite.scripts.config import Claim
 from pdsuite.scripts.settings import Settings, set_words
-from pdsuite.scripts.suite import Claim
 from pdsuite.scripts.text import Text
 from pdsuite.signals import Stop
 
-# Of a script the program is expected to say so much at most, beside as many octets as its text has.
-_TOLD = 4_096
+# Of a script the program is expected to print so much at most, beside as many octets as its text has.
+_LONGEST_EXPLANATION = 4_096
 
-# The rows of scripts with what is told of them by keys, by their places.
-Told = dict[int, tuple[Row, Cause | None]]
+# The rows of scripts with explanations by keys, by their places.
+ExplainedRows = dict[int, tuple[Row, Cause | None]]
 
 
 @dataclass(frozen=True)
-class Batch:
+class StartBatch:
     """Scripts with equal settings for one start of the program."""
 
     settings: Settings
@@ -37,8 +36,8 @@ class Batch:
 
     @property
     def room(self) -> int:
-        """How many octets are expected to be said at most."""
-        return sum(_told(text) for _, text in self.scripts)
+        """How many octets are expected to be printed at most."""
+        return sum(_room_for(text) for _, text in self.scripts)
 
     def names(self) -> list[bytes]:
         """The names of the scripts in its commands."""
@@ -58,98 +57,100 @@ class UnprovedResults:
     settled: list[SettledPiece] = field(default_factory=list)
     recordings: Mapping[int, Recording] = field(default_factory=dict)
 
-    def steps(self, runs: Iterable[Run]) -> Generator[Step, None, None]:
-        """The pieces of the runs, in their order."""
+    def steps(self, batches: Iterable[Batch]) -> Generator[Step, None, None]:
+        """The pieces of the batches, in their order."""
         yield from self.settled
 
 
 @dataclass(frozen=True)
-class Plan:
-    """What programs are started on: claims to be asked about, and all pieces, which are recorded if need be.
+class UnprovedPlan:
+    """What programs are started on: claims to be queried, and all pieces, which are recorded if need be.
 
-    The words say what the program tells of scripts.
+    The options say what the program explains of scripts.
     """
 
     claims: Sequence[Claim]
     pieces: Sequence[Sequence[tuple[Script, Text | str]]]
-    tells: tuple[str, ...]
+    explain_options: tuple[str, ...]
     records: bool = False
 
     @property
-    def batches(self) -> list[Batch]:
-        return [it for piece in self.pieces for it in batches_of(piece)]
+    def batches(self) -> list[StartBatch]:
+        return [it for piece in self.pieces for it in start_batches(piece)]
 
     @property
     def recorded(self) -> list[tuple[Script, Text]]:
         """The scripts that are recorded."""
         return [one for it in self.batches for one in it.scripts] if self.records else []
 
-    def builds(self, tree: Path) -> list[Build]:
-        """The starts of a tree's programs: one asks about the claims, the others run the batches and record."""
-        asking = Case((), b"".join(set_and_show(*it) for it in questions(self.claims)), is_alone=True)
-        runs = cases_of(self.batches)
-        return [self.explaining(tree, [asking, *runs]), recording(tree, map(_recorded, self.recorded))]
+    def program_cases(self, tree: Path) -> list[ProgramCases]:
+        """The starts of a tree's programs: one queries the claims, the others run the batches and record."""
+        settings_case = Case((), b"".join(set_and_show(*it) for it in distinct_pairs(self.claims)), is_alone=True)
+        cases = cases_of(self.batches)
+        return [self.explain_cases(tree, [settings_case, *cases]), recording_cases(tree, map(_recorded, self.recorded))]
 
-    def explaining(self, tree: Path, cases: Sequence[Case]) -> Build:
+    def explain_cases(self, tree: Path, cases: Sequence[Case]) -> ProgramCases:
         """The starts of a tree's program, which explains."""
-        return Build(tree, REGRESS, self.tells, tuple(cases))
+        return ProgramCases(tree, REGRESS, self.explain_options, tuple(cases))
 
 
-def plan_of(runs: Iterable[Run], claims: Iterable[Claim], tells: tuple[str, ...], records: bool = False) -> Plan:
-    """What is to be run of these runs, whose scripts are read."""
-    pieces = [[(script, load(script)) for script in piece] for run in runs for piece in run.pieces]
-    return Plan(list(claims), pieces, tells, records)
+def plan_of(
+    batches: Iterable[Batch], claims: Iterable[Claim], explain_options: tuple[str, ...], records: bool = False
+) -> UnprovedPlan:
+    """What is to be run of these batches, whose scripts are read."""
+    pieces = [[(script, load(script)) for script in piece] for batch in batches for piece in batch.pieces]
+    return UnprovedPlan(list(claims), pieces, explain_options, records)
 
 
-def run_unproved(plan: Plan, tree: Path, stop: Stop, note: Callable[[str], None]) -> UnprovedResults:
+def run_unproved(plan: UnprovedPlan, tree: Path, stop: Stop, note: Callable[[str], None]) -> UnprovedResults:
     """What comes of a plan, after one build or two."""
-    return results_of(plan, try_all(plan.builds(tree), stop), tree, stop, note)
+    return results_of(plan, run_cases(plan.program_cases(tree), stop), tree, stop, note)
 
 
 def results_of(
-    plan: Plan, answers: Sequence[Sequence[Answer]], tree: Path, stop: Stop, note: Callable[[str], None]
+    plan: UnprovedPlan, answers: Sequence[Sequence[Answer]], tree: Path, stop: Stop, note: Callable[[str], None]
 ) -> UnprovedResults:
     """What the answers say. Where a start ends early, a second build starts its scripts one by one."""
-    (asked, *told), recorded = answers
-    if refused := _refused(plan.claims, asked):
+    (settings_answers, *explained), recorded = answers
+    if refused := _refused(plan.claims, settings_answers):
         return UnprovedResults(refused)
-    heard = _Heard(plan, told, recorded)
-    heard.hear_again(tree, stop, note)
-    return UnprovedResults([], [heard.settled(piece) for piece in plan.pieces], heard.recordings)
+    results = _BatchResults(plan, explained, recorded)
+    results.rerun_alone(tree, stop, note)
+    return UnprovedResults([], [results.settled(piece) for piece in plan.pieces], results.recordings)
 
 
-class _Heard:
-    """What is heard of a plan's scripts, by their places."""
+class _BatchResults:
+    """The answers about a plan's scripts, by their places."""
 
-    def __init__(self, plan: Plan, told: Sequence[Answer], recorded: Sequence[Answer]) -> None:
+    def __init__(self, plan: UnprovedPlan, explained: Sequence[Answer], recorded: Sequence[Answer]) -> None:
         self._plan = plan
-        self._told, self._unheard = read_answers(plan.batches, told)
+        self._rows, self._unanswered = read_answers(plan.batches, explained)
         self.recordings = {script.index: recording_of(answer) for (script, _), answer in zip(plan.recorded, recorded)}
         self._unrecorded = [(one, it.fault) for one, it in zip(plan.recorded, recorded) if it.is_shared]
 
-    def hear_again(self, tree: Path, stop: Stop, note: Callable[[str], None]) -> None:
+    def rerun_alone(self, tree: Path, stop: Stop, note: Callable[[str], None]) -> None:
         """Has each script that another one may have ended started by itself, if there is one."""
-        singles = [Batch(it.settings, (one,)) for it, _ in self._unheard for one in it.scripts]
+        singles = [StartBatch(it.settings, (one,)) for it, _ in self._unanswered for one in it.scripts]
         scripts = [one for one, _ in self._unrecorded]
         if singles:
-            note(f"pdsuite: {self._unheard[0][1]}; {len(singles):,} scripts are run again, each by itself")
+            note(f"pdsuite: {self._unanswered[0][1]}; {len(singles):,} scripts are run again, each by itself")
         if scripts:
             why = self._unrecorded[0][1]
             note(f"pdsuite: {RECORD}: {why}; {len(scripts):,} scripts are recorded again, each by itself")
         if not (singles or scripts):
             return
         cases = [replace(it, is_alone=True) for it in cases_of(singles)]
-        builds = [self._plan.explaining(tree, cases), recording(tree, map(_recorded, scripts), is_alone=True)]
-        told, recorded = try_all(builds, stop)
-        again, lost = read_answers(singles, told)
-        self._told |= again | {it.scripts[0][0].index: (Row(Verdict.ERROR, word=why), None) for it, why in lost}
+        builds = [self._plan.explain_cases(tree, cases), recording_cases(tree, map(_recorded, scripts), is_alone=True)]
+        explained, recorded = run_cases(builds, stop)
+        again, lost = read_answers(singles, explained)
+        self._rows |= again | {it.scripts[0][0].index: (Row(Verdict.ERROR, word=why), None) for it, why in lost}
         self.recordings |= {script.index: recording_of(answer) for (script, _), answer in zip(scripts, recorded)}
 
     def settled(self, piece: Sequence[tuple[Script, Text | str]]) -> SettledPiece:
         """What came of a piece."""
-        told = {script.index: self._told[script.index] for script, text in piece if isinstance(text, Text)}
-        causes = {index: cause for index, (_, cause) in told.items() if cause is not None}
-        return settled_piece(piece, [row for row, _ in told.values()], causes)
+        rows = {script.index: self._rows[script.index] for script, text in piece if isinstance(text, Text)}
+        causes = {index: cause for index, (_, cause) in rows.items() if cause is not None}
+        return settled_piece(piece, [row for row, _ in rows.values()], causes)
 
 
 def _recorded(each: tuple[Script, Text]) -> tuple[Settings, bytes]:
@@ -157,57 +158,59 @@ def _recorded(each: tuple[Script, Text]) -> tuple[Settings, bytes]:
     return script.settings, text.octets
 
 
-def batches_of(piece: Iterable[tuple[Script, Text | str]]) -> list[Batch]:
+def start_batches(piece: Iterable[tuple[Script, Text | str]]) -> list[StartBatch]:
     """The scripts of a piece that can be run, in batches of which no great output is expected."""
     batches: list[list[tuple[Script, Text]]] = []
     room = 0
     for script, text in piece:
         if isinstance(text, str):
             continue
-        if not batches or _told(text) > room:
+        if not batches or _room_for(text) > room:
             batches.append([])
             room = ROOM
-        room -= _told(text)
+        room -= _room_for(text)
         batches[-1].append((script, text))
-    return [Batch(it[0][0].settings, tuple(it)) for it in batches]
+    return [StartBatch(it[0][0].settings, tuple(it)) for it in batches]
 
 
-def _told(text: Text) -> int:
-    return _TOLD + len(text.octets)
+def _room_for(text: Text) -> int:
+    return _LONGEST_EXPLANATION + len(text.octets)
 
 
-def cases_of(batches: Iterable[Batch]) -> list[Case]:
+def cases_of(batches: Iterable[StartBatch]) -> list[Case]:
     """The starts of the program on batches."""
     return [Case((), it.given(), it.room) for it in batches]
 
 
-def read_answers(batches: Iterable[Batch], answers: Iterable[Answer]) -> tuple[Told, list[tuple[Batch, str]]]:
-    """What is told of scripts, by their places; and the batches without an answer, each with the reason."""
-    told: Told = {}
-    unheard = []
+def read_answers(
+    batches: Iterable[StartBatch], answers: Iterable[Answer]
+) -> tuple[ExplainedRows, list[tuple[StartBatch, str]]]:
+    """Rows and explanations of scripts, by their places; and the batches without an answer, each with the reason."""
+    explained: ExplainedRows = {}
+    unanswered = []
     for batch, answer in zip(batches, answers):
         try:
-            told |= told_of(batch, answer)
-        except Unexpected as unexpected:
-            unheard.append((batch, f"{REGRESS}: {unexpected}"))
-    return told, unheard
+            explained |= explained_rows(batch, answer)
+        except UnexpectedAnswerError as unexpected:
+            unanswered.append((batch, f"{REGRESS}: {unexpected}"))
+    return explained, unanswered
 
 
-def told_of(batch: Batch, answer: Answer) -> Told:
-    """The rows of the scripts of a batch, by their places, each with what is told of it by keys."""
+def explained_rows(batch: StartBatch, answer: Answer) -> ExplainedRows:
+    """The rows of the scripts of a batch, by their places, each with its explanation by keys."""
     places = {name: script.index for name, (script, _) in zip(batch.names(), batch.scripts)}
-    rows, causes = read_told(_heard(answer).output, answer.errors, b"", places, len(places))
+    rows, causes = read_rows_and_causes(_answered(answer).output, answer.errors, b"", places, len(places))
     return {index: (row, causes.get(index)) for index, row in zip(places.values(), rows)}
 
 
-def _heard(answer: Answer) -> Answer:
+def _answered(answer: Answer) -> Answer:
     if answer.fault:
-        raise Unexpected(answer.fault)
+        raise UnexpectedAnswerError(answer.fault)
     return answer
 
 
 def _refused(claims: Iterable[Claim], answer: Answer) -> list[Refusal]:
     try:
-        return refused_at_once(claims, _heard(answer).output)
-    except (Ended, Unexpected) as end:
+        return refused_at_once(claims, _answered(answer).output)
+    except (ProgramEndedError, UnexpectedAnswerError) as end:
         raise Fault(str(end)) from end

@@ -1,12 +1,12 @@
-"""The settings that there are: what each takes, and what holds where none is said."""
+"""The settings that there are: what each takes, and what holds where none is given."""
 
 from collections.abc import Iterable, Iterator, Mapping
 from dataclasses import dataclass
 
+from pdsuite.output.octets import shown_text
+from pdsuite.scripts.discover import SUFFIX
 from pdsuite.scripts.renamed import BAD_VALUE, UNKNOWN_KEY, new_name
-from pdsuite.scripts.search import SUFFIX
 from pdsuite.scripts.settings import Settings, Value, shown_value
-from pdsuite.show.octets import shown_text
 
 
 @dataclass(frozen=True, slots=True)

@@ -31,8 +31,8 @@ def reason_of(key: str, value: Value) -> str | None:
 def new_name(key: str, value: Value) -> str | None:
     """What to write in place of a key, of its value or of both, in words; None where neither has another name."""
     name, word = KEYS.get(key), _word(KEYS.get(key, key), value)
-    says = [f"its name is {name}"] if name else []
-    return " and ".join([*says, *([f'the word for "{value}" is "{word}"'] if word else [])]) or None
+    parts = [f"its name is {name}"] if name else []
+    return " and ".join([*parts, *([f'the word for "{value}" is "{word}"'] if word else [])]) or None
 
 
 def _word(key: str, value: Value) -> str | None:

@@ -6,7 +6,7 @@ from collections.abc import Mapping, Sequence
 from dataclasses import dataclass
 from heapq import heapify, heappop, heappush
 
-from pdsuite.scripts.search import ScriptFile
+from pdsuite.scripts.discover import ScriptFile
 
 _WORDS = re.compile(r"([0-9]{1,9})/([0-9]{1,9})", re.ASCII)
 

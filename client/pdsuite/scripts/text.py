@@ -14,7 +14,7 @@ LONGEST_FILE = OCTETS + LINES
 _FLAGS = os.O_RDONLY | os.O_NONBLOCK | os.O_CLOEXEC
 
 
-class Unfit(Exception):
+class UnfitTextError(Exception):
     """Why a file can't be a script."""
 
 
@@ -38,9 +38,9 @@ def text_of(octets: bytes) -> Text:
         octets += b"\n"
     lines = octets.count(b"\n")
     if lines > LINES:
-        raise Unfit(f"more than {LINES:,} lines")
+        raise UnfitTextError(f"more than {LINES:,} lines")
     if len(octets) > OCTETS and len(octets) - octets.count(b"\r\n") > OCTETS:
-        raise Unfit(f"more than {OCTETS:,} octets")
+        raise UnfitTextError(f"more than {OCTETS:,} octets")
     return Text(octets, lines)
 
 
@@ -54,17 +54,17 @@ def read_file(path: str | Path, most: int) -> bytes:
     try:
         descriptor = os.open(path, _FLAGS)
     except (OSError, ValueError) as error:
-        raise Unfit(why(error)) from error
+        raise UnfitTextError(why(error)) from error
     try:
         found = os.fstat(descriptor)
         if not stat.S_ISREG(found.st_mode):
-            raise Unfit("isn't a regular file")
+            raise UnfitTextError("isn't a regular file")
         octets = os.read(descriptor, most)
         if len(octets) == found.st_size:
             return octets
         return octets + _read_up_to(descriptor, most - len(octets))
     except OSError as error:
-        raise Unfit(why(error)) from error
+        raise UnfitTextError(why(error)) from error
     finally:
         os.close(descriptor)
 

@@ -8,24 +8,24 @@ import tomlkit
 from tomlkit.items import Comment, InlineTable, Item, Key, Table
 
 from pdsuite.faults import Fault
+from pdsuite.output.octets import shown_text
+from pdsuite.scripts.config import EXPECT, REASON
 from pdsuite.scripts.expectation import Expectation
-from pdsuite.scripts.suite import EXPECT, REASON
-from pdsuite.show.octets import shown_text
 
 
-class Taken(Enum):
+class TableRemoval(Enum):
     """That the whole table of a script goes."""
 
     TAKEN = "taken"
 
 
 # Rows that are expected of scripts from now on, or none any more, or which tables go; by the scripts' names.
-Edit = Expectation | Taken | None
-Edits = Mapping[str, Edit]
+TableEdit = Expectation | TableRemoval | None
+TableEdits = Mapping[str, TableEdit]
 _Body = Sequence[tuple[Key | None, Item]]
 
 
-def edited(place: str, text: str, edits: Edits) -> str:
+def edited(place: str, text: str, edits: TableEdits) -> str:
     """The text of a file with other rows expected of some scripts. Their tables are edited, and new ones come last."""
     tables = tomllib.loads(text)
     end = "\r\n" if "\r\n" in text else "\n"
@@ -50,7 +50,7 @@ def _table(name: str, expected: Expectation, end: str, is_first: bool) -> str:
     return ("" if is_first else end) + text.replace("\n", end)
 
 
-def _with_tables(text: str, edits: Edits, end: str) -> str:
+def _with_tables(text: str, edits: TableEdits, end: str) -> str:
     """The text with its tables edited."""
     document = tomlkit.parse(text)
     body: list[tuple[Key | None, Item]] = []
@@ -66,9 +66,9 @@ def _with_tables(text: str, edits: Edits, end: str) -> str:
     return "" if new == end else new
 
 
-def _edited(key: Key, item: Item, expected: Edit, end: str) -> _Body:
+def _edited(key: Key, item: Item, expected: TableEdit, end: str) -> _Body:
     """What stands in the place of a table: the table, or the comments of one that has nothing to say any more."""
-    if expected is Taken.TAKEN:
+    if expected is TableRemoval.TAKEN:
         return _comments([it for it in item.value.body if it[0] is None]) if isinstance(item, Table) else []
     if isinstance(item, InlineTable):
         _edit_inline(item, expected)
@@ -113,7 +113,7 @@ def _comments(body: _Body) -> _Body:
     return body[first:]
 
 
-def _check(place: str, text: str, before: Mapping[str, object], edits: Edits) -> None:
+def _check(place: str, text: str, before: Mapping[str, object], edits: TableEdits) -> None:
     """Raises a fault where the text doesn't say just what is meant, as where a table's keys stand apart."""
     meant = dict(before)
     for name, expected in edits.items():
@@ -123,14 +123,14 @@ def _check(place: str, text: str, before: Mapping[str, object], edits: Edits) ->
         )
         if isinstance(expected, Expectation):
             others |= {EXPECT: expected.row, REASON: expected.reason}
-        meant[name] = {} if expected is Taken.TAKEN else others
-    said: dict[str, object] = {}
+        meant[name] = {} if expected is TableRemoval.TAKEN else others
+    stated: dict[str, object] = {}
     try:
-        said = {**dict.fromkeys(edits, {}), **tomllib.loads(text)}
+        stated = {**dict.fromkeys(edits, {}), **tomllib.loads(text)}
     except ValueError:
         pass
-    wrong = next((name for name in edits if said.get(name) != meant[name]), None)
+    wrong = next((name for name in edits if stated.get(name) != meant[name]), None)
     if wrong is not None:
         raise Fault(f'{place}: what it says of ["{shown_text(wrong)}"] can\'t be edited: do it by hand')
-    if said != meant:
+    if stated != meant:
         raise Fault(f"{place}: it can't be edited: do it by hand")

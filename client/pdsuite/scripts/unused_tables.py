@@ -1,4 +1,4 @@
-"""Tables of pdsuite.toml that no script has: each is told, with the name that may have been meant."""
+"""Tables of pdsuite.toml that no script has: each is reported, with the name that may have been meant."""
 
 import os
 import stat
@@ -6,12 +6,12 @@ from bisect import bisect
 from collections.abc import Iterable, Iterator, Set
 from pathlib import Path
 
+from pdsuite.output.octets import shown_path, shown_text
+from pdsuite.scripts.config import Layer, SuiteConfig
 from pdsuite.scripts.defaults import nearest
-from pdsuite.scripts.search import SUFFIX
-from pdsuite.scripts.suite import Layer, Suite
-from pdsuite.show.octets import shown_path, shown_text
+from pdsuite.scripts.discover import SUFFIX
 
-# So many tables of a file are told, and so many names are looked through for the nearest one.
+# So many tables of a file are reported, and so many names are looked through for the nearest one.
 _MOST = 10
 _NAMES = 1_000
 
@@ -30,12 +30,12 @@ def lost_in(layer: Layer, folder: str) -> list[str]:
     return [name for name in layer.tables if not _is_beside(name, folder)]
 
 
-def unused_in(suite: Suite, paths: Iterable[Path]) -> list[str]:
+def unused_in(suite: SuiteConfig, paths: Iterable[Path]) -> list[str]:
     """The lines of the files that lie in folders which paths name."""
     return [line for folder, layer in files_in(suite, paths) for line in unused_tables(layer, folder)]
 
 
-def files_in(suite: Suite, paths: Iterable[Path]) -> Iterator[tuple[str, Layer]]:
+def files_in(suite: SuiteConfig, paths: Iterable[Path]) -> Iterator[tuple[str, Layer]]:
     """The files that were read and lie in folders which paths name, by their folders.
 
     What stands above these is about scripts that aren't meant.

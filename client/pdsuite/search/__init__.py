@@ -1,1 +1,24 @@
-"""Searching: a model of a peer and a network makes inputs under which two senders differ, or a state is reached."""
+"""Searching: a model of a peer and a network makes inputs under which two senders differ, or a state is reached.
+
+A `Scenario` says what a connection meets; a simulation (`simulate`) plays it against recordings of the sender, and
+gives `Inputs`: calls and packets, each at its moment. `Candidates` makes the lists that are tried, from new scenarios
+(`generate`) and variations of inputs that reached something new (`mutate`). A `FindTest` decides what is a `Find`;
+`shrink` makes it small, and `finished_script` a script that ends with the line that fails.
+
+    Candidates --lists--> play_side_by_side --> PlayedInputs --FindTest--> Find --shrink--> finished_script
+        ^                       ^                    |
+        +---- learn: what reached a new step --------+
+                                |
+                      SenderOracle: recordings, rows, explanations of one sender
+
+- All is drawn from the seed: the same seed and the same recordings give the same lists, on any machine.
+- Senders are queried by an oracle alone, either programs (`ProgramOracle`) or a tree's sources (`UnprovedOracle`), so
+  nothing here knows how a sender is run.
+- A find is what a program says it is: a script that passes before and fails after, or a recording that reaches the
+  state.
+- What is reached is counted by kinds of states (`states`), in which numbers count by order and rough size; otherwise
+  each input would be new.
+
+Inputs are played and not just drawn: a peer that acknowledges what really was sent gets deep into a connection, where
+random packets would be dropped.
+"""

@@ -4,31 +4,31 @@ from collections.abc import Iterator
 
 from pdsuite.packetdrill.items import Packet, TcpOption
 from pdsuite.search.inputs import packet
-from pdsuite.search.plans import Odd, Oddity, Plan
+from pdsuite.search.scenario import IrregularPacket, Irregularity, Scenario
 
 _MOST_BLOCKS = 3
 _MOST_NUMBER = 2_147_483_647
 _MOST_SHIFT = 14
 _MOST_WINDOW = 65_535
 
-Span = tuple[int, int]
+OctetRange = tuple[int, int]
 
 
 class Peer:
     """The peer of one connection: what it has taken, and what it has sent. Numbers are those of the sender's octets."""
 
-    def __init__(self, plan: Plan) -> None:
-        self._receiver = plan.receiver
-        self._edge = int(str(dict(plan.settings).get("rcv_wnd", 65_535)))
-        self._shift = min([it.numbers[0] for it in plan.handshake.options if it.name == "wscale"][:1] or [0])
+    def __init__(self, scenario: Scenario) -> None:
+        self._receiver = scenario.receiver
+        self._edge = int(str(dict(scenario.settings).get("rcv_wnd", 65_535)))
+        self._shift = min([it.numbers[0] for it in scenario.handshake.options if it.name == "wscale"][:1] or [0])
         self.next = 1
         self.top = 1
         self.waiting = 0
         self._number = 1
         self._acked = 1
         self._acks = 0
-        self._spans: list[Span] = []
-        self._newest: Span | None = None
+        self._spans: list[OctetRange] = []
+        self._newest: OctetRange | None = None
 
     def resume(self, una: int, top: int, number: int) -> None:
         """Goes on where octets up to a number are acknowledged, others were sent, and its own number is this."""
@@ -36,7 +36,7 @@ class Peer:
         self.top = top
         self._number = number
 
-    def take(self, span: Span) -> bool:
+    def take(self, span: OctetRange) -> bool:
         """Takes a segment from the network; whether it is acknowledged at once."""
         start, end = span
         self.top = max(self.top, end)
@@ -66,53 +66,53 @@ class Peer:
         octets = next(octets for first, octets in reversed(self._receiver.windows) if first <= self._acks)
         return min(-(-octets >> min(self._shift, _MOST_SHIFT)), _MOST_WINDOW)
 
-    def odd(self, it: Odd) -> Packet:
-        """An odd packet."""
-        made = self._odd(it)
-        if it.kind in (Oddity.FIN, Oddity.OLD_FIN):
+    def irregular(self, it: IrregularPacket) -> Packet:
+        """An irregular packet."""
+        made = self._irregular(it)
+        if it.kind in (Irregularity.FIN, Irregularity.OLD_FIN):
             self._number = 2
         return made
 
-    def _odd(self, it: Odd) -> Packet:
+    def _irregular(self, it: IrregularPacket) -> Packet:
         number, ack, own = it.number, self._acked, self._number
         match it.kind:
-            case Oddity.OLD_ACK:
+            case Irregularity.OLD_ACK:
                 return packet(".", own, max(ack - 1 - number, 0), self.window)
-            case Oddity.EARLY_ACK:
+            case Irregularity.EARLY_ACK:
                 return packet(".", own, min(self.top + 1 + number, _MOST_NUMBER), self.window)
-            case Oddity.SAME_ACK:
+            case Irregularity.SAME_ACK:
                 return packet(".", own, ack, self.window, self._blocks())
-            case Oddity.UPDATE:
+            case Irregularity.UPDATE:
                 return packet(".", own, ack, number % 65_536, self._blocks())
-            case Oddity.NEWER:
+            case Irregularity.NEWER:
                 return packet(".", own + 1 + number % 1_000, ack, self.window)
-            case Oddity.BARE:
+            case Irregularity.BARE:
                 return packet("-", own, None, self.window)
-            case Oddity.OUTSIDE | Oddity.RESET_FAR:
-                flags = "." if it.kind is Oddity.OUTSIDE else "R"
+            case Irregularity.OUTSIDE | Irregularity.RESET_FAR:
+                flags = "." if it.kind is Irregularity.OUTSIDE else "R"
                 return packet(flags, own + self._edge + number % 3 - 1, ack if flags == "." else None, self.window)
-            case Oddity.BELOW:
+            case Irregularity.BELOW:
                 return packet(".", own - 1, ack, self.window)
-            case Oddity.RESET:
+            case Irregularity.RESET:
                 return packet("R" if number % 2 else "R.", own, None if number % 2 else ack, self.window)
-            case Oddity.RESET_NEAR:
+            case Irregularity.RESET_NEAR:
                 return packet("R", own + 1 + number % max(self._edge, 2), None, self.window)
-            case Oddity.FIN:
+            case Irregularity.FIN:
                 return packet("F.", own, self.next, self.window)
-            case Oddity.OLD_FIN:
+            case Irregularity.OLD_FIN:
                 return packet("F.", own, max(ack - 1 - number, 0), self.window)
-        return packet(".", own, ack, self.window, tuple(self._odd_options(it)))
+        return packet(".", own, ack, self.window, tuple(self._irregular_options(it)))
 
-    def _odd_options(self, it: Odd) -> Iterator[TcpOption]:
-        """Blocks that tell of other octets than those that were taken."""
+    def _irregular_options(self, it: IrregularPacket) -> Iterator[TcpOption]:
+        """Blocks that have other octets than those that were taken."""
         number, ack = it.number, self._acked
-        if it.kind is Oddity.BLOCK_AFTER_END:
+        if it.kind is Irregularity.BLOCK_AFTER_END:
             yield TcpOption("eol")
-        if it.kind is Oddity.BLOCK_BELOW:
+        if it.kind is Irregularity.BLOCK_BELOW:
             yield TcpOption("sack", (max(ack - 1 - number, 0), ack))
-        elif it.kind is Oddity.BLOCK_ABOVE:
+        elif it.kind is Irregularity.BLOCK_ABOVE:
             yield TcpOption("sack", (max(self.top - number, ack), self.top + 1 + number))
-        elif it.kind is Oddity.SMALL_BLOCKS:
+        elif it.kind is Irregularity.SMALL_BLOCKS:
             step = max((self.top - ack) // (_MOST_BLOCKS + 1), 2)
             lefts = [ack + place * step for place in range(_MOST_BLOCKS, 0, -1)]
             yield TcpOption("sack", tuple(at for left in lefts for at in (left, left + min(1 + number, step - 1))))
@@ -133,7 +133,7 @@ class Peer:
         numbers = tuple(number for span in spans[:_MOST_BLOCKS] for number in span)
         return (TcpOption("sack", numbers),)
 
-    def _add(self, span: Span) -> None:
+    def _add(self, span: OctetRange) -> None:
         """Notes octets as taken, and moves on over those without a gap."""
         start, end = max(span[0], self.next), span[1]
         if start >= end:

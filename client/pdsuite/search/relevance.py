@@ -5,7 +5,7 @@ from collections.abc import Iterable, Mapping, Sequence
 from typing import Any
 
 from pdsuite.scripts.defaults import KEYS
-from pdsuite.search.plans import Emphasis, Theme
+from pdsuite.search.scenario import Emphasis, Theme
 
 
 # By a part of a name in the sources: the settings, and what a connection has to meet, so that it matters.
@@ -16,20 +16,20 @@ _PARTS: Mapping[str, tuple[Sequence[str], Sequence[Theme]]] = {
     "early|limited": (("limited_transmit",), (Theme.LOSS,)),
     "nagle|held_back": (("nagle",), (Theme.SMALL,)),
     "widest|half_window|sendable|usable": (("nagle",), (Theme.WINDOW, Theme.SMALL)),
-    "rwnd|window_edge|wl1|wl2": ((), (Theme.WINDOW, Theme.ODD)),
-    "sack|score|block|span|range|mark|lost|pipe|high_rxt|rescue|fresh|(^|_)hole": ((), (Theme.LOSS, Theme.ODD)),
+    "rwnd|window_edge|wl1|wl2": ((), (Theme.WINDOW, Theme.IRREGULAR)),
+    "sack|score|block|span|range|mark|lost|pipe|high_rxt|rescue|fresh|(^|_)hole": ((), (Theme.LOSS, Theme.IRREGULAR)),
     "dup|recover|half|note|step_c": ((), (Theme.LOSS,)),
     "plain|fast_retransmit|new_segment|take_number": (("sack",), (Theme.NO_SACK, Theme.LOSS)),
     "expir|timeout|rto|deadline|timed|sample|overlap": (("min_rto_us",), (Theme.EXPIRY, Theme.LOSS)),
     "srtt|rttvar|estimate|granularity": (("min_rto_us", "granularity_us"), (Theme.EXPIRY,)),
-    "(^|_)fin(_|$)|close": ((), (Theme.CLOSE, Theme.ODD)),
-    "(^|_)rst|reset|challenge|ruling|check_|refus": ((), (Theme.ODD, Theme.CLOSE)),
+    "(^|_)fin(_|$)|close": ((), (Theme.CLOSE, Theme.IRREGULAR)),
+    "(^|_)rst|reset|challenge|ruling|check_|refus": ((), (Theme.IRREGULAR, Theme.CLOSE)),
     "sndbuf|free": (("sndbuf",), (Theme.SMALL,)),
     "ssthresh|cwnd|widen": (("initial_ssthresh",), (Theme.LOSS,)),
     "first_window|window_by|initial_window|first_segments": (("initial_window", "mss"), ()),
     "smss_of|announced|DEFAULT_MSS": (("mss",), (Theme.SMALL,)),
     "scal|shift|peer_count": (("wscale",), (Theme.HANDSHAKE,)),
-    "rcv": (("rcv_wnd",), (Theme.ODD,)),
+    "rcv": (("rcv_wnd",), (Theme.IRREGULAR,)),
     "resent|handshake|establish|syn|reinitialize|offer": ((), (Theme.HANDSHAKE,)),
 }
 

@@ -3,17 +3,17 @@
 from collections.abc import Iterator, Mapping, Sequence
 from dataclasses import dataclass, field
 
-from pdsuite.compare.parting import PlayedEvent, played_events
+from pdsuite.compare.divergence import PlayedEvent, played_events
 from pdsuite.packetdrill.items import SECOND
 
 # How two states differ of which one follows the other: the kind before, what happened, and the kind after.
-Step = tuple[str, str, str]
+StateStep = tuple[str, str, str]
 _SEGMENT = 1_000
 _NONE = "none"
 
 
 @dataclass(frozen=True, slots=True)
-class State:
+class TracedState:
     """A state: its name, and its facts as the trace has them."""
 
     name: str
@@ -67,10 +67,10 @@ def moment_of(text: str) -> int | None:
     return int(whole) * SECOND + int(part.ljust(6, "0")) if whole.isdecimal() and part.isdecimal() else None
 
 
-def state_of(text: str) -> State:
+def state_of(text: str) -> TracedState:
     """The state that a trace says."""
     name, *facts = text.split(" ")
-    return State(name, dict(it.split(":", 1) for it in facts))
+    return TracedState(name, dict(it.split(":", 1) for it in facts))
 
 
 def is_input(it: PlayedEvent) -> bool:
@@ -78,9 +78,9 @@ def is_input(it: PlayedEvent) -> bool:
     return it.line.split(" ", 2)[1:2] != [">"]
 
 
-def states_before(played: Sequence[PlayedEvent]) -> list[State]:
+def states_before(played: Sequence[PlayedEvent]) -> list[TracedState]:
     """The sender's state before each input, and last the one at the end."""
-    states = [State("CLOSED")]
+    states = [TracedState("CLOSED")]
     last = states[0]
     for it in played:
         if is_input(it):
@@ -89,11 +89,11 @@ def states_before(played: Sequence[PlayedEvent]) -> list[State]:
     return [*states[1:], last]
 
 
-def steps_in(recording: str) -> Iterator[Step]:
+def steps_in(recording: str) -> Iterator[StateStep]:
     """The steps of a recording: each from one kind of state to another, or on which a packet leaves."""
     before = kind = last = ""
     for it in played_events(recording):
-        # Most events leave the state as it is, and to tell its kind costs most here.
+        # Most events leave the state as it is, and to find its kind costs most here.
         if it.state != last:
             kind, last = state_of(it.state).kind, it.state
         what = _what(it)

@@ -4,14 +4,14 @@ from collections.abc import Iterable, Iterator, Mapping, Sequence
 from dataclasses import replace
 
 from pdsuite.compare.comparison import ComparedScript
-from pdsuite.programs.rows import Verdict
+from pdsuite.output.octets import shown_path
+from pdsuite.output.styled_text import StyledText
+from pdsuite.programs.verdict import Verdict
 from pdsuite.reports.comparison import entry_of
-from pdsuite.reports.plain import Plain
-from pdsuite.run.outcomes import Outcome, Tally, Totals
-from pdsuite.show.octets import shown_path
-from pdsuite.show.styled_text import StyledText
+from pdsuite.reports.plain import PlainFormatter
+from pdsuite.run.outcomes import CountedAs, Outcome, Totals
 from pdsuite.watch.folder_moves import Move, Outcomes
-from pdsuite.watch.run_changes import WantedScript
+from pdsuite.watch.plan_changes import WantedScript
 
 
 _LEFT = "the sender has changed: all rows above are of the sender before"
@@ -21,7 +21,7 @@ BEFORE = " (by the sender before)"
 class ChangeReport:
     """All of what changed, as programs that read it need it."""
 
-    is_brief = False  # whether a script that another sender turned is told of once
+    is_brief = False  # whether a script that another sender turned is reported once
     is_unproved = False  # whether the sender isn't proved that runs scripts
 
     def first(self, outcomes: Outcomes, every: bool, seconds: float) -> StyledText:
@@ -31,7 +31,7 @@ class ChangeReport:
     def moves(
         self, before: Outcomes, after: Outcomes, had: Mapping[str, WantedScript], has: Mapping[str, WantedScript]
     ) -> Sequence[Move]:
-        """The folders that are told to have moved."""
+        """The folders that are reported to have moved."""
         return ()
 
     def head(self) -> StyledText:
@@ -39,8 +39,8 @@ class ChangeReport:
         return StyledText()
 
     def rows(self, before: Outcomes, after: Outcomes, moves: Sequence[Move]) -> StyledText:
-        """The rows that changed, without what is told of them: first of those that don't pass, last what went."""
-        form = Plain(True)
+        """The rows that changed, without their explanations: first of those that don't pass, last what went."""
+        form = PlainFormatter(True)
         text = StyledText()
         for outcome in changed(before, after):
             text.append_text(form.changed(outcome))
@@ -49,8 +49,8 @@ class ChangeReport:
         return text
 
     def blocks(self, before: Outcomes, after: Outcomes, moves: Sequence[Move]) -> StyledText:
-        """What is told of the rows that changed, and where something else is told of others."""
-        return entries(told_anew(before, after), False)
+        """The explanations of the rows that changed, and of others where they are others."""
+        return entries(newly_explained(before, after), False)
 
     def compared(self, scripts: Sequence[ComparedScript]) -> StyledText:
         """The scripts that another sender turned."""
@@ -61,18 +61,18 @@ class ChangeReport:
 
     def foot(self, outcomes: Outcomes, seconds: float) -> StyledText:
         """The totals."""
-        return Plain(True).foot(totals_of(outcomes, self.is_unproved), seconds)
+        return PlainFormatter(True).foot(totals_of(outcomes, self.is_unproved), seconds)
 
     def left(self, why: str) -> StyledText:
         """That the sender doesn't stand any more of which all rows are, and why."""
         return StyledText([(f"{_LEFT}\n  {why}\n", "dim")])
 
     def turned(self, words: str) -> StyledText:
-        """What is said of another sender."""
+        """What is shown of another sender."""
         return StyledText([(f"{words}\n", "bold")])
 
     def refused(self, lines: Sequence[str]) -> StyledText:
-        """Why no sender can be built, or be proved: below the first line stands what is said of it."""
+        """Why no sender can be built, or be proved: below the first line stand the lines that say why."""
         first, *below = lines
         return StyledText([(f"{first}\n", "bold red"), ("".join(f"  {line}\n" for line in below), "")])
 
@@ -92,7 +92,7 @@ def of_sender_before(text: StyledText) -> StyledText:
 def changed(before: Outcomes, after: Outcomes) -> list[Outcome]:
     """The outcomes whose rows changed, last those that pass or are known not to."""
     found = [it for path, it in after.items() if path not in before or _is_other(before[path], it)]
-    return sorted(found, key=lambda it: it.tally in (Verdict.PASS, Tally.KNOWN))
+    return sorted(found, key=lambda it: it.counted_as in (Verdict.PASS, CountedAs.KNOWN))
 
 
 def gone(before: Outcomes, after: Outcomes) -> Iterator[str]:
@@ -105,13 +105,13 @@ def gone_row(path: str) -> StyledText:
     return StyledText([(f"{shown_path(path)}: ", "")]).append("gone\n", "dim")
 
 
-def told_anew(before: Outcomes, after: Outcomes) -> list[Outcome]:
-    """The outcomes of which something is to be told: their rows changed, or what is told of them did."""
-    return [it for path, it in after.items() if _is_told_anew(before.get(path), it)]
+def newly_explained(before: Outcomes, after: Outcomes) -> list[Outcome]:
+    """The outcomes of which something is to be shown: their rows changed, or their explanations did."""
+    return [it for path, it in after.items() if _is_newly_explained(before.get(path), it)]
 
 
 def entries(outcomes: Iterable[Outcome], every: bool) -> StyledText:
-    form = Plain(every)
+    form = PlainFormatter(every)
     text = StyledText()
     for number, outcome in enumerate(outcomes, 1):
         if (entry := form.entry(number, outcome)) is not None:
@@ -128,9 +128,9 @@ def _is_other(old: Outcome, new: Outcome) -> bool:
     return old.row != new.row or old.text != new.text or old.passes != new.passes or old.expected != new.expected
 
 
-def _is_told_anew(old: Outcome | None, new: Outcome) -> bool:
+def _is_newly_explained(old: Outcome | None, new: Outcome) -> bool:
     if new.row.line is None:
         return False
     if old is None or _is_other(old, new):
         return True
-    return (new.why, new.told) not in ((old.why, old.told), ("", ()))
+    return (new.why, new.block_lines) not in ((old.why, old.block_lines), ("", ()))

@@ -1,4 +1,4 @@
-"""Folders that moved, as two reports tell it: their scripts went here and came there, with the texts that they had."""
+"""Folders that moved, as two reports have it: their scripts went here and came there, with the texts that they had."""
 
 import os
 from collections import defaultdict
@@ -6,7 +6,7 @@ from collections.abc import Callable, Iterable, Iterator, Mapping, Set
 from dataclasses import dataclass
 
 from pdsuite.run.outcomes import Outcome
-from pdsuite.watch.run_changes import WantedScript
+from pdsuite.watch.plan_changes import WantedScript
 
 # By their paths, in the order of these.
 Outcomes = Mapping[str, Outcome]
@@ -29,7 +29,7 @@ def moves_of(
     wanted_before: Mapping[str, WantedScript],
     wanted_after: Mapping[str, WantedScript],
 ) -> list[Move]:
-    """The folders that moved. One that can't be told from another that went, or came, isn't among them."""
+    """The folders that moved. One that can't be distinguished from another that went, or came, isn't among them."""
     gone, come = _folders_only_in(before, after), _folders_only_in(after, before)
     if not gone or not come:
         return []
@@ -69,9 +69,9 @@ def _alike(gone: _Folders, come: _Folders) -> Iterator[tuple[str, str]]:
     came = _by(come, lambda folder: (come[folder], ""))
     named = _by(come, lambda folder: (come[folder], os.path.basename(folder)))
     for (names, _), olds in _by(gone, lambda folder: (gone[folder], "")).items():
-        news = came.get((names, ""), [])
-        if len(olds) == len(news) == 1:
-            yield olds[0], news[0]
+        arrivals = came.get((names, ""), [])
+        if len(olds) == len(arrivals) == 1:
+            yield olds[0], arrivals[0]
             continue
         for key, again in _by(olds, lambda folder: (names, os.path.basename(folder))).items():
             if len(again) == len(named.get(key, [])) == 1:

@@ -6,15 +6,15 @@ from math import inf
 from pathlib import Path
 from time import process_time
 
+from pdsuite.scripts.config import CONFIG_FILE, SuiteConfig
+from pdsuite.scripts.discover import SUFFIX, ScriptFile, find_with_folders
 from pdsuite.scripts.expectation import Expectation
-from pdsuite.scripts.search import SUFFIX, ScriptFile, find_with_folders
-from pdsuite.scripts.suite import FILE, Suite
 from pdsuite.signals import Stop
-from pdsuite.watch.run_changes import WantedScript
+from pdsuite.watch.plan_changes import WantedScript
 from pdsuite.watch.settings_files import SettingsFiles
 from pdsuite.watch.watched_files import GRACE, WatchedFile, WatchedFiles, is_other, update_of, watched_file
 from pdsuite.watch.watched_files import watched_files
-from pdsuite.watch.watcher import Event, Kind, Watcher
+from pdsuite.watch.watcher import FileEvent, FileEventKind, Watcher
 
 # The folders are walked so often, and so soon after the last event, at the latest a period after the first one.
 _PERIOD = 2.0
@@ -26,7 +26,7 @@ _TRIES = 3
 
 
 @dataclass(frozen=True)
-class Choice:
+class WatchChoice:
     """Which scripts are meant."""
 
     paths: Sequence[Path]
@@ -38,7 +38,12 @@ class Folders:
     """What is seen in folders, and when they have to be looked at again. Moments are those of the monotonic clock."""
 
     def __init__(
-        self, choice: Choice, settings_files: SettingsFiles, watcher: Watcher, stop: Stop, note: Callable[[str], None]
+        self,
+        choice: WatchChoice,
+        settings_files: SettingsFiles,
+        watcher: Watcher,
+        stop: Stop,
+        note: Callable[[str], None],
     ) -> None:
         self.files: WatchedFiles = {}
         self._choice = choice
@@ -60,7 +65,7 @@ class Folders:
         self._is_first = True
 
     @property
-    def suite(self) -> Suite:
+    def suite(self) -> SuiteConfig:
         """What holds for scripts, by the settings files as they are known now."""
         return self._suite
 
@@ -85,7 +90,7 @@ class Folders:
         return self._choice.is_strict or self._suite.is_strict(self.files[path].found)
 
     def expected(self, path: str) -> Expectation | None:
-        """The row that a script is known to have, if one is said."""
+        """The row that a script is known to have, if one is given."""
         return self._suite.expected(self.files[path].found)
 
     def check_settings(self) -> None:
@@ -93,15 +98,15 @@ class Folders:
         self._settings_files.check_again()
         self._suite = self._settings_files.suite()
 
-    def look(self, events: Sequence[Event], now: float) -> bool:
+    def look(self, events: Sequence[FileEvent], now: float) -> bool:
         """Takes in what is reported and what is due; whether anything is other than it was."""
         paths = {path for path, moment in self._again.items() if moment <= now}
         for path in paths:
             del self._again[path]
-        closed = {(it.folder, it.name) for it in events if it.kind is Kind.CLOSED}
+        closed = {(it.folder, it.name) for it in events if it.kind is FileEventKind.CLOSED}
         is_walk = now >= min(self._walk_at, self._quiet_at)
         for event in events:
-            is_walk |= self._heed(event, paths, now)
+            is_walk |= self._note_event(event, paths, now)
         if events:
             self._busy_since = now if self._busy_since is None else self._busy_since
             self._quiet_at = min(self._busy_since + _PERIOD, now + _QUIET)
@@ -111,18 +116,18 @@ class Folders:
             return self._walk(closed, now)
         return bool(seen) and self._update({**self.files, **seen}, now)
 
-    def _heed(self, event: Event, paths: set[str], now: float) -> bool:
+    def _note_event(self, event: FileEvent, paths: set[str], now: float) -> bool:
         """Notes what an event is about; whether all has to be looked at for it."""
         path = self._places.get((event.folder, event.name))
-        if event.kind is Kind.FOLDER:
+        if event.kind is FileEventKind.FOLDER:
             return True
         if path is None:
-            return event.kind is Kind.CLOSED and (event.name.endswith(SUFFIX) or event.name == FILE)
-        if event.kind is Kind.CLOSED:
+            return event.kind is FileEventKind.CLOSED and (event.name.endswith(SUFFIX) or event.name == CONFIG_FILE)
+        if event.kind is FileEventKind.CLOSED:
             paths.add(path)
             return False
         self._again.setdefault(path, now + GRACE)
-        if event.kind is Kind.GONE:
+        if event.kind is FileEventKind.GONE:
             self._gone = {path: now, **self._gone}
         return False
 
@@ -155,7 +160,7 @@ class Folders:
         if is_first:
             self.files = files
         is_other = self._update(files, now)
-        self._say_unused()
+        self._report_unused()
         return is_other or has_changed or is_first
 
     def _find(self) -> list[ScriptFile]:
@@ -163,7 +168,7 @@ class Folders:
         for _ in range(_TRIES):
             finding = find_with_folders(self._choice.paths, self._choice.only, self._stop)
             folders = finding.folders | self._settings_files.folders()
-            self._say_limit(self._watcher.watch(folders))
+            self._report_limit(self._watcher.watch(folders))
             self._settings_files.read(finding.folders)
             is_known = folders <= self._watched
             self._watched = folders
@@ -180,8 +185,8 @@ class Folders:
         before, self.files = self.files, update.files
         return is_other(before, self.files)
 
-    def _say_unused(self) -> None:
-        """Tells of tables whose scripts aren't there, each once while that is so."""
+    def _report_unused(self) -> None:
+        """Reports tables whose scripts aren't there, each once while that is so."""
         held = {(it.folder, it.name) for it in (self.files[path].found for path in self._gone if path in self.files)}
         unused = self._settings_files.unused(held)
         for line in unused:
@@ -189,7 +194,7 @@ class Folders:
                 self._note(f"{line}; all else in the file counts")
         self._unused = set(unused)
 
-    def _say_limit(self, limit: str | None) -> None:
+    def _report_limit(self, limit: str | None) -> None:
         if limit is not None and limit not in self._limits:
             self._limits.add(limit)
             often = f"every {_PERIOD:.0f} seconds, in large folders more rarely"

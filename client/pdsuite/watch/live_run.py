@@ -1,15 +1,15 @@
-"""A run of the program that stays up: it is told what changes, and says the row of each of its scripts, and why."""
+"""A run of the program that stays up: it gets what changes, and prints the row of each of its scripts, and why."""
 
 from collections.abc import Mapping, Sequence
 from typing import TypeVar
 
-from pdsuite.programs.program import Ended, Program
-from pdsuite.programs.protocol import LONGEST_CAUSE, LONGEST_LINE, SETTLE, Cause, Unexpected
+from pdsuite.programs.program import Program, ProgramEndedError
+from pdsuite.programs.protocol import LONGEST_CAUSE, LONGEST_LINE, SETTLE, Cause, UnexpectedAnswerError
 from pdsuite.programs.protocol import add, causes_in, edit, name_of, remove, rows_in, set_key, steps_in
-from pdsuite.programs.rows import Row
-from pdsuite.run.settling import Start
+from pdsuite.programs.verdict import Row
+from pdsuite.run.run_batches import Start
 from pdsuite.scripts.settings import Settings
-from pdsuite.watch.run_changes import Act, Add, Change, Remove, RunContents, Set
+from pdsuite.watch.plan_changes import Act, AddScript, EditScript, RemoveScript, RunContents, SetKey
 
 T = TypeVar("T")
 # An act is recorded once, and the start and the end of each job that it leads to; beside workers a job may come twice.
@@ -17,9 +17,9 @@ _PER_JOB = 4
 
 
 class LiveRun:
-    """A started program, what it holds, and what it said last.
+    """A started program, what it holds, and what it printed last.
 
-    `acts` is how many acts its history has at most. By the paths of scripts, `causes` has what the program tells of
+    `acts` is how many acts its history has at most. By the paths of scripts, `causes` has what the program explains of
     them by keys, and `steps` how many the last change cost, where the program does so.
     """
 
@@ -38,26 +38,26 @@ class LiveRun:
         commands = b"".join(self._command(it) for it in acts)
         names = list(self._names.values())
         longest = LONGEST_LINE * (len(acts) + len(names) + 2)
-        answer, said = self.program.ask_and_hear(commands + SETTLE, longest, LONGEST_CAUSE * (len(names) + 1))
+        answer, errors = self.program.query_with_errors(commands + SETTLE, longest, LONGEST_CAUSE * (len(names) + 1))
         try:
             rows = rows_in(answer, b"", names, len(names))
-            told = {name: it for (name, _), it in causes_in(said).items()}
-        except Unexpected as unexpected:
-            raise Ended(f"pdregress: {unexpected}") from unexpected
+            causes = {name: it for (name, _), it in causes_in(errors).items()}
+        except UnexpectedAnswerError as unexpected:
+            raise ProgramEndedError(f"pdregress: {unexpected}") from unexpected
         self.rows = dict(zip(self._names, rows))
         self.contents = after
-        self.acts += sum(1 + _PER_JOB * (len(names) if isinstance(it, Set) else 1) for it in acts)
-        self._take_told(acts, self._by_paths(told))
-        self.steps = self._by_paths(steps_in(said))
+        self.acts += sum(1 + _PER_JOB * (len(names) if isinstance(it, SetKey) else 1) for it in acts)
+        self._update_causes(acts, self._by_paths(causes))
+        self.steps = self._by_paths(steps_in(errors))
 
-    def _take_told(self, acts: Sequence[Act], told: Mapping[str, Cause]) -> None:
-        """Takes what is told of the scripts that have run again; of any other stays what was told before."""
+    def _update_causes(self, acts: Sequence[Act], causes: Mapping[str, Cause]) -> None:
+        """Takes the explanations of the scripts that have run again; any other keeps the one before."""
         for it in acts:
-            if isinstance(it, Set):
+            if isinstance(it, SetKey):
                 self.causes.clear()
             else:
                 self.causes.pop(it.path, None)
-        self.causes |= {path: it for path, it in told.items() if self.rows[path].line in (None, it["line"])}
+        self.causes |= {path: it for path, it in causes.items() if self.rows[path].line in (None, it["line"])}
 
     def _by_paths(self, each: Mapping[bytes, T]) -> dict[str, T]:
         paths = {name: path for path, name in self._names.items()}
@@ -65,13 +65,13 @@ class LiveRun:
 
     def _command(self, act: Act) -> bytes:
         match act:
-            case Remove(path):
+            case RemoveScript(path):
                 return remove(self._names.pop(path))
-            case Set(key, word):
+            case SetKey(key, word):
                 return set_key(key, word)
-            case Change(path, change):
+            case EditScript(path, change):
                 return edit(self._names[path], change)
-            case Add(path, text):
+            case AddScript(path, text):
                 self._names[path] = name = name_of(self._count)
                 self._count += 1
                 return add(name, text)

@@ -6,8 +6,8 @@ from pathlib import Path
 
 from pdsuite.faults import Fault
 from pdsuite.file_stamps import Stamp, have_stamps, stamp_of
-from pdsuite.scripts.text import Unfit, read_file
-from pdsuite.show.octets import shown
+from pdsuite.output.octets import shown
+from pdsuite.scripts.text import UnfitTextError, read_file
 
 # What ./prove leaves where a proof is refused, and takes away when it begins.
 _FILE = "crates/pdregress/out/refused"
@@ -24,10 +24,10 @@ class RefusedProof:
         self._file = None if tree is None else tree / _FILE
         self._stamp = self._seen()
         self._named: Mapping[str, Stamp] = {}
-        self.lines: Sequence[str] = ()  # what is said of it
+        self.lines: Sequence[str] = ()  # its lines
 
     def look(self) -> bool:
-        """Whether something else is said of it than at the last look."""
+        """Whether its lines are others than at the last look."""
         before, stamp = self.lines, self._seen()
         if stamp != self._stamp:
             self._stamp = stamp
@@ -45,5 +45,5 @@ class RefusedProof:
             return
         try:
             yield from (shown(line) for line in read_file(self._file, _LONGEST).splitlines())
-        except (Fault, Unfit):
+        except (Fault, UnfitTextError):
             return

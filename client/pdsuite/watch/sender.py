@@ -7,16 +7,16 @@ from pathlib import Path
 
 from pdsuite.faults import Fault
 from pdsuite.file_stamps import Stamp, have_stamps
-from pdsuite.programs.building import Building, Untried, Way
-from pdsuite.programs.places import RECORD, REGRESS
-from pdsuite.programs.standing import Look, Standing, standing_of
+from pdsuite.programs.build import Build, BuildError, BuildMode
+from pdsuite.programs.locate import RECORD, REGRESS
+from pdsuite.programs.lookup import ProgramLookup, StampedProgram, stamped_program
 
 # A build begins once no source has changed for so many seconds.
 _QUIET = 0.3
-# So often it is said how long a build takes.
+# So often it is shown how long a build takes.
 _SECOND = 1.0
 # The build that is there first serves: what is watched is few scripts.
-WAY: Way = "any"
+WAY: BuildMode = "any"
 _BUILDING = "it is built without proofs"
 _REFUSED = "it isn't built"
 
@@ -25,12 +25,12 @@ _REFUSED = "it isn't built"
 class LiveSender:
     """The programs of a sender; the one that records may be missing."""
 
-    regress: Standing
-    record: Standing | None
+    regress: StampedProgram
+    record: StampedProgram | None
     is_proved: bool = True
 
     def check(self) -> None:
-        """Raises SenderChanged where a program's file isn't the one that was found."""
+        """Raises SenderChangedError where a program's file isn't the one that was found."""
         for it in (self.regress, self.record):
             if it is not None:
                 it.check()
@@ -52,7 +52,7 @@ class SenderFollower:
     While it is built, or can't be, the one before goes on answering as long as its programs are there.
     """
 
-    def __init__(self, look: Look, needs: Sequence[str] = (REGRESS,), tree: Path | None = None) -> None:
+    def __init__(self, look: ProgramLookup, needs: Sequence[str] = (REGRESS,), tree: Path | None = None) -> None:
         self._look = look
         self._needs = needs
         self.tree = tree
@@ -61,7 +61,7 @@ class SenderFollower:
         self.failure: tuple[str, ...] = ()  # why none can be built: what the compiler says stands below the first line
         self._sources: Mapping[str, Stamp] | None = None
         self._built: LiveSender | None = None  # of these sources
-        self._building: Building | None = None
+        self._building: Build | None = None
         self._quiet_at = inf
 
     def __enter__(self) -> "SenderFollower":
@@ -93,14 +93,14 @@ class SenderFollower:
         """Looks at what stands; whether that is other than it was."""
         before = self.sender, self.reason, self.failure
         if self._building is not None and not have_stamps(self._sources or {}):
-            self._end_build()  # before anything is asked, which takes longer
+            self._end_build()  # before any query, which takes longer
         found = self._look.now()
         missing = [str(it) for name in self._needs if isinstance(it := found[name], Fault)]
         regress, record = found[REGRESS], found[RECORD]
-        if isinstance(regress, Standing) and not missing:
+        if isinstance(regress, StampedProgram) and not missing:
             self._end_build()
             self._sources, self.failure = None, ()
-            self._stand(LiveSender(regress, record if isinstance(record, Standing) else None))
+            self._stand(LiveSender(regress, record if isinstance(record, StampedProgram) else None))
         elif self.tree is None:
             self._leave(missing[0])
         else:
@@ -145,19 +145,19 @@ class SenderFollower:
         self._leave(_REFUSED if self.failure else _BUILDING)
 
     def _build(self, tree: Path, now: float) -> None:
-        """Begins a build where it is time, or hears of the one that goes on."""
+        """Begins a build where it is time, or reads how the one goes on."""
         if self._building is None and now >= self._quiet_at:
             self._quiet_at = inf
-            self._building = Building(tree, WAY)
+            self._building = Build(tree, WAY)
         if self._building is None:
             return
-        self._building.hear()
+        self._building.read()
         if not self._building.is_over:
             return
         try:
             folder = self._building.folder()
-            self._built = LiveSender(standing_of(folder / REGRESS), standing_of(folder / RECORD), False)
-        except Untried as untried:
+            self._built = LiveSender(stamped_program(folder / REGRESS), stamped_program(folder / RECORD), False)
+        except BuildError as untried:
             self.failure = tuple(str(untried).splitlines())
         except Fault as fault:
             self.failure = (str(fault),)

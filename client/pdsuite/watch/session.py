@@ -7,34 +7,34 @@ from contextlib import ExitStack
 from dataclasses import dataclass, replace
 from typing import TYPE_CHECKING, NoReturn
 
+from pdsuite.output.screen import Screen
+from pdsuite.programs.lookup import SenderChangedError
 from pdsuite.programs.program import Program
 from pdsuite.programs.protocol import Cause
 from pdsuite.programs.refusals import refusals
-from pdsuite.programs.rows import Row, Verdict
-from pdsuite.programs.standing import SenderChanged
-from pdsuite.run.explainer import TELLS
+from pdsuite.programs.verdict import Row, Verdict
+from pdsuite.run.batches import BATCH_SIZE
+from pdsuite.run.explainer import EXPLAIN_OPTIONS
 from pdsuite.run.outcomes import Outcome
-from pdsuite.run.runs import RUN
-from pdsuite.run.settling import start_telling, start_with
+from pdsuite.run.run_batches import start_explaining, start_with
+from pdsuite.scripts.config import Claim, Layer, claims_of
 from pdsuite.scripts.settings import Settings
-from pdsuite.scripts.suite import Claim, Layer, claims_of
 from pdsuite.scripts.text import Text
-from pdsuite.show.screen import Screen
 from pdsuite.signals import Stop
-from pdsuite.watch.fleet import Fleet
 from pdsuite.watch.folder_moves import Outcomes
-from pdsuite.watch.folders import Choice, Folders
+from pdsuite.watch.folders import Folders, WatchChoice
+from pdsuite.watch.live_pool import LivePool
+from pdsuite.watch.plan_changes import WantedScript
 from pdsuite.watch.refused_proof import RefusedProof
-from pdsuite.watch.run_changes import WantedScript
 from pdsuite.watch.sender import LiveSender, SenderFollower
 from pdsuite.watch.settings_files import SettingsFiles
-from pdsuite.watch.turned import Base, Before, BuildBefore, turned
+from pdsuite.watch.turned_scripts import BaseSender, EarlierBuild, EarlierSender, turned_scripts
 from pdsuite.watch.view import Compare, View
-from pdsuite.watch.watcher import Event, Watcher
+from pdsuite.watch.watcher import FileEvent, Watcher
 
 if TYPE_CHECKING:
-    from pdsuite.page.drawing import Drawing
-    from pdsuite.page.sheets import Entry
+    from pdsuite.page.page_updates import PageUpdates
+    from pdsuite.page.view_model import PageEntry
 
 _ANOTHER = "another program stands: all scripts ran again"
 _PROVED = "the sender is proved: all scripts ran again"
@@ -43,7 +43,7 @@ _AGAIN = "the sender stands again that was before"
 _NO_BUILD = "the sender isn't built:"
 
 
-class Refused(Exception):
+class SessionSettingsError(Exception):
     """That the first sender refuses the settings of the call; the lines say which."""
 
     def __init__(self, lines: Sequence[str]) -> None:
@@ -52,12 +52,12 @@ class Refused(Exception):
 
 
 @dataclass(frozen=True)
-class Watched:
+class WatchedSuite:
     """What is watched: which scripts, the settings before all others, and against which sender."""
 
-    choice: Choice
+    choice: WatchChoice
     option: Layer
-    base: Base | None
+    base: BaseSender | None
 
 
 class Session:
@@ -65,11 +65,11 @@ class Session:
 
     def __init__(
         self,
-        watched: Watched,
+        watched: WatchedSuite,
         view: View,
         screen: Screen,
         follower: SenderFollower,
-        drawing: "Drawing | None",
+        page: "PageUpdates | None",
         stop: Stop,
         held: ExitStack,
     ) -> None:
@@ -77,10 +77,10 @@ class Session:
         self._view = view
         self._screen = screen
         self._follower = follower
-        self._drawing = drawing
+        self._page = page
         self._stop = stop
         self._sender: LiveSender | None = None
-        self._fleet: Fleet | None = None
+        self._pool: LivePool | None = None
         self._is_new = False
         self._refused_proof = RefusedProof(follower.tree)
         self._runs = held.enter_context(ExitStack())
@@ -95,7 +95,7 @@ class Session:
             try:
                 self._look()
                 self._step()
-            except SenderChanged:
+            except SenderChangedError:
                 continue  # the next look says what stands
             self._wait()
             self._stop.check()
@@ -114,7 +114,7 @@ class Session:
                 self._view.refuse(_not_built(follower.failure))
         if self._refused_proof.look() and self._refused_proof.lines:
             self._view.refuse(self._refused_proof.lines)
-        self._tell(follower.doing)
+        self._show_doing(follower.doing)
 
     def _go_over(self, sender: LiveSender | None) -> None:
         """Goes over to the sender that answers now."""
@@ -122,10 +122,10 @@ class Session:
         if sender is None:
             self._end_runs()
         elif sender != before:
-            fleet = self._begin(sender)
-            self._view.turn(fleet, _words(before, sender), not sender.is_proved, self._compare(before))
-        elif self._follower.is_current and self._fleet is not None:
-            self._view.turn(self._fleet, _AGAIN, not sender.is_proved)
+            pool = self._begin(sender)
+            self._view.turn(pool, _words(before, sender), not sender.is_proved, self._compare(before))
+        elif self._follower.is_current and self._pool is not None:
+            self._view.turn(self._pool, _AGAIN, not sender.is_proved)
             self._is_new = True
 
     def _compare(self, before: LiveSender | None) -> Compare | None:
@@ -133,35 +133,35 @@ class Session:
         base, sender = self._watched.base, self._sender
         if sender is None or base is None and before is None:
             return None
-        other: Before = base or BuildBefore(None if before is None else before.paths)
+        other: EarlierSender = base or EarlierBuild(None if before is None else before.paths)
         programs = sender.paths
-        return lambda shown, now: turned(other, programs, shown, now, self._stop, self._screen.note)
+        return lambda shown, now: turned_scripts(other, programs, shown, now, self._stop, self._screen.note)
 
     def _step(self) -> None:
         events, now = self._watcher.read(), time.monotonic()
-        if self._fleet is None or self._sender is None:
+        if self._pool is None or self._sender is None:
             self._folders.look(events, now)
             return
-        step(self._folders, self._fleet, self._view, events, now, self._drawing, self._sender.check, self._is_new)
+        step(self._folders, self._pool, self._view, events, now, self._page, self._sender.check, self._is_new)
         self._is_new = False
 
-    def _tell(self, doing: str) -> None:
+    def _show_doing(self, doing: str) -> None:
         """Says what is built, at the bottom of a terminal and on the page, and there what is refused, too."""
-        follower, drawing = self._follower, self._drawing
+        follower, page = self._follower, self._page
         if doing or not follower.is_current:
-            self._view.tell(doing)
-        if drawing is not None:
+            self._view.show_progress(doing)
+        if page is not None:
             is_of_before = self._view.status is not None and not follower.is_current
-            drawing.mark(f"the sender has changed; {follower.phase or follower.reason}" if is_of_before else "")
+            page.mark(f"the sender has changed; {follower.phase or follower.reason}" if is_of_before else "")
             refusals = (_not_built(follower.failure), self._refused_proof.lines)
-            drawing.say([it for it in refusals if it])
+            page.show_refusals([it for it in refusals if it])
 
     def _wait(self) -> None:
         files = [self._stop.fileno(), self._watcher.fileno(), self._sources.fileno(), *self._follower.filenos()]
-        files += [it.program.fileno() for it in (self._fleet.runs if self._fleet else ())]
-        if self._drawing is not None:
-            self._drawing.look()
-            files += self._drawing.filenos()
+        files += [it.program.fileno() for it in (self._pool.runs if self._pool else ())]
+        if self._page is not None:
+            self._page.look()
+            files += self._page.filenos()
         until = min(self._folders.due(), self._follower.due(time.monotonic()))
         _wait(until, [it for it in files if it is not None])
 
@@ -173,12 +173,12 @@ class Session:
         sender.check()
         return refusals(claims, lambda: Program([program], self._stop))
 
-    def _begin(self, sender: LiveSender) -> Fleet:
+    def _begin(self, sender: LiveSender) -> LivePool:
         """Begins runs of a sender in place of those of the one before."""
         is_first = self._view.status is None
         self._end_runs()
-        start = start_telling(sender.regress.path, TELLS, RUN, self._stop)
-        untelling = start_with(sender.regress.path, 0, 1, self._stop)
+        start = start_explaining(sender.regress.path, EXPLAIN_OPTIONS, BATCH_SIZE, self._stop)
+        plain_start = start_with(sender.regress.path, 0, 1, self._stop)
 
         def checked(settings: Settings) -> Program:
             sender.check()
@@ -186,28 +186,28 @@ class Session:
 
         self._sender = sender
         if is_first and (lines := self._refused(claims_of([self._watched.option]))):
-            raise Refused(lines)
-        fleet = Fleet(checked, self._screen.note, self._view.tell, untelling)
-        self._fleet = self._runs.enter_context(fleet)
+            raise SessionSettingsError(lines)
+        pool = LivePool(checked, self._screen.note, self._view.show_progress, plain_start)
+        self._pool = self._runs.enter_context(pool)
         self._is_new = True
         if not is_first:
             self._folders.check_settings()
-        if self._drawing is not None:
-            self._drawing.turn(*sender.paths, not sender.is_proved)
-        return fleet
+        if self._page is not None:
+            self._page.turn(*sender.paths, not sender.is_proved)
+        return pool
 
     def _end_runs(self) -> None:
         self._runs.close()
-        self._fleet = self._sender = None
+        self._pool = self._sender = None
 
 
 def _not_built(failure: Sequence[str]) -> Sequence[str]:
-    """What is said where no sender can be built; nothing where that isn't so."""
+    """What is shown where no sender can be built; nothing where that isn't so."""
     return (_NO_BUILD, *failure) if failure else ()
 
 
 def _words(before: LiveSender | None, sender: LiveSender) -> str:
-    """What is said of a sender before its first report."""
+    """What is shown of a sender before its first report."""
     if not sender.is_proved:
         return _BUILT
     return _PROVED if before is not None and not before.is_proved else _ANOTHER
@@ -215,46 +215,46 @@ def _words(before: LiveSender | None, sender: LiveSender) -> str:
 
 def step(
     folders: Folders,
-    fleet: Fleet,
+    pool: LivePool,
     view: View,
-    events: Sequence[Event],
+    events: Sequence[FileEvent],
     now: float,
-    drawing: "Drawing | None" = None,
+    page: "PageUpdates | None" = None,
     check: Callable[[], None] = lambda: None,
     is_new: bool = False,
 ) -> None:
     """Looks at what is reported or due, has run again what that changes, and shows what came of it.
 
-    `check` raises SenderChanged where the program has another file than its runs; `is_new` says that these are new.
+    `check` raises SenderChangedError where the program has another file than its runs; `is_new` says these are new.
     """
     has_changed = folders.look(events, now)
-    if fleet.mend() or has_changed or is_new:
-        if drawing is not None:
-            drawing.end()
+    if pool.mend() or has_changed or is_new:
+        if page is not None:
+            page.end()
         wanted, unfit = folders.wanted()
-        fleet.follow(wanted)
+        pool.follow(wanted)
         check()
-        view.show(_outcomes(folders, fleet, unfit), wanted, now, folders.is_strict, check)
-        if drawing is not None:
-            drawing.follow(_entries(view.outcomes, wanted, fleet.causes()), view.turned)
+        view.show(_outcomes(folders, pool, unfit), wanted, now, folders.is_strict, check)
+        if page is not None:
+            page.follow(_entries(view.outcomes, wanted, pool.causes()), view.turned)
 
 
-def _entries(outcomes: Outcomes, wanted: Mapping[str, WantedScript], causes: Mapping[str, Cause]) -> "list[Entry]":
-    """What the page shows; of a script that passes nothing is told there."""
-    from pdsuite.page.sheets import Entry
+def _entries(outcomes: Outcomes, wanted: Mapping[str, WantedScript], causes: Mapping[str, Cause]) -> "list[PageEntry]":
+    """What the page shows; of a script that passes nothing is explained there."""
+    from pdsuite.page.view_model import PageEntry
 
-    told = {path: it for path, it in causes.items() if path in outcomes and outcomes[path].row.line is not None}
+    shown_causes = {path: it for path, it in causes.items() if path in outcomes and outcomes[path].row.line is not None}
     return [
-        Entry(replace(it, settings=wanted[path].settings), wanted[path].text, cause=told.get(path))
+        PageEntry(replace(it, settings=wanted[path].settings), wanted[path].text, cause=shown_causes.get(path))
         if path in wanted
-        else Entry(it)
+        else PageEntry(it)
         for path, it in outcomes.items()
     ]
 
 
-def _outcomes(folders: Folders, fleet: Fleet, unfit: Mapping[str, str]) -> Outcomes:
+def _outcomes(folders: Folders, pool: LivePool, unfit: Mapping[str, str]) -> Outcomes:
     """What came of each script, in the order of paths."""
-    rows = {**dict(fleet.rows()), **{path: Row(Verdict.ERROR, word=why) for path, why in unfit.items()}}
+    rows = {**dict(pool.rows()), **{path: Row(Verdict.ERROR, word=why) for path, why in unfit.items()}}
     return {path: _outcome(path, it.file.value, rows[path], folders) for path, it in folders.files.items()}
 
 

@@ -4,28 +4,27 @@ from collections.abc import Callable, Iterable, Set
 from pathlib import Path
 
 from pdsuite.faults import Fault
-from pdsuite.scripts.suite import FILE, Claim, Layer, Suite
-from pdsuite.scripts.suite import claims_of, layer_of, place_of, read_octets
-from pdsuite.scripts.unused_tables import unused_tables
 from pdsuite.file_stamps import StampedValue, is_as_read, read_stamped
+from pdsuite.scripts.config import CONFIG_FILE, Claim, Layer, SuiteConfig, claims_of, layer_of, place_of, read_octets
+from pdsuite.scripts.unused_tables import unused_tables
 
 # The lines of the claims that the program refuses.
-Refused = Callable[[Iterable[Claim]], list[str]]
+QueryRefused = Callable[[Iterable[Claim]], list[str]]
 
 
 class SettingsFiles:
     """What each file holds, and the layer that counts for it."""
 
-    def __init__(self, option: Layer, refused: Refused, note: Callable[[str], None]) -> None:
+    def __init__(self, option: Layer, refused: QueryRefused, note: Callable[[str], None]) -> None:
         self._option = option
         self._refused = refused
         self._note = note
         self._read: dict[Path, StampedValue[bytes | str | None]] = {}
         self._good: dict[Path, Layer | None] = {}
 
-    def suite(self) -> Suite:
+    def suite(self) -> SuiteConfig:
         """The settings of scripts by the files as they are known now."""
-        return Suite(self._option, self.layer)
+        return SuiteConfig(self._option, self.layer)
 
     def folders(self) -> set[str]:
         """The folders of the files that are there."""
@@ -34,7 +33,7 @@ class SettingsFiles:
     def read(self, folders: Iterable[str]) -> None:
         """Reads the files of these folders that weren't read before, whichever scripts they are about."""
         for folder in folders:
-            self.layer(Path(folder, FILE))
+            self.layer(Path(folder, CONFIG_FILE))
 
     def unused(self, held: Set[tuple[str, str]]) -> list[str]:
         """The lines of tables whose scripts aren't there; those of `held`, by folder and name, are taken to be."""
@@ -87,7 +86,7 @@ class SettingsFiles:
         return True
 
     def _refuse(self, path: Path, fault: str) -> None:
-        """Tells of a fault, and what counts in spite of it."""
+        """Reports a fault, and what counts in spite of it."""
         stays = "its last good settings stay" if self._good.get(path) else "the file counts for nothing"
         self._note(f"{fault}; {stays}")
 

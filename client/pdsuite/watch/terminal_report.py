@@ -6,13 +6,13 @@ from collections.abc import Callable, Mapping, Sequence
 from dataclasses import replace
 
 from pdsuite.compare.comparison import ComparedScript
-from pdsuite.reports.plain import Plain, style_of
-from pdsuite.show.fitting import columns_of, fitting, wrapped
-from pdsuite.show.octets import shown_path
-from pdsuite.show.styled_text import StyledText
-from pdsuite.watch.change_report import ChangeReport, changed, entries, gone, gone_row, told_anew, totals_of
+from pdsuite.output.fitting import columns_of, fitting, wrapped
+from pdsuite.output.octets import shown_path
+from pdsuite.output.styled_text import StyledText
+from pdsuite.reports.plain import PlainFormatter, style_of
+from pdsuite.watch.change_report import ChangeReport, changed, entries, gone, gone_row, newly_explained, totals_of
 from pdsuite.watch.folder_moves import Move, Outcomes, moves_of
-from pdsuite.watch.run_changes import WantedScript
+from pdsuite.watch.plan_changes import WantedScript
 
 # So many rows of a kind are shown, and so many blocks.
 _MOST = 10
@@ -50,16 +50,16 @@ class TerminalReport(ChangeReport):
         for move in moves:
             text.append_text(_moved(move, before, after))
         rows = changed(known, after)
-        form = Plain(True)
+        form = PlainFormatter(True)
         text.append_text(_few([form.changed(it) for it in rows if not it.passes]))
         text.append_text(_few([form.changed(it) for it in rows if it.passes]))
         return text.append_text(_few(list(map(gone_row, gone(known, after)))))
 
     def blocks(self, before: Outcomes, after: Outcomes, moves: Sequence[Move]) -> StyledText:
-        """What is told of a few scripts, and how many more there are."""
-        told = told_anew(_known(before, moves), after)
-        text = self._fitting(entries(told[:_MOST], False))
-        left = len(told) - _MOST
+        """The explanations of a few scripts, and how many more there are."""
+        explained = newly_explained(_known(before, moves), after)
+        text = self._fitting(entries(explained[:_MOST], False))
+        left = len(explained) - _MOST
         return text.append(f"{left:,} more: {self._command}\n", "bold") if left > 0 else text
 
     def compared(self, scripts: Sequence[ComparedScript]) -> StyledText:

@@ -6,15 +6,15 @@ from dataclasses import replace
 from typing import Protocol
 
 from pdsuite.compare.comparison import ComparedScript
-from pdsuite.programs.rows import Row, Verdict
-from pdsuite.programs.standing import SenderChanged
+from pdsuite.output.screen import Screen
+from pdsuite.output.styled_text import StyledText
+from pdsuite.programs.lookup import SenderChangedError
+from pdsuite.programs.verdict import Row, Verdict
 from pdsuite.run.outcomes import Outcome
-from pdsuite.show.screen import Screen
-from pdsuite.show.styled_text import StyledText
 from pdsuite.watch.change_report import ChangeReport, changed, of_sender_before, totals_of
 from pdsuite.watch.folder_moves import Move, Outcomes
-from pdsuite.watch.run_changes import WantedScript
-from pdsuite.watch.turned import Shown
+from pdsuite.watch.plan_changes import WantedScript
+from pdsuite.watch.turned_scripts import ShownScripts
 
 _NO_SCRIPT = 2
 _FAULT = 2
@@ -24,14 +24,14 @@ Wanted = Mapping[str, WantedScript]
 
 
 class Explainer(Protocol):
-    """Who knows what was told of scripts."""
+    """Who knows the explanations of scripts."""
 
     def explain(self, outcome: Outcome, wanted: WantedScript) -> Outcome:
-        """An outcome with what was told of it."""
+        """An outcome with its explanation."""
 
 
 # The scripts that turned, by what was shown of them and by what is now.
-Compare = Callable[[Shown, Shown], Sequence[ComparedScript]]
+Compare = Callable[[ShownScripts, ShownScripts], Sequence[ComparedScript]]
 
 
 def _nothing() -> None:
@@ -42,7 +42,12 @@ class View:
     """What was shown last."""
 
     def __init__(
-        self, screen: Screen, explainer: Explainer | None, every: bool, news: ChangeReport, of_known: bool = False
+        self,
+        screen: Screen,
+        explainer: Explainer | None,
+        every: bool,
+        change_report: ChangeReport,
+        of_known: bool = False,
     ) -> None:
         self.outcomes: Outcomes = {}
         self.turned: Sequence[ComparedScript] = ()  # those that the sender turned, and that are as they were then
@@ -50,12 +55,12 @@ class View:
         self._screen = screen
         self._explainer = explainer
         self._every = every
-        self._news = news
+        self._change_report = change_report
         self._of_known = of_known
         self._wanted: Wanted = {}
         self._is_current = True
         self._marked: set[str] = set()  # the scripts whose last row was shown as one of the sender before
-        self._turn: str | None = None  # what is said of another sender before its first report
+        self._turn: str | None = None  # what is shown of another sender before its first report
         self._compare: Compare | None = None
 
     @property
@@ -66,14 +71,14 @@ class View:
     def leave(self, why: str) -> None:
         """Says that the sender doesn't stand any more of which all rows are."""
         if self._is_current and self._status is not None:
-            self._screen.show(self._news.head().append_text(self._news.left(why)))
+            self._screen.show(self._change_report.head().append_text(self._change_report.left(why)))
         self._is_current = False
-        self.tell("")
+        self.show_progress("")
 
     def refuse(self, lines: Sequence[str]) -> None:
         """Says why no sender can be built, or be proved."""
-        self._screen.show(self._news.head().append_text(self._news.refused(lines)))
-        self.tell("")
+        self._screen.show(self._change_report.head().append_text(self._change_report.refused(lines)))
+        self.show_progress("")
 
     def turn(
         self, explainer: Explainer, words: str, is_unproved: bool = False, compare: "Compare | None" = None
@@ -84,10 +89,10 @@ class View:
         """
         self._explainer = explainer
         self._compare = compare
-        self._news.is_unproved = is_unproved
+        self._change_report.is_unproved = is_unproved
         self._is_current = True
         self._turn = words
-        self.tell("")
+        self.show_progress("")
 
     def show(
         self,
@@ -99,14 +104,14 @@ class View:
     ) -> None:
         """Shows what changed, with what is to be warned of at the ends of scripts that pass.
 
-        `check` raises SenderChanged where what was told isn't surely of the program whose rows these are.
+        `check` raises SenderChangedError where what was printed isn't surely of the program whose rows these are.
         """
         passing = self._explained((it for it in outcomes.values() if it.row.verdict is Verdict.PASS), wanted)
         put = {it.path: replace(it, is_strict=is_strict(it.path)) for it in passing if it.at_end}
         check()
         self._show({**outcomes, **put}, wanted, begin, check)
 
-    def tell(self, doing: str) -> None:
+    def show_progress(self, doing: str) -> None:
         """Keeps at the bottom of a terminal how many scripts pass, and what is running."""
         totals = totals_of(self.outcomes)
         passing = "" if self._status is None else f"{totals.passing:,} of {totals.scripts:,} pass"
@@ -115,24 +120,24 @@ class View:
         self._screen.bottom(", ".join(it for it in (passing, doing) if it))
 
     def _show(self, outcomes: Outcomes, wanted: Wanted, begin: float, check: Callable[[], None]) -> None:
-        """Shows what changed: the rows at once, what is told of them once it is; at first all in one."""
+        """Shows what changed: the rows at once, their explanations once these are there; at first all in one."""
         outcomes = self._placed(outcomes, wanted)
         check()
         before = self._before()
-        rows, moves = StyledText(), self._news.moves(before, outcomes, self._wanted, wanted)
+        rows, moves = StyledText(), self._change_report.moves(before, outcomes, self._wanted, wanted)
         if self._status is not None:
-            rows = self._news.rows(before, outcomes, moves)
+            rows = self._change_report.rows(before, outcomes, moves)
         if rows.plain:
             self._screen.show(self._head().append_text(self._as_it_stands(rows)))
             self._note_marked(before, outcomes)
-        after = {path: self.outcomes[path] if self._is_told(it, wanted) else it for path, it in outcomes.items()}
-        untold = [it for path, it in after.items() if self._is_asked(it) and it is outcomes[path]]
-        after |= {it.path: it for it in self._explained(untold, wanted)}
+        after = {path: self.outcomes[path] if self._is_explained(it, wanted) else it for path, it in outcomes.items()}
+        unexplained = [it for path, it in after.items() if self._needs_explanation(it) and it is outcomes[path]]
+        after |= {it.path: it for it in self._explained(unexplained, wanted)}
         try:
             turned = self._turned(after, wanted)
             check()
-        except SenderChanged:
-            # The rows were shown; what is told of them may be another program's.
+        except SenderChangedError:
+            # The rows were shown; their explanations may be another program's.
             self.outcomes, self._wanted = outcomes, wanted
             raise
         self._close(before, after, bool(rows.plain), moves, begin, turned or ())
@@ -140,15 +145,17 @@ class View:
         self._wanted = wanted
 
     def _placed(self, outcomes: Outcomes, wanted: Wanted) -> Outcomes:
-        """The outcomes, those of texts that are no scripts with what is told of them: it says where these break off."""
-        unread = (it for it in outcomes.values() if it.row.verdict is Verdict.SYNTAX and not self._is_told(it, wanted))
-        return {**outcomes, **{it.path: it for it in self._explained(unread, wanted)}}
+        """The outcomes, those of texts that are no scripts with explanations: these say where these break off."""
+        broken = (
+            it for it in outcomes.values() if it.row.verdict is Verdict.SYNTAX and not self._is_explained(it, wanted)
+        )
+        return {**outcomes, **{it.path: it for it in self._explained(broken, wanted)}}
 
     def _turned(self, after: Outcomes, wanted: Wanted) -> Sequence[ComparedScript] | None:
         """The scripts that another sender turned; None where there is no other."""
         if self._compare is None:
             return None
-        found = self._compare(Shown(self.outcomes, self._wanted), Shown(after, wanted))
+        found = self._compare(ShownScripts(self.outcomes, self._wanted), ShownScripts(after, wanted))
         self._compare = None
         return found
 
@@ -171,29 +178,29 @@ class View:
         turned: Sequence[ComparedScript],
     ) -> None:
         """Shows what stands after the rows, and notes what was shown."""
-        compared = self._news.compared(turned)
+        compared = self._change_report.compared(turned)
         if self._status is None:
-            first = self._news.first(after, self._every, time.monotonic() - begin)
+            first = self._change_report.first(after, self._every, time.monotonic() - begin)
             self._screen.show(self._as_it_stands(compared.append_text(first)))
         else:
-            told = {it.path for it in turned} if self._news.is_brief else set()
-            others = {path: it for path, it in after.items() if path not in told}
-            blocks = compared.append_text(self._news.blocks(before, others, moves))
+            shown_paths = {it.path for it in turned} if self._change_report.is_brief else set()
+            others = {path: it for path, it in after.items() if path not in shown_paths}
+            blocks = compared.append_text(self._change_report.blocks(before, others, moves))
             head = StyledText() if has_changed else self._head()
             if has_changed or blocks.plain or self._turn is not None:
-                foot = self._news.foot(after, time.monotonic() - begin)
+                foot = self._change_report.foot(after, time.monotonic() - begin)
                 self._screen.show(head.append_text(self._as_it_stands(blocks.append_text(foot))))
         if not after and (self.outcomes or self._status is None):
             self._screen.note("pdsuite: no script found")
         self.outcomes = after
         self._turn = None
         self._status = totals_of(after).status() if after else _NO_SCRIPT
-        self.tell("")
+        self.show_progress("")
 
     def _head(self) -> StyledText:
-        """What stands before a report that isn't the first; of another sender what is said of it, too."""
-        head = self._news.head()
-        return head if self._turn is None else head.append_text(self._news.turned(self._turn))
+        """What stands before a report that isn't the first; of another sender what is shown of it, too."""
+        head = self._change_report.head()
+        return head if self._turn is None else head.append_text(self._change_report.turned(self._turn))
 
     def _before(self) -> Outcomes:
         """What was shown; where a sender stands, no row of the one before counts as shown."""
@@ -212,8 +219,8 @@ class View:
         """A part of a report, which says of which sender it is where that doesn't stand."""
         return text if self._is_current else of_sender_before(text)
 
-    def _is_told(self, outcome: Outcome, wanted: Wanted) -> bool:
-        """Whether what was told of a script is told of this outcome."""
+    def _is_explained(self, outcome: Outcome, wanted: Wanted) -> bool:
+        """Whether the explanation of a script is of this outcome."""
         path = outcome.path
         old = self.outcomes.get(path)
         if old is None or self._turn is not None:
@@ -222,11 +229,11 @@ class View:
             return False
         return self._wanted.get(path) == wanted.get(path)
 
-    def _is_asked(self, outcome: Outcome) -> bool:
-        """Whether it is asked why an outcome is so; of a known one nothing is shown but on the page."""
-        return outcome.row.line is not None and not outcome.told and (self._of_known or not outcome.is_known)
+    def _needs_explanation(self, outcome: Outcome) -> bool:
+        """Whether an outcome needs an explanation; of a known one nothing is shown but on the page."""
+        return outcome.row.line is not None and not outcome.block_lines and (self._of_known or not outcome.is_known)
 
     def _explained(self, outcomes: Iterable[Outcome], wanted: Wanted) -> Iterator[Outcome]:
-        """Outcomes with what is told of them."""
+        """Outcomes with explanations."""
         if self._explainer is not None:
             yield from (self._explainer.explain(it, wanted[it.path]) for it in outcomes)

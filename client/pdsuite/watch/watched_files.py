@@ -4,11 +4,11 @@ import os
 from collections.abc import Iterable, Mapping, Set
 from dataclasses import dataclass, replace
 
-from pdsuite.run.runs import Script
-from pdsuite.run.settling import load
-from pdsuite.scripts.search import ScriptFile
-from pdsuite.scripts.text import Text
 from pdsuite.file_stamps import Stamp, StampedValue, is_as_read, read_stamped
+from pdsuite.run.batches import Script
+from pdsuite.run.run_batches import load
+from pdsuite.scripts.discover import ScriptFile
+from pdsuite.scripts.text import Text
 
 # So many seconds after it went, a path that is there again was only saved.
 GRACE = 0.05

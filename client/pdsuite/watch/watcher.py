@@ -1,6 +1,6 @@
 """Reports which names in folders change. It decides nothing, and what it loses the walks find.
 
-It asks watchdog's reader of inotify. watchdog's observer holds back for half a second what comes after a name that
+It uses watchdog's reader of inotify. watchdog's observer holds back for half a second what comes after a name that
 moved away, and watches hidden folders too.
 """
 
@@ -26,7 +26,7 @@ _LIMITS = {errno.ENOSPC: "fs.inotify.max_user_watches", errno.EMFILE: "fs.inotif
 _BLOCKS = 16
 
 
-class Kind(Enum):
+class FileEventKind(Enum):
     """What happened to a name."""
 
     CLOSED = "its file was closed after writing, or moved there"
@@ -36,10 +36,10 @@ class Kind(Enum):
 
 
 @dataclass(frozen=True, slots=True)
-class Event:
+class FileEvent:
     """What happened to a name in a folder."""
 
-    kind: Kind
+    kind: FileEventKind
     folder: str = ""
     name: str = ""
 
@@ -74,9 +74,9 @@ class Watcher:
                     return _LIMITS[error.errno]
         return None
 
-    def read(self) -> list[Event]:
+    def read(self) -> list[FileEvent]:
         """What has happened since it was read last."""
-        events: list[Event] = []
+        events: list[FileEvent] = []
         if self._inotify is None:
             return events
         try:
@@ -87,7 +87,7 @@ class Watcher:
         except (KeyError, OSError):
             # watchdog has lost sight of a folder: all are watched anew.
             self._close()
-            events.append(Event(Kind.FOLDER))
+            events.append(FileEvent(FileEventKind.FOLDER))
         if self._inotify is not None:
             self._inotify.clear_move_records()
         return events
@@ -105,12 +105,12 @@ class Watcher:
             self._inotify = None
 
 
-def _event(it: InotifyEvent) -> Event:
+def _event(it: InotifyEvent) -> FileEvent:
     folder, name = os.path.split(os.fsdecode(it.src_path))
     if it.is_directory or it.is_ignored:
-        return Event(Kind.FOLDER, folder, name)
+        return FileEvent(FileEventKind.FOLDER, folder, name)
     if it.is_close_write or it.is_moved_to:
-        return Event(Kind.CLOSED, folder, name)
+        return FileEvent(FileEventKind.CLOSED, folder, name)
     if it.is_delete or it.is_moved_from:
-        return Event(Kind.GONE, folder, name)
-    return Event(Kind.OTHER, folder, name)
+        return FileEvent(FileEventKind.GONE, folder, name)
+    return FileEvent(FileEventKind.OTHER, folder, name)

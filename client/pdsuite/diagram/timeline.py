@@ -1,0 +1,273 @@
+"""From a recording to the strokes of a time-sequence diagram: nothing is drawn here."""
+
+from collections.abc import Callable, Iterator, Sequence
+from dataclasses import dataclass
+
+from pdsuite.diagram.failing_line import FailingLine
+from pdsuite.diagram.timeline_parts import Arrival, ExpectedSegment, FailedExpectation, Flag, Note, RecoverySpan
+from pdsuite.diagram.timeline_parts import SackBlock, Segment, SegmentKind, Stair, Timeline
+from pdsuite.packetdrill.items import Packet
+from pdsuite.programs.trace import TracedEvent
+
+# The initial slow start threshold, as high as can be (RFC 5681, section 3.1); it says nothing.
+_NO_THRESHOLD = 1 << 30
+# The states in which the peer's FIN was taken (RFC 9293, section 3.3.2).
+_AFTER_FIN = ("CLOSE-WAIT", "CLOSING", "LAST-ACK", "TIME-WAIT")
+_RECOVERY = {"RFC6675": "loss: SACK recovery", "RFC5681": "loss: fast recovery"}
+
+
+@dataclass(frozen=True, slots=True)
+class _Moment:
+    """An event at its moment, and whether it comes after the failing line."""
+
+    at: int
+    event: TracedEvent
+    is_later: bool
+
+
+def timeline_of(events: Sequence[TracedEvent], failing: FailingLine | None = None) -> Timeline | None:
+    """The strokes of a recording, or None where it has no packet."""
+    first = next((it.moment for it in events if isinstance(it.what, Packet)), None)
+    if first is None:
+        return None
+    moments = [
+        _Moment(it.moment, it, is_later) for it, is_later in zip(events, _later(events, failing)) if it.moment >= first
+    ]
+    failure = None if failing is None else _failure(failing, moments, first)
+    ends = [moments[-1].at]
+    if failure is not None and failure.expected is not None:
+        ends.append(failure.expected.last)
+    return Timeline(
+        begin=first,
+        end=max(ends),
+        segments=tuple(_segments(moments, failing)),
+        arrivals=tuple(_arrivals(moments)),
+        blocks=tuple(_blocks(moments)),
+        acknowledged=_stairs(moments, lambda it: it.number("una")),
+        edge=_stairs(moments, _edge),
+        cwnd=_stairs(moments, lambda it: it.number("cwnd")),
+        ssthresh=_stairs(moments, _threshold),
+        flight_size=_stairs(moments, _flight_size),
+        pipe=_stairs(moments, lambda it: it.number("pipe")),
+        spans=tuple(_spans(moments)),
+        notes=_notes(moments),
+        failure=failure,
+    )
+
+
+def _later(events: Sequence[TracedEvent], failing: FailingLine | None) -> Iterator[bool]:
+    """Of each event, whether it comes after the failing line: it belongs to a later input, or to an expiry after it."""
+    inputs = packets = 0
+    is_past = False
+    for event in events:
+        if failing is None:
+            yield False
+        elif event.is_input:
+            is_past = inputs >= failing.inputs
+            inputs += 1
+            yield is_past
+        else:
+            is_met = packets < failing.packets + (failing.actual is not None)
+            packets += 1
+            yield not is_met and (is_past or (failing.moment is not None and event.moment > failing.moment))
+
+
+# ---- octets
+
+
+def _sent(moments: Sequence[_Moment]) -> Iterator[Segment]:
+    """All segments that leave."""
+    top = 0
+    for it in moments:
+        packet = it.event.what
+        if isinstance(packet, Packet) and not packet.is_inbound:
+            start, end = _extent(packet)
+            kind = SegmentKind.EMPTY if start == end else SegmentKind.AGAIN if start < top else SegmentKind.NEW
+            top = max(top, end)
+            yield Segment(it.at, start, end, kind, _flag(packet), it.is_later)
+
+
+def _segments(moments: Sequence[_Moment], failing: FailingLine | None) -> Iterator[Segment]:
+    """The segments that leave, but for the one on which the script fails."""
+    for number, segment in enumerate(_sent(moments)):
+        if failing is None or failing.actual is None or number != failing.packets:
+            yield segment
+
+
+def _extent(packet: Packet) -> tuple[int, int]:
+    """The first octet and the number after the last one; SYN and FIN count as one octet each (RFC 9293)."""
+    return packet.start, packet.end + len({"S", "F"} & set(packet.flags))
+
+
+def _flag(packet: Packet) -> Flag:
+    return next((it for it in (Flag.RST, Flag.SYN, Flag.FIN) if it.value[0] in packet.flags), Flag.NONE)
+
+
+def _arrivals(moments: Sequence[_Moment]) -> Iterator[Arrival]:
+    before: TracedEvent | None = None
+    for it in moments:
+        packet = it.event.what
+        if isinstance(packet, Packet) and packet.is_inbound:
+            flag = _flag(packet)
+            is_duplicate = _is_duplicate(packet, before, it.event)
+            is_dropped = before is not None and _is_dropped(flag, before, it.event)
+            yield Arrival(it.at, _octet(packet, before, it.event), flag, is_duplicate, it.is_later, is_dropped)
+        before = it.event
+
+
+def _octet(packet: Packet, before: TracedEvent | None, after: TracedEvent) -> int:
+    """What a segment acknowledges, where that was sent and wasn't acknowledged before."""
+    numbers = after if before is None or before.number("una") is None else before
+    una, top = numbers.number("una") or 0, numbers.number("top") or 0
+    return packet.ack if packet.ack is not None and una <= packet.ack <= top else una
+
+
+def _is_dropped(flag: Flag, before: TracedEvent, after: TracedEvent) -> bool:
+    """Whether a FIN or RST changes nothing: no state is entered that it leads to."""
+    if flag is Flag.FIN:
+        return before.state in _AFTER_FIN or after.state not in _AFTER_FIN
+    return flag is Flag.RST and (_is_reset(before) or not _is_reset(after))
+
+
+def _is_reset(event: TracedEvent) -> bool:
+    return event.facts.get("connection") == "reset"
+
+
+def _is_duplicate(packet: Packet, before: TracedEvent | None, after: TracedEvent) -> bool:
+    """Whether an ACK acknowledges nothing new while octets are outstanding, with the same window (RFC 5681)."""
+    if before is None or packet.flags != ".":
+        return False
+    is_outstanding = (before.number("FlightSize") or 0) > 0
+    return is_outstanding and packet.ack == before.number("una") and before.number("rwnd") == after.number("rwnd")
+
+
+def _blocks(moments: Sequence[_Moment]) -> Iterator[SackBlock]:
+    for it in moments:
+        packet = it.event.what
+        if isinstance(packet, Packet) and packet.is_inbound:
+            for option in packet.options:
+                if option.name == "sack":
+                    edges = option.numbers
+                    yield from (SackBlock(it.at, *pair, it.is_later) for pair in zip(edges[::2], edges[1::2]))
+
+
+# ---- stairs
+
+
+def _stairs(moments: Sequence[_Moment], value_of: Callable[[TracedEvent], int | None]) -> tuple[Stair, ...]:
+    """A value after each event, where it isn't what it was before; of one moment the last counts."""
+    steps: list[Stair] = []
+    for it in moments:
+        step = Stair(it.at, value_of(it.event), it.is_later)
+        if steps and (steps[-1].value, steps[-1].is_later) == (step.value, step.is_later):
+            continue
+        if not steps and step.value is None:
+            continue
+        if steps and (steps[-1].at, steps[-1].is_later) == (step.at, step.is_later):
+            steps.pop()
+        steps.append(step)
+    return tuple(steps)
+
+
+def _edge(event: TracedEvent) -> int | None:
+    """The number after the last octet that the peer's window lets leave."""
+    una, window = event.number("una"), event.number("rwnd")
+    return None if una is None or window is None else una + window
+
+
+def _threshold(event: TracedEvent) -> int | None:
+    value = event.number("ssthresh")
+    return None if value is None or value >= _NO_THRESHOLD else value
+
+
+def _flight_size(event: TracedEvent) -> int | None:
+    """Once the connection is established, and where no pipe counts in its place."""
+    return event.number("FlightSize") if "cwnd" in event.facts and "pipe" not in event.facts else None
+
+
+# ---- what has a name
+
+
+def _notes(moments: Sequence[_Moment]) -> tuple[Note, ...]:
+    found = (*_timeouts(moments), *_losses(moments), *_drops(moments), *_ends(moments))
+    return tuple(sorted(found, key=lambda it: it.at))
+
+
+def _drops(moments: Sequence[_Moment]) -> Iterator[Note]:
+    """What arrives with a flag and isn't taken."""
+    for it in _arrivals(moments):
+        if it.is_dropped:
+            yield Note(it.at, f"{it.flag.value} dropped", it.is_later)
+
+
+def _timeouts(moments: Sequence[_Moment]) -> Iterator[Note]:
+    """The expiries of the retransmission timer: a packet leaves at a moment that neither an input nor another has."""
+    last: _Moment | None = None
+    for it in moments:
+        if not it.event.is_input and (last is None or it.at > last.at):
+            rto = "" if last is None else last.event.facts.get("RTO", "")
+            yield Note(it.at, f"timeout, RTO {_seconds(rto)}" if rto else "timeout", it.is_later)
+        last = it
+
+
+def _losses(moments: Sequence[_Moment]) -> Iterator[Note]:
+    for begin, _ in _recoveries(moments):
+        yield Note(begin.at, _RECOVERY[begin.event.facts["recovery"]], begin.is_later)
+
+
+def _spans(moments: Sequence[_Moment]) -> Iterator[RecoverySpan]:
+    for begin, end in _recoveries(moments):
+        yield RecoverySpan(begin.at, end.at, begin.is_later)
+
+
+def _recoveries(moments: Sequence[_Moment]) -> Iterator[tuple[_Moment, _Moment]]:
+    """Where recoveries begin and end."""
+    begin: _Moment | None = None
+    for it in moments:
+        is_in = it.event.facts.get("recovery") in _RECOVERY
+        if is_in and begin is None:
+            begin = it
+        elif begin is not None and not is_in:
+            yield begin, it
+            begin = None
+    if begin is not None:
+        yield begin, moments[-1]
+
+
+def _ends(moments: Sequence[_Moment]) -> Iterator[Note]:
+    """Where an RST has ended the connection."""
+    found = next((it for it in moments if _is_reset(it.event)), None)
+    if found is not None:
+        yield Note(found.at, "reset", found.is_later)
+
+
+def _seconds(text: str) -> str:
+    """Seconds without the zeros at their end."""
+    return f"{text.rstrip('0').rstrip('.')} s"
+
+
+# ---- the failing line
+
+
+def _failure(failing: FailingLine, moments: Sequence[_Moment], first: int) -> FailedExpectation:
+    done = [it.at for it in moments if not it.is_later]
+    at = max(done, default=first) if failing.moment is None else max(first, failing.moment)
+    return FailedExpectation(failing.line, at, _expected(failing, at, first), _actual(failing, moments, at))
+
+
+def _expected(failing: FailingLine, at: int, first: int) -> ExpectedSegment | None:
+    awaited = failing.expected
+    if awaited is None:
+        return None
+    begin = at if awaited.first is None else max(first, awaited.first)
+    end = begin if awaited.last is None else max(begin, awaited.last)
+    return ExpectedSegment(begin, end, *_extent(awaited.packet))
+
+
+def _actual(failing: FailingLine, moments: Sequence[_Moment], at: int) -> Segment | None:
+    if failing.actual is None:
+        return None
+    sent = list(_sent(moments))[failing.packets : failing.packets + 1]
+    start, end = _extent(failing.actual)
+    kind = sent[0].kind if sent else SegmentKind.NEW
+    return Segment(at, start, end, kind, _flag(failing.actual))

@@ -1,0 +1,56 @@
+"""Has the diagram of a script drawn on a page of its own, by a process beside this one."""
+
+import hashlib
+import os
+
+from pdsuite.lsp.workspace import Result
+from pdsuite.packages import missing
+from pdsuite.page.diagram_choice import Plot
+from pdsuite.page.draw_process import FAULT
+from pdsuite.page.folder import prepare
+from pdsuite.page.jobs import Job
+from pdsuite.page.links import FOLDER, file_of, plot_files
+from pdsuite.page.view_model import PageEntry, table_row
+from pdsuite.programs.child_process import ChildProcess
+from pdsuite.reports.report_cache import cache_folder
+from pdsuite.watch.sender import LiveSender
+
+_DRAWER = "pdsuite.page.draw_process"
+_FOLDER = "drawn"
+_DIGITS = 16
+
+
+class DiagramPage:
+    """A page that is being drawn; once its process has ended, `fault` says why it isn't there, if it isn't."""
+
+    def __init__(self, result: Result, sender: LiveSender) -> None:
+        path = result.file.path
+        folder = cache_folder() / _FOLDER / hashlib.sha256(os.fsencode(path)).hexdigest()[:_DIGITS]
+        prepare(folder)
+        self.page = folder / FOLDER / file_of(path)
+        self.fault = missing("matplotlib")
+        entry = PageEntry(result.outcome, result.text, Plot.NONE if self.fault else Plot.FILES, result.cause)
+        regress, record = sender.paths
+        rows = (table_row(result.outcome),)
+        job = Job(folder, rows, plot_files(path), (entry,), not sender.is_proved, regress, record)
+        self._worker = ChildProcess(_DRAWER, job)
+
+    def fileno(self) -> int:
+        """What can be read once the process has printed something, or has ended."""
+        return self._worker.fileno()
+
+    def has_ended(self) -> bool:
+        """Whether the page is drawn, or can't be."""
+        for line in self._worker.read():
+            if line.startswith(FAULT):
+                self.fault = line.removeprefix(FAULT)
+        if self._worker.has_ended:
+            status = self._worker.close()
+            if status and not self.fault:
+                self.fault = f"what draws the page ended with status {status}"
+        return self._worker.has_ended
+
+    def close(self) -> None:
+        """Ends the process."""
+        if not self._worker.has_ended:
+            self._worker.close()

@@ -1,0 +1,204 @@
+"""Serves a client on standard input and output: waits for messages, for saves and for the ends of programs."""
+
+import gc
+import os
+import select
+import sys
+import time
+from collections.abc import Iterator
+from contextlib import ExitStack, contextmanager
+from math import inf
+from typing import BinaryIO
+
+from pdsuite.faults import Fault
+from pdsuite.lsp.features import LanguageFeatures, SenderSession
+from pdsuite.lsp.open_settings import OpenSettings
+from pdsuite.lsp.queries import ProgramQueries
+from pdsuite.lsp.server import FAILED, Server, home_of
+from pdsuite.lsp.transport import Transport
+from pdsuite.lsp.workspace import Workspace
+from pdsuite.programs.locate import RECORD, REGRESS
+from pdsuite.programs.lookup import SenderChangedError, buildable, own_lookup
+from pdsuite.scripts.config import claims_of, option_of
+from pdsuite.signals import Stop, StoppedError
+from pdsuite.watch.folders import Folders, WatchChoice
+from pdsuite.watch.live_pool import LivePool
+from pdsuite.watch.refused_proof import RefusedProof
+from pdsuite.watch.sender import SenderFollower
+from pdsuite.watch.watcher import Watcher
+
+# Where no message comes for so long, what can wait is done. What is due waits no longer than that. And so often
+# programs are looked for that aren't there.
+_QUIET = 0.5
+_PATIENCE = 2.0
+_AGAIN = 10.0
+# So often it is looked at whether another sender stands, whatever is reported: that takes longer than an answer may.
+_LOOK = 1.0
+# Why nothing was run, where a sender can be built.
+_NOT_BUILT, _BUILT_NOW = "the sender isn't built", "the sender is being built"
+# Garbage is looked for at rest, where so many objects came since, as a look takes longer than an answer may.
+_MANY = 10_000
+
+
+class EventLoop:
+    """A server with what it holds open, until the client ends it."""
+
+    def __init__(self, settings: str, stop: Stop) -> None:
+        self._settings = settings
+        self._stop = stop
+        self._held = ExitStack()
+        self._watcher: Watcher | None = None
+        self._server = Server(self._run)
+        self._follower = SenderFollower(own_lookup(REGRESS, RECORD), (REGRESS, RECORD), buildable())
+        self._sources = Watcher()
+        self._proof = RefusedProof(self._follower.tree)
+        self._looked_at = -inf
+
+    def serve(self, source: BinaryIO, target: BinaryIO) -> int:
+        """Serves until the client says `exit` or goes away; the exit status."""
+        transport = Transport(source, target, self._server.handlers())
+        self._server.attach(transport)
+        try:
+            while True:
+                transport.take()
+                if self._server.status is not None:
+                    return self._server.status
+                if transport.is_at_end:
+                    return FAILED
+                try:
+                    self._step()
+                except SenderChangedError:
+                    self._looked_at = -inf
+                    continue  # the next look says what stands
+                self._wait(transport)
+                self._stop.check()
+        finally:
+            for drawn in self._server.pages.values():
+                drawn.close()
+            self._held.close()
+            self._follower.close()
+
+    def _look(self) -> None:
+        """Looks at which sender stands, where a file of it may have changed: as reported, and from time to time."""
+        events, now = self._sources.read(), time.monotonic()
+        server, follower = self._server, self._follower
+        is_due = now >= self._look_due(now) or self._has_build_output()
+        if not server.is_ready or not (events or is_due):
+            return
+        self._looked_at = now
+        has_changed = follower.look(now)
+        self._sources.watch(follower.folders())
+        if server.session is None or has_changed and follower.sender != server.session.sender:
+            self._go_over()
+        self._proof.look()
+        server.sender_status.look(follower, self._proof.lines, server.session is not None)
+
+    def _go_over(self) -> None:
+        """Begins with the sender that answers now; where none does and one can be built, waits for that."""
+        if self._follower.sender is None and self._follower.tree is not None:
+            self._server.await_sender(self._why_none())
+        else:
+            self._server.begin()
+
+    def _why_none(self) -> str:
+        """Why no sender answers."""
+        if self._follower.tree is None:
+            return self._follower.reason
+        return _NOT_BUILT if self._follower.failure else _BUILT_NOW
+
+    def _look_due(self, now: float) -> float:
+        """The moment of the next look, whatever is reported."""
+        period = _AGAIN if self._server.session is None else _LOOK
+        return min(self._looked_at + period, max(self._follower.due(self._looked_at), self._looked_at))
+
+    def _has_build_output(self) -> bool:
+        """Whether a build has something to say."""
+        poll = select.poll()
+        for file in self._follower.filenos():
+            poll.register(file, select.POLLIN)
+        return bool(poll.poll(0))
+
+    def _step(self) -> None:
+        """Does what is due: runs, answers and pages."""
+        server = self._server
+        self._look()
+        now = time.monotonic()
+        server.settle([] if self._watcher is None else self._watcher.read(), now, now >= self._due())
+        server.look_at_pages()
+        while not (server.transport.is_waiting or server.is_behind) and server.answer():
+            pass
+
+    def _wait(self, transport: Transport) -> None:
+        """Waits until there is something to do; at rest, does what can wait."""
+        session = self._server.session
+        if self._poll(transport, min(self._due(), time.monotonic() + _QUIET)) or session is None:
+            return
+        session.workspace.rest()
+        if gc.get_count()[0] > _MANY:
+            gc.collect()
+        self._poll(transport, session.workspace.due())
+
+    def _due(self) -> float:
+        """When folders are looked at, or programs: a look takes longer than an answer may, so it waits for a pause."""
+        session = self._server.session
+        if session is None:
+            return self._look_due(time.monotonic())
+        due = session.workspace.due()
+        return max(due, min(self._server.transport.received_at + _QUIET, due + _PATIENCE))
+
+    def _poll(self, transport: Transport, until: float) -> bool:
+        poll = select.poll()
+        watcher = None if self._watcher is None else self._watcher.fileno()
+        program_files = [] if self._server.session is None else self._server.session.workspace.filenos()
+        drawn = [it.fileno() for it in self._server.pages.values()]
+        ours = (self._stop.fileno(), self._sources.fileno(), *self._follower.filenos())
+        for file in (transport.fileno(), watcher, *ours, *program_files, *drawn):
+            if file is not None:
+                poll.register(file, select.POLLIN)
+        if transport.is_waiting or self._server.is_behind:
+            return True
+        return bool(poll.poll(max(0.0, until - time.monotonic()) * 1_000))
+
+    def _run(self, server: Server) -> SenderSession:
+        """Starts what serves by the sender in place of what did; a fault where none is there."""
+        self._held.close()
+        self._follower.look(time.monotonic())
+        if (sender := self._follower.sender) is None:
+            raise Fault(self._why_none())
+        queries = ProgramQueries(sender, self._stop, server.log)
+        option = option_of(self._settings)
+        if lines := queries.refused(list(claims_of([option]))):
+            raise Fault("; ".join(lines))
+        self._watcher = self._held.enter_context(_Unwatched() if server.client.watches else Watcher())
+        settings = OpenSettings(option, lambda claims: queries.refused(list(claims)))
+        pool = self._held.enter_context(LivePool(queries.start, server.log, lambda doing: None))
+        folders = Folders(WatchChoice(server.client.roots, ()), settings, self._watcher, self._stop, server.log)
+        home = home_of(server.client)
+        return SenderSession(Workspace(folders, settings, pool, home, sender.check), LanguageFeatures(queries), sender)
+
+
+class _Unwatched(Watcher):
+    """Watches nothing, where the client says what changes; what it doesn't say is found by looking."""
+
+    def watch(self, folders: object) -> None:
+        """Nothing."""
+
+
+def serve(settings: str) -> int:
+    """Serves a client, and answers the exit status."""
+    gc.disable()
+    with Stop() as stop, _streams() as (source, target):
+        try:
+            return EventLoop(settings, stop).serve(source, target)
+        except StoppedError as stopped:
+            return stopped.status
+
+
+@contextmanager
+def _streams() -> Iterator[tuple[BinaryIO, BinaryIO]]:
+    """Standard input and output; whatever else is printed goes to standard error."""
+    sys.stdout.flush()
+    target = os.fdopen(os.dup(1), "wb")
+    os.dup2(2, 1)
+    # Not closed at the end, since a thread may be reading.
+    yield os.fdopen(os.dup(0), "rb"), target

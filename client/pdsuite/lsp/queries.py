@@ -1,0 +1,114 @@
+"""Queries to programs beside the runs that stay up: recordings, rows of other texts, and what may stand where."""
+
+from collections.abc import Callable, Sequence
+
+from pdsuite.lsp.completion import PROBE
+from pdsuite.programs.locate import REGRESS
+from pdsuite.programs.program import Program, ProgramEndedError
+from pdsuite.programs.protocol import LONGEST_CAUSE, LONGEST_LINE, SETTLE, Cause, UnexpectedAnswerError
+from pdsuite.programs.protocol import add, causes_in, name_of, rows_in
+from pdsuite.programs.recorder import MINIMAL, Recorder, Recording
+from pdsuite.programs.refusals import refusals
+from pdsuite.programs.verdict import Row
+from pdsuite.run.batches import BATCH_SIZE
+from pdsuite.run.explainer import EXPLAIN, JSON, LEFTOVERS
+from pdsuite.scripts.config import Claim
+from pdsuite.scripts.settings import Settings, settings_text
+from pdsuite.scripts.text import Text, UnfitTextError, text_of
+from pdsuite.signals import Stop
+from pdsuite.watch.sender import LiveSender
+
+# Has the program say how many steps each run takes.
+STEPS = "--steps"
+# So many recordings are kept.
+_KEPT = 8
+
+
+class ProgramQueries:
+    """The programs of a sender, each started anew for a query; `note` gets a line where one ends."""
+
+    def __init__(self, sender: LiveSender, stop: Stop, note: Callable[[str], None]) -> None:
+        self.sender = sender
+        self._regress, record = sender.paths
+        self.stop = stop
+        self.note = note
+        self._recorder = Recorder(stop, note, record)
+        self._recordings: dict[tuple[bytes, Settings], Recording] = {}
+
+    def start(self, settings: Settings) -> Program:
+        """Starts a run that stays up and explains; SenderChangedError where another file lies at the program's path."""
+        return self._started(settings, STEPS, EXPLAIN, LEFTOVERS, JSON, "--cache", str(BATCH_SIZE))
+
+    def refused(self, claims: Sequence[Claim]) -> list[str]:
+        """The lines of the settings that are refused."""
+        return refusals(claims, lambda: Program([self._regress], self.stop))
+
+    def recording(self, text: str, settings: Settings) -> Recording:
+        """The recording of a script with its trace; that of the same script is kept for a while."""
+        octets = text.encode("utf-8", "surrogatepass")
+        key = octets, settings
+        if key not in self._recordings:
+            while len(self._recordings) >= _KEPT:
+                del self._recordings[next(iter(self._recordings))]
+            self.sender.check()
+            self._recordings[key] = self._recorder.record("the script", octets, settings)
+        return self._recordings[key]
+
+    def mended(self, text: str, settings: Settings) -> str:
+        """A script with the least change with which it passes; empty where there is none."""
+        self.sender.check()
+        return self._recorder.record("the script", text.encode("utf-8", "surrogatepass"), settings, MINIMAL).text
+
+    def rows(self, texts: Sequence[str], settings: Settings) -> list[Row | None]:
+        """The rows of these texts; None of one that can't be a script."""
+        fit = [_text(it) for it in texts]
+        names = [name_of(number) for number, it in enumerate(fit) if it is not None]
+        commands = b"".join(add(name_of(number), it) for number, it in enumerate(fit) if it is not None)
+        if not names:
+            return [None for _ in texts]
+        with self._started(settings, "--cache", "1") as program:
+            answer = program.query(commands + SETTLE, LONGEST_LINE * (len(names) + 2))
+        try:
+            rows = iter(rows_in(answer, b"", names, len(names)))
+        except UnexpectedAnswerError as unexpected:
+            raise ProgramEndedError(f"{REGRESS}: {unexpected}") from unexpected
+        return [None if it is None else next(rows) for it in fit]
+
+    def expected(self, before: str, settings: Settings) -> list[str]:
+        """What may stand after a text; nothing where no script begins so."""
+        text = _text(before + PROBE)
+        if text is None:
+            return []
+        with self._started(settings, EXPLAIN, JSON, "--cache", "1") as program:
+            errors = program.finish(add(name_of(0), text), 2 * LONGEST_CAUSE)
+        try:
+            cause = next(iter(causes_in(errors).values()), None)
+        except UnexpectedAnswerError as unexpected:
+            raise ProgramEndedError(f"{REGRESS}: {unexpected}") from unexpected
+        return _words(cause, before)
+
+    def _started(self, settings: Settings, *words: str) -> Program:
+        self.sender.check()
+        text = settings_text(settings)
+        return Program([self._regress, *words, *(["--settings", text] if text else [])], self.stop)
+
+
+def _words(cause: Cause | None, before: str) -> list[str]:
+    """What is expected in the place of the probe, where the script breaks off there."""
+    match cause:
+        case {"verdict": "syntax", "line": int(line), "column": int(column), "expected": list(expected)}:
+            is_probe = line == before.count("\n") + 1 and column == _shown_length(before.rpartition("\n")[2])
+            return [str(it) for it in expected] if is_probe else []
+    return []
+
+
+def _shown_length(text: str) -> int:
+    octets = text.encode("utf-8", "surrogatepass")
+    return sum(1 if 0x20 <= it <= 0x7E else 4 for it in octets)
+
+
+def _text(text: str) -> Text | None:
+    try:
+        return text_of(text.encode("utf-8", "surrogatepass"))
+    except UnfitTextError:
+        return None

@@ -1,0 +1,158 @@
+"""Has a page drawn by processes beside this one, and keeps it up: only what changed is drawn again."""
+
+import os
+import select
+from collections.abc import Callable, Sequence
+from dataclasses import replace
+from pathlib import Path
+
+from pdsuite.compare.comparison import ComparedScript
+from pdsuite.files import write
+from pdsuite.packages import need
+from pdsuite.page.diagram_choice import DiagramChoice, Plot, plots_of
+from pdsuite.page.draw_process import FAILED, FAULT
+from pdsuite.page.folder import prepare
+from pdsuite.page.jobs import Job
+from pdsuite.page.links import plot_files
+from pdsuite.page.notes import SenderNotes, turned_of
+from pdsuite.page.render import SENDER, sender_style
+from pdsuite.page.view_model import PageEntry, table_row
+from pdsuite.programs.child_process import ChildProcess
+from pdsuite.signals import Stop
+
+_DRAWER = "pdsuite.page.draw_process"
+# So many pages are worth a process more.
+_SHARE = 128
+_DRAWING = "another sender stands, and its pages are drawn"
+
+
+class PageUpdates:
+    """The page in a folder, and the processes that draw it; `note` gets the reason where one has to end."""
+
+    def __init__(
+        self, folder: Path, plots: DiagramChoice, note: Callable[[str], None], is_unproved: bool = False
+    ) -> None:
+        if plots.pattern is not None:
+            need("matplotlib")
+        prepare(folder)
+        self._plots = plots
+        self._is_unproved = is_unproved
+        self.has_failed = False
+        self._folder = folder.absolute()
+        self._note = note
+        self._workers: dict[ChildProcess, tuple[PageEntry, ...]] = {}
+        self._drawn: dict[str, PageEntry] = {}
+        self._waiting: Sequence[PageEntry] | None = None
+        self._entries: Sequence[PageEntry] = ()
+        self._turned: Sequence[ComparedScript] = ()
+        self._notes = SenderNotes()
+        self._is_ending = False
+        self._follows = False  # whether it is drawn of the sender that answers
+        self._is_turning = False  # whether pages are of another sender than the one that they are to be drawn of
+        self._words = self._shown_words = ""
+        self._programs: tuple[Path | None, Path | None] = None, None
+
+    def __enter__(self) -> "PageUpdates":
+        return self
+
+    def __exit__(self, *error: object) -> None:
+        for worker in self._workers:
+            worker.close()
+
+    def filenos(self) -> list[int]:
+        """What can be read once a process has drawn something or has ended."""
+        return [it.fileno() for it in self._workers]
+
+    def turn(self, regress: Path, record: Path | None, is_unproved: bool) -> None:
+        """Has all drawn anew by other programs."""
+        self._programs = regress, record
+        self._is_unproved = is_unproved
+        self._is_turning, self._follows = self._follows or self._is_turning, False
+        self._drawn = {}
+        self.end()
+
+    def mark(self, words: str) -> None:
+        """Has all pages say that they are of the sender before, and why, until they are drawn of one that stands."""
+        self._words = words
+        shown_words = words or (_DRAWING if self._is_turning else "")
+        if shown_words != self._shown_words:
+            self._shown_words = shown_words
+            write(self._folder / SENDER, sender_style(shown_words))
+
+    def show_refusals(self, refusals: Sequence[Sequence[str]]) -> None:
+        """Has the table say why the sender isn't built or proved."""
+        lines = tuple(tuple(it) for it in refusals)
+        if lines == self._notes.refusals:
+            return
+        self._notes = replace(self._notes, refusals=lines)
+        if self._follows or not self._entries:
+            self._waiting = self._entries
+            self.look()
+
+    def end(self) -> None:
+        """Has what is drawn now ended, since it isn't wanted any more."""
+        self._is_ending = True
+        for worker in self._workers:
+            worker.end()
+
+    def follow(self, entries: Sequence[PageEntry], turned: Sequence[ComparedScript] = ()) -> None:
+        """Has the page drawn of these scripts, as soon as nothing else is drawn; the sender turned some."""
+        self._follows = True
+        plots = plots_of((it.outcome for it in entries), self._plots)
+        self._waiting = self._entries = [replace(it, plot=plot) for it, plot in zip(entries, plots)]
+        if turned is not self._turned:
+            self._turned, self._notes = turned, replace(self._notes, turned=turned_of(turned))
+        self.look()
+
+    def look(self) -> None:
+        """Reads what was drawn, and begins what waits."""
+        for worker, entries in list(self._workers.items()):
+            self._read(worker, entries)
+        if self._waiting is not None and not self._workers:
+            self._is_ending = False
+            self._begin(self._waiting)
+            self._waiting = None
+        if self._is_turning and self._follows and not self._workers and not self._words:
+            self._is_turning = False
+            self.mark("")
+
+    def finish(self, stop: Stop, advance: Callable[[int, int], None]) -> None:
+        """Waits until all is drawn; `advance` gets how many pages are, and of how many."""
+        count = sum(map(len, self._workers.values()))
+        while self._workers:
+            advance(len(self._drawn), count)
+            select.select([stop.fileno(), *self.filenos()], [], [])
+            stop.check()
+            self.look()
+
+    def _begin(self, entries: Sequence[PageEntry]) -> None:
+        paths = {it.outcome.path for it in entries}
+        self._drawn = {path: it for path, it in self._drawn.items() if path in paths}
+        changed = [it for it in entries if self._drawn.get(it.outcome.path) != it]
+        changed.sort(key=lambda it: it.plot is not Plot.NONE)  # what takes longest comes last, and to all
+        diagrams = sum(it.plot is not Plot.NONE for it in changed)
+        count = max(1, min(len(os.sched_getaffinity(0)), max(len(changed) // _SHARE, diagrams)))
+        rows = tuple(table_row(it.outcome) for it in entries)
+        plots = tuple(name for it in entries if it.plot is Plot.FILES for name in plot_files(it.outcome.path))
+        for number in range(count):
+            share = tuple(changed[number::count])
+            table = rows if number == 0 else None
+            job = Job(self._folder, table, plots, share, self._is_unproved, *self._programs, self._notes)
+            self._workers[ChildProcess(_DRAWER, job)] = share
+
+    def _read(self, worker: ChildProcess, entries: Sequence[PageEntry]) -> None:
+        for line in worker.read():
+            if line.startswith(FAULT):
+                self._fail(line.removeprefix(FAULT))
+            else:
+                entry = entries[int(line)]
+                self._drawn[entry.outcome.path] = entry
+        if worker.has_ended:
+            del self._workers[worker]
+            status = worker.close()
+            if status not in (0, FAILED) and not self._is_ending:
+                self._fail(f"what draws the page ended with status {status}")
+
+    def _fail(self, reason: str) -> None:
+        self.has_failed = True
+        self._note(f"pdsuite: {reason}")

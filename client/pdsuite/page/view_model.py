@@ -1,0 +1,250 @@
+"""What the page of a script shows, as values: all that comes from scripts stands there as it is shown."""
+
+from collections.abc import Iterator, Mapping
+from dataclasses import dataclass
+
+from pdsuite.output.octets import shown, shown_path
+from pdsuite.packetdrill.columns import Mark, PacketColumns, PacketField, columns
+from pdsuite.page.diagram_choice import Plot
+from pdsuite.page.diagrams import Diagram
+from pdsuite.page.links import file_of
+from pdsuite.programs.cause_text import STATE, WORDS, dropped_segments, safe, sender_of, unmatched, value_of
+from pdsuite.programs.cause_text import with_sender
+from pdsuite.programs.protocol import Cause
+from pdsuite.programs.verdict import Verdict
+from pdsuite.reports.outcome_text import block, reason, warnings
+from pdsuite.run.line_diff import DiffLine, LineDiff
+from pdsuite.run.outcomes import CountedAs, Outcome
+from pdsuite.scripts.settings import shown_value
+from pdsuite.scripts.text import Text
+
+_LONGEST_LINE = 160
+
+# What stands elsewhere than below the packets.
+_ELSEWHERE = ("script_packet", "actual_packet", "reason_words")
+# What the page says of the sender's state and its numbers.
+_GLOSSES = {
+    "name": "as RFC 9293 names it",
+    "una": "the oldest octet that isn't acknowledged",
+    "next": "where sending goes on",
+    "top": "the number after all that was sent",
+    "end": "the number after all that is queued",
+    "cwnd": "the congestion window, in octets",
+    "ssthresh": "the slow start threshold, in octets",
+    "rwnd": "the peer's window, in octets",
+    "flight_size": "top less una, in octets",
+    "pipe": "octets that count as on the way",
+    "prr_delivered": "octets that reached the peer in this recovery",
+    "prr_out": "octets that were sent in it",
+    "dup_acks": "duplicates counted; 4 stands for more too",
+    "rto_us": "the retransmission timeout",
+    "expiry_us": "when the timer expires next",
+    "recovery": "from losses, and by which RFC",
+}
+
+
+@dataclass(frozen=True, slots=True)
+class PageEntry:
+    """A script for the page: what came of it, its text where it was run, and whether its diagram is drawn.
+
+    And its explanation by keys, where that is known already.
+    """
+
+    outcome: Outcome
+    text: Text | None = None
+    plot: Plot = Plot.NONE
+    cause: Cause | None = None
+
+
+@dataclass(frozen=True, slots=True)
+class TableRow:
+    """A script in the table; `expected` is what the report says of the row that is expected."""
+
+    path: str
+    file: str
+    verdict: Verdict
+    counted_as: Verdict | CountedAs
+    kind: str
+    line: int | None
+    text: str
+    why: str
+    expected: str
+
+
+@dataclass(frozen=True, slots=True)
+class NamedFact:
+    """Something that the page shows: its name, its value and, where that helps, what it is."""
+
+    name: str
+    value: str
+    gloss: str = ""
+
+
+@dataclass(frozen=True, slots=True)
+class ScriptLine:
+    """A line of a script."""
+
+    number: int
+    text: str
+    is_named: bool  # by the row
+
+
+@dataclass(frozen=True, slots=True)
+class RefusedText:
+    """Where a text is no script: the line, in front of the token and from there on, and what could stand there."""
+
+    before: str
+    after: str
+    expected: tuple[str, ...]
+
+
+@dataclass(frozen=True)
+class ScriptView:
+    """A script's page."""
+
+    row: TableRow
+    events: int | None
+    lines: tuple[ScriptLine, ...]
+    settings: tuple[NamedFact, ...]
+    packets: tuple[tuple[str, PacketColumns], ...]
+    reason: str
+    refused: RefusedText | None
+    facts: tuple[NamedFact, ...]
+    unmatched: tuple[str, ...]
+    more_unmatched: int
+    state: tuple[NamedFact, ...]
+    below: tuple[str, ...]  # what is explained in lines, where nothing is by keys
+    diagram: Diagram
+    met: tuple[DiffLine, ...]  # what each line was met by, where the script fails
+
+    @property
+    def marks(self) -> list[Mark]:
+        """The marks that its packets have."""
+        used = {part.mark for _, packet in self.packets for part in packet}
+        return [it for it in Mark if it in used and it is not Mark.NONE]
+
+
+def table_row(outcome: Outcome) -> TableRow:
+    """The row of a script in the table."""
+    row = outcome.row
+    return TableRow(
+        shown_path(outcome.path),
+        file_of(outcome.path),
+        row.verdict,
+        outcome.counted_as,
+        "" if row.verdict is Verdict.ERROR else row.word,
+        outcome.line,
+        _text(outcome),
+        _why(outcome),
+        _expected(outcome),
+    )
+
+
+def _text(outcome: Outcome) -> str:
+    """The line of its text that the row is about, as it is shown."""
+    if outcome.line != outcome.row.line and outcome.block_lines:
+        return outcome.block_lines[0].strip()  # the program marks another one than the row has
+    return "" if outcome.text is None else shown(outcome.text.expandtabs().strip(), _LONGEST_LINE)
+
+
+def script_view(entry: PageEntry, cause: Cause | None, diagram: Diagram, met: LineDiff | None = None) -> ScriptView:
+    """The page of a script, with the program's explanation, and what its lines were met by."""
+    outcome, explanation = entry.outcome, cause or {}
+    return ScriptView(
+        row=table_row(outcome),
+        events=outcome.row.number if outcome.row.verdict is Verdict.PASS else None,
+        lines=tuple(_lines(entry.text, outcome.line)) if entry.text else (),
+        settings=tuple(NamedFact(key, safe(shown_value(value))) for key, value in outcome.settings),
+        packets=_packets(explanation),
+        reason=_string(explanation, "reason_words"),
+        refused=_refused(explanation),
+        facts=tuple(_facts(explanation)),
+        unmatched=tuple(_unmatched(explanation)),
+        more_unmatched=_number(explanation, "more_untaken_packets"),
+        state=tuple(_state(explanation)),
+        below=() if explanation else tuple(block(outcome)),
+        diagram=diagram,
+        met=() if met is None else met.lines,
+    )
+
+
+def _facts(explanation: Cause) -> Iterator[NamedFact]:
+    if sender := sender_of(explanation.get("sent_by")):
+        yield NamedFact("sent by", sender)
+    for key, words in WORDS.items():
+        if key in explanation and key not in _ELSEWHERE:
+            yield NamedFact(words, _value(key, explanation[key]))
+    for it in dropped_segments(explanation):
+        yield NamedFact("dropped", safe(it))
+
+
+def _unmatched(explanation: Cause) -> Iterator[str]:
+    return (safe(with_sender(packet, origin)) for packet, origin in unmatched(explanation))
+
+
+def _expected(outcome: Outcome) -> str:
+    """Which row is expected, and why, where one is."""
+    expected = outcome.expected
+    if expected is None or outcome.row.verdict is Verdict.NOT_RUN:
+        return ""
+    return expected.reason if outcome.is_known else f'"{expected.row}" is expected ({expected.reason})'
+
+
+def _why(outcome: Outcome) -> str:
+    """Why a row is so, as far as that is explained, or what is warned of."""
+    if outcome.row.verdict is Verdict.ERROR:
+        return outcome.row.word
+    return "; ".join(warnings(outcome)) or reason(outcome)
+
+
+def _lines(text: Text, named: int | None) -> Iterator[ScriptLine]:
+    for number, line in enumerate(text.octets.split(b"\n")[: text.lines], 1):
+        yield ScriptLine(number, shown(line.removesuffix(b"\r").expandtabs()), number == named)
+
+
+def _packets(explanation: Cause) -> tuple[tuple[str, PacketColumns], ...]:
+    """The packet of the script, and below it the one that was sent, if one was."""
+    script, actual = _string(explanation, "script_packet"), _string(explanation, "actual_packet")
+    if not script:
+        return ()
+    if not actual:
+        return (("script packet", (PacketField(script),)), ("actual packet", ()))
+    one, other = columns(script, actual, _string(explanation, "kind"))
+    return ("script packet", one), ("actual packet", other)
+
+
+def _refused(explanation: Cause) -> RefusedText | None:
+    if "expected" not in explanation:
+        return None
+    text, column = _string(explanation, "text"), explanation.get("column")
+    place = column if isinstance(column, int) else len(text)
+    return RefusedText(text[:place], text[place:], _texts(explanation, "expected"))
+
+
+def _state(explanation: Cause) -> Iterator[NamedFact]:
+    state = explanation.get("state")
+    if isinstance(state, Mapping):
+        for key, word in {"name": "state", **STATE}.items():
+            if key in state:
+                yield NamedFact(word, _value(key, state[key]), _GLOSSES.get(key, ""))
+
+
+def _value(key: str, value: object) -> str:
+    """A value as people see it, with the unit of moments and spans."""
+    unit = " s" if key.endswith("_us") and value is not None else ""
+    return f"{safe(value_of(key, value))}{unit}"
+
+
+def _string(explanation: Cause, key: str) -> str:
+    value = explanation.get(key)
+    return safe(value) if isinstance(value, str) else ""
+
+
+def _texts(explanation: Cause, key: str) -> tuple[str, ...]:
+    values = explanation.get(key)
+    return tuple(safe(it) for it in values if isinstance(it, str)) if isinstance(values, list) else ()
+
+
+def _number(explanation: Cause, key: str) -> int:
+    value = explanation.get(key)
+    return value if isinstance(value, int) else 0

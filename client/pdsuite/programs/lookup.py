@@ -1,0 +1,221 @@
+"""Which programs stand: the tree's tools say so once, and stamps of all that they looked at say whether it is so still.
+
+Stamps are compared by equality alone, and no process is started where nothing changed.
+"""
+
+import subprocess
+import time
+from collections.abc import Callable, Mapping, Sequence
+from dataclasses import dataclass
+from functools import partial
+from os import environ, fsdecode
+from os.path import isdir
+from pathlib import Path
+from typing import TypeVar
+
+from pdsuite.faults import Fault, why
+from pdsuite.file_stamps import Stamp, have_stamps, is_sure, stamp_of
+from pdsuite.output.octets import shown_path
+from pdsuite.programs.locate import BUILD_TOOL, PACKAGE_VERSION, PROGRAMS_VARIABLE, PROVED_TOOL, TOP
+from pdsuite.programs.locate import UnprovedError, digest, launched_from, locate, proved_program
+
+# While files change all the time, the tools are queried so often.
+_TRIES = 5
+# What stands where a program and all that is made beside it lie.
+_MADE = "/out/"
+
+# What is reported where a sender isn't the one that it was at the beginning.
+CHANGED = "the sender has changed meanwhile"
+
+T = TypeVar("T")
+U = TypeVar("U")
+FindProgram = Callable[[str], Path]
+ListFiles = Callable[[str], Sequence[str]]
+
+
+class SenderChangedError(Exception):
+    """That another file lies where a program lay when it was found, so that what it answers counts no more."""
+
+
+@dataclass(frozen=True, slots=True)
+class StampedProgram:
+    """A program as it stands: its path, the stamp of its file, and its SHA-256."""
+
+    path: Path
+    stamp: Stamp
+    digest: str
+
+    @property
+    def is_there(self) -> bool:
+        """Whether the file is the one that was found."""
+        return stamp_of(self.path) == self.stamp
+
+    def check(self) -> None:
+        """Raises SenderChangedError where the file isn't the one that was found."""
+        if not self.is_there:
+            raise SenderChangedError(f"{shown_path(self.path)} is another file")
+
+
+def stamped_program(path: Path) -> StampedProgram:
+    """A program as it stands at a path; a fault where it can't be read."""
+    try:
+        return StampedProgram(path, stamp_of(path), digest(path))
+    except OSError as error:
+        raise Fault(f"{shown_path(path)}: {why(error)}") from error
+
+
+# A program, or why there is none.
+FoundProgram = StampedProgram | Fault
+
+
+@dataclass(frozen=True)
+class _LookupState:
+    """What stood when all files had these stamps, and whether each later writing gives one of them another stamp."""
+
+    found: Mapping[str, FoundProgram]
+    stamps: Mapping[str, Stamp]
+    folders: frozenset[str]
+    is_sure: bool
+
+    def stands(self) -> bool:
+        """Whether it is surely so still."""
+        return self.is_sure and have_stamps(self.stamps)
+
+
+class ProgramLookup:
+    """Looks at programs by their names: `find` says which one stands, `files` on which files that depends."""
+
+    def __init__(self, names: Sequence[str], find: FindProgram, files: ListFiles) -> None:
+        self._names = names
+        self._find = find
+        self._files = files
+        self._seen: _LookupState | None = None
+
+    def now(self) -> Mapping[str, FoundProgram]:
+        """What stands now, by the names of programs."""
+        return self._see().found
+
+    def need(self, name: str) -> StampedProgram:
+        """The program of this name that stands now; a fault where none does."""
+        found = self.now()[name]
+        if isinstance(found, Fault):
+            raise found
+        return found
+
+    def sources(self) -> Mapping[str, Stamp]:
+        """The stamps of all files that aren't made beside a program. A folder is what lies in it."""
+        seen = self._see()
+        return {path: it for path, it in seen.stamps.items() if path not in seen.folders and _MADE not in path}
+
+    def folders(self) -> set[str]:
+        """The folders in which something that counts may change."""
+        seen = self._see()
+        return {*seen.folders, *(str(Path(it).parent) for it in seen.stamps)}
+
+    def _see(self) -> _LookupState:
+        if self._seen is None or not self._seen.stands():
+            self._seen = self._look()
+        return self._seen
+
+    def _look(self) -> _LookupState:
+        """Queries what stands, until no file changes meanwhile."""
+        for _ in range(_TRIES):
+            moment = time.time_ns()
+            paths = [path for name in self._names for path in self._files(name)]
+            stamps = {path: stamp_of(path) for path in paths}
+            found = {name: self._found(name) for name in self._names}
+            if stamps == {path: stamp_of(path) for path in paths}:
+                folders = frozenset(filter(isdir, stamps))
+                return _LookupState(
+                    found, stamps, folders, bool(paths) and all(is_sure(it, moment) for it in stamps.values())
+                )
+        changing = UnprovedError(f"{', '.join(self._names)}: files change all the time")
+        return _LookupState(dict.fromkeys(self._names, changing), {}, frozenset(), False)
+
+    def _found(self, name: str) -> FoundProgram:
+        try:
+            return stamped_program(self._find(name))
+        except Fault as fault:
+            return fault
+        except OSError as error:
+            return Fault(f"{name}: {why(error)}")
+
+
+class SenderGuard:
+    """Sees whether senders stay as they were when this was made: proved programs, or else the sources of a tree."""
+
+    def __init__(self, *looks: ProgramLookup) -> None:
+        self._looks = _side_by_side(lambda it: (it, it.now(), it.sources()), looks)
+
+    def need_same(self, consequence: str) -> None:
+        """A fault where one isn't as it was; it names the consequence."""
+        if self.has_changed():
+            raise Fault(f"{CHANGED}: {consequence}")
+
+    def has_changed(self) -> bool:
+        """Whether one isn't as it was."""
+        return any(_side_by_side(lambda it: _has_changed(*it), self._looks))
+
+
+def _side_by_side(work: Callable[[T], U], each: Sequence[T]) -> list[U]:
+    """What a function answers to each: looks wait for the tools of their trees."""
+    if len(each) < 2:
+        return [work(it) for it in each]
+    # Only who looks at several senders pays for what makes threads.
+    from concurrent.futures import ThreadPoolExecutor
+
+    with ThreadPoolExecutor(len(each)) as pool:
+        return list(pool.map(work, each))
+
+
+def _has_changed(lookup: ProgramLookup, found: Mapping[str, FoundProgram], sources: Mapping[str, Stamp]) -> bool:
+    now = lookup.now()
+    proved = [name for name, it in found.items() if isinstance(it, StampedProgram)]
+    return any(now[name] != found[name] for name in proved) if proved else lookup.sources() != sources
+
+
+def own_lookup(*names: str) -> ProgramLookup:
+    """A look at the programs of this client: those of a folder that is named, of its package, or of its tree."""
+    if word := environ.get(PROGRAMS_VARIABLE):
+        folder = Path(word)
+        if tree := launched_from(folder):
+            return tree_lookup(tree, *names)
+        return ProgramLookup(names, locate, lambda name: [str((folder / name).absolute())])
+    if PACKAGE_VERSION.exists():
+        return ProgramLookup(names, locate, lambda name: [str(locate(name))])
+    return tree_lookup(TOP, *names)
+
+
+def buildable() -> Path | None:
+    """The tree whose sender is built without proofs where it isn't proved: that of this client, or of its launchers."""
+    if word := environ.get(PROGRAMS_VARIABLE):
+        tree = launched_from(Path(word))
+    else:
+        tree = None if PACKAGE_VERSION.exists() else TOP
+    return tree if BUILD_TOOL.is_file() else None
+
+
+def tree_lookup(top: Path, *names: str) -> ProgramLookup:
+    """A look at the proved programs of a tree."""
+    return ProgramLookup(names, lambda name: proved_program(name, top), partial(_files_in, top))
+
+
+def programs_lookup(programs: Mapping[str, Path]) -> ProgramLookup:
+    """A look at programs by their paths."""
+    return ProgramLookup(list(programs), programs.__getitem__, lambda name: [str(programs[name])])
+
+
+def _files_in(top: Path, name: str) -> list[str]:
+    """All files and folders on which it depends whether a tree's program is proved; none where nobody says."""
+    try:
+        done = subprocess.run(
+            [top / PROVED_TOOL, "--files", name],
+            stdin=subprocess.DEVNULL,
+            capture_output=True,
+            process_group=0,  # a key of the terminal ends the client alone
+        )
+    except OSError:
+        return []
+    if done.returncode:
+        return []
+    return [str(top / fsdecode(it)) for it in done.stdout.split(b"\0") if it]

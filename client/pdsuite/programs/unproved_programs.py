@@ -1,0 +1,66 @@
+"""The programs of a command where none are proved: a build of the tree as it stands, made now if none is kept."""
+
+from collections.abc import Callable
+from contextlib import suppress
+from pathlib import Path
+
+from pdsuite.output.octets import shown_path
+from pdsuite.output.screen import Screen
+from pdsuite.programs.build import BuildMode, NoKeptBuildError, built_folder, kept_build
+from pdsuite.programs.locate import BATCH_TOOL, TOP, UnprovedError, locate, take_folder
+from pdsuite.signals import Stop
+
+_PHASES = {
+    "waiting": "another call builds them",
+    "reading": "reading the sources",
+    "compiling": "compiling",
+    "linking": "linking",
+}
+
+
+def program_of(name: str, stop: Stop, screen: Screen) -> Path:
+    """The program of this name: the proved one, or that of a build, which is reported first.
+
+    Raises UnprovedError where there is neither.
+    """
+    try:
+        return locate(name)
+    except UnprovedError:
+        if not (BATCH_TOOL.is_file() and take_build("plain", stop, screen)):
+            raise
+    return locate(name)
+
+
+def take_build(way: BuildMode, stop: Stop, screen: Screen) -> bool:
+    """Has the programs of this call be a build of the tree as it stands; whether there can be one.
+
+    A line says first that they aren't proved, and on a terminal another one how far the build is.
+    """
+    folder = kept_build(TOP, way)
+    screen.note(f"pdsuite: {first_line(folder is not None)}")
+    try:
+        take_folder(folder or built_folder(TOP, way, stop, progress(screen)))
+    except NoKeptBuildError:
+        return False
+    finally:
+        screen.clear()
+    return True
+
+
+def progress(screen: Screen, of: str = "") -> Callable[[str, float], None]:
+    """What keeps a line at the bottom of a terminal: the phase of a build, and for how many seconds it goes on."""
+    return lambda phase, seconds: screen.bottom(f"building{of}: {_PHASES.get(phase, phase)}, {int(seconds)} s")
+
+
+def first_line(is_kept: bool) -> str:
+    """What is printed before a sender is run that isn't proved, and of which a build is kept or not."""
+    doing = "running without proofs" if is_kept else "building first, then running without proofs"
+    return f"unproved: {doing}; {_way_to_prove()} proves the programs"
+
+
+def _way_to_prove() -> str:
+    """The command that proves the programs of this tree, as it is written from here."""
+    with suppress(OSError):
+        if Path.cwd() == TOP:
+            return "./prove"
+    return shown_path(TOP / "prove")

@@ -1,0 +1,115 @@
+"""A session with the programs of a tree as it stands: they are built once, without proofs, for many starts."""
+
+import os
+import select
+import tempfile
+from collections.abc import Iterator, Sequence
+from pathlib import Path
+
+from pdsuite.programs.batch_protocol import Answer, Case, answer_of, input_of, parts_in, with_program_named
+from pdsuite.programs.build import BuildError
+from pdsuite.programs.locate import RECORD
+from pdsuite.programs.unproved_batch import BatchTool, ProgramCases
+from pdsuite.signals import Stop
+
+# So many starts may end the programs on the way; then others go on, of the same build.
+_ENDS = 256
+# What one session may take, in seconds.
+_SECONDS = 1_000_000
+_READ = 1 << 18
+_PARTS = 3
+_ENDED = "the programs ended on it"
+
+
+class UnprovedSession:
+    """Starts a tree's programs one after the other, through named pipes. It ends with its block."""
+
+    def __init__(self, tree: Path, stop: Stop) -> None:
+        self._stop = stop
+        self._folder = tempfile.TemporaryDirectory(prefix="pdsuite-")
+        self._pipes = _pipes_in(Path(self._folder.name))
+        inputs = [f"{requests}\n{answers}\n".encode() for requests, answers in self._pipes]
+        self._tool = BatchTool(tree, inputs, Path(self._folder.name), "--seconds", str(_SECONDS))
+        self._requests = self._answers = -1
+        self._open_pipes()
+
+    def __enter__(self) -> "UnprovedSession":
+        return self
+
+    def __exit__(self, *error: object) -> None:
+        self._close_pipes()
+        self._tool.end()
+        self._folder.cleanup()
+
+    def wait(self) -> None:
+        """Waits until the programs are built."""
+        self._exchange([Case((RECORD,), b"")])
+
+    def answers(self, cases: ProgramCases) -> list[Answer]:
+        """The answers to the cases of a build of this tree."""
+        left = list(with_program_named(cases.program, cases.words, cases.cases))
+        answers: list[Answer] = []
+        while left:
+            answered = self._exchange(left)
+            answers += answered
+            left = left[len(answered) :]
+            if left:
+                answers.append(Answer(b"", b"", _ENDED))
+                del left[0]
+                self._close_pipes()
+                self._open_pipes()
+        return answers
+
+    def _open_pipes(self) -> None:
+        """Opens the pipes of the next programs."""
+        if not self._pipes:
+            raise BuildError(f"unproved: the programs ended {_ENDS} times")
+        requests, answers = self._pipes.pop(0)
+        # So neither waits for the other side.
+        self._requests = os.open(requests, os.O_RDWR | os.O_NONBLOCK | os.O_CLOEXEC)
+        self._answers = os.open(answers, os.O_RDONLY | os.O_NONBLOCK | os.O_CLOEXEC)
+
+    def _close_pipes(self) -> None:
+        for each in (self._requests, self._answers):
+            os.close(each)
+
+    def _exchange(self, cases: Sequence[Case]) -> list[Answer]:
+        """The answers to the cases, up to one on which the programs end."""
+        unsent = memoryview(input_of(cases))
+        got = bytearray()
+        parts: list[bytes] = []
+        poll = select.poll()
+        for each in (self._answers, self._tool.fileno(), self._stop.fileno()):
+            poll.register(each, select.POLLIN)
+        poll.register(self._requests, select.POLLOUT)
+        while len(parts) < _PARTS * len(cases):
+            ready = dict(poll.poll())
+            self._stop.check()
+            if self._requests in ready:
+                unsent = unsent[os.write(self._requests, unsent) :]
+                if not unsent:
+                    poll.unregister(self._requests)
+            if self._answers in ready:
+                octets = os.read(self._answers, _READ)
+                if not octets:
+                    break
+                got += octets
+                parts += parts_in(got)
+            elif self._tool.fileno() in ready:
+                self._tool.check()
+                raise BuildError("unproved: the programs have ended")
+        return list(_answers(parts))
+
+
+def _pipes_in(folder: Path) -> list[tuple[Path, Path]]:
+    """The named pipes in a folder: one for the cases, and one for the answers."""
+    pipes = [(folder / f"asks.{number}", folder / f"answers.{number}") for number in range(_ENDS)]
+    for pair in pipes:
+        for each in pair:
+            os.mkfifo(each)
+    return pipes
+
+
+def _answers(parts: Sequence[bytes]) -> Iterator[Answer]:
+    for written, errors, status in zip(*[iter(parts)] * _PARTS):
+        yield answer_of(written, errors, status.decode().strip())

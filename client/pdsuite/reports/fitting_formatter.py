@@ -1,0 +1,32 @@
+"""A report for people whose lines fit a terminal."""
+
+import textwrap
+from collections.abc import Callable
+from dataclasses import dataclass
+
+from pdsuite.output.fitting import columns_of, fitting
+from pdsuite.output.styled_text import StyledText
+from pdsuite.reports.formatter import Formatter
+from pdsuite.run.outcomes import Outcome, Totals
+
+
+@dataclass(frozen=True)
+class FittingFormatter:
+    """A form whose facts and totals are broken at blanks; `width` is how many columns the terminal has now."""
+
+    form: Formatter
+    width: Callable[[], int | None]
+
+    def head(self, count: int) -> StyledText:
+        return self.form.head(count)
+
+    def entry(self, number: int, outcome: Outcome) -> StyledText | None:
+        entry, width = self.form.entry(number, outcome), self.width()
+        return entry if entry is None or width is None else fitting(entry, columns_of(width))
+
+    def foot(self, totals: Totals, seconds: float) -> StyledText:
+        foot, width = self.form.foot(totals, seconds), self.width()
+        if width is None or len(foot.plain) <= columns_of(width):
+            return foot
+        lines = textwrap.wrap(foot.plain, columns_of(width))
+        return StyledText([("".join(f"{line}\n" for line in lines), foot.pieces[0][1])])

@@ -1,0 +1,84 @@
+"""What the commands have in common: which scripts are meant, and with which settings."""
+
+import os
+import sys
+from collections.abc import Iterable, Sequence, Set
+from dataclasses import dataclass, replace
+from pathlib import Path
+
+from pdsuite.faults import Fault, why
+from pdsuite.output.octets import absolute_paths
+from pdsuite.run.batches import Script
+from pdsuite.scripts.config import SuiteConfig
+from pdsuite.scripts.discover import ScriptFile, find_with_folders
+from pdsuite.scripts.shards import Shard, members
+from pdsuite.scripts.text import LONGEST_FILE
+from pdsuite.signals import Stop
+
+
+@dataclass(frozen=True)
+class Selection:
+    """Which of the scripts that are found are meant: those of a shard, and those with one of these absolute paths."""
+
+    shard: Shard | None = None
+    paths: Set[str] | None = None
+
+    def nothing(self) -> str:
+        """The words that say that it has no script."""
+        return f"shard {self.shard} has no script" if self.paths is None else "none of these scripts failed last"
+
+
+_WHOLE = Selection()
+# Standard input, as a path.
+INPUT = Path("-")
+
+
+def found_of(
+    paths: Sequence[Path], only: Sequence[str], suite: SuiteConfig, stop: Stop, part: Selection = _WHOLE
+) -> list[ScriptFile]:
+    """The scripts that are meant, in the order of their paths; all files with their settings are read."""
+    finding = find_with_folders(paths, only, stop)
+    if not finding.scripts:
+        raise Fault("no script found")
+    suite.look(finding.folders)
+    return _chosen(finding.scripts, part)
+
+
+def input_of(paths: Sequence[Path], suite: SuiteConfig, is_strict: bool = False) -> Script | None:
+    """The script that standard input is, where `-` is meant; it has the settings of the working folder."""
+    if INPUT not in paths:
+        return None
+    if len(paths) > 1:
+        raise Fault(f"{INPUT}: standard input stands alone")
+    folder = os.path.realpath(os.curdir)
+    suite.look([folder])
+    return replace(_script(0, ScriptFile(str(INPUT), folder, str(INPUT)), suite, is_strict), held=_read_input())
+
+
+def _read_input() -> bytes:
+    try:
+        return sys.stdin.buffer.read(LONGEST_FILE + 1)
+    except OSError as error:
+        raise Fault(f"standard input: {why(error)}") from error
+
+
+def scripts_of(found: Iterable[ScriptFile], suite: SuiteConfig, is_strict: bool = False) -> list[Script]:
+    """The scripts with what holds for them; all of them are strict, or those that the files name."""
+    return [_script(index, it, suite, is_strict) for index, it in enumerate(found)]
+
+
+def _chosen(found: list[ScriptFile], part: Selection) -> list[ScriptFile]:
+    """The scripts of a part. A shard is one of all scripts, so that what failed on its machine is found there again."""
+    if part.shard is not None:
+        found = members(found, part.shard)
+    if part.paths is None:
+        return found
+    absolute = absolute_paths()
+    return [it for it in found if absolute(it.path) in part.paths]
+
+
+def _script(index: int, it: ScriptFile, suite: SuiteConfig, is_strict: bool) -> Script:
+    if it.fault:
+        return Script(index, it.path, (), it.fault)
+    rules = suite.rules(it)
+    return Script(index, it.path, rules.settings, "", is_strict or rules.is_strict, rules.expected)

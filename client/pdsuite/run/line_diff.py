@@ -1,0 +1,151 @@
+"""What each line of a script was met by, to its end: the recording of its inputs beside what it expects."""
+
+from collections.abc import Iterator, Mapping, Sequence
+from dataclasses import dataclass, replace
+
+from pdsuite.output.octets import shown_text
+from pdsuite.packetdrill.columns import Mark, PacketColumns, PacketField, columns
+from pdsuite.packetdrill.items import SECOND
+from pdsuite.packetdrill.layout import Event, Layout, layout_of
+from pdsuite.packetdrill.recorded import MatchedEvent, RecordedEvent, match_events, recorded_in, tolerance_of
+from pdsuite.programs.recorder import Recording
+from pdsuite.programs.verdict import Row
+from pdsuite.run.locate_row import failing_event
+from pdsuite.scripts.defaults import DEFAULTS
+from pdsuite.scripts.settings import Settings
+
+# The lines below a row that have its event, each with the key of the program's.
+_EVENT_KEYS = {"script packet: ": "script_packet", "call: ": "call", "event: ": "event"}
+_TIME = "time"
+
+
+@dataclass(frozen=True, slots=True)
+class DiffLine:
+    """An event of a script, and what it was met by where that is another, both in fields; a line counts from 1.
+
+    What no line expects has no event and no line; an event for which nothing was sent was met by nothing.
+    """
+
+    line: int | None
+    script: PacketColumns
+    met: PacketColumns = ()
+    differs: bool = False
+
+
+@dataclass(frozen=True, slots=True)
+class LineDiff:
+    """What each line of a script was met by, or why that isn't known."""
+
+    lines: tuple[DiffLine, ...]
+    fault: str = ""
+
+
+def line_diff(row: Row, block_lines: Sequence[str], text: str, recording: Recording, settings: Settings) -> LineDiff:
+    """What each line of a script that fails was met by, as a recording with its trace says."""
+    if recording.fault:
+        return LineDiff((), recording.fault)
+    return LineDiff(diff_lines(row, block_lines, text, recording.text, settings))
+
+
+def diff_lines(
+    row: Row, block_lines: Sequence[str], text: str, recording: str, settings: Settings
+) -> tuple[DiffLine, ...]:
+    """What each event of a script that fails was met by, in a recording with its trace."""
+    layout, recorded = layout_of(text), recorded_in(recording)
+    allowed = tolerance_of(layout.items, tolerance(settings))
+    met = list(match_events(layout.events, recorded, passed_before(layout, row, event_in(block_lines)), allowed))
+    return tuple(_lines(met, recorded, recording, allowed))
+
+
+def tolerance(settings: Settings) -> int:
+    """The tolerance that settings give, in microseconds."""
+    value = {**DEFAULTS, **dict(settings)}["tolerance_us"]
+    return value if isinstance(value, int) else SECOND
+
+
+def passed_before(layout: Layout, row: Row, cause: Mapping[str, object] | None) -> int:
+    """How many events passed before the one of a row that isn't a pass, as far as the row says."""
+    event = failing_event(row, cause, layout)
+    if event is not None and event in layout.events:
+        return layout.events.index(event)
+    return sum(it.item.line < (row.line or 0) for it in layout.events)
+
+
+def event_in(block_lines: Sequence[str]) -> dict[str, object]:
+    """The event that lines below a row have."""
+    return {
+        key: line.removeprefix(begin)
+        for line in block_lines
+        for begin, key in _EVENT_KEYS.items()
+        if line.startswith(begin)
+    }
+
+
+def _lines(
+    met: Sequence[MatchedEvent], recorded: Sequence[RecordedEvent], recording: str, allowed: int
+) -> Iterator[DiffLine]:
+    """The events in order; what none of them expects comes before the next that met something."""
+    matched = {it.recorded.start for it in met if it.recorded is not None}
+    left = [it for it in recorded if it.start not in matched]
+    for it in met:
+        if it.recorded is not None:
+            while left and left[0].start < it.recorded.start:
+                yield _unexpected(left.pop(0), recording)
+        yield _event_line(it, recording, allowed)
+    for one in left:
+        yield _unexpected(one, recording)
+
+
+def _unexpected(one: RecordedEvent, recording: str) -> DiffLine:
+    return DiffLine(None, (), (PacketField(_sent(one, recording)),), True)
+
+
+def _event_line(met: MatchedEvent, recording: str, allowed: int) -> DiffLine:
+    """An event beside what it was met by."""
+    event, one = met.event, met.recorded
+    written = _written(event)
+    if one is None:
+        return DiffLine(event.item.line, (PacketField(written),), (), not event.is_input)
+    if not event.is_expected:
+        return _call_line(event, one, recording)
+    is_late = not met.first - allowed <= one.moment <= met.last + allowed
+    script, actual = map(_marked, columns(written, _sent(one, recording), _TIME if is_late else ""))
+    if any(it.mark is not Mark.NONE for it in script):
+        return DiffLine(event.item.line, script, actual, True)
+    return DiffLine(event.item.line, (PacketField(written),))
+
+
+def _marked(packet: PacketColumns) -> PacketColumns:
+    """A packet whose marks say no more than that a field differs."""
+    return tuple(replace(it, mark=Mark.DIFFERS) if it.mark is Mark.FAILS else it for it in packet)
+
+
+def _call_line(event: Event, one: RecordedEvent, recording: str) -> DiffLine:
+    """A call beside its answer; a packet that arrives is met by itself."""
+    written, result = _written(event), event.fields.get("result")
+    if result is None:
+        return DiffLine(event.item.line, (PacketField(written),))
+    wanted = event.text[result.start : result.end]
+    answered = layout_of(recording[one.start : one.end]).events
+    place = answered[0].fields.get("result") if answered else None
+    got = "" if place is None else answered[0].text[place.start : place.end]
+    if "".join(got.split()) == "".join(wanted.split()) or not got:
+        return DiffLine(event.item.line, (PacketField(written),))
+    before = shown_text(" ".join(event.text[event.item.start : result.start].split()))
+    marked = PacketField(before, blanks=1)
+    return DiffLine(event.item.line, (marked, _differs(wanted)), (marked, _differs(got)), True)
+
+
+def _differs(text: str) -> PacketField:
+    return PacketField(shown_text(" ".join(text.split())), Mark.DIFFERS)
+
+
+def _written(event: Event) -> str:
+    """An event as its script has it, on one line and safe to print."""
+    return shown_text(" ".join(event.text[event.item.start : event.item.end].split()))
+
+
+def _sent(one: RecordedEvent, recording: str) -> str:
+    """A packet that was sent, with its moment in a comment."""
+    moment = f"{one.moment // SECOND}.{one.moment % SECOND:06}"
+    return f"{shown_text(recording[one.start : one.end])} // {moment}"

@@ -1,0 +1,215 @@
+"""Has scripts settled, with explanations: piece by piece, and once more where a program ended on the way."""
+
+from collections import deque
+from contextlib import closing
+from collections.abc import Callable, Generator, Iterable, Iterator, Mapping, Sequence
+from dataclasses import dataclass, field
+from pathlib import Path
+
+from pdsuite.output.octets import shown_path
+from pdsuite.programs.program import Program, ProgramEndedError
+from pdsuite.programs.protocol import LONGEST_CAUSE, LONGEST_LINE, SETTLE, Cause, UnexpectedAnswerError
+from pdsuite.programs.protocol import add, before_total, causes_in, name_of, rows_in
+from pdsuite.programs.verdict import Row, Verdict
+from pdsuite.run.batches import Batch, Piece, Script, outcome_of
+from pdsuite.run.explainer import with_explanation
+from pdsuite.run.outcomes import Outcome
+from pdsuite.scripts.settings import Settings, settings_text
+from pdsuite.scripts.text import Text, UnfitTextError, read_text, text_of
+from pdsuite.signals import Stop
+
+Start = Callable[[Settings], Program]
+# Answers a script's text, or why it can't be run.
+LoadText = Callable[[Script], Text | str]
+
+
+@dataclass(frozen=True)
+class SettledPiece:
+    """A piece that has been settled; by the places of its scripts, the texts that were run and explanations by keys."""
+
+    outcomes: list[tuple[Script, Outcome]]
+    texts: dict[int, Text] = field(default_factory=dict)
+    causes: Mapping[int, Cause] = field(default_factory=dict)
+
+
+@dataclass(frozen=True)
+class Restart:
+    """A program ended before it had answered for this script; a new one begins there."""
+
+    script: Script
+    reason: str
+
+    def __str__(self) -> str:
+        """The line that says so."""
+        return f"pdsuite: {self.reason}; a new run begins at {shown_path(self.script.path)}"
+
+
+@dataclass(frozen=True)
+class UnexplainedScript:
+    """A program ended where it was to explain this script, which has a row all the same."""
+
+    script: Script
+    reason: str
+
+    def __str__(self) -> str:
+        """The line that says so."""
+        return f"pdsuite: {self.reason}; nothing is told of {shown_path(self.script.path)}"
+
+
+Step = SettledPiece | Restart | UnexplainedScript
+# Has batches settled, with explanations. The steps come in the order of the batches, whoever takes them.
+Mapper = Callable[[Iterable[Batch]], Generator[Step, None, None]]
+
+
+def start_with(program: Path, workers: int, cache: int, stop: Stop) -> Start:
+    """What starts the program for a run under settings, in which it prints nothing of scripts but their rows."""
+    return start_explaining(program, ("--workers", str(workers)), cache, stop)
+
+
+def start_explaining(program: Path, options: Sequence[str], cache: int, stop: Stop) -> Start:
+    """What starts the program for a run under settings, with options that say what it explains of scripts."""
+
+    def start(settings: Settings) -> Program:
+        words: list[str | Path] = [program, *options, "--cache", str(cache)]
+        text = settings_text(settings)
+        return Program([*words, "--settings", text] if text else words, stop)
+
+    return start
+
+
+def load(script: Script) -> Text | str:
+    """The text that is in the script's file, or why it can't be run."""
+    if script.fault:
+        return script.fault
+    try:
+        return read_text(script.path) if script.held is None else text_of(script.held)
+    except UnfitTextError as unfit:
+        return str(unfit)
+
+
+def run_batch(
+    batch: Batch, start: Start, load_text: LoadText = load, plain_start: Start | None = None
+) -> Generator[Step, None, None]:
+    """Has a batch settled, as `run_batch_steps` does it, and waits for its programs."""
+    with closing(run_batch_steps(batch, start, load_text, plain_start)) as steps:
+        yield from _waited(steps)
+
+
+def _waited(steps: Iterable[Step | Program]) -> Iterator[Step]:
+    for step in steps:
+        if isinstance(step, Program):
+            step.wait()
+        else:
+            yield step
+
+
+def run_batch_steps(
+    batch: Batch, start: Start, load_text: LoadText = load, plain_start: Start | None = None
+) -> Generator[Step | Program, None, None]:
+    """Has a batch settled, and gives way with its program where that is to be waited for.
+
+    Where its program ends, a new one begins with what is left, each script of that piece by itself. A script whose
+    program ends a second time is given to one that explains nothing, if there is one; else, or where that ends too, it
+    is an error.
+    """
+    left = deque(batch.pieces)
+    ended: set[int] = set()
+    while left:
+        try:
+            with start(batch.settings) as program:
+                yield from _settle_pieces(program, left, load_text)
+        except ProgramEndedError as end:
+            piece = left.popleft()
+            if len(piece) == 1 and piece[0].index in ended:
+                yield from _without_explanation(piece, batch.settings, plain_start, load_text, str(end))
+                continue
+            ended.update(script.index for script in piece)
+            left.extendleft((script,) for script in reversed(piece))
+            yield Restart(piece[0], str(end))
+
+
+def _without_explanation(
+    piece: Piece, settings: Settings, plain_start: Start | None, load_text: LoadText, reason: str
+) -> Iterator[Step]:
+    """Has a script settled on which programs end that explain it."""
+    if plain_start is not None:
+        try:
+            with plain_start(settings) as program:
+                steps = list(_waited(_settle_pieces(program, deque([piece]), load_text)))
+        except ProgramEndedError as end:
+            reason = str(end)
+        else:
+            yield UnexplainedScript(piece[0], reason)
+            yield from steps
+            return
+    yield not_run(piece, reason)
+
+
+def _settle_pieces(program: Program, left: deque[Piece], load_text: LoadText) -> Iterator[SettledPiece | Program]:
+    """Has one piece after another settled by this program; each is taken from `left` once it is."""
+    before = b""
+    count = 0
+    while left:
+        loaded = [(script, load_text(script)) for script in left[0]]
+        texts = {script.index: it for script, it in loaded if isinstance(it, Text)}
+        rows: list[Row] = []
+        causes: dict[int, Cause] = {}
+        if texts:
+            names = [name_of(count + number) for number in range(len(texts))]
+            count += len(texts)
+            commands = b"".join(map(add, names, texts.values())) + SETTLE
+            longest = LONGEST_LINE * (count + 2)
+            answer, errors = yield from program.querying(commands, longest, LONGEST_CAUSE * (len(texts) + 1))
+            rows, causes = _read(answer, errors, before, dict(zip(names, texts)), count)
+            before = before_total(answer)
+        left.popleft()
+        yield settled_piece(loaded, rows, causes)
+
+
+def _read(
+    answer: bytes, errors: bytes, before: bytes, places: Mapping[bytes, int], count: int
+) -> tuple[list[Row], dict[int, Cause]]:
+    try:
+        return read_rows_and_causes(answer, errors, before, places, count)
+    except UnexpectedAnswerError as unexpected:
+        raise ProgramEndedError(f"pdregress: {unexpected}") from unexpected
+
+
+def read_rows_and_causes(
+    answer: bytes, errors: bytes, before: bytes, places: Mapping[bytes, int], count: int
+) -> tuple[list[Row], dict[int, Cause]]:
+    """The rows of scripts, whose places are given by their names, and explanations by keys, by their places.
+
+    An explanation of another line than the row's is of no row.
+    """
+    rows = rows_in(answer, before, list(places), count)
+    lines = {name: row.line for name, row in zip(places, rows)}
+    causes = causes_in(errors).items()
+    return rows, {places[name]: it for (name, line), it in causes if name in lines and lines[name] in (None, line)}
+
+
+def settled_piece(
+    loaded: Sequence[tuple[Script, Text | str]], rows: Iterable[Row], causes: Mapping[int, Cause]
+) -> SettledPiece:
+    """A piece of scripts with their texts, or why they couldn't be run; those that could have these rows."""
+    left = iter(rows)
+    texts = {script.index: text for script, text in loaded if isinstance(text, Text)}
+    outcomes = [
+        _error(script, text) if isinstance(text, str) else _outcome(script, text, next(left), causes.get(script.index))
+        for script, text in loaded
+    ]
+    return SettledPiece(outcomes, texts, causes)
+
+
+def _outcome(script: Script, text: Text, row: Row, cause: Cause | None) -> tuple[Script, Outcome]:
+    line = None if row.line is None else text.line(row.line)
+    return script, with_explanation(outcome_of(script, row, line), cause, text)
+
+
+def not_run(piece: Piece, reason: str) -> SettledPiece:
+    """A piece that couldn't be run."""
+    return SettledPiece([_error(script, reason) for script in piece])
+
+
+def _error(script: Script, reason: str) -> tuple[Script, Outcome]:
+    return script, outcome_of(script, Row(Verdict.ERROR, word=reason))

@@ -1,0 +1,321 @@
+"""pdsuite.toml: which settings a script has."""
+
+import os
+import re
+import tomllib
+from collections.abc import Callable, Iterable, Iterator, Mapping
+from dataclasses import dataclass
+from pathlib import Path
+
+from pdsuite.faults import Fault, FileFault
+from pdsuite.output.octets import shown_path, shown_text
+from pdsuite.scripts.defaults import help_for
+from pdsuite.scripts.discover import SUFFIX, ScriptFile
+from pdsuite.scripts.expectation import Expectation, is_row
+from pdsuite.scripts.renamed import reason_of
+from pdsuite.scripts.settings import Settings, Value, settings_of
+from pdsuite.scripts.text import UnfitTextError, read_file
+from pdsuite.scripts.toml_places import TomlPlaces, places_in
+
+CONFIG_FILE = "pdsuite.toml"
+OPTION = "--settings"
+# Those of each side, where two senders are compared.
+BASE_OPTION = "--base-settings"
+WITH_OPTION = "--with-settings"
+_OPTIONS = (OPTION, BASE_OPTION, WITH_OPTION)
+_ROOT = "root"
+_STRICT = "strict"
+EXPECT = "expect"
+REASON = "reason"
+# The last part of a script's name in a table without quotes: [a.pkt] is the table pkt in the table a.
+_PART = SUFFIX.removeprefix(".")
+_DEEPEST = 16
+# Where Python says that a text is no TOML.
+_AT = re.compile(r"\(at line (\d+), column (\d+)\)")
+_AT_END = "(at end of document)"
+# A word without quotes, as the value of a key.
+_BARE = re.compile(r"(?<==)\s*[A-Za-z]|(?<== )[A-Za-z]")
+_MARK = b"\xef\xbb\xbf"
+LONGEST = 1 << 20
+
+Table = Mapping[str, Value]
+
+
+@dataclass(frozen=True)
+class Layer:
+    """One file: settings for all scripts below it, and tables for single ones beside it."""
+
+    places: TomlPlaces  # where it and its keys stand, as people see it
+    is_root: bool
+    keys: Table
+    tables: Mapping[str, Table]
+    strict: Mapping[str, bool]  # whether warnings make scripts fail, by their names; of all scripts below it by ""
+    expected: Mapping[str, Expectation]  # the rows of scripts that are known not to pass, by their names
+
+    @property
+    def place(self) -> str:
+        """Where it stands."""
+        return self.places.file
+
+
+_EMPTY = Layer(TomlPlaces("", {}), False, {}, {}, {}, {})
+
+
+@dataclass(frozen=True)
+class Claim:
+    """That a key has a value, and where that stands."""
+
+    place: str
+    table: str
+    key: str
+    value: Value
+
+    def refused(self, reason: str) -> str:
+        """The line that says why it is refused."""
+        beside = f' (["{_shown(self.table)}"])' if self.table else ""
+        own = () if self.place in _OPTIONS else (_STRICT, EXPECT, REASON) if self.table else (_ROOT, _STRICT)
+        helps = help_for(self.key, self.value, reason, own)
+        return f"{self.place}: {_shown(self.key)}: {reason}{beside}" + (f": {helps}" if helps else "")
+
+
+@dataclass(frozen=True, slots=True)
+class ScriptRules:
+    """What holds for a script: its settings, whether a warning makes it fail, and the row that it is known to have."""
+
+    settings: Settings
+    is_strict: bool
+    expected: Expectation | None
+
+
+class SuiteConfig:
+    """What holds for scripts, from `--settings` and from the files above them, each read once."""
+
+    def __init__(self, option: Layer, read: Callable[[Path], Layer | None] | None = None) -> None:
+        self._option = option
+        self._read = read or read_layer
+        self._layers: dict[str, Layer | None] = {}
+        self._known: dict[str, tuple[ScriptRules, Layer]] = {}
+
+    def rules(self, script: ScriptFile) -> ScriptRules:
+        """What holds for a script."""
+        common, beside = self._known.get(script.folder) or self._common(script.folder)
+        own = beside.tables.get(script.name)
+        if own is None:
+            return common
+        settings = self._merged(script.folder, own) if own else common.settings
+        is_strict = beside.strict.get(script.name, common.is_strict)
+        return ScriptRules(settings, is_strict, beside.expected.get(script.name))
+
+    def settings(self, script: ScriptFile) -> Settings:
+        """The settings of a script."""
+        return self.rules(script).settings
+
+    def is_strict(self, script: ScriptFile) -> bool:
+        """Whether a warning makes a script fail."""
+        return self.rules(script).is_strict
+
+    def expected(self, script: ScriptFile) -> Expectation | None:
+        """The row that a script is known to have, if one is given."""
+        return self.rules(script).expected
+
+    def look(self, folders: Iterable[str]) -> None:
+        """Reads the files of these folders, whichever scripts they are about."""
+        for folder in folders:
+            self._layer(folder)
+
+    def files(self) -> list[tuple[str, Layer]]:
+        """The files that were read, by their folders, in the order of their places."""
+        files = [(folder, it) for folder, it in self._layers.items() if it is not None]
+        return sorted(files, key=lambda it: it[1].place)
+
+    def has_file(self, script: ScriptFile) -> bool:
+        """Whether some file is there for a script, whatever it says."""
+        return bool(self._chain(script.folder))
+
+    def claims(self) -> Iterator[Claim]:
+        """What `--settings` and the files that were read say, whichever scripts it is about."""
+        yield from claims_of([self._option, *(layer for _, layer in self.files())])
+
+    def _common(self, folder: str) -> tuple[ScriptRules, Layer]:
+        """What holds for all scripts of a folder of which the file beside them says nothing, and that file."""
+        is_strict = next((it.strict[""] for it in self._chain(folder) if "" in it.strict), False)
+        known = ScriptRules(self._merged(folder, {}), is_strict, None), self._layer(folder) or _EMPTY
+        self._known[folder] = known
+        return known
+
+    def _merged(self, folder: str, own: Table) -> Settings:
+        merged: dict[str, Value] = {}
+        for layer in reversed(self._chain(folder)):
+            merged.update(layer.keys)
+        return settings_of({**merged, **own, **self._option.keys})
+
+    def _chain(self, folder: str) -> list[Layer]:
+        """The layers of a folder, the nearest first."""
+        chain: list[Layer] = []
+        while True:
+            layer = self._layer(folder)
+            if layer is not None:
+                chain.append(layer)
+            above = os.path.dirname(folder)
+            if above == folder or (layer is not None and layer.is_root):
+                return chain
+            folder = above
+
+    def _layer(self, folder: str) -> Layer | None:
+        if folder not in self._layers:
+            self._layers[folder] = self._read(Path(folder, CONFIG_FILE))
+        return self._layers[folder]
+
+
+def layer_of(place: str, octets: bytes) -> Layer:
+    """The layer that a file holds, or a fault where it isn't TOML, or a key of the client's own has another value."""
+    table = _table_of(place, octets)
+    places = places_in(place, octets.decode())
+    _refuse_unquoted(places, table)
+    root = _truth_of(table, _ROOT, places)
+    tables = {name: dict(it) for name, it in table.items() if name.endswith(SUFFIX) and isinstance(it, Mapping)}
+    keys = {name: it for name, it in table.items() if name not in tables}
+    strict_values = {name: _truth_of(it, _STRICT, places, name) for name, it in {"": keys, **tables}.items()}
+    strict = {name: it for name, it in strict_values.items() if it is not None}
+    _refuse_expected(places, keys)
+    rows = {name: it for name, table in tables.items() if (it := _expected_of(places, name, table)) is not None}
+    return Layer(places, root or False, keys, tables, strict, rows)
+
+
+def _truth_of(table: dict[str, Value], key: str, places: TomlPlaces, name: str = "") -> bool | None:
+    """A truth value that is the client's own, taken out of a table; a fault where it is something else."""
+    value = table.pop(key, None)
+    if value is None or isinstance(value, bool):
+        return value
+    beside = f' (["{_shown(name)}"])' if name else ""
+    raise FileFault(f"{places.at(name, key)}: {key}: BadValue{beside}: it takes true or false")
+
+
+def _expected_of(places: TomlPlaces, name: str, table: dict[str, Value]) -> Expectation | None:
+    """The row that is expected of a script, with its reason, taken out of its table; neither stands alone."""
+    row, reason = table.pop(EXPECT, None), table.pop(REASON, None)
+    beside = f'(["{_shown(name)}"])'
+    if row is None and reason is None:
+        return None
+    if reason is None:
+        raise FileFault(f"{places.at(name, EXPECT)}: {EXPECT}: needs a {REASON} beside it {beside}")
+    if row is None:
+        raise FileFault(f"{places.at(name, REASON)}: {REASON}: needs {EXPECT} beside it {beside}")
+    if not isinstance(row, str) or not is_row(row):
+        takes = 'it takes a row that doesn\'t pass, as "fail 12 seq", or its first words'
+        raise FileFault(f"{places.at(name, EXPECT)}: {EXPECT}: BadValue {beside}: {takes}")
+    if not isinstance(reason, str) or not reason.strip():
+        raise FileFault(f"{places.at(name, REASON)}: {REASON}: BadValue {beside}: it takes a text that isn't empty")
+    return Expectation(row, _shown(reason))
+
+
+def _refuse_expected(places: TomlPlaces, keys: Table) -> None:
+    """Raises a fault where a row is expected of no script."""
+    for key in (EXPECT, REASON):
+        if key in keys:
+            raise FileFault(f'{places.at("", key)}: {key}: stands in no script\'s table, as ["NAME{SUFFIX}"] is')
+
+
+def _refuse_unquoted(places: TomlPlaces, table: Table) -> None:
+    """Raises a fault where a script's name stands without quotes: its parts are then tables in tables."""
+    for name in _unquoted(table):
+        raise FileFault(f'{places.at(name)}: [{_shown(name)}]: a script\'s name stands in quotes: ["{_shown(name)}"]')
+
+
+def _unquoted(table: Table, before: str = "", deepest: int = _DEEPEST) -> Iterator[str]:
+    """The names that aren't quoted, of so many parts at most."""
+    for key, value in table.items():
+        if isinstance(value, Mapping):
+            if before and key == _PART:
+                yield f"{before}{key}"
+            elif deepest > 1 and not key.endswith(SUFFIX):
+                yield from _unquoted(value, f"{before}{key}.", deepest - 1)
+
+
+def option_of(text: str, option: str = OPTION) -> Layer:
+    """The layer of `--settings`, or of such an option, which has neither tables nor keys of the client's own."""
+    octets = text.encode("utf-8", "surrogateescape")
+    return Layer(TomlPlaces(option, {}), False, _table_of(option, octets), {}, {}, {})
+
+
+def _table_of(place: str, octets: bytes) -> dict[str, Value]:
+    try:
+        return tomllib.loads(octets.decode())
+    except (ValueError, RecursionError) as error:
+        words = f"no TOML: {_why_no_toml(error, octets)}"
+        if place in _OPTIONS:
+            raise Fault(f"{place}: {words}") from error
+        raise FileFault(f"{place}:{_line_without_toml(error, octets)}: {words}") from error
+
+
+def _line_without_toml(error: ValueError | RecursionError, octets: bytes) -> int:
+    """The line at which octets are no TOML: their last one where they break off, and 1 where no line is known."""
+    if isinstance(error, UnicodeDecodeError):
+        return octets.count(b"\n", 0, error.start) + 1
+    if _AT_END in str(error):
+        return octets.rstrip(b"\n").count(b"\n") + 1
+    found = _AT.search(str(error))
+    return 1 if found is None else int(found[1])
+
+
+def _why_no_toml(error: ValueError | RecursionError, octets: bytes) -> str:
+    """Why octets are no TOML, in the words of Python where it has any for people."""
+    if isinstance(error, UnicodeDecodeError):
+        return f"octet 0x{octets[error.start]:02x} is no UTF-8"
+    if octets.startswith(_MARK):
+        return "a byte order mark; a file of settings begins without one"
+    found = _AT.search(str(error))
+    if found is not None and _BARE.match(octets.decode().split("\n")[int(found[1]) - 1], int(found[2]) - 1):
+        return f"{_shown(str(error))}: a word stands in quotes"
+    return _shown(str(error))
+
+
+def claims_of(layers: Iterable[Layer]) -> Iterator[Claim]:
+    """What layers say, one after another."""
+    for layer in layers:
+        for key, value in layer.keys.items():
+            yield Claim(layer.places.at("", key), "", key, value)
+        for name, table in layer.tables.items():
+            for key, value in table.items():
+                yield Claim(layer.places.at(name, key), name, key, value)
+
+
+def old_names(claims: Iterable[Claim]) -> Iterator[str]:
+    """The lines of claims by keys or words that have another name now, as where a program refuses them."""
+    for claim in claims:
+        if (reason := reason_of(claim.key, claim.value)) is not None:
+            yield claim.refused(reason)
+
+
+def read_layer(path: Path) -> Layer | None:
+    """The layer that a file holds, if it is there."""
+    octets = read_octets(path)
+    return None if octets is None else layer_of(place_of(path), octets)
+
+
+def read_octets(path: Path) -> bytes | None:
+    """The octets of a file, if it is there."""
+    if not os.path.lexists(path):
+        return None
+    try:
+        octets = read_file(path, LONGEST + 1)
+    except UnfitTextError as unfit:
+        raise Fault(f"{place_of(path)}: {unfit}") from unfit
+    if len(octets) > LONGEST:
+        raise Fault(f"{place_of(path)}: more than {LONGEST:,} octets")
+    return octets
+
+
+def place_of(path: Path) -> str:
+    """Where a file stands, as people see it."""
+    return shown_path(_nearer(path))
+
+
+def _nearer(path: Path) -> Path:
+    """The path from the working folder, where it lies below that."""
+    here = Path.cwd()
+    return path.relative_to(here) if path.is_relative_to(here) else path
+
+
+def _shown(text: str) -> str:
+    return shown_text(text)

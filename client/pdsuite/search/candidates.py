@@ -1,0 +1,67 @@
+"""Draws what a search tries, list by list: new scenarios, and variations of inputs that reached something new."""
+
+from collections.abc import Iterable, Iterator, Sequence
+from dataclasses import dataclass, field
+
+from pdsuite.search.generate import generated
+from pdsuite.search.mutate import CorpusEntry, InputMutator
+from pdsuite.search.scenario import Emphasis, Scenario
+from pdsuite.search.simulate import InputSteps, PlayedInputs, play, play_as, play_on
+from pdsuite.search.states import StateStep, steps_in
+
+# Lists of scenarios for what goes on from some inputs are numbered from here.
+_FURTHER = 500_000
+# Of the inputs that are kept, the last so many are varied most.
+_LATEST = 32
+
+
+@dataclass
+class Candidates:
+    """What a search tries, by a seed: the same lists for the same recordings.
+
+    The sizes are those of the lists. The first lists are the initial inputs themselves; each later one has as many new
+    scenarios as variations.
+    """
+
+    seed: int
+    sizes: Iterable[int]
+    emphasis: Emphasis = Emphasis()
+    initial_inputs: Sequence[CorpusEntry] = ()
+    _kept: list[CorpusEntry] = field(default_factory=list)
+    _seen: set[StateStep] = field(default_factory=set)
+    _further: int = 0
+
+    def __post_init__(self) -> None:
+        self._waiting = list(self.initial_inputs)
+        self._mutator = InputMutator(self.seed, self.emphasis)
+
+    def lists(self) -> Iterator[list[InputSteps]]:
+        """The lists, each made when all of the one before was learnt from."""
+        for number, size in enumerate(self.sizes):
+            yield list(self._list(number, size))
+
+    def _list(self, number: int, size: int) -> Iterator[InputSteps]:
+        first, self._waiting = self._waiting[: 2 * size], self._waiting[2 * size :]
+        yield from (play_as(it.inputs) for it in first)
+        scenarios = generated(self.seed, number, size, self.emphasis)
+        varied = size // 2 if self._kept else 0
+        yield from (play(it) for it in scenarios[varied:])
+        yield from (self._varied(it) for it in scenarios[:varied])
+
+    def more_scenarios(self, count: int) -> list[Scenario]:
+        """So many further scenarios."""
+        self._further += 1
+        return generated(self.seed, _FURTHER + self._further, count, self.emphasis)
+
+    def learn(self, played: Iterable[PlayedInputs]) -> None:
+        """Keeps what reached a state of the sender, by a step, that none before reached."""
+        for it in played:
+            steps = set(steps_in(it.recording.text))
+            if steps - self._seen:
+                self._seen |= steps
+                self._kept.append(CorpusEntry(it.inputs, it.recording.text))
+
+    def _varied(self, scenario: Scenario) -> InputSteps:
+        """A variation of what is kept, which may go on by a scenario."""
+        variation = self._mutator.mutate(self._mutator.choose(self._kept, _LATEST))
+        return play_on(scenario, variation.begun) if variation.goes_on else play_as(variation.begun)

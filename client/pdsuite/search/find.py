@@ -1,0 +1,112 @@
+"""What a search finds: recorded inputs under which another sender differs, or a state is reached."""
+
+from collections.abc import Sequence
+from dataclasses import dataclass
+from typing import Protocol
+
+from pdsuite.compare.divergence import divergence_of, played_events
+from pdsuite.programs.recorder import Recording
+from pdsuite.programs.verdict import Row, Verdict
+from pdsuite.search.coverage import StatePattern
+from pdsuite.search.inputs import Inputs
+from pdsuite.search.oracle import ConfiguredScript, SenderOracle
+from pdsuite.search.states import is_input
+
+TRACE = "//= "
+
+
+@dataclass(frozen=True)
+class Find:
+    """Inputs, their recording under the sender before, and the row that it has under the one after, if it fails."""
+
+    inputs: Inputs
+    recording: str
+    row: Row | None = None
+
+
+class FindTest(Protocol):
+    """Decides which inputs are finds."""
+
+    def finds(self, inputs: Sequence[Inputs], recordings: Sequence[Recording]) -> list[Find | None]:
+        """The finds among inputs, by their recordings."""
+
+
+def without_trace(recording: str) -> bytes:
+    """A recording as a script, without the sender's states."""
+    lines = (it for it in recording.split("\n") if not it.startswith(TRACE))
+    return "\n".join(lines).encode("utf-8", "surrogateescape")
+
+
+def script_of(find: Find) -> ConfiguredScript:
+    """The script that a find is saved as."""
+    return ConfiguredScript(find.inputs.settings, without_trace(find.recording))
+
+
+@dataclass(frozen=True)
+class FailsTest:
+    """Finds inputs whose recording fails under another sender."""
+
+    other: SenderOracle
+
+    def finds(self, inputs: Sequence[Inputs], recordings: Sequence[Recording]) -> list[Find | None]:
+        made = [Find(it, recording.text) if recording.text else None for it, recording in zip(inputs, recordings)]
+        rows = iter(self.other.rows([script_of(it) for it in made if it is not None]))
+        finds = [None if it is None else Find(it.inputs, it.recording, next(rows)) for it in made]
+        return [
+            it if it is not None and it.row is not None and it.row.verdict is not Verdict.PASS else None for it in finds
+        ]
+
+
+@dataclass(frozen=True)
+class SenderDifference:
+    """Inputs on which two senders differ: in what is played, or in a state alone; after so many inputs."""
+
+    find: Find
+    is_played: bool
+    after: int
+
+
+@dataclass(frozen=True)
+class DiffersTest:
+    """Finds inputs that another sender is recorded otherwise on, whether or not a script fails by it."""
+
+    other: SenderOracle
+
+    def differences(self, inputs: Sequence[Inputs], recordings: Sequence[Recording]) -> list[SenderDifference | None]:
+        """How the senders differ on each, if they do."""
+        others = self.other.recordings(inputs)
+        return [_difference(it, one, other) for it, one, other in zip(inputs, recordings, others)]
+
+    def finds(self, inputs: Sequence[Inputs], recordings: Sequence[Recording]) -> list[Find | None]:
+        others = self.other.recordings(inputs)
+        return [
+            Find(it, one.text) if one.text and _differ(one, other) else None
+            for it, one, other in zip(inputs, recordings, others)
+        ]
+
+
+@dataclass(frozen=True)
+class ReachesTest:
+    """Finds inputs whose recording reaches a state."""
+
+    pattern: StatePattern
+
+    def finds(self, inputs: Sequence[Inputs], recordings: Sequence[Recording]) -> list[Find | None]:
+        return [Find(it, one.text) if self.pattern.is_in(one.text) else None for it, one in zip(inputs, recordings)]
+
+
+def _difference(inputs: Inputs, one: Recording, other: Recording) -> SenderDifference | None:
+    if not one.text or one.text == other.text:
+        return None
+    if _differ(one, other):
+        return SenderDifference(Find(inputs, one.text), True, len(inputs.events))
+    count = 0
+    for it, that in zip(played_events(one.text), played_events(other.text)):
+        count += is_input(it)
+        if it.state != that.state:
+            return SenderDifference(Find(inputs, one.text), False, count)
+    return None
+
+
+def _differ(one: Recording, other: Recording) -> bool:
+    return not other.text or divergence_of(one.text, other.text) is not None

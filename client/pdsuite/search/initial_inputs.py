@@ -1,0 +1,44 @@
+"""Where a search begins: the inputs of scripts, as a sender is recorded to play them."""
+
+from collections.abc import Iterator
+from pathlib import Path
+
+from pdsuite.programs.trace import events_in
+from pdsuite.run.batches import Script
+from pdsuite.run.collect import found_of, scripts_of
+from pdsuite.run.run_batches import load
+from pdsuite.scripts.config import SuiteConfig, option_of
+from pdsuite.search.inputs import Input, Inputs
+from pdsuite.search.mutate import CorpusEntry
+from pdsuite.search.oracle import ConfiguredScript, SenderOracle
+from pdsuite.signals import Stop
+
+# In a tree: the scripts whose inputs a search varies.
+SUITE = "examples/suite"
+
+
+def scripts_in(tree: Path | None, stop: Stop) -> list[ConfiguredScript]:
+    """The scripts of a tree's suite with their settings, in the order of their paths; none where there is no suite."""
+    if tree is None or not (tree / SUITE).is_dir():
+        return []
+    suite = SuiteConfig(option_of(""))
+    return [it for script in scripts_of(found_of([tree / SUITE], [], suite, stop), suite) for it in _configured(script)]
+
+
+def _configured(script: Script) -> Iterator[ConfiguredScript]:
+    text = load(script)
+    if not isinstance(text, str):
+        yield ConfiguredScript(script.settings, text.octets)
+
+
+def initial_inputs(scripts: list[ConfiguredScript], oracle: SenderOracle, fixed: frozenset[str]) -> list[CorpusEntry]:
+    """The inputs of scripts with their recordings, without settings that are fixed; none of what isn't recorded."""
+    configured = [
+        ConfiguredScript(tuple(it for it in one.settings if it[0] not in fixed), one.octets) for one in scripts
+    ]
+    found: dict[Inputs, str] = {}
+    for it, recording in zip(configured, oracle.recordings(configured)):
+        events = [Input(event.moment, event.what) for event in events_in(recording.text) if event.is_input]
+        if events:
+            found.setdefault(Inputs(it.settings, tuple(events)), recording.text)
+    return [CorpusEntry(*it) for it in found.items()]

@@ -1,1 +1,0 @@
-"""What people see: octets as text, styles, a terminal and other outputs."""

@@ -1,0 +1,162 @@
+"""What a change of the folders means for the runs: one function of what they hold and of what is wanted."""
+
+from collections import Counter
+from collections.abc import Iterator, Mapping, Sequence
+from dataclasses import dataclass
+
+from pdsuite.run.batches import BATCH_SIZE
+from pdsuite.scripts.defaults import can_be_set, changed_keys
+from pdsuite.scripts.settings import Settings, set_words
+from pdsuite.scripts.text import Text
+from pdsuite.scripts.text_edit import Edit, edit_between
+
+
+@dataclass(frozen=True, slots=True)
+class WantedScript:
+    """What a script's file holds, and under which settings it is to run."""
+
+    settings: Settings
+    text: Text
+
+
+@dataclass(frozen=True)
+class RunContents:
+    """What a run holds: its settings, and the texts of its scripts by their paths, in the order of adding."""
+
+    settings: Settings
+    texts: Mapping[str, Text]
+
+
+@dataclass(frozen=True, slots=True)
+class RemoveScript:
+    path: str
+
+
+@dataclass(frozen=True, slots=True)
+class SetKey:
+    key: str
+    word: str
+
+
+@dataclass(frozen=True, slots=True)
+class EditScript:
+    path: str
+    edit: Edit
+
+
+@dataclass(frozen=True, slots=True)
+class AddScript:
+    path: str
+    text: Text
+
+
+Act = RemoveScript | SetKey | EditScript | AddScript
+
+
+@dataclass(frozen=True)
+class RunChange:
+    """What one run is to do, and what it holds then: nothing if it is to end. A run without a number is new."""
+
+    run: int | None
+    acts: tuple[Act, ...]
+    after: RunContents
+
+    @property
+    def concerned(self) -> list[str]:
+        """The scripts that are run again."""
+        if any(isinstance(it, SetKey) for it in self.acts):
+            return list(self.after.texts)
+        return [it.path for it in self.acts if isinstance(it, EditScript | AddScript)]
+
+
+def plan_changes(runs: Sequence[RunContents], wanted: Mapping[str, WantedScript]) -> list[RunChange]:
+    """What the runs have to do to hold what is wanted: first those that are there, then new ones.
+
+    A script stays in its run while that has its settings; any other goes to the first run with room.
+    """
+    targets = _targets(runs, wanted)
+    after: list[RunContents] = []
+    placed: set[str] = set()
+    for run, target in zip(runs, targets):
+        stays = {path: wanted[path].text for path in run.texts if _has(wanted.get(path), target)}
+        placed.update(stays)
+        after.append(RunContents(run.settings if target is None else target, stays))
+    _place({path: it for path, it in wanted.items() if path not in placed}, after)
+    old = [RunChange(number, _acts(run, then), then) for number, (run, then) in enumerate(zip(runs, after))]
+    new = [RunChange(None, _acts(RunContents(it.settings, {}), it), it) for it in after[len(runs) :]]
+    return [change for change in [*old, *new] if change.acts]
+
+
+def _has(it: WantedScript | None, settings: Settings | None) -> bool:
+    return it is not None and it.settings == settings
+
+
+def _place(scripts: Mapping[str, WantedScript], runs: list[RunContents]) -> None:
+    """Puts each script into the first run that has its settings and room, or else into a new one."""
+    rooms: dict[Settings, list[dict[str, Text]]] = {}
+    for number, run in enumerate(runs):
+        texts = dict(run.texts)
+        runs[number] = RunContents(run.settings, texts)
+        rooms.setdefault(run.settings, []).append(texts)
+    for path, it in scripts.items():
+        having = rooms.setdefault(it.settings, [])
+        while having and len(having[0]) >= BATCH_SIZE:
+            having.pop(0)
+        if not having:
+            having.append({})
+            runs.append(RunContents(it.settings, having[0]))
+        having[0][path] = it.text
+
+
+def _targets(runs: Sequence[RunContents], wanted: Mapping[str, WantedScript]) -> list[Settings | None]:
+    """The settings that each run is to have: those of most of its scripts, if that takes no run too many.
+
+    A run that can't be given them has none, and ends.
+    """
+    choices = [_choices(run, wanted) for run in runs]
+    need = {
+        settings: -(-count // BATCH_SIZE) for settings, count in Counter(it.settings for it in wanted.values()).items()
+    }
+    having: Counter[Settings] = Counter()
+    targets: list[Settings | None] = [None] * len(runs)
+    # Those that stay as they are come first, so that no other is changed to what is there.
+    for number in sorted(range(len(runs)), key=lambda it: choices[it][:1] != [runs[it].settings]):
+        for settings in choices[number]:
+            before = runs[number].settings
+            if settings == before or having[settings] < need[settings] and can_be_set(before, settings):
+                targets[number] = settings
+                having[settings] += 1
+                break
+    return targets
+
+
+def _choices(run: RunContents, wanted: Mapping[str, WantedScript]) -> list[Settings]:
+    """The settings that a run's scripts are to have: those of most scripts first, and of equally many its own."""
+    counts = Counter(wanted[path].settings for path in run.texts if path in wanted)
+    return sorted(counts, key=lambda it: (-counts[it], it != run.settings))
+
+
+def _acts(old: RunContents, new: RunContents) -> tuple[Act, ...]:
+    if not new.texts:
+        return tuple(RemoveScript(path) for path in old.texts)
+    return (*_removed(old, new), *_set(old, new), *_changed(old, new), *_added(old, new))
+
+
+def _removed(old: RunContents, new: RunContents) -> Iterator[RemoveScript]:
+    return (RemoveScript(path) for path in old.texts if path not in new.texts)
+
+
+def _set(old: RunContents, new: RunContents) -> Iterator[SetKey]:
+    if old.settings != new.settings:
+        yield from (SetKey(*set_words(key, value)) for key, value in changed_keys(old.settings, new.settings))
+
+
+def _changed(old: RunContents, new: RunContents) -> Iterator[EditScript]:
+    for path, text in old.texts.items():
+        then = new.texts.get(path)
+        if then is not None and then is not text and then.octets != text.octets:
+            yield EditScript(path, edit_between(text, then))
+
+
+def _added(old: RunContents, new: RunContents) -> Iterator[AddScript]:
+    return (AddScript(path, text) for path, text in new.texts.items() if path not in old.texts)
