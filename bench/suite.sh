@@ -82,7 +82,7 @@ if [ "$mode" = idle ]; then
     exit
 fi
 if [ "$mode" = known ]; then
-    /usr/bin/python3 -I "$top/bench/known.py" "$top" "$work/suite"
+    /usr/bin/python3 -I "$top/bench/known_rows.py" "$top" "$work/suite"
     exit
 fi
 measure_cluster() {

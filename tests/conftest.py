@@ -11,11 +11,11 @@ import pytest
 from _pytest._code.code import ExceptionInfo, TerminalRepr
 from _pytest.terminal import TerminalReporter
 
-from rows.comparing import Case, Finding
-from rows.kinds import Group, groups_of
-from rows.plain import at_least
-from rows.tables import Chance
-from rows.telling import PROGRAMS, Programs, heed_signals, programs_in, proved_programs, tell, tell_in_step
+from harness.comparing import Case, Finding
+from harness.kinds import Group, groups_of
+from harness.plain import at_least
+from harness.tables import Chance
+from harness.telling import PROGRAMS, Programs, heed_signals, programs_in, proved_programs, tell, tell_in_step
 
 NEEDS_BUILT = "needs a built program"
 

@@ -14,8 +14,8 @@ from pathlib import Path
 sys.path.insert(0, str(Path(__file__).resolve().parent))
 
 from drawn.drawing import Amount  # noqa: E402
-from rows.random_rows import PROGRAMS, Lists, joined, with_said  # noqa: E402
-from rows.tables import TOP  # noqa: E402
+from harness.random_rows import PROGRAMS, Lists, joined, with_said  # noqa: E402
+from harness.tables import TOP  # noqa: E402
 
 
 @dataclass(frozen=True)

@@ -11,12 +11,12 @@ from drawn import books, packets
 from drawn.drawing import Amount
 from model.rules import RFC6675
 from model.scenarios import Transfer
-from rows.asking import Call, Said, Sayings, run
-from rows.comparing import Finding
-from rows.kinds import groups_of
-from rows.random_rows import Draw, joined
-from rows.recoveries import drawn_transfers
-from rows.tables import TOP, Chance
+from harness.asking import Call, Said, Sayings, run
+from harness.comparing import Finding
+from harness.kinds import groups_of
+from harness.random_rows import Draw, joined
+from harness.recoveries import drawn_transfers
+from harness.tables import TOP, Chance
 from store_rows import STORED, Stored
 
 RANDOM = TOP / "tests" / "cases" / "random"
@@ -104,7 +104,7 @@ def test_what_is_not_drawn_for_the_program_fails(row: str, tmp_path: Path) -> No
     assert [bool(case.unread) for case in group.cases] == [True]
 
 
-COMMANDS = (["tests/run", "random"], ["tests/rows/plain.py", "tests/cases/random"])
+COMMANDS = (["tests/run", "random"], ["tests/harness/plain.py", "tests/cases/random"])
 
 
 @pytest.mark.parametrize("command", COMMANDS)

@@ -8,14 +8,14 @@ from typing import Any, Optional
 
 import pytest
 
-from rows.accepting import accept_all
-from rows.asking import Call, Said, run
-from rows.comparing import Finding, report_of
-from rows.kinds import KINDS, groups_of
-from rows.owed import owed
-from rows.random_scripts import Script
-from rows.recordings import tell_recordings
-from rows.turned import asked_in
+from harness.accepting import accept_all
+from harness.asking import Call, Said, run
+from harness.changed import asked_in
+from harness.comparing import Finding, report_of
+from harness.kinds import KINDS, groups_of
+from harness.owed import owed
+from harness.random_scripts import Script
+from harness.recordings import tell_recordings
 
 Program = Callable[[Call], Optional[Said]]
 EMPTY = report_of({})

@@ -6,9 +6,9 @@ from pathlib import Path
 
 import pytest
 
-from rows.answering import Batch, answers
-from rows.asking import Call, Said
-from rows.starting import is_startable, part, sayings_in, starts_of
+from harness.answering import Batch, answers
+from harness.asking import Call, Said
+from harness.starting import is_startable, part, sayings_in, starts_of
 
 
 @pytest.mark.parametrize(

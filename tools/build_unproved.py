@@ -17,7 +17,7 @@ import argparse
 import sys
 from pathlib import Path
 
-import stopping
+import signals
 from kept_builds import OPTIMISED, PLAIN, kept_programs
 
 FAULT = 2
@@ -74,11 +74,11 @@ def main() -> int:
     parser.add_argument("--kept", action="store_true", help="builds nothing")
     parser.add_argument("--way", choices=list(SERVES), default=ANY, help="how they are built")
     asked = parser.parse_args()
-    stopping.heed()
+    signals.heed()
     try:
         return found(asked.tree.absolute(), asked.way, asked.kept)
-    except stopping.Stopped as signal:
-        stopping.end_by(signal.number)
+    except signals.Stopped as signal:
+        signals.end_by(signal.number)
 
 
 if __name__ == "__main__":

@@ -23,14 +23,14 @@ import sys
 import tempfile
 from pathlib import Path
 
-import stopping
+import signals
 from edit_files import Edit, Unread, read_crates, read_plain
-from proofs import TOP
+from parallel import Commands
 from plain_planting import Copies, try_plain
 from planting import Trial, try_bugs
+from proofs import TOP
 from refusing import most_at_once, try_more
-from side_by_side import Commands
-from trying import Untried, find_kit
+from rt_try import Untried, find_kit
 
 
 # The kind of edits that are none of a crate.
@@ -99,14 +99,14 @@ def try_all(asked: argparse.Namespace) -> int:
 
 def main() -> int:
     asked = parser().parse_args()
-    stopping.heed()
+    signals.heed()
     try:
         return try_all(asked)
     except (Unread, Untried) as reason:
         print(f"edits: {reason}", file=sys.stderr)
         return 2
-    except stopping.Stopped as signal:
-        stopping.end_by(signal.number)
+    except signals.Stopped as signal:
+        signals.end_by(signal.number)
 
 
 if __name__ == "__main__":

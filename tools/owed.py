@@ -29,8 +29,8 @@ from owed_sections import names_changed, sections_owed
 TOP = Path(__file__).resolve().parents[1]
 sys.path.insert(0, str(TOP / "tests"))
 
-from rows.asking import Call, Said  # noqa: E402
-from rows.owed import asked_tables, calls_of, count_untold, owed  # noqa: E402
+from harness.asking import Call, Said  # noqa: E402
+from harness.owed import asked_tables, calls_of, count_untold, owed  # noqa: E402
 
 NUMBER = re.compile(rb"(\d+)\n")
 # So much a program says at most, and of each octet of its input, also where it explains.

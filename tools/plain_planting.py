@@ -16,8 +16,8 @@ from queue import Queue
 from typing import Optional, Union
 
 from edit_files import Edit, Unread, plant, planted
+from parallel import Commands
 from proofs import TOP
-from side_by_side import Commands
 
 PYTHON = "/usr/bin/python3"
 # The status of `timeout` where the time is over, and of pytest where tests failed.

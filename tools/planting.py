@@ -15,15 +15,15 @@ from pathlib import Path
 
 from crate_graph import dependencies, libraries_below
 from edit_files import Edit, Unread, plant
+from parallel import Commands
 from proofs import TOP, copy_crates
-from side_by_side import Commands
 
 sys.path.insert(0, str(TOP / "tests"))
 
-from rows.asking import NO_STATUS, Said  # noqa: E402
-from rows.comparing import Run, run_fault  # noqa: E402
-from rows.named import runs_named  # noqa: E402
-from rows.tables import Unread as UnreadRow  # noqa: E402
+from harness.asking import NO_STATUS, Said  # noqa: E402
+from harness.comparing import Run, run_fault  # noqa: E402
+from harness.named import runs_named  # noqa: E402
+from harness.tables import Unread as UnreadRow  # noqa: E402
 
 
 @dataclass(frozen=True)

@@ -33,15 +33,15 @@ from pathlib import Path
 
 import kept_sums
 import proving_kit
-import stopping
+import signals
 from changed_rules import keep, told
 from cited import Definitions, with_contracts
 from copies import copied
 from crate_graph import dependencies, libraries_below
 from kept_programs import keep_programs
 from proofs import JOBS, LANE, TOP, Lane, Times, Unproved, amount, hand_over, has_room, held, key_of, time_of_proof
-from proving_kit import Kit, Refused
 from prove_errors import errors
+from proving_kit import Kit, Refused
 from source_sums import TABLE, Unreadable, places_of, sources_below, sources_in, sums_of
 
 
@@ -286,7 +286,7 @@ def main() -> int:
     named = list(dict.fromkeys(asked.crates)) or every
     for unknown in (it for it in named if it not in uses):
         parser.error(f"there is no crate {unknown}; there are {', '.join(uses)}")
-    stopping.heed()
+    signals.heed()
     try:
         run(named, every, asked.lanes or (2 if has_room() else 1))
         say_proved(named)

@@ -8,8 +8,8 @@ from pathlib import Path
 
 from crate_graph import dependencies, libraries_below
 from edit_files import Edit, Unread
+from parallel import Commands
 from proofs import TOP, copy_crates, free_memory, link
-from side_by_side import Commands
 
 # What the check of a crate takes at most, in octets.
 ROOM = 4_000_000_000

@@ -19,8 +19,8 @@ from pathlib import Path
 from typing import NoReturn
 
 import building
-import stopping
-import trying
+import rt_try
+import signals
 from kept_builds import OPTIMISED, PLAIN, kept_programs
 
 FAULT = 2
@@ -57,9 +57,9 @@ def put(descriptor: int, octets: bytes) -> bool:
 
 def way_to_prove(program: str) -> str:
     """The command that proves a program, as it is written from here."""
-    command = str(trying.TOP / "prove")
+    command = str(rt_try.TOP / "prove")
     with contextlib.suppress(OSError):
-        if trying.TOP == Path.cwd():
+        if rt_try.TOP == Path.cwd():
             command = "./prove"
     return f"{command} {program}"
 
@@ -69,12 +69,12 @@ def check_words(words: list[str]) -> None:
     try:
         "".join(words).encode()
     except UnicodeEncodeError:
-        raise trying.Untried(trying.NoAnswer("NotText", "a word isn't UTF-8")) from None
+        raise rt_try.Untried(rt_try.NoAnswer("NotText", "a word isn't UTF-8")) from None
 
 
 def keep_input(file: Path) -> None:
     """Reads standard input into a file, up to more than `rt try` takes."""
-    left = trying.MOST_INPUT
+    left = rt_try.MOST_INPUT
     with file.open("wb") as kept:
         while left > 0:
             try:
@@ -112,14 +112,14 @@ class Progress:
 def find(program: str) -> Path:
     """The folder of the programs, which are built if none are kept; a line says first that the program isn't proved."""
     # Where both ways are kept, the plain one says more of a fault.
-    folder = kept_programs(trying.TOP, (PLAIN, OPTIMISED))
+    folder = kept_programs(rt_try.TOP, (PLAIN, OPTIMISED))
     first = "running without proofs" if folder else "building first, then running without proofs"
     say(program, f"unproved: {first}; {way_to_prove(program)} proves it")
     if folder is not None:
         return folder
     progress = Progress(program)
     try:
-        return building.build(trying.TOP, PLAIN, progress.note)
+        return building.build(rt_try.TOP, PLAIN, progress.note)
     finally:
         progress.end()
 
@@ -144,9 +144,9 @@ def run(program: str, words: list[str]) -> int:
             if os.isatty(0):
                 say(program, "unproved: reading the input first, up to its end (Ctrl-D)")
             keep_input(given)
-        answer = trying.run_once(program, [os.fsencode(word) for word in words], given, room)
-    if isinstance(answer, trying.NoAnswer):
-        raise trying.Untried(answer)
+        answer = rt_try.run_once(program, [os.fsencode(word) for word in words], given, room)
+    if isinstance(answer, rt_try.NoAnswer):
+        raise rt_try.Untried(answer)
     put(2, answer.errors)
     if not put(1, answer.output):
         raise Failed("18 Write")
@@ -166,9 +166,9 @@ def open_streams() -> None:
 def main() -> int:
     open_streams()
     program, *words = sys.argv[1:]
-    stopping.heed()
+    signals.heed()
     try:
-        trying.find_kit()
+        rt_try.find_kit()
         check_words(words)
         with contextlib.suppress(building.NoBuild, FileNotFoundError):
             become(find(program) / program, words)
@@ -178,13 +178,13 @@ def main() -> int:
         put(2, refused.said)
     except Failed as fault:
         say(program, str(fault))
-    except trying.Untried as untried:
+    except rt_try.Untried as untried:
         say(program, f"unproved: {untried}")
-        put(2, trying.placed(program, untried.reason.said))
+        put(2, rt_try.placed(program, untried.reason.said))
     except OSError as error:
         say(program, f"unproved: NoRoom: {error}")
-    except stopping.Stopped as signal:
-        stopping.end_by(signal.number)
+    except signals.Stopped as signal:
+        signals.end_by(signal.number)
     return FAULT
 
 

@@ -18,14 +18,14 @@ import sys
 import tempfile
 from pathlib import Path
 
-import stopping
-import trying
+import rt_try
+import signals
 from try_cases import FAULT, put
 
 # both.rattle is built in the place of this program's main file, and needs what the other one stands on, too.
 PROGRAM = "pdrecord"
 OTHER = "pdregress"
-MAIN = trying.TOP / "tools" / "both.rattle"
+MAIN = rt_try.TOP / "tools" / "both.rattle"
 MODULE = "mod record_program;"
 # What of a crate is read: definitions and proofs are not.
 PART = "src"
@@ -48,7 +48,7 @@ def put_tree(tree: Path, room: Path) -> None:
 
 def main_of(tree: Path) -> Path:
     """The main file that fits a tree's crates: its own, or where it has none this tree's."""
-    own = tree / MAIN.relative_to(trying.TOP)
+    own = tree / MAIN.relative_to(rt_try.TOP)
     return own if own.is_file() else MAIN
 
 
@@ -64,7 +64,7 @@ def with_both(table: str) -> str:
 
 def placed(said: bytes, room: Path, tree: Path) -> bytes:
     """What is said, with the places in the tree."""
-    said = trying.placed(PROGRAM, said, room)
+    said = rt_try.placed(PROGRAM, said, room)
     said = said.replace(os.fsencode(room / "crates" / PROGRAM / "src" / "main.rt"), os.fsencode(main_of(tree)))
     return said.replace(os.fsencode(room / "crates"), os.fsencode(tree / "crates"))
 
@@ -72,37 +72,37 @@ def placed(said: bytes, room: Path, tree: Path) -> bytes:
 def run(asked: argparse.Namespace, tree: Path) -> None:
     """Builds, starts and answers."""
     files = sorted(asked.starts.iterdir())
-    cases = [trying.Case((), it.read_bytes()) for it in files]
+    cases = [rt_try.Case((), it.read_bytes()) for it in files]
     with tempfile.TemporaryDirectory(prefix="pdboth-") as folder:
         room = Path(folder).resolve()
         put_tree(tree, room)
         try:
             # What is built runs in any case, so that nothing has to be interpreted.
-            answers = trying.run_cases(PROGRAM, cases, room, asked.seconds, top=room, steps=1)
-        except trying.Untried as untried:
+            answers = rt_try.run_cases(PROGRAM, cases, room, asked.seconds, top=room, steps=1)
+        except rt_try.Untried as untried:
             reason = untried.reason
-            raise trying.Untried(trying.NoAnswer(reason.name, reason.why, placed(reason.said, room, tree))) from None
+            raise rt_try.Untried(rt_try.NoAnswer(reason.name, reason.why, placed(reason.said, room, tree))) from None
     for file, tried in zip(files, answers):
         put(asked.answers, file.name, tried)
 
 
 def main() -> int:
     parser = argparse.ArgumentParser(allow_abbrev=False, description=(__doc__ or "").partition(":\n")[0])
-    parser.add_argument("--seconds", type=int, default=trying.SECONDS, help="what a case may take")
-    parser.add_argument("--tree", metavar="FOLDER", type=Path, default=trying.TOP, help="the tree of the programs")
+    parser.add_argument("--seconds", type=int, default=rt_try.SECONDS, help="what a case may take")
+    parser.add_argument("--tree", metavar="FOLDER", type=Path, default=rt_try.TOP, help="the tree of the programs")
     parser.add_argument("starts", metavar="STARTS", type=Path)
     parser.add_argument("answers", metavar="ANSWERS", type=Path)
     asked = parser.parse_args()
-    stopping.heed()
+    signals.heed()
     try:
         run(asked, asked.tree.absolute())
-    except trying.Untried as untried:
+    except rt_try.Untried as untried:
         print(f"{PROGRAM}: unproved: {untried}", file=sys.stderr)
         sys.stderr.flush()
         sys.stderr.buffer.write(untried.reason.said)
         return FAULT
-    except stopping.Stopped as signal:
-        stopping.end_by(signal.number)
+    except signals.Stopped as signal:
+        signals.end_by(signal.number)
     return 0
 
 

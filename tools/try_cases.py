@@ -16,25 +16,25 @@ import sys
 import tempfile
 from pathlib import Path
 
-import stopping
-import trying
+import rt_try
+import signals
 
 FAULT = 2
 
 
-def cases_in(folder: Path) -> dict[str, trying.Case]:
+def cases_in(folder: Path) -> dict[str, rt_try.Case]:
     """The cases of a folder by their names."""
     files = sorted(it for it in folder.iterdir() if it.suffix != ".args")
-    return {it.name: trying.Case(words_of(it.with_name(f"{it.name}.args")), it.read_bytes()) for it in files}
+    return {it.name: rt_try.Case(words_of(it.with_name(f"{it.name}.args")), it.read_bytes()) for it in files}
 
 
 def words_of(file: Path) -> tuple[bytes, ...]:
     return tuple(file.read_bytes().split(b"\n")[:-1])
 
 
-def put(folder: Path, name: str, tried: trying.Tried) -> None:
+def put(folder: Path, name: str, tried: rt_try.Tried) -> None:
     """Writes what a program answered."""
-    if isinstance(tried, trying.Answer):
+    if isinstance(tried, rt_try.Answer):
         (folder / f"{name}.output").write_bytes(tried.output)
         (folder / f"{name}.errors").write_bytes(tried.errors)
         (folder / f"{name}.status").write_text(str(tried.status))
@@ -48,30 +48,30 @@ def run(asked: argparse.Namespace) -> None:
     cases = cases_in(asked.cases)
     with tempfile.TemporaryDirectory(prefix=f"{asked.program}-") as room:
         words = [os.fsencode(it) for it in asked.words]
-        answers = trying.run_cases(asked.program, list(cases.values()), Path(room), asked.seconds, words, asked.tree)
+        answers = rt_try.run_cases(asked.program, list(cases.values()), Path(room), asked.seconds, words, asked.tree)
     for name, tried in zip(cases, answers):
         put(asked.answers, name, tried)
 
 
 def main() -> int:
     parser = argparse.ArgumentParser(allow_abbrev=False, description=(__doc__ or "").partition(":\n")[0])
-    parser.add_argument("--seconds", type=int, default=trying.SECONDS, help="what a case may take")
-    parser.add_argument("--tree", metavar="FOLDER", type=Path, default=trying.TOP, help="the tree of the program")
+    parser.add_argument("--seconds", type=int, default=rt_try.SECONDS, help="what a case may take")
+    parser.add_argument("--tree", metavar="FOLDER", type=Path, default=rt_try.TOP, help="the tree of the program")
     parser.add_argument("program", metavar="PROGRAM")
     parser.add_argument("cases", metavar="CASES", type=Path)
     parser.add_argument("answers", metavar="ANSWERS", type=Path)
     parser.add_argument("words", metavar="WORD", nargs="*", help="a word of every case")
     asked = parser.parse_args()
-    stopping.heed()
+    signals.heed()
     try:
         run(asked)
-    except trying.Untried as untried:
+    except rt_try.Untried as untried:
         print(f"{asked.program}: unproved: {untried}", file=sys.stderr)
         sys.stderr.flush()
-        sys.stderr.buffer.write(trying.placed(asked.program, untried.reason.said, asked.tree.absolute()))
+        sys.stderr.buffer.write(rt_try.placed(asked.program, untried.reason.said, asked.tree.absolute()))
         return FAULT
-    except stopping.Stopped as signal:
-        stopping.end_by(signal.number)
+    except signals.Stopped as signal:
+        signals.end_by(signal.number)
     return 0
 
 

@@ -159,6 +159,6 @@ def test_a_row_that_ends_the_program_is_named_and_the_others_are_told_again(tree
 
 
 def test_a_tool_that_fails_is_told_with_its_last_line(tree: Tree) -> None:
-    (tree.top / "tests/rows/kinds.py").write_text("import nowhere\n")
+    (tree.top / "tests/harness/kinds.py").write_text("import nowhere\n")
     called = compare(tree, "--base", tree.bin)
     assert called.status == 2 and called.err.endswith("owed.py: ModuleNotFoundError: No module named 'nowhere'\n")

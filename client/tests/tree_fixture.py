@@ -23,10 +23,10 @@ _TOOLS = (
     "kept_programs.py",
     "source_sums.py",
     "stamps.py",
-    "stopping.py",
+    "signals.py",
     "try_both.py",
     "try_cases.py",
-    "trying.py",
+    "rt_try.py",
 )
 _STAND_INS = {
     "rt": "fake_rt.py",
@@ -106,7 +106,7 @@ class Tree:
         """Gives it tests: rows, and what runs them."""
         for name in ("changed_rules.py", "owed.py", "owed_defaults.py", "owed_sections.py"):
             shutil.copy(TOP / "tools" / name, self.top / "tools")
-        for name in ("drawn", "model", "rows"):
+        for name in ("drawn", "model", "harness"):
             shutil.copytree(
                 TOP / "tests" / name, self.top / "tests" / name, ignore=shutil.ignore_patterns("__pycache__")
             )

@@ -4,7 +4,7 @@ Each link of a page leads to a file of the tree, and to a heading that is there,
 tool makes of a page is what the tool makes. The functions and edits that PROMISES.md names are there, and each file
 of src/ and specs/ begins with what it is for. The commands in blocks `console` of README.md and the tutorial are run
 in a copy of the tree with the built programs, and print what is shown after them; blocks `console slow` and `console
-follow` are left to tools/walk_tutorial.py. Prints how long the pages are, a line for each test, and `N passed, M
+follow` are left to tools/check_tutorial.py. Prints how long the pages are, a line for each test, and `N passed, M
 failed` last.
 """
 

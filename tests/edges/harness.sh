@@ -4,7 +4,7 @@ small=$work/small
 
 make_small_tree() {
     mkdir -p "$small/tests/edges" "$small/tools" "$small/client" "$small/tests/cases/empty" "$small/one" "$small/all"
-    cp -R "$top/tests/run" "$top/tests/conftest.py" "$top/tests/pytest.ini" "$top/tests/rows" "$top/tests/model" "$top/tests/drawn" "$top/tests/client.sh" "$small/tests"
+    cp -R "$top/tests/run" "$top/tests/conftest.py" "$top/tests/pytest.ini" "$top/tests/harness" "$top/tests/model" "$top/tests/drawn" "$top/tests/client.sh" "$small/tests"
     copy_built "$small"
     printf '[a] opening\n< 0\n' >"$small/tests/cases/openings.cases"
     printf '#!/bin/sh\necho a1 pass 1\necho total 1 pass 1 fail 0 syntax 0 unsupported 0 limit 0 pending 0\n' >"$small/one/pdregress"
@@ -43,7 +43,7 @@ run_alone() { # WORD..: the same by pytest without xdist
 }
 
 run_plainly() { # WORD..: the same where pytest is missing
-    (cd "$small/tests/cases" && counted 1 ../rows/plain.py "$@")
+    (cd "$small/tests/cases" && counted 1 ../harness/plain.py "$@")
 }
 
 test_rows() {

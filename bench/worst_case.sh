@@ -5,7 +5,7 @@
 # than 2 seconds, and one that takes more than 50 ms at the greatest size no more than 6 times as long as at a quarter of it.
 # The status tells whether that is so. RECORD names another build of pdrecord.
 #
-#   bench/hard.sh [KIND..]      the kinds of scripts that are named, all if nothing is said
+#   bench/worst_case.sh [KIND..]      the kinds of scripts that are named, all if nothing is said
 . "$(dirname "$0")/program.sh"
 record=${RECORD:-$top/crates/pdrecord/out/pdrecord}
 [ -n "${RECORD:-}" ] || "$top/pdrecord" </dev/null >/dev/null
@@ -99,7 +99,7 @@ milliseconds() { # the least of three runs: the input, and a program with its wo
     least=
     for run in 1 2 3; do
         begin=$(date +%s%N)
-        timeout 60 "$@" <"$input" >/dev/null 2>&1 || [ $? -le 2 ] || echo "bench/hard.sh: $* came to no end" >&2
+        timeout 60 "$@" <"$input" >/dev/null 2>&1 || [ $? -le 2 ] || echo "bench/worst_case.sh: $* came to no end" >&2
         took=$((($(date +%s%N) - begin) / 1000000))
         [ -n "$least" ] && [ "$least" -le "$took" ] || least=$took
         [ "$took" -lt 1000 ] || break

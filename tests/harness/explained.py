@@ -5,9 +5,9 @@ from collections.abc import Iterator, Mapping, Sequence
 from dataclasses import replace
 from typing import Optional
 
-from rows.asking import Asking, Call
-from rows.comparing import Answer, Case, Finding, Kind, Script, batches, case_of, input_of, shown, verdicts_said
-from rows.tables import PROGRAM, Row, Table, Unread, octets
+from harness.asking import Asking, Call
+from harness.comparing import Answer, Case, Finding, Kind, Script, batches, case_of, input_of, shown, verdicts_said
+from harness.tables import PROGRAM, Row, Table, Unread, octets
 
 EXPLAINING = (b"--explain", b"--json")
 NOTHING_SAID = "nothing"

@@ -8,13 +8,13 @@ from dataclasses import dataclass, field
 from pathlib import Path
 from typing import Any
 
-from rows.answering import Commands, answers
-from rows.asking import Asking, later, run, run_in_step
-from rows.comparing import Case, Finding
-from rows.kinds import Group
-from rows.recordings import RECORDS
-from rows.stories import STORIES
-from rows.tables import PROGRAM, TOP
+from harness.answering import Commands, answers
+from harness.asking import Asking, later, run, run_in_step
+from harness.comparing import Case, Finding
+from harness.kinds import Group
+from harness.recordings import RECORDS
+from harness.stories import STORIES
+from harness.tables import PROGRAM, TOP
 
 # Those that have a launcher at the top, and all.
 LAUNCHED = (PROGRAM, RECORDS)

@@ -3,7 +3,7 @@
 # docs/emacs.png, of a failing script in these editors. It needs the built programs and the packages in
 # client/packages*.txt; PDSUITE_PROGRAMS names other builds.
 #
-#   tools/pictures.sh
+#   tools/screenshots.sh
 set -eu
 top=$(CDPATH='' cd -P -- "$(dirname -- "$0")/.." && pwd -P)
 cd "$top"

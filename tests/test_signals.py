@@ -1,4 +1,4 @@
-"""Tests of tools/stopping.py: the first signal ends the work, and none after it what is done at the end."""
+"""Tests of tools/signals.py: the first signal ends the work, and none after it what is done at the end."""
 
 import os
 import signal
@@ -12,17 +12,17 @@ TOOLS = Path(__file__).resolve().parents[1] / "tools"
 WORK = """
 import os, signal, sys, time
 sys.path.insert(0, sys.argv[1])
-import stopping
-stopping.heed()
+import signals
+signals.heed()
 try:
     print("begun", flush=True)
     sys.stdin.read()
     print("not stopped")
-except stopping.Stopped as signal_that_came:
-    for number in stopping.SIGNALS:
+except signals.Stopped as signal_that_came:
+    for number in signals.SIGNALS:
         os.kill(os.getpid(), number)
     print("ended", flush=True)
-    stopping.end_by(signal_that_came.number)
+    signals.end_by(signal_that_came.number)
 """
 
 

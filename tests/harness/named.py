@@ -2,10 +2,10 @@
 
 from collections.abc import Iterator
 
-from rows.asking import Said
-from rows.comparing import Case, Run
-from rows.stories import slug, stories, titled_stories
-from rows.tables import CASES, TOP, Row, Unread, read_tables
+from harness.asking import Said
+from harness.comparing import Case, Run
+from harness.stories import slug, stories, titled_stories
+from harness.tables import CASES, TOP, Row, Unread, read_tables
 
 DESK = "test_desk"
 # What test_desk tries after the stories, a word each, and a line of its output.

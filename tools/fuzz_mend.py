@@ -1,7 +1,7 @@
 #!/usr/bin/env -S python3 -B
 """Spoils scripts of a suite at random, and says whether `pdrecord --minimal` gives them back:
 
-spoil_scripts.py [--count N] [--seed N] [--show] [--program FILE] [PATH..]
+fuzz_mend.py [--count N] [--seed N] [--show] [--program FILE] [PATH..]
 
 Each case is a script of the suite, `examples/suite` where no PATH is given, with one written field of an awaited packet
 or one result of a call made another one, a time by more than the tolerance. FILE is a built `pdrecord`; without one,
@@ -21,9 +21,9 @@ from concurrent.futures import ThreadPoolExecutor
 from dataclasses import dataclass
 from pathlib import Path
 
-import trying
+import rt_try
 
-TOP = trying.TOP
+TOP = rt_try.TOP
 sys.path.insert(0, str(TOP / "client"))
 
 from pdsuite.run.batches import Script  # noqa: E402
@@ -133,9 +133,9 @@ def is_same_time(one: str, other: str) -> bool:
     return apart <= TOLERANCE + 1e-9 and one[first.end() :].split() == other[second.end() :].split()
 
 
-def judge(it: Spoiled, answer: trying.Tried) -> tuple[bool, bool, list[str]]:
+def judge(it: Spoiled, answer: rt_try.Tried) -> tuple[bool, bool, list[str]]:
     """Whether only the spoiled line was changed, whether it came back, and what was made."""
-    if not isinstance(answer, trying.Answer) or answer.status != 0:
+    if not isinstance(answer, rt_try.Answer) or answer.status != 0:
         return False, False, [str(answer)]
     made = answer.output.decode().splitlines()
     others = len(made) == len(it.new) and all(
@@ -177,7 +177,7 @@ def main() -> int:
     return 0 if back == len(cases) else 1
 
 
-def answers_of(cases: Sequence[Spoiled], program: Path | None) -> list[trying.Tried]:
+def answers_of(cases: Sequence[Spoiled], program: Path | None) -> list[rt_try.Tried]:
     """What the program answers to each."""
     if program is None:
         return unproved_answers(cases)
@@ -185,30 +185,30 @@ def answers_of(cases: Sequence[Spoiled], program: Path | None) -> list[trying.Tr
         return list(pool.map(lambda it: answer_of(case_of(it), program), cases))
 
 
-def answer_of(case: trying.Case, program: Path) -> trying.Tried:
+def answer_of(case: rt_try.Case, program: Path) -> rt_try.Tried:
     done = subprocess.run([program, *case.words, b"--minimal"], input=case.given, capture_output=True)
-    return trying.Answer(done.stdout, done.stderr, done.returncode)
+    return rt_try.Answer(done.stdout, done.stderr, done.returncode)
 
 
-def unproved_answers(cases: Sequence[Spoiled]) -> list[trying.Tried]:
+def unproved_answers(cases: Sequence[Spoiled]) -> list[rt_try.Tried]:
     """The same unproved. A word of a case has no newline, so settings of two keys have a build of their own."""
     groups: dict[tuple[bytes, ...], list[int]] = {}
     runs = [case_of(it) for it in cases]
     for number, case in enumerate(runs):
         groups.setdefault(case.words if any(b"\n" in it for it in case.words) else (), []).append(number)
-    found: dict[int, trying.Tried] = {}
+    found: dict[int, rt_try.Tried] = {}
     for shared, numbers in groups.items():
         with tempfile.TemporaryDirectory(prefix="spoiled-") as room:
-            own = [trying.Case(() if shared else runs[it].words, runs[it].given) for it in numbers]
+            own = [rt_try.Case(() if shared else runs[it].words, runs[it].given) for it in numbers]
             words = [b"--minimal", *shared]
-            found |= zip(numbers, trying.run_cases("pdrecord", own, Path(room), 60, words, steps=1))
+            found |= zip(numbers, rt_try.run_cases("pdrecord", own, Path(room), 60, words, steps=1))
     return [found[number] for number in range(len(cases))]
 
 
-def case_of(it: Spoiled) -> trying.Case:
+def case_of(it: Spoiled) -> rt_try.Case:
     text = settings_text(it.script.settings)
     words = (b"--settings", text.encode()) if text else ()
-    return trying.Case(words, "".join(f"{line}\n" for line in it.new).encode())
+    return rt_try.Case(words, "".join(f"{line}\n" for line in it.new).encode())
 
 
 if __name__ == "__main__":

@@ -4,10 +4,10 @@ from collections.abc import Iterator, Sequence
 from dataclasses import dataclass, replace
 from typing import Optional, Union
 
-from rows.asking import Asking, Said
-from rows.comparing import Answer, Case, Finding, Kind, Run, Script, case_of, report_of, run_answers
-from rows.comparing import script_answers, tell_runs, tell_scripts, verdict_of
-from rows.tables import PROGRAM, Row, Table, octets, parted
+from harness.asking import Asking, Said
+from harness.comparing import Answer, Case, Finding, Kind, Run, Script, case_of, report_of, run_answers
+from harness.comparing import script_answers, tell_runs, tell_scripts, verdict_of
+from harness.tables import PROGRAM, Row, Table, octets, parted
 
 # What an input begins with, and no script.
 INPUT = b"add "

@@ -1,4 +1,4 @@
-"""Runs the program on random input of several kinds and says how it fared; tools/soak.sh calls it."""
+"""Runs the program on random input of several kinds and says how it fared; tools/fuzz.sh calls it."""
 
 import json
 import os
@@ -12,7 +12,7 @@ from pathlib import Path
 
 sys.path.insert(0, str(Path(__file__).resolve().parents[1] / "tests"))
 
-from rows.comparing import add_command  # noqa: E402
+from harness.comparing import add_command  # noqa: E402
 
 OCTETS = 1_000_000
 SECONDS = 60
@@ -282,7 +282,7 @@ def run_closed(program, text, workers):
     return None
 
 
-def soak_beside(program, rounds, seed):
+def fuzz_beside(program, rounds, seed):
     """Streams without workers and beside some, and streams that fail; prints a line and gives how many were wrong."""
     figures, wrong = Figures(), 0
     for number in range(seed, seed + rounds):
@@ -300,7 +300,7 @@ def soak_beside(program, rounds, seed):
     return wrong
 
 
-def soak_explaining(program, rounds, seed):
+def fuzz_explaining(program, rounds, seed):
     """Streams that are explained; prints a line and gives how many were wrong."""
     figures, wrong = Figures(), 0
     for number in range(seed, seed + rounds):
@@ -340,8 +340,8 @@ def main():
                     print(f"{kind}, seed {number}: {fault}")
         ends = ", ".join(f"{count} with status {status}" for status, count in sorted(figures.ends.items()))
         print(f"{kind}: {figures.runs} runs, {ends}; {figures.seconds:.2f} s at most, {figures.kib} KiB at most")
-    wrong += soak_beside(program, rounds, seed)
-    wrong += soak_explaining(program, rounds, seed)
+    wrong += fuzz_beside(program, rounds, seed)
+    wrong += fuzz_explaining(program, rounds, seed)
     print(f"{wrong} wrong, bound {MOST_KIB} KiB and {SECONDS} s a run")
     sys.exit(1 if wrong else 0)
 

@@ -8,9 +8,9 @@ from collections.abc import Iterator
 from dataclasses import dataclass, field
 from pathlib import Path
 
-from rows.asking import Said
-from rows.comparing import Case, Kind, Run, add_command, run_answers, tell_runs
-from rows.tables import MARK, TOP, Opening, Row, Table, Unread, lines_of, octets, parted, place_in_tree, reading
+from harness.asking import Said
+from harness.comparing import Case, Kind, Run, add_command, run_answers, tell_runs
+from harness.tables import MARK, TOP, Opening, Row, Table, Unread, lines_of, octets, parted, place_in_tree, reading
 
 
 def slug(title: str) -> str:

@@ -3,9 +3,9 @@
 import re
 from collections.abc import Iterator, Sequence
 
-from rows.asking import Call, Said
-from rows.recordings import RECORDS
-from rows.tables import PROGRAM
+from harness.asking import Call, Said
+from harness.recordings import RECORDS
+from harness.tables import PROGRAM
 
 SETTINGS = b"--settings"
 EXPLAIN = b"--explain"

@@ -5,11 +5,11 @@ from dataclasses import dataclass
 from pathlib import Path
 from typing import Any, Optional
 
-from rows.asking import Asking
-from rows.comparing import Answer, Case, said_lines
-from rows.kinds import KINDS
-from rows.recordings import RECORDS
-from rows.tables import PROGRAM, Table, Unread, read_tables
+from harness.asking import Asking
+from harness.comparing import Answer, Case, said_lines
+from harness.kinds import KINDS
+from harness.recordings import RECORDS
+from harness.tables import PROGRAM, Table, Unread, read_tables
 
 Answers = list[Optional[Answer]]
 # The programs in which the sender runs that a row may be told to.

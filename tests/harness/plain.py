@@ -11,10 +11,10 @@ from pathlib import Path
 
 sys.path.insert(0, str(Path(__file__).resolve().parents[1]))
 
-from rows.comparing import Finding  # noqa: E402
-from rows.kinds import Group, groups_of, unread_group  # noqa: E402
-from rows.tables import Chance, Row, place_in_tree  # noqa: E402
-from rows.telling import Programs, Told, heed_signals, programs_in, proved_programs, tell, tell_in_step  # noqa: E402
+from harness.comparing import Finding  # noqa: E402
+from harness.kinds import Group, groups_of, unread_group  # noqa: E402
+from harness.tables import Chance, Row, place_in_tree  # noqa: E402
+from harness.telling import Programs, Told, heed_signals, programs_in, proved_programs, tell, tell_in_step  # noqa: E402
 
 
 def files_in(path: Path) -> list[Path]:

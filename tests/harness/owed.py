@@ -4,10 +4,10 @@ from collections.abc import Iterator, Sequence
 from dataclasses import dataclass, replace
 from typing import Any
 
-from rows.asking import Call, Sayings, run_in_step
-from rows.comparing import Case, Run
-from rows.tables import case_files
-from rows.turned import Answers, Asked, asked_in
+from harness.asking import Call, Sayings, run_in_step
+from harness.changed import Answers, Asked, asked_in
+from harness.comparing import Case, Run
+from harness.tables import case_files
 
 WORKERS = b"--workers"
 # So many octets has no input that is about the sender.

@@ -5,15 +5,15 @@ from dataclasses import dataclass, replace
 from pathlib import Path
 from typing import Any
 
-from rows.comparing import Case, Kind
-from rows.cuts import CUTS
-from rows.explained import BEGINNINGS, EXPLAINED
-from rows.random_rows import RANDOM_ROWS
-from rows.recordings import RECORDINGS
-from rows.refusals import REFUSALS
-from rows.scripts import PLACES, SCRIPTS
-from rows.stories import STORIES, TITLED_STORIES
-from rows.tables import Chance, Row, Table, Unread, place_in_tree, read_tables
+from harness.comparing import Case, Kind
+from harness.cuts import CUTS
+from harness.explained import BEGINNINGS, EXPLAINED
+from harness.random_rows import RANDOM_ROWS
+from harness.recordings import RECORDINGS
+from harness.refusals import REFUSALS
+from harness.scripts import PLACES, SCRIPTS
+from harness.stories import STORIES, TITLED_STORIES
+from harness.tables import Chance, Row, Table, Unread, place_in_tree, read_tables
 
 KINDS: dict[str, Kind[Any]] = {
     "scripts": SCRIPTS,

@@ -4,9 +4,9 @@ from collections.abc import Iterator, Mapping, Sequence
 from dataclasses import dataclass, field
 from difflib import SequenceMatcher
 
-from rows.asking import Said
-from rows.stories import Story
-from rows.tables import MARK, Row
+from harness.asking import Said
+from harness.stories import Story
+from harness.tables import MARK, Row
 
 MARKED = f"{MARK} taken from the program: work it out by hand, and then take this line away"
 # New lines by the numbers of those in whose place they stand.

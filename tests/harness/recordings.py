@@ -8,12 +8,12 @@ from collections import Counter
 from collections.abc import Iterator, Sequence
 from dataclasses import dataclass, replace
 
-from rows.asking import Asking, Call, Said, Sayings
-from rows.comparing import Case, Finding, Kind, batches, input_of, verdicts_said
-from rows.comparing import Script as Told
-from rows.random_scripts import Script, random_scripts
-from rows.scripts import script_of, terms_of
-from rows.tables import PROGRAM, Row, Table, Unread, case_files, read_tables
+from harness.asking import Asking, Call, Said, Sayings
+from harness.comparing import Case, Finding, Kind, batches, input_of, verdicts_said
+from harness.comparing import Script as Told
+from harness.random_scripts import Script, random_scripts
+from harness.scripts import script_of, terms_of
+from harness.tables import PROGRAM, Row, Table, Unread, case_files, read_tables
 
 TRACE = re.compile(rb"//= at (\d+\.\d{6}) [A-Z]")
 RECORDS = "pdrecord"

@@ -5,10 +5,10 @@ from collections.abc import Iterator, Sequence
 from itertools import dropwhile, zip_longest
 
 from model.scenarios import Expected, Transfer, transfers
-from rows.asking import Asking, Said
-from rows.comparing import MAX_FAULTS, Finding
-from rows.random_scripts import Script
-from rows.recordings import recording
+from harness.asking import Asking, Said
+from harness.comparing import MAX_FAULTS, Finding
+from harness.random_scripts import Script
+from harness.recordings import recording
 
 STATE = re.compile(r"//= at (\d+)\.(\d{6}) (.+?)(?: sent_by:\w+)?")
 TIME = re.compile(r"\+[0-9.]+ ")

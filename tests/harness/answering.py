@@ -10,9 +10,9 @@ from collections.abc import Mapping, Sequence
 from dataclasses import dataclass
 from pathlib import Path
 
-from rows.asking import NO_STATUS, Call, Said, Sayings
-from rows.starting import is_startable, sayings_in, starts_of
-from rows.tables import TOP
+from harness.asking import NO_STATUS, Call, Said, Sayings
+from harness.starting import is_startable, sayings_in, starts_of
+from harness.tables import TOP
 
 # What a call may take, in seconds by the clock: long, so that a busy machine fails none.
 SECONDS = 300

@@ -3,8 +3,8 @@
 from collections.abc import Iterator
 from dataclasses import dataclass, replace
 
-from rows.comparing import Case, Kind, Script, case_of, script_answers, tell_scripts, verdict_of
-from rows.tables import Row, Table, Unread, octets, parted
+from harness.comparing import Case, Kind, Script, case_of, script_answers, tell_scripts, verdict_of
+from harness.tables import Row, Table, Unread, octets, parted
 
 PLAIN = frozenset(b"\t\r") | frozenset(range(0x20, 0x7F))
 

@@ -6,8 +6,8 @@ from collections.abc import Callable, Iterable, Iterator, Mapping, Sequence
 from dataclasses import dataclass, replace
 from typing import Generic, Optional, TypeVar, Union
 
-from rows.asking import NO_STATUS, Asking, Call, Said
-from rows.tables import PROGRAM, Row, Table, Unread, reading
+from harness.asking import NO_STATUS, Asking, Call, Said
+from harness.tables import PROGRAM, Row, Table, Unread, reading
 
 CLASSES = ("pass", "fail", "syntax", "unsupported", "limit", "pending")
 MAX_SCRIPTS = 500

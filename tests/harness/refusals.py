@@ -3,9 +3,9 @@
 from collections.abc import Iterator
 from dataclasses import replace
 
-from rows.asking import Said
-from rows.comparing import NOTHING, Case, Kind, Run, case_of, run_answers, tell_runs
-from rows.tables import PROGRAM, Row, Table, Unread, octets, parted
+from harness.asking import Said
+from harness.comparing import NOTHING, Case, Kind, Run, case_of, run_answers, tell_runs
+from harness.tables import PROGRAM, Row, Table, Unread, octets, parted
 
 # What a row says of a setting that is taken, and of a line that is no command, which ends the run.
 TAKEN = "ok"

@@ -6,10 +6,10 @@
 # to say nothing that doesn't print. Prints a line a kind: its runs, how they ended, the longest time and the most
 # memory. Outside the gate: needs Python and GNU time.
 #
-#   tools/soak.sh [ROUNDS [SEED]]      10 rounds from seed 1 if nothing is said; a round is a run of each kind, and a
+#   tools/fuzz.sh [ROUNDS [SEED]]      10 rounds from seed 1 if nothing is said; a round is a run of each kind, and a
 #                                      hundred streams. PROGRAM names another build.
 set -eu
 top=$(cd "$(dirname "$0")/.." && pwd)
 program=${PROGRAM:-$top/crates/pdregress/out/pdregress}
 [ -n "${PROGRAM:-}" ] || "$top/prove" pdregress
-exec python3 "$top/tools/soak.py" "$program" "${1:-10}" "${2:-1}"
+exec python3 "$top/tools/fuzz.py" "$program" "${1:-10}" "${2:-1}"

@@ -12,15 +12,15 @@ from pathlib import Path
 
 sys.path.insert(0, str(Path(__file__).resolve().parents[1]))
 
-from rows.answering import answers  # noqa: E402
-from rows.asking import Ask, Said, run_in_step  # noqa: E402
-from rows.comparing import Answer, shown  # noqa: E402
-from rows.plain import chosen_programs, files_in, parser_of  # noqa: E402
-from rows.rewriting import Lines, Untaken, with_explained, with_story, with_verdict  # noqa: E402
-from rows.stories import stories_in  # noqa: E402
-from rows.tables import MARK, Table  # noqa: E402
-from rows.telling import heed_signals  # noqa: E402
-from rows.turned import Answers, Asked, asked_in, turned  # noqa: E402
+from harness.answering import answers  # noqa: E402
+from harness.asking import Ask, Said, run_in_step  # noqa: E402
+from harness.changed import Answers, Asked, asked_in, turned  # noqa: E402
+from harness.comparing import Answer, shown  # noqa: E402
+from harness.plain import chosen_programs, files_in, parser_of  # noqa: E402
+from harness.rewriting import Lines, Untaken, with_explained, with_story, with_verdict  # noqa: E402
+from harness.stories import stories_in  # noqa: E402
+from harness.tables import MARK, Table  # noqa: E402
+from harness.telling import heed_signals  # noqa: E402
 
 BY_HAND = "a row of this kind is changed by hand"
 UNHEARD = "the program came to no end, by this row or by one that is told with it"

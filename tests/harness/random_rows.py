@@ -8,11 +8,11 @@ from functools import partial
 from drawn import boards, books, packets
 from drawn.drawing import Amount
 from model.rules import RFC6675, RFC9937
-from rows.asking import Asking, Said
-from rows.comparing import Case, Finding, Kind, Run, case_of, tell_runs
-from rows.recordings import RECORDS
-from rows.recoveries import drawn_transfers, tell_transfers
-from rows.tables import TOP, Row, Table, Unread
+from harness.asking import Asking, Said
+from harness.comparing import Case, Finding, Kind, Run, case_of, tell_runs
+from harness.recordings import RECORDS
+from harness.recoveries import drawn_transfers, tell_transfers
+from harness.tables import TOP, Row, Table, Unread
 
 ROW = re.compile(r"([1-9]\d*) ([a-z0-9 ]+) from (\d+)")
 # The recoveries of an algorithm, which the recorder is told.
