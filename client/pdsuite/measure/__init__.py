@@ -12,8 +12,8 @@ transfers on both sides of a comparison, and `statistics` says what the differen
     a transfer:  handshake --> inputs --> reply --> inputs .. --> delivered
                                                        '--> UnfinishedTransferError, StalledTransferError
 
-- Time is virtual and whole microseconds. Chance is drawn by seeds of case and run, equal for both sides, so pairs
-  compare.
+- Time is virtual: whole microseconds, and nanoseconds within the queue. Chance is drawn by seeds of case and run, equal
+  for both sides, so pairs compare.
 - Inputs go to the program only once nothing can arrive before them: what left is known first (`Transfer.horizon`).
 - Many transfers share a program, as scripts that grow at their ends; each is independent of those beside it.
 - A transfer that comes to no end counts on neither side, and is reported.

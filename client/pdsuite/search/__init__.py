@@ -13,7 +13,7 @@ gives `Inputs`: calls and packets, each at its moment. `Candidates` makes the li
 
 - All is drawn from the seed: the same seed and the same recordings give the same lists, on any machine.
 - Senders are queried by an oracle alone, either programs (`ProgramOracle`) or a tree's sources (`UnprovedOracle`), so
-  nothing here knows how a sender is run.
+  no other module here knows how a sender is run.
 - A find is what a program says it is: a script that passes before and fails after, or a recording that reaches the
   state.
 - What is reached is counted by kinds of states (`states`), in which numbers count by order and rough size; otherwise
