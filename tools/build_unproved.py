@@ -1,3 +1,4 @@
+#!/usr/bin/env -S python3 -B
 """Builds pdregress and pdrecord of a tree without proofs, or finds what was built before and is kept:
 
 build_unproved.py [--tree FOLDER] [--kept] [--way plain|optimised|any]
