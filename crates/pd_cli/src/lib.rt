@@ -1,4 +1,4 @@
-//! The report, serving and the whole programs, over any reader and writers.
+//! The report, serving and the whole program `pdregress`, over any reader and writers.
 //!
 //! `run` is the whole of `pdregress` but for its streams. `run_alone` serves its input without
 //! workers, `serve` beside workers, and `serve_seat` at a seat of a desk. `render` gives the octets
