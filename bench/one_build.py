@@ -1,7 +1,8 @@
-"""Builds one sender with many bugs, of which a number in the program chooses one or none.
+"""Builds one sender with many mutants, of which a number in the program chooses one or none.
 
-Each function that a bug changes has its bodies side by side. What chooses among them reads a number that the compiler
-takes for unknown, so that a copy of the program with another number has another bug. That is one build for all bugs.
+Each function that a mutant changes has its bodies side by side. What chooses among them reads a number that the
+compiler takes for unknown, so that a copy of the program with another number is another mutant. That is one build for
+all mutants.
 """
 from __future__ import annotations
 
@@ -10,40 +11,40 @@ import subprocess
 from collections.abc import Iterable, Iterator, Sequence
 from pathlib import Path
 
-from trees import Edit
+from trees import Mutant
 import building
-from edit_files import Change, place_of
+from mutant_files import Change, place_of
 from kept_builds import PROGRAMS
 from kit_tools import known_kit, words_of_compiler, words_of_linker
 
-# What answers the number, in the root of each crate that has a bug.
-CHOOSING = "planted_bug"
-_FUNCTION = f"\n/// Which bug is chosen; 0 is none.\npub fn {CHOOSING}() -> u32 {{\n    0\n}}\n"
+# The function that gives the number, in the root of each crate that a mutant changes.
+CHOOSER = "chosen_mutant"
+_FUNCTION = f"\n/// Which mutant is chosen; 0 is none.\npub fn {CHOOSER}() -> u32 {{\n    0\n}}\n"
 # Where it stands in the program: the number after these three.
 _MARK = (0x7069F1A7, 0x5EED0B06, 0x1DE7EC7A)
-_GLOBAL = f"@{CHOOSING} = global [4 x i32] [{', '.join(f'i32 {it}' for it in _MARK)}, i32 0]\n"
+_GLOBAL = f"@{CHOOSER} = global [4 x i32] [{', '.join(f'i32 {it}' for it in _MARK)}, i32 0]\n"
 _LOADS = (
-    f"  %at = getelementptr [4 x i32], ptr @{CHOOSING}, i64 0, i64 3\n"
+    f"  %at = getelementptr [4 x i32], ptr @{CHOOSER}, i64 0, i64 3\n"
     "  %number = load volatile i32, ptr %at\n"
     "  ret i32 %number\n"
 )
-_DEFINED = re.compile(rf'^(define [^\n]*@"[^"\n]*::{CHOOSING}"[^\n]*{{\n)(?:[^\n]*\n)*?(}}\n)', re.MULTILINE)
+_DEFINED = re.compile(rf'^(define [^\n]*@"[^"\n]*::{CHOOSER}"[^\n]*{{\n)(?:[^\n]*\n)*?(}}\n)', re.MULTILINE)
 _HEAD = re.compile(r"^( *)(?:pub(?:\([a-z]+\))? )?(?:const )?fn ", re.MULTILINE)
 _FIRST_USE = re.compile(r"^use |^pub use |^mod ", re.MULTILINE)
 Body = tuple[int, int]
 
 
-class Unplanted(Exception):
-    """That a bug can't be planted, and why."""
+class BuildError(Exception):
+    """That mutants can't be built into one program, and why."""
 
 
-def plant_all(bugs: Sequence[Edit], tree: Path) -> None:
-    """Puts all bugs into a tree; the first has the number 1."""
-    files = dict.fromkeys(change.file for bug in bugs for change in bug.changes)
+def apply_all(mutants: Sequence[Mutant], tree: Path) -> None:
+    """Puts all mutants into a tree; the first has the number 1."""
+    files = dict.fromkeys(change.file for mutant in mutants for change in mutant.changes)
     for name in files:
         path = tree / name
         text = path.read_text()
-        changes = [(number, it) for number, bug in enumerate(bugs, 1) for it in bug.changes if it.file == name]
+        changes = [(number, it) for number, mutant in enumerate(mutants, 1) for it in mutant.changes if it.file == name]
         path.write_text(_with_bodies(text, changes))
     for root in {tree.joinpath(*Path(name).parts[:2], "src", "lib.rt") for name in files}:
         root.write_text(root.read_text() + _FUNCTION)
@@ -57,11 +58,11 @@ def _with_bodies(text: str, changes: Iterable[tuple[int, Change]]) -> str:
         begin, end = place_of(it, text, True)
         body = next((one for one in bodies if one[0] <= begin and end <= one[1]), None)
         if body is None:
-            raise Unplanted(f"{it.file}: '{it.old}' stands in no function")
+            raise BuildError(f"{it.file}: '{it.old}' stands in no function")
         found.setdefault(body, {}).setdefault(number, []).append(((begin, end), it.new))
     for (begin, end), numbers in sorted(found.items(), reverse=True):
         arms = "".join(f"{number} => {{{_changed(text, (begin, end), it)}}}\n" for number, it in numbers.items())
-        choice = f"\nmatch crate::{CHOOSING}() {{\n{arms}_ => {{{text[begin:end]}}}\n}}\n"
+        choice = f"\nmatch crate::{CHOOSER}() {{\n{arms}_ => {{{text[begin:end]}}}\n}}\n"
         text = text[:begin] + choice + text[end:]
     return text
 
@@ -87,23 +88,33 @@ def bodies_in(text: str) -> Iterator[Body]:
             yield opened.end(), closed.start()
 
 
-def build(tree: Path, room: Path) -> Path:
-    """A program of a tree with all bugs, in a folder; it serves as both."""
+def build(tree: Path, folder: Path) -> Path:
+    """Builds a tree with all mutants in a folder; the program serves as both."""
     kit, words = known_kit(), None
-    building.read(kit, tree, room, print_phase)
-    module = room / "module.ll"
-    words = [str(kit.compiler), "-x", "ir", "-S", "-emit-llvm", "-O0", str(room / "entry/module.bc"), "-o", str(module)]
+    building.read(kit, tree, folder, print_phase)
+    module = folder / "module.ll"
+    words = [
+        str(kit.compiler),
+        "-x",
+        "ir",
+        "-S",
+        "-emit-llvm",
+        "-O0",
+        str(folder / "entry/module.bc"),
+        "-o",
+        str(module),
+    ]
     subprocess.run(words, check=True)
     text, count = _DEFINED.subn(lambda it: f"{it[1]}{_LOADS}{it[2]}", module.read_text())
     if not count:
-        raise Unplanted("the module has nothing that chooses")
+        raise BuildError("the module doesn't have the function that gives the number")
     module.write_text(f"{text}\n{_GLOBAL}")
-    given = (room / "entry/words").read_text().splitlines()
+    given = (folder / "entry/words").read_text().splitlines()
     compile_words = [it.replace("module.bc", "module.ll") for it in words_of_compiler(kit, given)]
-    building.checked(compile_words, room, lambda: print_phase(building.COMPILING))
-    building.checked(building.words_of_handler(kit, room / "handler.o"), room, lambda: None)
-    program = room / "program"
-    building.checked(words_of_linker(kit, (room / "module.o", room / "handler.o"), program), room, lambda: None)
+    building.checked(compile_words, folder, lambda: print_phase(building.COMPILING))
+    building.checked(building.words_of_handler(kit, folder / "handler.o"), folder, lambda: None)
+    program = folder / "program"
+    building.checked(words_of_linker(kit, (folder / "module.o", folder / "handler.o"), program), folder, lambda: None)
     return program
 
 
@@ -112,12 +123,12 @@ def print_phase(phase: str) -> None:
 
 
 def choose(program: Path, number: int, folder: Path) -> dict[str, Path]:
-    """Both programs in a new folder, with the bug of a number."""
+    """Both programs in a new folder, with the mutant of a number."""
     octets = program.read_bytes()
     mark = b"".join(it.to_bytes(4, "little") for it in _MARK)
     place = octets.find(mark)
     if place < 0 or octets.find(mark, place + 1) >= 0:
-        raise Unplanted("the program has not just one number that chooses")
+        raise BuildError("the program doesn't have just one place for the number")
     place += len(mark)
     folder.mkdir()
     for name in PROGRAMS:

@@ -1,16 +1,16 @@
 #!/usr/bin/env -S python3 -B
-"""Plants the bugs of search.edits in the sender, and has the search of `pdsuite compare --search` look for each:
+"""Applies the mutants of search.mutants to the sender, and has the search of `pdsuite compare --search` find each:
 
 bench/search.py [--inputs N] [--seed N] [--as-found] [--save FOLDER] [--program FILE] [NAME..]
 
-Those of these names are planted, or all, in one build. The search varies the scripts of this tree's suite, without what
-was written there for these very bugs. Since the processors may be busy, it is bounded by a count of inputs in place of
-time: four idle processors try some 63 a second on an unproved sender, so that 3,780 are 60 seconds.
+Those of these names are tried, or all, in one build. The search varies the scripts of this tree's suite, without what
+was written there for these very mutants. Since the processors may be busy, it is bounded by a count of inputs in place
+of time: four idle processors try some 63 a second on an unproved sender, so that 3,780 are 60 seconds.
 
-For each bug a line says whether a script of that suite fails with it; after how many inputs the search found it, if it
-did; and how many lines the script has. With --as-found the script isn't cut down. The program with all bugs is kept as
-FILE, and taken from there if it is there; it has to be of these sources and bugs. The status is 1 where a bug that no
-script sees isn't found.
+For each mutant a line says whether a script of that suite fails with it; after how many inputs the search found it, if
+it did; and how many lines the script has. With --as-found the script isn't cut down. The program with all mutants is
+kept as FILE, and taken from there if it is there; it has to be of these sources and mutants. The status is 1 where a
+mutant that no script sees isn't found.
 """
 
 import argparse
@@ -21,8 +21,8 @@ from collections.abc import Sequence
 from dataclasses import dataclass
 from pathlib import Path
 
-from trees import TOP, Edit, copied, read_text
-from one_build import build, choose, plant_all
+from trees import TOP, Mutant, copied, read_text
+from one_build import apply_all, build, choose
 
 sys.path.insert(0, str(TOP / "client"))
 
@@ -39,9 +39,9 @@ from pdsuite.search.save import save  # noqa: E402
 from pdsuite.search.search import Search  # noqa: E402
 from pdsuite.signals import Stop  # noqa: E402
 
-BUGS = TOP / "bench" / "search.edits"
+MUTANTS = TOP / "bench" / "search.mutants"
 SUITE = "examples/suite"
-# Scripts of the suite that were written for these bugs, and the ends of others.
+# Scripts of the suite that were written for these mutants, and the ends of others.
 LATER = (
     "new_octets_begin_the_count_anew", "blocks_below_una_are_no_duplicates", "window_stays_in_recovery",
     "ack_of_what_is_queued", "largest_window_counts_later_acks", "an_expiry_sends_too",
@@ -55,43 +55,43 @@ SECONDS = 60.0
 
 @dataclass(frozen=True)
 class Bench:
-    """What all bugs are looked for with: the base, its scripts, the program with all bugs, and what was asked for."""
+    """What all mutants are searched with: the base, its scripts, the program with all mutants, and the options."""
 
     base: Path
     scripts: Sequence[ConfiguredScript]
     program: Path
-    asked: argparse.Namespace
+    options: argparse.Namespace
     stop: Stop
 
-    def look(self, bug: Edit, number: int, room: Path) -> tuple[bool, bool]:
-        """Looks for a bug; whether a script of the suite sees it, and whether it was found."""
-        before = self._asker(0, room / "before")
-        after = self._asker(number, room / "after")
+    def find(self, mutant: Mutant, number: int, folder: Path) -> tuple[bool, bool]:
+        """Searches a mutant; whether a script of the suite sees it, and whether it was found."""
+        before = self._oracle(0, folder / "before")
+        after = self._oracle(number, folder / "after")
         is_seen = any(it.verdict is not Verdict.PASS for it in after.rows(self.scripts))
-        tree = copied(room / "tree", bug)
+        tree = copied(folder / "tree", mutant)
         emphasis = emphasis_of(names_changed(self.base, tree), frozenset())
         begun = initial_inputs(list(self.scripts), before, frozenset())
-        drawing = Candidates(self.asked.seed, sizes(), emphasis, begun)
-        seconds = 0.0 if self.asked.as_found else SECONDS
-        search = Search(before, FailsTest(after), DiffersTest(after), drawing, seconds, self.asked.inputs)
+        drawing = Candidates(self.options.seed, sizes(), emphasis, begun)
+        seconds = 0.0 if self.options.as_found else SECONDS
+        search = Search(before, FailsTest(after), DiffersTest(after), drawing, seconds, self.options.inputs)
         searched = search.run(lambda inputs: None)
         found = "NOT FOUND"
         if searched.find is not None:
             script = finished_script(searched.find, before, after).script
             found = f"found, inputs {searched.coverage.inputs}, lines {script.octets.count(10)}"
-            if self.asked.save is not None:
-                self.asked.save.mkdir(parents=True, exist_ok=True)
-                save(self.asked.save / f"{bug.name}.pkt", script.octets, script.settings)
-        print(f"{bug.name}: {'seen by the suite; ' if is_seen else ''}{found}", flush=True)
+            if self.options.save is not None:
+                self.options.save.mkdir(parents=True, exist_ok=True)
+                save(self.options.save / f"{mutant.name}.pkt", script.octets, script.settings)
+        print(f"{mutant.name}: {'seen by the suite; ' if is_seen else ''}{found}", flush=True)
         return is_seen, searched.find is not None
 
-    def _asker(self, number: int, folder: Path) -> SenderOracle:
+    def _oracle(self, number: int, folder: Path) -> SenderOracle:
         sender = Sender(folder.name, choose(self.program, number, folder), None)
         return ProgramOracle(sender, self.stop)
 
 
 def put_suite(place: Path) -> None:
-    """This tree's suite, without what was written for these bugs."""
+    """This tree's suite, without what was written for these mutants."""
     shutil.copytree(TOP / SUITE, place, ignore=shutil.ignore_patterns(*(f"{it}.pkt" for it in LATER)))
     for path in (path for name in LONGER for path in place.rglob(f"{name}.pkt")):
         path.write_text(path.read_text().partition(END)[0])
@@ -105,25 +105,25 @@ def main() -> int:
     parser.add_argument("--save", type=Path)
     parser.add_argument("--program", type=Path)
     parser.add_argument("names", metavar="NAME", nargs="*")
-    asked = parser.parse_args()
-    bugs = read_text(BUGS.read_text(), True, ())
+    options = parser.parse_args()
+    mutants = read_text(MUTANTS.read_text(), True, ())
     with tempfile.TemporaryDirectory(prefix="search-") as folder, Stop() as stop:
         base = copied(Path(folder, "base"))
         put_suite(base / SUITE)
-        program = asked.program or Path(folder, "program")
+        program = options.program or Path(folder, "program")
         if not program.exists():
-            tree, room = copied(Path(folder, "tree")), Path(folder, "build")
-            plant_all(bugs, tree)
-            room.mkdir()
-            shutil.copy(build(tree, room), program)
-        bench = Bench(base, scripts_in(base, stop), program, asked, stop)
+            tree, work = copied(Path(folder, "tree")), Path(folder, "build")
+            apply_all(mutants, tree)
+            work.mkdir()
+            shutil.copy(build(tree, work), program)
+        bench = Bench(base, scripts_in(base, stop), program, options, stop)
         found = []
-        for number, bug in enumerate(bugs, 1):
-            if not asked.names or bug.name in asked.names:
-                room = Path(folder, bug.name)
-                room.mkdir()
-                found.append(bench.look(bug, number, room))
-                shutil.rmtree(room)
+        for number, mutant in enumerate(mutants, 1):
+            if not options.names or mutant.name in options.names:
+                work = Path(folder, mutant.name)
+                work.mkdir()
+                found.append(bench.find(mutant, number, work))
+                shutil.rmtree(work)
     live = [is_found for is_seen, is_found in found if not is_seen]
     print(f"total {len(found)} seen by the suite {len(found) - len(live)} others {len(live)} found {sum(live)}")
     return 0 if all(live) else 1

@@ -3,7 +3,7 @@
 
 bench/sender.py [--saves N] [--seed N] [--rule NAME].. [--kept]
 
-It works in a clone of this tree, and gives the sender the rules of planted.edits, one after another. It says how long
+It works in a clone of this tree, and gives the sender the rules of rules.mutants, one after another. It says how long
 after each save the first new row came, and how long after the save of a script its row. Then it saves rules, settings
 and scripts at random: a rule as it is kept already or for a new build, or one that doesn't compile. Each report that
 counts as current has to have the rows of the rule that stands then, and the rows that stand last are to be those that
@@ -26,9 +26,9 @@ from pathlib import Path
 TOP = Path(__file__).resolve().parents[1]
 sys.path.insert(0, str(TOP / "tools"))
 
-from edit_files import planted, read_text  # noqa: E402
+from mutant_files import changed_files, read_text  # noqa: E402
 
-CHANGES = TOP / "bench/planted.edits"
+RULES = TOP / "bench/rules.mutants"
 OWN, WRONG = "the sender as it is", "one that doesn't compile"
 # The source that gets a comment where a build is to be a new one, or a word where none is to be made.
 SOURCE = Path("crates/pd_board/src/counts.rt")
@@ -62,8 +62,8 @@ class Tree:
         """Clones, and reads the rules, all where none is named."""
         subprocess.run(["git", "-c", "advice.detachedHead=false", "clone", "-q", TOP, self.top], check=True)
         subprocess.run(["cp", "-R", self.top / "examples/suite", self.top / SUITE], check=True)
-        edits = read_text(CHANGES.read_text(), folders=())
-        rules = {it.name: dict(planted(it, self.top)) for it in edits if it.name in names or not names}
+        mutants = read_text(RULES.read_text(), folders=())
+        rules = {it.name: dict(changed_files(it, self.top)) for it in mutants if it.name in names or not names}
         own = {path: path.read_text() for texts in rules.values() for path in texts}
         own[self.top / SOURCE] = (self.top / SOURCE).read_text()
         self.texts = {OWN: own, **{name: {**own, **texts} for name, texts in rules.items()}}
@@ -238,7 +238,7 @@ def main() -> int:
     parser = argparse.ArgumentParser(allow_abbrev=False, description=(__doc__ or "").partition(":\n")[0])
     parser.add_argument("--saves", type=int, default=60, help="so many saves at random")
     parser.add_argument("--seed", type=int, default=1, help="which ones")
-    parser.add_argument("--rule", action="append", default=[], help="a rule of planted.edits, and no other")
+    parser.add_argument("--rule", action="append", default=[], help="a rule of rules.mutants, and no other")
     parser.add_argument("--kept", action="store_true", help="have no rule built anew in the storm")
     asked = parser.parse_args()
     print(f"{os.cpu_count()} processors, load {os.getloadavg()[0]:.1f}", flush=True)

@@ -1,4 +1,4 @@
-"""Trees like this one, in which a change of the sender is planted."""
+"""Copies of this tree, each with a mutant of the sender."""
 
 import shutil
 import sys
@@ -7,24 +7,24 @@ from pathlib import Path
 TOP = Path(__file__).resolve().parents[1]
 sys.path.insert(0, str(TOP / "tools"))
 
-from edit_files import Edit, Unread, plant, read_text  # noqa: E402
+from mutant_files import Mutant, MutantError, apply, read_text  # noqa: E402
 
-__all__ = ["TOP", "Edit", "copied", "read_text"]
+__all__ = ["TOP", "Mutant", "copied", "read_text"]
 
-# What of this tree a copy has.
+# The parts of this tree that a copy has.
 FOLDERS = ("client/pdsuite", "crates", "tools")
 FILES = ("client/packages.txt", "crates.txt", "HANDLES", "pdrecord", "pdregress", "pdsuite")
 
 
-def copied(place: Path, change: "Edit | None" = None) -> Path:
-    """A tree like this one in a place, with the change, if one is given."""
+def copied(place: Path, mutant: "Mutant | None" = None) -> Path:
+    """A copy of this tree in a place, with the mutant, if one is given."""
     for folder in FOLDERS:
         shutil.copytree(TOP / folder, place / folder, ignore=shutil.ignore_patterns("out", "__pycache__"))
     for file in FILES:
         shutil.copy(TOP / file, place / file, follow_symlinks=False)
     try:
-        if change is not None:
-            plant(change, place)
-    except Unread as why:
-        raise SystemExit(f"{change.name if change else place}: {why}") from None
+        if mutant is not None:
+            apply(mutant, place)
+    except MutantError as why:
+        raise SystemExit(f"{mutant.name if mutant else place}: {why}") from None
     return place

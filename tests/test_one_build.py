@@ -1,4 +1,4 @@
-"""Tests of what puts many bugs into one build: where functions are, their bodies side by side, and the number."""
+"""Tests of what puts many mutants into one build: where functions are, their bodies side by side, and the number."""
 
 import sys
 from pathlib import Path
@@ -8,8 +8,8 @@ import pytest
 TOP = Path(__file__).resolve().parents[1]
 sys.path[:0] = [str(TOP / "tools"), str(TOP / "bench")]
 
-from edit_files import Change, Edit  # noqa: E402
-from one_build import Unplanted, bodies_in, choose, plant_all  # noqa: E402
+from mutant_files import Change, Mutant  # noqa: E402
+from one_build import BuildError, apply_all, bodies_in, choose  # noqa: E402
 
 SOURCE = """//! A crate.
 const LEAST: u32 = 3;
@@ -42,8 +42,8 @@ impl Pair {
 FILE = "crates/a/src/pairs.rt"
 
 
-def edit(name: str, *changes: "tuple[str, str]") -> Edit:
-    return Edit(name, test="search", changes=[Change(FILE, old, new) for old, new in changes])
+def mutant(name: str, *changes: "tuple[str, str]") -> Mutant:
+    return Mutant(name, test="search", changes=[Change(FILE, old, new) for old, new in changes])
 
 
 def tree_in(folder: Path) -> Path:
@@ -59,15 +59,15 @@ def test_bodies_are_found_whatever_stands_before_them() -> None:
     assert found[1].startswith("        if self.a") and found[1].endswith("        self.b\n")
 
 
-def test_each_bug_has_a_body_of_its_own_and_the_last_is_as_it_was(tmp_path: Path) -> None:
-    with pytest.raises(Unplanted, match="stands in no function"):
-        plant_all([edit("outside", ("LEAST: u32 = 3", "LEAST: u32 = 4"))], tree_in(tmp_path / "outside"))
-    first = edit("a", ("self.a < self.b", "true"), ("return self.a;", "return 0;"))
-    plant_all([first, edit("b", ("self.a < self.b", "false"))], tree_in(tmp_path / "again"))
+def test_each_mutant_has_a_body_of_its_own_and_the_last_is_as_it_was(tmp_path: Path) -> None:
+    with pytest.raises(BuildError, match="stands in no function"):
+        apply_all([mutant("outside", ("LEAST: u32 = 3", "LEAST: u32 = 4"))], tree_in(tmp_path / "outside"))
+    first = mutant("a", ("self.a < self.b", "true"), ("return self.a;", "return 0;"))
+    apply_all([first, mutant("b", ("self.a < self.b", "false"))], tree_in(tmp_path / "again"))
     text = (tmp_path / "again" / FILE).read_text()
-    assert "match crate::planted_bug() {\n1 => {        if true {" in text
+    assert "match crate::chosen_mutant() {\n1 => {        if true {" in text
     assert "2 => {        if false {" in text and "_ => {        if self.a < self.b {" in text
-    assert "pub fn planted_bug() -> u32 {" in (tmp_path / "again/crates/a/src/lib.rt").read_text()
+    assert "pub fn chosen_mutant() -> u32 {" in (tmp_path / "again/crates/a/src/lib.rt").read_text()
 
 
 def test_a_number_is_written_where_the_program_reads_it(tmp_path: Path) -> None:
@@ -77,5 +77,5 @@ def test_a_number_is_written_where_the_program_reads_it(tmp_path: Path) -> None:
     programs = choose(program, 7, tmp_path / "seven")
     assert {it.read_bytes() for it in programs.values()} == {b"before" + mark + b"\7\0\0\0" + b"after"}
     program.write_bytes(b"no number")
-    with pytest.raises(Unplanted):
+    with pytest.raises(BuildError):
         choose(program, 7, tmp_path / "none")

@@ -35,8 +35,8 @@ goes on until 1,025 packets are unmatched.
 BUGS = """
 ## Bugs that the scripts see
 
-If you change a rule, you find here the scripts to look at. {count} bugs, each a change of one line, were planted in the sender's \
-rules, and {seen} of them make a script fail; the list names some of the scripts. It says nothing about other bugs: if the suite \
+If you change a rule, you find here the scripts to look at. {count} bugs, each a change of one line of the sender's rules, \
+were tried, and {seen} of them make a script fail; the list names some of the scripts. It says nothing about other bugs: if the suite \
 passes with one, `./pdsuite compare --search` makes a script that sees it.
 """
 

@@ -19,7 +19,7 @@ STATE = "//= at 0.100000 ESTABLISHED cwnd:4000 DupAcks:{}\n"
 QUICK = f"row pass 9\n+0 > . 1:1001(1000) ack 1\n{STATE.format(2)}".encode()
 SLOW = f"row pass 8\n+0 > . 2001:3001(1000) ack 1\n{STATE.format(3)}".encode()
 LONE = b"row pass 7\n"
-# The changes that are planted, and how the scripts QUICK, SLOW and LONE then compare.
+# Changes of the sender, and how the scripts QUICK, SLOW and LONE then compare.
 CHANGES = {
     "s/^row pass 9/row fail 2 seq/": ["turned", "as before", "not compared"],
     "s/^+0 > [.] 2001:3001/+0 > . 1:1001/": ["as before", "played otherwise", "not compared"],
@@ -90,7 +90,7 @@ def rows(called: Called) -> dict[str, str]:
 
 
 @pytest.mark.parametrize("change", CHANGES)
-def test_a_planted_change_turns_what_differs_between_the_two_full_reports(tree: Tree, change: str) -> None:
+def test_a_change_turns_what_differs_between_the_two_full_reports(tree: Tree, change: str) -> None:
     before = rows(tree.call("run", "--json", "suite"))
     tree.change(change + "\n")
     after = rows(tree.call("run", "--json", "suite"))

@@ -1,7 +1,7 @@
 """Tests the documents: their links and words, the parts that tools make, and the commands that pages show.
 
 Each link of a page leads to a file of the tree, and to a heading that is there, and no page names a commit. What a
-tool makes of a page is what the tool makes. The functions and edits that PROMISES.md names are there, and each file
+tool makes of a page is what the tool makes. The functions and mutants that PROMISES.md names are there, and each file
 of src/ and specs/ begins with what it is for. The commands in blocks `console` of README.md and the tutorial are run
 in a copy of the tree with the built programs, and print what is shown after them; blocks `console slow` and `console
 follow` are left to tools/check_tutorial.py. Prints how long the pages are, a line for each test, and `N passed, M
@@ -19,7 +19,7 @@ from pathlib import Path
 
 from documents.made import unlike, write
 from documents.pages import Page, broken_links, broken_names, read_pages, tracked
-from documents.promises import lists_without_names, unknown_functions, wrong_edits
+from documents.promises import lists_without_names, unknown_functions, wrong_mutants
 from documents.shown import KINDS, UNPROVED, shown_in
 from documents.sources import without_head
 from documents.walking import walk
@@ -49,7 +49,7 @@ def test_pages(files: list[Path], pages: dict[str, Page]) -> Iterator[Test]:
     yield from unlike(TOP, pages)
     if promises := pages.get("docs/PROMISES.md"):
         yield "functions of docs/PROMISES.md", joined(unknown_functions(promises))
-        yield "edits of docs/PROMISES.md", joined(wrong_edits(promises, files))
+        yield "mutants of docs/PROMISES.md", joined(wrong_mutants(promises, files))
     yield "reading lists", joined(lists_without_names())
     yield "first lines of sources", joined(without_head(TOP, files))
 

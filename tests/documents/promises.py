@@ -1,4 +1,4 @@
-"""Whether what docs/PROMISES.md names is there: the public functions, and the edits that the proofs refuse."""
+"""Whether what docs/PROMISES.md names is there: the public functions, and the mutants that the proofs refuse."""
 
 import re
 import sys
@@ -9,7 +9,7 @@ from documents.pages import Page
 
 sys.path.insert(0, str(Path(__file__).resolve().parents[2] / "tools"))
 
-from edit_files import read_crates  # noqa: E402
+from mutant_files import read_crates  # noqa: E402
 from reading_list import LISTS, Unknown, read_index, reached  # noqa: E402
 
 FUNCTION = re.compile(r"`(\w+::\w+)`")
@@ -24,16 +24,16 @@ def unknown_functions(page: Page) -> Iterator[str]:
         yield f"{page.name}: {name}: there is no such public function"
 
 
-def wrong_edits(page: Page, files: list[Path]) -> Iterator[str]:
-    """A line for each edit that the page names and that isn't there, and for each of the gate that it doesn't name."""
+def wrong_mutants(page: Page, files: list[Path]) -> Iterator[str]:
+    """A line for each mutant that the page names and no crate has, and for each of the gate that it doesn't name."""
     crates = {path.parts[1] for path in files if path.parts[0] == "crates"}
     named = {name for line in MUTANTS.findall(page.text) for name in NAME.findall(line)} - crates
     tried = {path.stem for path in files if path.suffix == ".edit"}
-    more = {edit.name for edits in read_crates(page.top, "more").values() for edit in edits}
-    for name in sorted(named - tried - more):
-        yield f"{page.name}: {name}: there is no such edit"
+    others = {it.name for mutants in read_crates(page.top, "contracts").values() for it in mutants}
+    for name in sorted(named - tried - others):
+        yield f"{page.name}: {name}: there is no such mutant"
     for name in sorted(tried - named):
-        yield f"{page.name} doesn't name the edit {name}, which the gate tries"
+        yield f"{page.name} doesn't name the mutant {name}, which the gate tries"
 
 
 def lists_without_names() -> Iterator[str]:

@@ -383,7 +383,7 @@ test_times() {
 }
 
 test_words() {
-    expect words-of-times-and-errors "status 0" in_folder "$top/tools" python3 -B -m doctest changed_rules.py cited.py crate_graph.py owed.py owed_sections.py proofs.py prove_errors.py refusing.py source_sums.py copies.py
+    expect words-of-times-and-errors "status 0" in_folder "$top/tools" python3 -B -m doctest changed_rules.py cited.py crate_graph.py mutant_contracts.py owed.py owed_sections.py proofs.py prove_errors.py source_sums.py copies.py
 }
 
 test_lanes

@@ -1,4 +1,4 @@
-"""The runs that a planted bug names: `story TITLE` or `part WORD` of a desk, or `run NAME`, a run of pdregress."""
+"""The runs that a mutant names: `story TITLE` or `part WORD` of a desk, or `run NAME`, a run of pdregress."""
 
 from collections.abc import Iterator
 

@@ -1,11 +1,11 @@
 #!/usr/bin/env -S python3 -B
-"""Plants the changes of planted.edits in the sender and holds what `pdsuite compare` lists against reports of both:
+"""Applies the mutants of rules.mutants to the sender, and checks the lists of `pdsuite compare` by full reports:
 
-bench/planted.py [--base SENDER] SUITE
+bench/compare.py [--base SENDER] SUITE
 
-SENDER is what --base of compare takes: this tree, if it isn't given. For each change a line says how many scripts
+SENDER is what --base of compare takes: this tree, if it isn't given. For each mutant a line says how many scripts
 turned and how long compare took. The status is 1 where a list isn't what the reports give, or no script turned. It
-takes two builds for a change, and more where the base isn't proved.
+takes two builds for a mutant, and more where the base isn't proved.
 """
 
 import argparse
@@ -20,16 +20,16 @@ from typing import Any
 
 from trees import TOP, copied, read_text
 
-CHANGES = TOP / "bench" / "planted.edits"
+RULES = TOP / "bench" / "rules.mutants"
 # A verdict with its number of events or its kind, and the line.
 Row = tuple[str, "int | None"]
 
 
-def said(*words: "str | Path") -> Any:
-    """What a pdsuite says as JSON."""
-    done = subprocess.run(words, stdin=subprocess.DEVNULL, stdout=subprocess.PIPE)
+def json_of(*command: "str | Path") -> Any:
+    """What a pdsuite prints as JSON."""
+    done = subprocess.run(command, stdin=subprocess.DEVNULL, stdout=subprocess.PIPE)
     if done.returncode not in (0, 1):
-        raise SystemExit(f"{' '.join(map(str, words))} ended with status {done.returncode}")
+        raise SystemExit(f"{' '.join(map(str, command))} ended with status {done.returncode}")
     return json.loads(done.stdout)
 
 
@@ -54,22 +54,24 @@ def main() -> int:
     parser = argparse.ArgumentParser(allow_abbrev=False, description=(__doc__ or "").partition(":\n")[0])
     parser.add_argument("--base", metavar="SENDER", default=str(TOP))
     parser.add_argument("suite", metavar="SUITE", type=Path)
-    asked = parser.parse_args()
+    options = parser.parse_args()
     is_well = True
-    with tempfile.TemporaryDirectory(prefix="planted-") as folder:
-        before = dict(rows(report_of(asked.base, asked.suite)))
-        for number, change in enumerate(read_text(CHANGES.read_text(), folders=())):
-            tree = copied(Path(folder, str(number)), change)
+    with tempfile.TemporaryDirectory(prefix="compare-") as folder:
+        before = dict(rows(report_of(options.base, options.suite)))
+        for number, mutant in enumerate(read_text(RULES.read_text(), folders=())):
+            tree = copied(Path(folder, str(number)), mutant)
             begin = time.monotonic()
-            compared = said(TOP / "pdsuite", "compare", "--base", asked.base, "--with", tree, "--json", asked.suite)
+            compared = json_of(
+                TOP / "pdsuite", "compare", "--base", options.base, "--with", tree, "--json", options.suite
+            )
             seconds = time.monotonic() - begin
-            after = dict(rows(report_of(str(tree), asked.suite)))
+            after = dict(rows(report_of(str(tree), options.suite)))
             listed = turned_in(compared)
             turned = {path: (before[path], row) for path, row in after.items() if before[path] != row}
             is_same = bool(listed) and listed == turned
             is_well = is_well and is_same
             print(
-                f"{change.name}: {'same' if is_same else 'OTHER'}: {compared['total']} in {seconds:.1f} s", flush=True
+                f"{mutant.name}: {'same' if is_same else 'OTHER'}: {compared['total']} in {seconds:.1f} s", flush=True
             )
     return 0 if is_well else 1
 
@@ -78,8 +80,8 @@ def report_of(sender: str, suite: Path) -> Any:
     """The full report of a sender: a tree, or a folder of programs."""
     tree = Path(sender)
     if (tree / "pdsuite").is_file():
-        return said(tree / "pdsuite", "run", "--json", suite)
-    return said("env", f"PDSUITE_PROGRAMS={sender}", TOP / "pdsuite", "run", "--json", suite)
+        return json_of(tree / "pdsuite", "run", "--json", suite)
+    return json_of("env", f"PDSUITE_PROGRAMS={sender}", TOP / "pdsuite", "run", "--json", suite)
 
 
 if __name__ == "__main__":

@@ -1,0 +1,187 @@
+"""Whether the test of each mutant of Python and shell sees it: the test is run on a copy of the tree that has it.
+
+A mutant names its test: `client NODE` or `tests NODE`, a test of pytest below client/tests or tests, or `edges FILE
+NAME`, a line of tests/edges.sh. First each test is to pass on a copy as it is. Then a mutant is seen where its test
+fails, or doesn't end in time; a test that isn't found, or that pytest can't begin, sees nothing.
+"""
+from __future__ import annotations
+
+import shutil
+import subprocess
+from collections.abc import Iterable, Iterator, Sequence
+from contextlib import contextmanager
+from dataclasses import dataclass, field
+from pathlib import Path
+from queue import Queue
+from typing import Optional, Union
+
+from mutant_files import Mutant, MutantError, apply, changed_files
+from parallel import Commands
+from proofs import TOP
+
+PYTHON = "/usr/bin/python3"
+# The status of `timeout` where the time is over, and of pytest where tests failed.
+TOO_SLOW = 124
+FAILED = 1
+CommandLine = Sequence[Union[str, Path]]
+
+
+@dataclass(frozen=True)
+class FileMutant:
+    """A mutant of Python or shell, and the file of mutants where it stands."""
+
+    file: str
+    mutant: Mutant
+
+    @property
+    def name(self) -> str:
+        return f"{self.file} {self.mutant.name}"
+
+
+@dataclass(frozen=True)
+class NamedTest:
+    """A test of pytest, by the folder in which it is started, or a line of a file of tests/edges, and its verdict."""
+
+    kind: str
+    place: str
+    line: str = ""
+
+    def passes(self, status: int, printed: str) -> bool:
+        return f"ok edge {self.line}\n" in printed if self.line else status == 0
+
+    def fails(self, status: int, printed: str) -> bool:
+        return status == TOO_SLOW or (f"FAILED edge {self.line}:\n" in printed if self.line else status == FAILED)
+
+
+def test_command(kind: str, places: Sequence[str], tree: Path) -> tuple[Path, CommandLine]:
+    """The folder and the command that run tests of a kind in a tree: several of pytest, or one file of tests/edges."""
+    if kind == "edges":
+        return tree, [tree / "tests" / "edges.sh", *places]
+    command = [PYTHON, "-I", "-B", "-m", "pytest", "-q", "-x", "--tb=short", "-p", "no:cacheprovider"]
+    if kind == "tests":
+        command += ["-c", "tests/pytest.ini"]
+    return tree / ("client" if kind == "client" else "."), [*command, *(f"tests/{place}" for place in places)]
+
+
+def named_test(mutant: FileMutant) -> NamedTest:
+    """The test that a mutant names."""
+    kind, *places = mutant.mutant.test.split(" ")
+    if kind in ("client", "tests") and len(places) == 1:
+        return NamedTest(kind, places[0])
+    if kind == "edges" and len(places) == 2:
+        return NamedTest(kind, *places)
+    test = mutant.mutant.test
+    raise MutantError(f"{mutant.name}: '{test}' is none of `client NODE`, `tests NODE` and `edges FILE NAME`")
+
+
+@dataclass
+class TreeCopies:
+    """Copies of the tree in a folder, each for one mutant at a time, the seconds of a test, and the tested programs."""
+
+    folder: Path
+    seconds: int
+    programs: Optional[Path] = None
+    commands: Commands = field(default_factory=Commands)
+    idle: "Queue[Path]" = field(default_factory=Queue)
+
+    def make(self, count: int) -> None:
+        """Makes so many copies of the tree's files, but for those that git ignores."""
+        self.folder.chmod(0o755)  # Tests run some of it as another user.
+        listed = subprocess.run(
+            ["git", "ls-files", "-z", "--cached", "--others", "--exclude-standard"], cwd=TOP, capture_output=True
+        )
+        files = [Path(it) for it in listed.stdout.decode().split("\0") if it]
+        if listed.returncode or not files:
+            raise MutantError("the files of the tree aren't known: it has to be a clone, and git there")
+        for number in range(count):
+            tree = self.folder / f"tree{number}"
+            copy_files(files, tree)
+            self.idle.put(tree)
+
+    @contextmanager
+    def one(self) -> Iterator[Path]:
+        """A copy that nothing else uses."""
+        tree = self.idle.get()
+        try:
+            yield tree
+        finally:
+            self.idle.put(tree)
+
+    def run_tests(self, kind: str, places: Sequence[str], tree: Path, line: str = "") -> tuple[int, str]:
+        """The status of tests of a kind in a copy, and what they print; of tests/edges all lines, or the named one."""
+        folder, command = test_command(kind, places, tree)
+        variables = {"PDSUITE_PROGRAMS": str(self.programs)} if self.programs else {}
+        if line:
+            variables["EDGE"] = line
+        log = tree.with_suffix(".log")
+        limited = ["timeout", "-k", "10", str(self.seconds), *command]
+        status = self.commands.call(limited, folder, log, PYTHONDONTWRITEBYTECODE="1", **variables)
+        return status, log.read_text(errors="replace")
+
+
+def copy_files(files: Iterable[Path], tree: Path) -> None:
+    """Copies files of this tree to another, and adds them to git there."""
+    for file in files:
+        if (TOP / file).is_symlink() or (TOP / file).is_file():
+            (tree / file).parent.mkdir(parents=True, exist_ok=True)
+            shutil.copy2(TOP / file, tree / file, follow_symlinks=False)
+    for words in (["init", "-q"], ["add", "-A"]):
+        subprocess.run(["git", *words], cwd=tree, check=True)
+
+
+@contextmanager
+def applied(mutant: FileMutant, tree: Path) -> Iterator[None]:
+    """Applies a mutant to a copy, and takes it back at the end."""
+    before = {path: path.read_bytes() for path, _ in changed_files(mutant.mutant, tree)}
+    try:
+        apply(mutant.mutant, tree)
+        yield
+    finally:
+        for path, text in before.items():
+            path.write_bytes(text)
+
+
+def is_seen(mutant: FileMutant, copies: TreeCopies) -> bool:
+    """Applies a mutant; whether its test sees it. Prints a line."""
+    test = named_test(mutant)
+    try:
+        with copies.one() as tree, applied(mutant, tree):
+            status, printed = copies.run_tests(test.kind, [test.place], tree, test.line)
+    except MutantError as reason:
+        print(f"{mutant.name}: {reason}", flush=True)
+        return False
+    seen = test.fails(status, printed)
+    print(f"{mutant.name}: {'seen' if seen else 'NOT seen'} by {mutant.mutant.test}", flush=True)
+    return seen
+
+
+def failure(tests: Sequence[NamedTest], copies: TreeCopies) -> str:
+    """What tests of a kind print without a mutant, if one of them doesn't pass; a line of tests/edges is run alone."""
+    places = list(dict.fromkeys(it.place for it in tests))
+    with copies.one() as tree:
+        status, printed = copies.run_tests(tests[0].kind, places, tree, tests[0].line)
+    return "" if all(it.passes(status, printed) for it in tests) else printed[-2000:]
+
+
+def refuse_failing(tests: Iterable[NamedTest], copies: TreeCopies, at_once: int) -> None:
+    """Refuses to go on where a test doesn't pass on the tree as it is; those of a kind of pytest are run together.
+
+    A line of tests/edges is run alone, as it is with a mutant: one that needs those before it would fail with any.
+    """
+    parts: dict[tuple[str, str, str], list[NamedTest]] = {}
+    for it in tests:
+        parts.setdefault((it.kind, it.place, it.line) if it.line else (it.kind, "", ""), []).append(it)
+    failures = [it for it in copies.commands.each(list(parts.values()), at_once, lambda it: failure(it, copies)) if it]
+    if failures:
+        raise MutantError("tests fail without a mutant:\n" + "\n".join(failures))
+
+
+def try_python(mutants: dict[str, list[Mutant]], at_once: int, copies: TreeCopies) -> int:
+    """Tries mutants, one at a time in each copy; the status is 0 if all are seen."""
+    file_mutants = [FileMutant(file, mutant) for file, each in mutants.items() for mutant in each]
+    tests = [named_test(mutant) for mutant in file_mutants]
+    copies.make(at_once)
+    refuse_failing(tests, copies, at_once)
+    seen = list(copies.commands.each(file_mutants, at_once, lambda it: is_seen(it, copies)))
+    print(f"{sum(seen)} seen, {len(seen) - sum(seen)} not seen")
+    return 0 if all(seen) else 1
