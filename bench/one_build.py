@@ -14,7 +14,7 @@ from pathlib import Path
 from trees import Mutant
 import building
 from mutant_files import Change, place_of
-from kept_builds import PROGRAMS
+from build_cache import PROGRAMS
 from kit_tools import known_kit, words_of_compiler, words_of_linker
 
 # The function that gives the number, in the root of each crate that a mutant changes.

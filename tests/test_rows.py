@@ -10,10 +10,10 @@ import pytest
 
 from harness.accepting import accept_all
 from harness.asking import Call, Said, run
-from harness.changed import asked_in
+from harness.changed import answered_tables_in
 from harness.comparing import Finding, report_of
 from harness.kinds import KINDS, groups_of
-from harness.owed import owed
+from harness.affected import affected_rows
 from harness.random_scripts import Script
 from harness.recordings import tell_recordings
 
@@ -410,12 +410,12 @@ def test_a_row_of_which_a_part_was_not_heard_is_not_taken(accepting: Accepting) 
         ("pass 1", "", []),
     ],
 )
-def test_a_row_is_owed_that_is_answered_wrongly_and_otherwise_than_before(
+def test_a_row_is_affected_that_is_answered_wrongly_and_otherwise_than_before(
     before: str, after: str, lines: list[int], teller: Teller
 ) -> None:
     teller.file.write_text("[a] scripts\npass 1: 0\n")
     said: list[list[Optional[Said]]] = [[report_of({"a1": it}) if it else None] for it in (before, after)]
-    assert [it.line for it in owed(list(asked_in(teller.file)), *said)] == lines
+    assert [it.line for it in affected_rows(list(answered_tables_in(teller.file)), *said)] == lines
 
 
 def test_a_row_of_another_kind_is_changed_by_hand(accepting: Accepting) -> None:

@@ -19,7 +19,7 @@ import sys
 from pathlib import Path
 
 import signals
-from kept_builds import OPTIMISED, PLAIN, kept_programs
+from build_cache import OPTIMISED, PLAIN, cached_programs
 
 FAULT = 2
 NO_BUILD = 3
@@ -43,7 +43,7 @@ class Phases:
 
 def found(tree: Path, way: str, is_kept: bool) -> int:
     """Finds what is kept, or builds it; the status."""
-    folder = kept_programs(tree, SERVES[way])
+    folder = cached_programs(tree, SERVES[way])
     if folder is not None:
         print(f"built {folder}", flush=True)
         return 0

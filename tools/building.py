@@ -18,7 +18,7 @@ from typing import Callable
 
 import source_sums
 from fault_places import places_of
-from kept_builds import PLAIN, PROGRAMS, SUM, TOOLS, Kept, Unkept, is_own, kept_of, main_of, make_room, sum_of
+from build_cache import PLAIN, PROGRAMS, SUM, TOOLS, Kept, Unkept, is_own, kept_of, main_of, make_room, sum_of
 from kit_tools import NATIVE, Kit, Unknown, known_kit, words_of_linker, words_of_reader
 from kit_tools import words_of_compiler, words_of_plain_compiler
 
@@ -126,7 +126,7 @@ def read(kit: Kit, top: Path, room: Path, note: Note) -> None:
 
 def is_lent(top: Path) -> bool:
     """Whether a tree has no main file for both programs, and so takes this tree's."""
-    return main_of(top) != top / "tools" / "either.rattle"
+    return main_of(top) != top / "tools" / "combined.rattle"
 
 
 def put_tree(top: Path, tree: Path) -> None:

@@ -42,7 +42,7 @@ lack() { # what is missing
 
 built() { # NAME: its proved program
     [ "$most" -gt 0 ] || "$top/prove" "$1"
-    "$top/tools/built.sh" "$1"
+    "$top/tools/proved_program.sh" "$1"
 }
 
 cc -O2 -shared -fPIC -o "$work/fail_alloc.so" "$top/tools/fail_alloc.c" -ldl 2>"$work/error" ||

@@ -10,11 +10,11 @@ import re
 import subprocess
 import sys
 
-import kept_sums
+import proof_sums
 import stamps
 from copies import settled
 from crate_graph import dependencies
-from kept_sums import path_of
+from proof_sums import path_of
 from proofs import TOP
 from proving_kit import Kit, Refused, working
 from source_sums import TABLE, Unreadable, places_of, sources_below, sources_in, sums_of
@@ -41,7 +41,7 @@ def keep_sums(programs: list[str], sums: dict[str, str], kit: Kit) -> None:
     for program in programs:
         path = path_of(program)
         read = {it: sums[it] for it in sources_below(top, program)}
-        kept_sums.put(f"{top}/{path}.sums", kept_sums.record(sums_of(top, [path]), read, kit.name))
+        proof_sums.put(f"{top}/{path}.sums", proof_sums.record(sums_of(top, [path]), read, kit.name))
 
 
 def prove_all() -> int:

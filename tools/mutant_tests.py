@@ -83,7 +83,7 @@ def count_failed(test: ProgramTest, tree: Path, times: int, limits: RunLimits) -
         (cases / f"{name}.args").write_bytes(b"".join(word + b"\n" for word in run.words))
     arguments: list[str | Path] = ["--seconds", str(limits.seconds), "--tree", tree, test.program, cases, answers]
     log = tree / "log"
-    if limits.commands.call([sys.executable, "-B", TOP / "tools" / "try_cases.py", *arguments], tree, log):
+    if limits.commands.call([sys.executable, "-B", TOP / "tools" / "run_cases.py", *arguments], tree, log):
         raise MutantError(f"{test.program} isn't built:\n{log.read_text(errors='replace')[-1000:]}")
     return sum(bool(run_fault(run, answer(answers, name))) for name, run in runs.items())
 

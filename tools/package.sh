@@ -55,7 +55,7 @@ put() { # MODE FILE.. FOLDER, below the root of what is packed
 programs() {
     "$top/prove" || true
     for program in $(cat "$top/packaging/programs.txt"); do
-        built=$("$top/tools/built.sh" "$program") || die "$program isn't proved and built"
+        built=$("$top/tools/proved_program.sh" "$program") || die "$program isn't proved and built"
         put 755 "$built" usr/bin
         page "$program" "$built"
         completion "$program" "$built"

@@ -14,7 +14,7 @@ last on this machine, as a file below ~/.cache/pdregress says. Where one isn't p
 and line, each contract that is refused with the definitions that it cites, which definitions aren't those by which it
 was proved last, and which laws name them. Interrupted, it keeps what was proved. Both end with status 2, and so does a
 kit that doesn't say what its file KIT-ID has, or changes meanwhile. Two calls in one tree work one after the other. In
-the end it keeps copies of all programs that are proved, with their commit, as tools/kept_programs.py says.
+the end it keeps copies of all programs that are proved, with their commit, as tools/last_proved.py says.
 """
 from __future__ import annotations
 
@@ -31,14 +31,14 @@ from concurrent.futures import FIRST_COMPLETED, Future, ThreadPoolExecutor, wait
 from dataclasses import dataclass, field
 from pathlib import Path
 
-import kept_sums
+import proof_sums
 import proving_kit
 import signals
 from changed_rules import keep, told
 from cited import Definitions, with_contracts
 from copies import copied
 from crate_graph import dependencies, libraries_below
-from kept_programs import keep_programs
+from last_proved import keep_programs
 from proofs import JOBS, LANE, TOP, Lane, Times, Unproved, amount, hand_over, has_room, held, key_of, time_of_proof
 from prove_errors import errors
 from proving_kit import Kit, Refused
@@ -161,9 +161,9 @@ class Work:
 
     def keep_sums(self, program: str, tree: Path) -> None:
         """Keeps the checksums of a program and of what its proof read beside it."""
-        path = kept_sums.path_of(program)
+        path = proof_sums.path_of(program)
         read = {it: self.sums[it] for it in sources_below(str(tree), program)}
-        kept_sums.put(f"{tree}/{path}.sums", kept_sums.record(sums_of(str(tree), [path]), read, self.kit.name))
+        proof_sums.put(f"{tree}/{path}.sums", proof_sums.record(sums_of(str(tree), [path]), read, self.kit.name))
 
 
 def say(text: str) -> None:
@@ -255,14 +255,14 @@ def run(named: list[str], every: list[str], lanes: int) -> None:
     with alone():
         REFUSED.unlink(missing_ok=True)
         uses = dependencies((TOP / TABLE).read_text())
-        left = [it for it in named if not (is_program(TOP, it) and kept_sums.is_proved(str(TOP), it))]
+        left = [it for it in named if not (is_program(TOP, it) and proof_sums.is_proved(str(TOP), it))]
         changed = prove(left, uses, lanes, kit) if left else None
         # Also where nothing was left to prove, and by what its command says.
         kit.check()
         proving_kit.working()
         if changed:
             raise Refused(f"{changed}, and what was proved is as all was before: run this again")
-        proved = [it for it in every if kept_sums.is_proved(str(TOP), it)]
+        proved = [it for it in every if proof_sums.is_proved(str(TOP), it)]
         # Where libraries alone were asked for, what is kept stays.
         if set(proved).intersection(named):
             keep_programs(proved)

@@ -21,7 +21,7 @@ from typing import NoReturn
 import building
 import rt_try
 import signals
-from kept_builds import OPTIMISED, PLAIN, kept_programs
+from build_cache import OPTIMISED, PLAIN, cached_programs
 
 FAULT = 2
 BLOCK = 1 << 20
@@ -112,7 +112,7 @@ class Progress:
 def find(program: str) -> Path:
     """The folder of the programs, which are built if none are kept; a line says first that the program isn't proved."""
     # Where both ways are kept, the plain one says more of a fault.
-    folder = kept_programs(rt_try.TOP, (PLAIN, OPTIMISED))
+    folder = cached_programs(rt_try.TOP, (PLAIN, OPTIMISED))
     first = "running without proofs" if folder else "building first, then running without proofs"
     say(program, f"unproved: {first}; {way_to_prove(program)} proves it")
     if folder is not None:

@@ -19,7 +19,7 @@ cp "$work/page.png" docs/page.png
 cp "$work"/page/plots/*.png docs/diagram.png
 [ -n "${PDSUITE_PROGRAMS:-}" ] || {
     mkdir "$work/programs"
-    for program in pdregress pdrecord; do ln -s "$(tools/built.sh $program)" "$work/programs"; done
+    for program in pdregress pdrecord; do ln -s "$(tools/proved_program.sh $program)" "$work/programs"; done
     export PDSUITE_PROGRAMS="$work/programs"
 }
 (cd client && /usr/bin/python3 -m tests.editors ../docs)

@@ -66,7 +66,7 @@ def _program(name: str) -> Path:
     """The built program of this name."""
     if folder := os.environ.get("PDSUITE_PROGRAMS"):
         return Path(folder, name).resolve()
-    built = subprocess.run([TOP / "tools/built.sh", name], capture_output=True, text=True)
+    built = subprocess.run([TOP / "tools/proved_program.sh", name], capture_output=True, text=True)
     if built.returncode:
         pytest.fail(f"these tests need the built program: {built.stderr.strip()}", pytrace=False)
     return Path(built.stdout.strip())

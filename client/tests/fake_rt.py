@@ -1,5 +1,5 @@
 #!/usr/bin/python3 -IS
-"""A fake of the kit's `rt try --cases` of tools/both.rattle: it starts fake programs that do what scripts say.
+"""A fake of the kit's `rt try --cases` of tools/batch.rattle: it starts fake programs that do what scripts say.
 
 NOTES names a folder, which gets a line for each build. A tree whose pdregress has a src/main.rt isn't compiled. The
 tree's file crates/pdregress/src/change says, for `sed`, what its sender does otherwise.

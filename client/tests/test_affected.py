@@ -138,7 +138,7 @@ def test_a_sender_without_a_tree_has_nothing_affected(tree: Tree) -> None:
     other = tree.suite.parent / "other"
     shutil.copytree(tree.bin, other)
     called = compare(tree, "--base", tree.bin, "--with", other)
-    message = f"pdsuite: --affected: {other} is no tree with tests/cases and tools/owed.py\n"
+    message = f"pdsuite: --affected: {other} is no tree with tests/cases and tools/affected.py\n"
     assert (called.status, called.out, called.err.endswith(message)) == (2, "", True)
     called = tree.call("compare", "--base", tree.bin, "--search", "1", "--affected")
     assert called.status == 2 and "without --html, --json, --markdown and --affected" in called.err
@@ -161,4 +161,4 @@ def test_a_row_that_ends_the_program_is_named_and_the_others_are_told_again(tree
 def test_a_tool_that_fails_is_told_with_its_last_line(tree: Tree) -> None:
     (tree.top / "tests/harness/kinds.py").write_text("import nowhere\n")
     called = compare(tree, "--base", tree.bin)
-    assert called.status == 2 and called.err.endswith("owed.py: ModuleNotFoundError: No module named 'nowhere'\n")
+    assert called.status == 2 and called.err.endswith("affected.py: ModuleNotFoundError: No module named 'nowhere'\n")

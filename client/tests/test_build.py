@@ -20,8 +20,8 @@ from tests.helpers import TOP, Called, is_alive, wait_for, write
 from tests.tree_fixture import Tree
 
 _TOOLS = (
-    *("build_unproved.py", "building.py", "crate_graph.py", "either.rattle", "fault_handler.c", "fault_places.py"),
-    *("kept_builds.py", "kit_tools.py", "run_unproved.py", "source_sums.py", "tell_fault.py"),
+    *("build_unproved.py", "building.py", "crate_graph.py", "combined.rattle", "fault_handler.c", "fault_places.py"),
+    *("build_cache.py", "kit_tools.py", "run_unproved.py", "source_sums.py", "tell_fault.py"),
 )
 ROW = b"row pass 1\n"
 
@@ -175,12 +175,12 @@ def test_what_can_be_refused_is_refused_before_anything_is_built(tree: Tree, wor
 
 
 def test_what_does_not_compile_is_told_with_its_place(tree: Tree) -> None:
-    (tree.top / "tools/either.rattle").write_text("wrong\n")
+    (tree.top / "tools/combined.rattle").write_text("wrong\n")
     called = call(tree, "run", "suite")
     assert (called.status, called.out) == (2, "")
     assert called.err.splitlines()[1:3] == [
         "pdsuite: unproved: NotCompiled: the program doesn't compile",
-        f"{tree.top / 'tools/either.rattle'}:1:1: error[mismatched-types]: wrong",
+        f"{tree.top / 'tools/combined.rattle'}:1:1: error[mismatched-types]: wrong",
     ]
 
 
@@ -207,7 +207,7 @@ def test_a_build_that_is_ended_leaves_nothing(tree: Tree) -> None:
 
 def test_what_comes_of_a_build_that_does_not_come_to_an_end(tree: Tree) -> None:
     with Stop(()) as stop:
-        (tree.top / "tools/either.rattle").write_text("wrong\n")
+        (tree.top / "tools/combined.rattle").write_text("wrong\n")
         with pytest.raises(BuildError, match="NotCompiled: the program doesn't compile"):
             built_folder(tree.top, "any", stop)
         (tree.notes.parent / "kit/KIT-ID").write_text("another\n")

@@ -324,7 +324,7 @@ def test_the_programs_that_were_proved_last_are_the_base_if_nothing_is_said(tree
     for name in ("pdregress", "pdrecord"):
         (tree.top / "crates" / name / "out").mkdir()
         shutil.copy(tree.bin / name, tree.top / "crates" / name / "out")
-    keep = "import kept_programs as it; it.keep_programs(['pdregress', 'pdrecord'])"
+    keep = "import last_proved as it; it.keep_programs(['pdregress', 'pdrecord'])"
     subprocess.run(["/usr/bin/python3", "-c", keep], cwd=tree.top / "tools", env=tree.environment, check=True)
     for name in ("pdregress", "pdrecord"):
         shutil.rmtree(tree.top / "crates" / name / "out")

@@ -61,7 +61,7 @@ def test_what_is_not_proved_is_not_packed(tmp_path: Path) -> None:
     tool = clone_of_tools(tmp_path)
     (tmp_path / "packaging").mkdir()
     (tmp_path / "packaging/programs.txt").write_text("pdregress\n")
-    for name in ("tools/built.sh", "crates.txt", "prove"):
+    for name in ("tools/proved_program.sh", "crates.txt", "prove"):
         shutil.copy(TOP / name, tmp_path / name)
     for module in TOP.glob("tools/*.py"):
         shutil.copy(module, tmp_path / "tools")
@@ -76,8 +76,8 @@ def test_the_programs_of_a_package_have_no_sources_that_could_change(tmp_path: P
     shutil.copy(TOP / "pdsuite", top)
     (top / "version").write_text("1.2.3\n")
     (top / "tools").mkdir()
-    (top / "tools/built.sh").write_text(f'#!/bin/sh\necho "$*" >>"{tmp_path}/asked"\nexit 2\n')
-    (top / "tools/built.sh").chmod(0o755)
+    (top / "tools/proved_program.sh").write_text(f'#!/bin/sh\necho "$*" >>"{tmp_path}/asked"\nexit 2\n')
+    (top / "tools/proved_program.sh").chmod(0o755)
     (tmp_path / "usr/bin").mkdir()
     shutil.copy(fake_program / "pdregress", tmp_path / "usr/bin")
     write(tmp_path / "suite", a=PASSES)
@@ -121,7 +121,7 @@ def test_a_page_has_the_words_of_help(words: tuple[str, ...], programs: Path) ->
 def package(proved: None, tmp_path_factory: pytest.TempPathFactory) -> Path:
     """The package of the proved programs, where these are built."""
     for name in PROVED:
-        if subprocess.run([TOP / "tools/built.sh", name], capture_output=True).returncode:
+        if subprocess.run([TOP / "tools/proved_program.sh", name], capture_output=True).returncode:
             pytest.skip(f"{name} isn't proved and built")
     for tool in ("dpkg-deb", "dpkg-shlibdeps", "help2man"):
         if shutil.which(tool) is None:
@@ -136,7 +136,7 @@ def package(proved: None, tmp_path_factory: pytest.TempPathFactory) -> Path:
 def test_the_programs_are_packed_octet_for_octet(package: Path, tmp_path: Path) -> None:
     subprocess.run(["dpkg-deb", "-x", package, tmp_path], check=True)
     for name in PROVED:
-        built = Path(output(TOP / "tools/built.sh", name).strip())
+        built = Path(output(TOP / "tools/proved_program.sh", name).strip())
         assert (tmp_path / "usr/bin" / name).read_bytes() == built.read_bytes()
     assert not list(tmp_path.rglob("__pycache__"))
 

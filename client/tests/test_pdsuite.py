@@ -287,10 +287,10 @@ def test_a_program_whose_crates_are_not_known_is_not_taken(fake_program: Path, t
 
 
 def with_tool(folder: Path, fake_program: Path, before: str) -> Path:
-    """A copy whose tools/built.sh notes whom it is queried about, and names the fake programs."""
+    """A copy whose tools/proved_program.sh notes whom it is queried about, and names the fake programs."""
     command = copied(folder)
     text = f'#!/bin/sh\necho "$1" >>"{folder}/asked"\n{before}\necho "{fake_program}/$1"\n'
-    (folder / "tools/built.sh").write_text(text)
+    (folder / "tools/proved_program.sh").write_text(text)
     write(folder / "suite", a=PASSES, b=b"row fail 1 seq\n")
     return command
 

@@ -183,7 +183,7 @@ def test_a_row_and_what_explains_it_are_of_one_program(tmp_path: Path) -> None:
 
 
 def test_where_nothing_changed_no_process_looks(tree: Tree) -> None:
-    tool, looks = tree.top / "tools/built.sh", tree.notes / "looks"
+    tool, looks = tree.top / "tools/proved_program.sh", tree.notes / "looks"
     real = tool.rename(tool.with_name("built_so.sh"))
     put_program(tool, f'#!/bin/sh\necho "$@" >>{looks}\nexec {real} "$@"\n'.encode())
     with watched(tree) as watching:
@@ -202,7 +202,7 @@ def test_what_a_package_has_is_looked_at_without_a_process(tmp_path: Path) -> No
     tree = Tree(tmp_path / "usr/lib")
     (tree.top / "version").write_text("0.2.0\n")
     mark = tmp_path / "mark"
-    (tree.top / "tools/built.sh").write_text(f"#!/bin/sh\ntouch {mark}\nexit 2\n")
+    (tree.top / "tools/proved_program.sh").write_text(f"#!/bin/sh\ntouch {mark}\nexit 2\n")
     put_program(tmp_path / "usr/bin/pdregress", fake_octets())
     write(tree.suite, a=SENDER)
     with watched(tree) as watching:

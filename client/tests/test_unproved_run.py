@@ -138,7 +138,7 @@ def test_parts_are_taken_once_they_are_whole() -> None:
 
 
 def test_what_is_built_stands_on_the_libraries_of_both_programs() -> None:
-    words = ["/usr/bin/python3", "-B", "-m", "doctest", "try_both.py"]
+    words = ["/usr/bin/python3", "-B", "-m", "doctest", "run_batch.py"]
     assert subprocess.run(words, cwd=TOP / "tools", capture_output=True).stdout == b""
 
 

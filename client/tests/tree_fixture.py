@@ -14,18 +14,18 @@ HERE = Path(__file__).parent
 PROGRAMS = ("pdregress", "pdrecord")
 PAGE = "# A page\n\n## Loss\n- An octet is lost when three runs lie above it. (RFC 6675, section 4)\n- Own.\n"
 _TOOLS = (
-    "both.rattle",
-    "built.py",
-    "built.sh",
+    "batch.rattle",
+    "proved_program.py",
+    "proved_program.sh",
     "crate_graph.py",
-    "kept_sums.py",
+    "proof_sums.py",
     "kit.py",
-    "kept_programs.py",
+    "last_proved.py",
     "source_sums.py",
     "stamps.py",
     "signals.py",
-    "try_both.py",
-    "try_cases.py",
+    "run_batch.py",
+    "run_cases.py",
     "rt_try.py",
 )
 _STAND_INS = {
@@ -39,7 +39,7 @@ def vouch(top: Path, programs: Iterable[str], environment: Mapping[str, str]) ->
     """Keeps the checksums of a tree's programs and sources as they stand, as ./prove does."""
     for name in programs:
         path = f"crates/{name}/out/{name}"
-        words: list[str | Path] = [top / "tools/built.sh", "--sums", name]
+        words: list[str | Path] = [top / "tools/proved_program.sh", "--sums", name]
         kept = subprocess.run(words, env=environment, check=True, capture_output=True).stdout
         kit = b"" if b"\nkit: " in kept else b"kit: a kit\n"  # As where no `rt` is on the PATH.
         own = f"{hashlib.sha256((top / path).read_bytes()).hexdigest()}  {path}\n"
@@ -104,7 +104,7 @@ class Tree:
 
     def put_rows(self, rows: str) -> None:
         """Gives it tests: rows, and what runs them."""
-        for name in ("changed_rules.py", "owed.py", "owed_defaults.py", "owed_sections.py"):
+        for name in ("changed_rules.py", "affected.py", "affected_defaults.py", "affected_sections.py"):
             shutil.copy(TOP / "tools" / name, self.top / "tools")
         for name in ("drawn", "model", "harness"):
             shutil.copytree(

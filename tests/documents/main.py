@@ -85,7 +85,7 @@ def built_tree(files: list[Path], folder: Path) -> str | None:
         (folder / path.parent).mkdir(parents=True, exist_ok=True)
         shutil.copy2(TOP / path, folder / path, follow_symlinks=False)
     for name in (TOP / "packaging/programs.txt").read_text().split():
-        said = subprocess.run([TOP / "tools/built.sh", name], capture_output=True, text=True, check=False)
+        said = subprocess.run([TOP / "tools/proved_program.sh", name], capture_output=True, text=True, check=False)
         if said.returncode:
             return said.stderr.strip()
         built = Path(said.stdout.strip())

@@ -22,7 +22,7 @@ expect() { # NAME WANTED COMMAND..
 }
 
 # What says which programs are proved.
-built='built.sh built.py crate_graph.py kept_sums.py kit.py source_sums.py stamps.py'
+built='proved_program.sh proved_program.py crate_graph.py proof_sums.py kit.py source_sums.py stamps.py'
 
 copy_built() { # TREE
     mkdir -p "$1/tools"
@@ -34,7 +34,7 @@ vouch() { # TREE PROGRAM..: keeps the checksums of programs as they stand, as ./
     shift
     for program in "$@"; do
         file=crates/$program/out/$program
-        (cd "$tree" && sha256sum "$file" && tools/built.sh --sums "$program") >"$work/sums"
+        (cd "$tree" && sha256sum "$file" && tools/proved_program.sh --sums "$program") >"$work/sums"
         command -v rt >/dev/null || echo 'kit: a kit' >>"$work/sums"
         mv "$work/sums" "$tree/$file.sums"
     done

@@ -4,7 +4,7 @@
 # Each program says, by its own name, the same of words that can't be read.
 test_words() {
     for program in pdregress pdrecord; do
-        expect "$program-words-that-are-no-text" "$(printf "! $program: the arguments can't be read as text\nstatus 2")" "$("$top/tools/built.sh" "$program")" "$(printf '\377')"
+        expect "$program-words-that-are-no-text" "$(printf "! $program: the arguments can't be read as text\nstatus 2")" "$("$top/tools/proved_program.sh" "$program")" "$(printf '\377')"
     done
 }
 
@@ -14,7 +14,7 @@ test_reads() {
         for words in '' --explain --trace; do
             case $program$words in pdregress--trace | pdrecord--explain) continue ;; esac
             # shellcheck disable=SC2086
-            expect "$program-input-that-cannot-be-read$words" "$(printf "! $program: 17 Read\nstatus 2")" from_folder "$("$top/tools/built.sh" "$program")" $words
+            expect "$program-input-that-cannot-be-read$words" "$(printf "! $program: 17 Read\nstatus 2")" from_folder "$("$top/tools/proved_program.sh" "$program")" $words
         done
     done
 }
@@ -28,7 +28,7 @@ settle_within() ( # KILOBYTES WORKERS
     ulimit -s 262144
     ulimit -v "$1"
     printf 'add a 1\n0 socket(..., SOCK_STREAM, IPPROTO_TCP) = 3\n' |
-        timeout 10 "$("$top/tools/built.sh" pdregress)" --workers "$2"
+        timeout 10 "$("$top/tools/proved_program.sh" pdregress)" --workers "$2"
 )
 
 # Settles a script beside workers, and prints how many of these there are then: all threads but the one that serves and the one
@@ -36,7 +36,7 @@ settle_within() ( # KILOBYTES WORKERS
 count_workers() ( # WORKERS
     mkfifo "$work/commands"
     # shellcheck disable=SC2016
-    timeout 20 sh -c 'echo $$ >"$0" && exec "$@"' "$work/number" "$("$top/tools/built.sh" pdregress)" --workers "$1" \
+    timeout 20 sh -c 'echo $$ >"$0" && exec "$@"' "$work/number" "$("$top/tools/proved_program.sh" pdregress)" --workers "$1" \
         <"$work/commands" >"$work/settled" &
     exec 3<>"$work/commands"
     printf 'add a 1\n0 socket(..., SOCK_STREAM, IPPROTO_TCP) = 3\nsettle\n' >&3
@@ -68,7 +68,7 @@ test_files() {
     mkdir "$work/files"
     printf '0 socket(..., SOCK_STREAM, 0) = 0\n// end' >"$work/files/a b.pkt"
     seq 4097 >"$work/files/large.pkt"
-    record=$("$top/tools/built.sh" pdrecord)
+    record=$("$top/tools/proved_program.sh" pdrecord)
     one=$(printf 'recorded 2 a b.pkt\n+0 socket(..., SOCK_STREAM, 0) = 3\n// end')
     large=$(printf 'refused 1 large.pkt\npdrecord: 2 TooLarge')
     expect a-file "$(printf '%s\nstatus 0' "$one")" in_folder "$work/files" "$record" 'a b.pkt'

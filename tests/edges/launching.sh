@@ -167,7 +167,7 @@ test_proved() {
     expect half-built "$(launched "pdrecord a")" launch pdrecord a
 }
 
-many() { # what is answered to cases: `try_cases.py` WORD..
+many() { # what is answered to cases: `run_cases.py` WORD..
     rm -rf "$work/cases" "$work/answers"
     mkdir "$work/cases" "$work/answers"
     for name in a b c d; do printf '%s\n' "$name" >"$work/cases/$name"; done
@@ -176,7 +176,7 @@ many() { # what is answered to cases: `try_cases.py` WORD..
     : >"$work/cases/c.args"
     printf 'lasts\n' >"$work/cases/d.args"
     # shellcheck disable=SC2086
-    with_rt python3 -B "${from:-$build}/tools/try_cases.py" "$@" "$work/cases" "$work/answers" ${each:+-- $each} || return
+    with_rt python3 -B "${from:-$build}/tools/run_cases.py" "$@" "$work/cases" "$work/answers" ${each:+-- $each} || return
     for file in "$work"/answers/*; do echo "${file##*/}: $(cat "$file")"; done
 }
 
@@ -198,7 +198,7 @@ test_cases() {
     echo wrong >>"$build/crates/low/src/lib.rt"
     expect cases-of-what-does-not-compile "$(printf '! %s\n' "pdrecord: unproved: NotCompiled: the program doesn't compile" "$build/crates/pdrecord/src/lib.rt:1:2: error[mismatched-types]: wrong"; echo status 2)" many pdrecord
     sed -i /wrong/d "$build/crates/low/src/lib.rt"
-    expect cases-where-the-tool-stops "$(printf '! %s\n' 'pdrecord: unproved: ToolFailed: `rt try` ended with status 2'; echo status 2)" env STOPS=1 sh -c "PATH='$kit/bin:$PATH' python3 -B '$build/tools/try_cases.py' pdrecord '$work/cases' '$work/answers'"
+    expect cases-where-the-tool-stops "$(printf '! %s\n' 'pdrecord: unproved: ToolFailed: `rt try` ended with status 2'; echo status 2)" env STOPS=1 sh -c "PATH='$kit/bin:$PATH' python3 -B '$build/tools/run_cases.py' pdrecord '$work/cases' '$work/answers'"
 }
 
 test_unproved

@@ -15,7 +15,7 @@ two_calls() { # what two say, of which one begins while the other proves: it has
 
 trees_of() { # PROGRAM..: each that is up to date, and in how many trees they were proved
     for program in "$@"; do
-        with_rt "$build/tools/built.sh" "$program" >"$work/built" || return
+        with_rt "$build/tools/proved_program.sh" "$program" >"$work/built" || return
         echo "$program $(tail -n "$#" "$NOTES/trees" | sort -u | wc -l)"
     done
 }
@@ -129,7 +129,7 @@ meanwhile() { # CASE.. of a crate: what is done while that is proved, from nothi
 }
 
 source_of() { # what the program was built of, where it counts as proved
-    with_rt "$build/tools/built.sh" pdregress >/dev/null && "$build/crates/pdregress/out/pdregress" source
+    with_rt "$build/tools/proved_program.sh" pdregress >/dev/null && "$build/crates/pdregress/out/pdregress" source
 }
 
 and_then() { # COMMAND what is printed of the source once that was done after a proof
@@ -190,7 +190,7 @@ test_edits() {
 gate() { # what the gate says, and which programs count as proved after it
     code=0
     with_rt "$build/tools/gate.py" || code=$?
-    for program in $programs; do with_rt "$build/tools/built.sh" "$program" >/dev/null 2>&1 && echo "$program"; done
+    for program in $programs; do with_rt "$build/tools/proved_program.sh" "$program" >/dev/null 2>&1 && echo "$program"; done
     return "$code"
 }
 
@@ -232,7 +232,7 @@ bases() { # what is kept for a comparison after one program alone is proved anew
     quietly
     echo '// an edit' >>"$build/crates/pdregress/src/main.rt"
     quietly pdregress
-    (cd "$(python3 -B "$build/tools/kept_programs.py")" && ls)
+    (cd "$(python3 -B "$build/tools/last_proved.py")" && ls)
     : >"$build/crates/pdregress/src/main.rt"
 }
 
@@ -240,7 +240,7 @@ bases_beside_a_library() { # what is kept for a comparison after an edit, once t
     quietly
     echo '// an edit' >>"$high"
     quietly high
-    (cd "$(python3 -B "$build/tools/kept_programs.py")" && ls)
+    (cd "$(python3 -B "$build/tools/last_proved.py")" && ls)
     echo 'fn f() {}' >"$high"
 }
 
@@ -383,7 +383,7 @@ test_times() {
 }
 
 test_words() {
-    expect words-of-times-and-errors "status 0" in_folder "$top/tools" python3 -B -m doctest changed_rules.py cited.py crate_graph.py mutant_contracts.py owed.py owed_sections.py proofs.py prove_errors.py source_sums.py copies.py
+    expect words-of-times-and-errors "status 0" in_folder "$top/tools" python3 -B -m doctest changed_rules.py cited.py crate_graph.py mutant_contracts.py affected.py affected_sections.py proofs.py prove_errors.py source_sums.py copies.py
 }
 
 test_lanes

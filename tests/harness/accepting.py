@@ -14,7 +14,7 @@ sys.path.insert(0, str(Path(__file__).resolve().parents[1]))
 
 from harness.answering import answers  # noqa: E402
 from harness.asking import Ask, Said, run_in_step  # noqa: E402
-from harness.changed import Answers, Asked, asked_in, turned  # noqa: E402
+from harness.changed import AnsweredTable, Answers, answered_tables_in, difference  # noqa: E402
 from harness.comparing import Answer, shown  # noqa: E402
 from harness.plain import chosen_programs, files_in, parser_of  # noqa: E402
 from harness.rewriting import Lines, Untaken, with_explained, with_story, with_verdict  # noqa: E402
@@ -43,11 +43,11 @@ class Taken:
         self.rows[row] = "taken" if isinstance(answer, Said) else f"taken: {shown(answer)}, was {wanted}"
 
 
-def turned_rows(asked: Asked, said: Sequence[Answers]) -> Turned:
+def turned_rows(asked: AnsweredTable, said: Sequence[Answers]) -> Turned:
     """The rows that are answered otherwise, by their lines."""
     found: Turned = {}
     for case, answer in zip(asked.cases, said):
-        if other := turned(case, answer):
+        if other := difference(case, answer):
             found.setdefault(case.row.line, other)
     return found
 
@@ -92,7 +92,7 @@ def rewritten(text: str, lines: Lines) -> tuple[str, dict[int, int]]:
     return "\n".join(new), places
 
 
-def accept(file: Path, tables: Sequence[tuple[Asked, Sequence[Answers]]]) -> tuple[list[str], list[str]]:
+def accept(file: Path, tables: Sequence[tuple[AnsweredTable, Sequence[Answers]]]) -> tuple[list[str], list[str]]:
     """Takes answers into a file; what is said of the rows that are taken, and of those that aren't."""
     taken = Taken()
     for asked, said in tables:
@@ -110,7 +110,7 @@ def accept(file: Path, tables: Sequence[tuple[Asked, Sequence[Answers]]]) -> tup
 
 def accept_all(files: Sequence[Path], ask: Ask) -> Iterator[tuple[list[str], list[str]]]:
     """Tells all files at once, and takes what is said into each."""
-    asked = [it for file in files for it in asked_in(file)]
+    asked = [it for file in files for it in answered_tables_in(file)]
     said = list(run_in_step([it.answers() for it in asked], ask))
     for file in files:
         if mine := [(it, each) for it, each in zip(asked, said) if it.file == file]:

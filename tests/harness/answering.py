@@ -101,7 +101,7 @@ class Batch:
             (cases / f"{place}").write_bytes(call.given)
             (cases / f"{place}.args").write_bytes(b"".join(word + b"\n" for word in call.words))
         seconds = ["--seconds", str(UNPROVED_SECONDS)]
-        return [*PYTHON, TOOLS / "try_cases.py", *seconds, self.program, cases, answers]
+        return [*PYTHON, TOOLS / "run_cases.py", *seconds, self.program, cases, answers]
 
     def answers(self) -> dict[int, Said]:
         """What was said of the calls."""
@@ -152,7 +152,7 @@ class Starts(Batch):
         answers.mkdir()
         (self.folder / "asks").write_bytes(starts_of(list(self.calls.values())))
         (starts / "all").write_text(f"{self.folder / 'asks'}\n{self.folder / 'answered'}\n")
-        return [*PYTHON, TOOLS / "try_both.py", "--seconds", str(UNPROVED_SECONDS), starts, answers]
+        return [*PYTHON, TOOLS / "run_batch.py", "--seconds", str(UNPROVED_SECONDS), starts, answers]
 
     def answers(self) -> dict[int, Said]:
         with contextlib.suppress(FileNotFoundError):

@@ -9,14 +9,14 @@ from harness.tables import PROGRAM
 
 SETTINGS = b"--settings"
 EXPLAIN = b"--explain"
-# The words that tools/both.rattle takes without a value, and those of them that go with --explain alone.
+# The words that tools/batch.rattle takes without a value, and those of them that go with --explain alone.
 ALONE = {PROGRAM: {EXPLAIN, b"--json", b"--leftovers"}, RECORDS: {b"--trace"}}
 WITH_EXPLAIN = {b"--json", b"--leftovers"}
 NUMBER = re.compile(rb"(\d{1,12})\n")
 
 
 def is_startable(call: Call) -> bool:
-    """Whether tools/both.rattle takes the words of a call, and as the program does."""
+    """Whether tools/batch.rattle takes the words of a call, and as the program does."""
     words, value = list(call.words), b""
     if SETTINGS in words[:-1]:
         place = words.index(SETTINGS)
@@ -28,7 +28,7 @@ def is_startable(call: Call) -> bool:
 
 
 def starts_of(calls: Sequence[Call]) -> bytes:
-    """The starts of calls, as tools/both.rattle reads them."""
+    """The starts of calls, as tools/batch.rattle reads them."""
     return b"".join(part(b"\0".join([it.program.encode(), *it.words])) + part(it.given) for it in calls)
 
 

@@ -48,7 +48,7 @@ def proved_programs() -> Programs:
     """The programs that are proved, with nothing changed since."""
     direct, unbuilt = {}, []
     for program in PROGRAMS:
-        said = subprocess.run([TOP / "tools" / "built.sh", program], capture_output=True, text=True)
+        said = subprocess.run([TOP / "tools" / "proved_program.sh", program], capture_output=True, text=True)
         if said.returncode:
             unbuilt.append(said.stderr.strip())
         else:

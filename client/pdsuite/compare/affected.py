@@ -20,7 +20,7 @@ from pdsuite.programs.unproved_batch import ProgramCases, run_cases
 from pdsuite.signals import Stop
 
 # In a tree that has tests: what says how these are run, and which of them say otherwise.
-_TOOL = "tools/owed.py"
+_TOOL = "tools/affected.py"
 _ROWS = "tests/cases"
 _LONGEST = 8 << 20
 

@@ -14,7 +14,7 @@ from pdsuite.programs.locate import BATCH_TOOL, PACKAGE_VERSION, PROGRAMS_VARIAB
 from pdsuite.programs.locate import UnprovedError, commit, launched_from, locate, proved_program
 from pdsuite.programs.lookup import ProgramLookup, programs_lookup, tree_lookup
 
-_KEPT = TOP / "tools/kept_programs.py"
+_KEPT = TOP / "tools/last_proved.py"
 _COMMIT = "commit"
 # What of a commit a program is built from, and by what its rows are run.
 _PARTS = ("crates", "crates.txt", "HANDLES", "docs", "examples", "tests", "tools")

@@ -1,4 +1,4 @@
-"""Starts of both programs in one run: what the program tools/both.rattle reads of them, and what it answers."""
+"""Starts of both programs in one run: what the program tools/batch.rattle reads of them, and what it answers."""
 
 import re
 from collections.abc import Iterable, Iterator, Sequence

@@ -12,11 +12,11 @@ PROGRAMS_VARIABLE = "PDSUITE_PROGRAMS"
 # In a package: its version, and the commit that it was made of. The programs are then installed, too.
 PACKAGE_VERSION = TOP / "version"
 # In a tree: what runs its programs as they stand, without proofs.
-BATCH_TOOL = TOP / "tools/try_both.py"
+BATCH_TOOL = TOP / "tools/run_batch.py"
 # What builds them so and keeps them, for any tree.
 BUILD_TOOL = TOP / "tools/build_unproved.py"
 # What says where a tree's program is, if it is proved.
-PROVED_TOOL = "tools/built.sh"
+PROVED_TOOL = "tools/proved_program.sh"
 REGRESS = "pdregress"
 RECORD = "pdrecord"
 

@@ -1,4 +1,4 @@
-"""Which paragraphs of pages a changed sender owes: those that cite a section of an RFC that the change cites, too.
+"""Which paragraphs of pages a changed sender affects: those that cite a section of an RFC that the change cites, too.
 
 What changes are definitions in `specs/`, and functions and constants in `src/`. A definition cites what its comment
 does, and what those that name it cite; a constant what the functions that name it do, and the definitions of their
@@ -14,7 +14,7 @@ from dataclasses import dataclass, field, replace
 from pathlib import Path
 
 from changed_rules import Key, Rule, files_of, named_in, names_of, rules_in
-from owed_defaults import changed_defaults, places_of
+from affected_defaults import changed_defaults, places_of
 
 # The pages whose paragraphs, or rows of tables, are about rules.
 PAGES = ("docs/SENDER.md", "docs/LINUX.md")
@@ -29,20 +29,20 @@ TOKEN = re.compile(
 )
 ITEM = re.compile(r"(?P<indent> *)(?:pub(?:\(\w+\))? )?(?P<kind>const fn|fn|const) (?P<name>\w+)")
 GHOST_USE = re.compile(r"^ghost use Rattle\.(\w+)\.specs\.(\w+)\.\{([^}]*)\};", re.MULTILINE)
-# What more functions than these name has a name that says little of who uses it.
+# A name that more functions than these use says little of who uses it.
 MOST_USERS = 5
 IDENTIFIER = re.compile(r"[^\W\d][\w-]*")
 
 
 @dataclass(frozen=True)
-class Cited:
+class Citation:
     """A section of an RFC, and the steps or names in it."""
 
     rfc: str
     section: str = ""
     parts: frozenset[str] = frozenset()
 
-    def is_about(self, other: Cited) -> bool:
+    def is_about(self, other: Citation) -> bool:
         """Whether both are about the same."""
         is_same = (self.rfc, self.section) == (other.rfc, other.section) and self.section
         return bool(is_same and (not self.parts or not other.parts or self.parts & other.parts))
@@ -51,7 +51,7 @@ class Cited:
         return f"RFC {self.rfc}, section {self.section}"
 
 
-NOTHING = Cited("")
+NOTHING = Citation("")
 
 
 def numbers(text: str) -> list[str]:
@@ -59,24 +59,24 @@ def numbers(text: str) -> list[str]:
     return [it for it in re.split(r", and |, | and | to ", text) if it]
 
 
-def cited_in(text: str, above: Cited = NOTHING) -> list[Cited]:
+def cited_in(text: str, above: Citation = NOTHING) -> list[Citation]:
     """What a comment or a paragraph cites.
 
     >>> [str(it) for it in cited_in("a (RFC 6298, sections 3 and 5.6; RFC 2018, section 5)")]
     ['RFC 6298, section 3', 'RFC 6298, section 5.6', 'RFC 2018, section 5']
     >>> [str(it) for it in cited_in("RFC 6298, 5: a; RFC 8985, 7: b")]
     ['RFC 6298, section 5', 'RFC 8985, section 7']
-    >>> cited_in("b (step 4.3)", Cited("6675", "5"))
-    [Cited(rfc='6675', section='5', parts=frozenset({'4'}))]
+    >>> cited_in("b (step 4.3)", Citation("6675", "5"))
+    [Citation(rfc='6675', section='5', parts=frozenset({'4'}))]
     """
-    found: list[Cited] = []
+    found: list[Citation] = []
     rfc, names = above.rfc, set()
     for token in TOKEN.finditer(text):
         if token["rfc"]:
             rfc = token["rfc"]
-            found += [Cited(rfc, token["bare"])] if token["bare"] else []
+            found += [Citation(rfc, token["bare"])] if token["bare"] else []
         elif token["sections"]:
-            found += [Cited(rfc, it) for it in numbers(token["sections"])]
+            found += [Citation(rfc, it) for it in numbers(token["sections"])]
         elif token["name"]:
             names.add(token["name"])
         else:
@@ -87,29 +87,29 @@ def cited_in(text: str, above: Cited = NOTHING) -> list[Cited]:
     return [replace(it, parts=it.parts | names) for it in found if it.section]
 
 
-def heading_in(text: str, above: Cited = NOTHING) -> Cited:
+def heading_in(text: str, above: Citation = NOTHING) -> Citation:
     """What a heading puts above what has no citation of its own: the only section that it names, or an RFC alone."""
     found = cited_in(text, above)
     rfc = re.search(r"RFC (\d+)", text)
     if len({(it.rfc, it.section) for it in found}) == 1:
         return replace(found[0], parts=frozenset())
-    return Cited(rfc[1]) if rfc else above
+    return Citation(rfc[1]) if rfc else above
 
 
 @dataclass(frozen=True)
-class Item:
+class SourceItem:
     """A definition, a function or a constant: its name and place, what it is written as, and what it cites."""
 
     name: str
     place: str
     text: str
-    cited: tuple[Cited, ...]
+    cited: tuple[Citation, ...]
     # The definitions that a definition or the contract of a function names.
     names: frozenset[Key] = frozenset()
     is_constant: bool = False
 
 
-def definitions_in(crate: str, file: str, text: str) -> Iterator[tuple[Rule, list[Cited]]]:
+def definitions_in(crate: str, file: str, text: str) -> Iterator[tuple[Rule, list[Citation]]]:
     """The definitions of a file, each with what it cites."""
     above = heading_in(text.partition("\n")[0])
     head, line = above, 0
@@ -143,7 +143,7 @@ def items_of_code(text: str) -> Iterator[tuple[re.Match[str], int, list[str]]]:
         yield found, number + 1, lines[begin : end + 1]
 
 
-def code_in(crate: str, path: str, text: str) -> Iterator[Item]:
+def code_in(crate: str, path: str, text: str) -> Iterator[SourceItem]:
     """The functions and constants of a file."""
     used = {
         name.partition(" as ")[0]: (low, file, name.partition(" as ")[0])
@@ -156,24 +156,26 @@ def code_in(crate: str, path: str, text: str) -> Iterator[Item]:
         contract = " ".join(it for it in body if it.startswith(("ensures", "requires")))
         named = frozenset(used[it] for it in IDENTIFIER.findall(contract) if it in used)
         place = f"crates/{crate}/{path}:{line}"
-        yield Item(found["name"], place, "\n".join(body), tuple(cited_in(comment)), named, found["kind"] == "const")
+        yield SourceItem(
+            found["name"], place, "\n".join(body), tuple(cited_in(comment)), named, found["kind"] == "const"
+        )
 
 
 @dataclass
-class Sources:
-    """What the crates of a sender have: definitions by their keys, and items of code by crate, file, name and count."""
+class SenderSources:
+    """The crates of a sender: definitions by their keys, and items of code by crate, file, name and count."""
 
-    definitions: dict[Key, Item] = field(default_factory=dict)
-    code: dict[tuple[str, str, str, int], Item] = field(default_factory=dict)
+    definitions: dict[Key, SourceItem] = field(default_factory=dict)
+    code: dict[tuple[str, str, str, int], SourceItem] = field(default_factory=dict)
 
-    def cited_by(self, key: Key) -> tuple[Cited, ...]:
+    def cited_by(self, key: Key) -> tuple[Citation, ...]:
         """What a definition cites."""
         return self.definitions[key].cited if key in self.definitions else ()
 
 
-def sources_of(tree: Path) -> Sources:
-    """What a tree has."""
-    sources = Sources()
+def sources_of(tree: Path) -> SenderSources:
+    """The crates of a tree's sender."""
+    sources = SenderSources()
     for crate in CRATES:
         folder = tree / "crates" / crate
         for file, text in files_of(folder):
@@ -181,7 +183,7 @@ def sources_of(tree: Path) -> Sources:
             names = named_in(crate, file, text, {rule.name for rule, _ in rules})
             for rule, cited in rules:
                 named = frozenset(names_of(rule, names) - {rule.key})
-                sources.definitions[rule.key] = Item(rule.name, rule.place, rule.text, tuple(cited), named)
+                sources.definitions[rule.key] = SourceItem(rule.name, rule.place, rule.text, tuple(cited), named)
         for path in sorted(folder.glob("src/**/*.rt")):
             inner = str(path.relative_to(folder))
             for item in code_in(crate, inner, path.read_text(encoding="utf-8")):
@@ -190,15 +192,15 @@ def sources_of(tree: Path) -> Sources:
     return sources
 
 
-def changed_in(before: dict, after: dict) -> list[Item]:  # type: ignore[type-arg]
+def changed_in(before: dict, after: dict) -> list[SourceItem]:  # type: ignore[type-arg]
     """The items that are others, or are new; and those that are gone, as they were."""
     others = [it for key, it in after.items() if key not in before or before[key].text != it.text]
     return others + [it for key, it in before.items() if key not in after]
 
 
 @dataclass(frozen=True)
-class Named:
-    """What changed, by the names in it: those in lines that changed, with its own and its users', and all.
+class ChangedNames:
+    """The names in a changed item: those in lines that changed, with its own and its users', and all of them.
 
     And the sections that it cites, as its contract does.
     """
@@ -210,7 +212,7 @@ class Named:
     whole: tuple[str, ...]
 
 
-def names_changed(before: Path, tree: Path) -> Iterator[Named]:
+def names_changed(before: Path, tree: Path) -> Iterator[ChangedNames]:
     """The names in the functions and constants of the sender that changed."""
     old, after = sources_of(before).code, sources_of(tree)
     new = after.code
@@ -227,10 +229,10 @@ def names_changed(before: Path, tree: Path) -> Iterator[Named]:
         cited = [*item.cited, *(it for key in sorted(item.names) for it in after.cited_by(key))]
         sections = tuple(dict.fromkeys(map(str, cited)))
         whole = tuple(sorted(set(IDENTIFIER.findall(item.text))))
-        yield Named(item.name, item.place, sections, tuple(sorted(changed)), whole)
+        yield ChangedNames(item.name, item.place, sections, tuple(sorted(changed)), whole)
 
 
-def changed_items(before: Sources, after: Sources) -> Iterator[tuple[Item, set[Cited]]]:
+def changed_items(before: SenderSources, after: SenderSources) -> Iterator[tuple[SourceItem, set[Citation]]]:
     """What changed, each with all that it cites: a function nothing, since its rule is what its contract names."""
     for item in changed_in(before.definitions, after.definitions):
         users = [it for it in after.definitions.values() if any(after.definitions.get(key) is item for key in it.names)]
@@ -246,16 +248,16 @@ def changed_items(before: Sources, after: Sources) -> Iterator[tuple[Item, set[C
 
 
 @dataclass(frozen=True)
-class Paragraph:
+class CitingParagraph:
     """A paragraph of the page, or a line of a list: its line, the heading above it, its name, and what it cites."""
 
     line: int
     heading: str
     name: str
-    cited: tuple[Cited, ...]
+    cited: tuple[Citation, ...]
 
 
-def paragraphs_in(page: str) -> Iterator[Paragraph]:
+def paragraphs_in(page: str) -> Iterator[CitingParagraph]:
     """The paragraphs of the page that cite something."""
     heading, above = "", NOTHING
     for number, line in enumerate(page.split("\n"), 1):
@@ -266,10 +268,10 @@ def paragraphs_in(page: str) -> Iterator[Paragraph]:
                 above = heading_in(line)
             cited = tuple(cited_in(line, above))
             if cited:
-                yield Paragraph(number, heading, name_of(line), cited)
+                yield CitingParagraph(number, heading, name_of(line), cited)
 
 
-def paragraphs_of(page: Path) -> Iterator[Paragraph]:
+def paragraphs_of(page: Path) -> Iterator[CitingParagraph]:
     """The paragraphs of a page, if it is there."""
     return paragraphs_in(page.read_text(encoding="utf-8")) if page.exists() else iter(())
 
@@ -289,8 +291,8 @@ def name_of(line: str) -> str:
 
 
 @dataclass(frozen=True)
-class SectionOwed:
-    """A paragraph that may say otherwise now; or what changed, of which no paragraph speaks."""
+class AffectedParagraph:
+    """A paragraph that may be wrong now; or, without a page, a changed rule that no paragraph cites."""
 
     page: str
     line: int
@@ -300,23 +302,23 @@ class SectionOwed:
     rules: tuple[str, ...]
 
 
-def sections_owed(before: Path, tree: Path) -> Iterator[SectionOwed]:
+def affected_paragraphs(before: Path, tree: Path) -> Iterator[AffectedParagraph]:
     """Where changed defaults are written, the paragraphs of changed rules, and last what changed without one."""
     for default in changed_defaults(before, tree):
-        said = f"its default is {default.after}, and was {default.before}"
+        reason = f"its default is {default.after}, and was {default.before}"
         for page, line in places_of(default.key, tree):
-            yield SectionOwed(page, line, "a default", default.key, (said,), (default.place,))
+            yield AffectedParagraph(page, line, "a default", default.key, (reason,), (default.place,))
     changed = list(changed_items(sources_of(before), sources_of(tree)))
-    told: set[str] = set()
+    listed: set[str] = set()
     for page, it in ((page, it) for page in PAGES for it in paragraphs_of(tree / page)):
-        mine = [(item, mine) for item, cited in changed for mine in it.cited if any(map(mine.is_about, cited))]
-        if mine:
-            rules = tuple(dict.fromkeys(f"{item.name} ({item.place})" for item, _ in mine))
-            told |= set(rules)
-            yield SectionOwed(
-                page, it.line, it.heading, it.name, tuple(dict.fromkeys(str(each) for _, each in mine)), rules
+        common = [(item, one) for item, cited in changed for one in it.cited if any(map(one.is_about, cited))]
+        if common:
+            rules = tuple(dict.fromkeys(f"{item.name} ({item.place})" for item, _ in common))
+            listed |= set(rules)
+            yield AffectedParagraph(
+                page, it.line, it.heading, it.name, tuple(dict.fromkeys(str(each) for _, each in common)), rules
             )
     for item, _ in changed:
-        if f"{item.name} ({item.place})" not in told:
+        if f"{item.name} ({item.place})" not in listed:
             is_code = "/src/" in item.place and not item.is_constant
-            yield SectionOwed("", 0, "", "code" if is_code else "", (), (f"{item.name} ({item.place})",))
+            yield AffectedParagraph("", 0, "", "code" if is_code else "", (), (f"{item.name} ({item.place})",))

@@ -1,4 +1,4 @@
-"""Tests of tools/built.sh: which program counts as proved, in a tree of three crates whose program was vouched for."""
+"""Tests of tools/proved_program.sh: which program counts as proved, in a tree of three crates with checksums."""
 
 import os
 import shutil
@@ -11,12 +11,20 @@ import pytest
 TOP = Path(__file__).resolve().parents[1]
 sys.path.insert(0, str(TOP / "tools"))
 
-import kept_sums  # noqa: E402
+import proof_sums  # noqa: E402
 import source_sums  # noqa: E402
 import stamps  # noqa: E402
 
 SECONDS = 60
-TOOLS = ("built.py", "built.sh", "crate_graph.py", "kept_sums.py", "kit.py", "source_sums.py", "stamps.py")
+TOOLS = (
+    "proved_program.py",
+    "proved_program.sh",
+    "crate_graph.py",
+    "proof_sums.py",
+    "kit.py",
+    "source_sums.py",
+    "stamps.py",
+)
 RULE = "crates/low/specs/Rule.antt"
 OTHER = "crates/low/specs/Two.antt"
 CODE = "crates/low/src/lib.rt"
@@ -74,7 +82,7 @@ CHANGES = {
     "checksums of another program": f"sed -i '1s/^./x/' {PROGRAM}.sums",
     "checksums without a kit": f"sed -i '$d' {PROGRAM}.sums",
     "checksums that end early": f"head -n -3 {PROGRAM}.sums >x && cat x >{PROGRAM}.sums",
-    "what decides is another": "printf '\\n\\ndef is_proved(*_):\\n    return False\\n' >>tools/kept_sums.py",
+    "what decides is another": "printf '\\n\\ndef is_proved(*_):\\n    return False\\n' >>tools/proof_sums.py",
     "what says which crates count is another": (
         "printf '\\n\\ndef libraries_below(*_):\\n    return []\\n' >>tools/crate_graph.py"
     ),
@@ -85,7 +93,7 @@ CHANGES = {
 
 
 class Tree:
-    """A tree with a program that prints what it is, the kit on the PATH, and what built.sh says of the program."""
+    """A tree with a program that prints its name, the kit on the PATH, and the answer of proved_program.sh."""
 
     def __init__(self, folder: Path) -> None:
         self.top = folder / "tree"
@@ -117,7 +125,7 @@ class Tree:
         (self.kit / "bin/rt").touch(mode=0o755)
         (self.kit / "KIT-ID").write_text("kit 1\n")
         self.do(f"find . ! -path './{PROGRAM}' -exec touch -d '1 hour ago' {{}} +")
-        self.do(f"{{ sha256sum {PROGRAM}; tools/built.sh --sums top; }} >x && mv x {PROGRAM}.sums")
+        self.do(f"{{ sha256sum {PROGRAM}; tools/proved_program.sh --sums top; }} >x && mv x {PROGRAM}.sums")
 
     def do(self, command: str) -> str:
         """Does a command of the shell in the tree, and gives what it prints."""
@@ -127,8 +135,8 @@ class Tree:
         ).stdout
 
     def found(self) -> tuple[int, str, str]:
-        """The status of built.sh, and what it says."""
-        words: list[str | Path] = [self.top / "tools/built.sh", "top"]
+        """The status of proved_program.sh, and what it says."""
+        words: list[str | Path] = [self.top / "tools/proved_program.sh", "top"]
         done = subprocess.run(words, env=self.environment, capture_output=True, text=True, timeout=SECONDS)
         return done.returncode, done.stdout, done.stderr
 
@@ -190,7 +198,7 @@ def test_what_changed_in_the_tick_of_a_look_is_read_again(tmp_path: Path, monkey
     monkeypatch.setenv("PATH", tree.environment["PATH"])
     # As if the clock hadn't moved on since this source was written.
     monkeypatch.setattr(stamps, "probe_in", lambda _: (tree.top / CODE).stat())
-    assert kept_sums.is_proved(str(tree.top), "top")
+    assert proof_sums.is_proved(str(tree.top), "top")
     assert not (tree.top / f"{PROGRAM}.stamps").exists()
 
 
@@ -203,7 +211,7 @@ def test_where_a_program_can_set_the_clock_of_a_file_nothing_is_kept(
     # As FAT has it, where the moment of a change is that of the last edit, which any program may set.
     probe = os.stat_result((0o100644, 1, tree.top.stat().st_dev, 1, 0, 0, 0, 0, 0, 0))
     monkeypatch.setattr(os, "fstat", lambda _: probe)
-    assert kept_sums.is_proved(str(tree.top), "top")
+    assert proof_sums.is_proved(str(tree.top), "top")
     assert not (tree.top / f"{PROGRAM}.stamps").exists()
 
 
@@ -220,8 +228,8 @@ def test_what_changes_while_it_is_read_is_read_again(
             tree.do(done)
         return found
 
-    monkeypatch.setattr(kept_sums, "sums_of", read_and_change)
-    assert kept_sums.is_proved(str(tree.top), "top")
+    monkeypatch.setattr(proof_sums, "sums_of", read_and_change)
+    assert proof_sums.is_proved(str(tree.top), "top")
     assert not (tree.top / f"{PROGRAM}.stamps").exists()
 
 
@@ -235,7 +243,7 @@ def test_what_comes_before_the_stamps_are_taken_is_read_again(tmp_path: Path, mo
         return taken(top, paths)
 
     monkeypatch.setattr(stamps, "stamps_of", take_late)
-    assert kept_sums.is_proved(str(tree.top), "top")
+    assert proof_sums.is_proved(str(tree.top), "top")
     assert not tree.is_proved()
 
 
@@ -269,15 +277,15 @@ def test_all_is_named_on_which_it_depends(tmp_path: Path) -> None:
         "crates/top/src",
         "crates/top/src/main.rt",
     ]
-    found = tree.do("tools/built.sh --files top").split("\0")
+    found = tree.do("tools/proved_program.sh --files top").split("\0")
     assert sorted(found) == sorted(
         ["", f"{tree.kit}/KIT-ID", f"{tree.kit}/bin/rt", *(f"{tree.top}/{it}" for it in below)]
     )
     tree.do("rm crates.txt")
-    assert f"{tree.top}/crates.txt" in tree.do("tools/built.sh --files top").split("\0")
+    assert f"{tree.top}/crates.txt" in tree.do("tools/proved_program.sh --files top").split("\0")
 
 
 @pytest.mark.parametrize("words", ["", "--sums", "top top", "--all top", "--files"])
 def test_other_words_are_refused(words: str, tmp_path: Path) -> None:
-    done = subprocess.run([TOP / "tools/built.sh", *words.split()], capture_output=True, text=True)
-    assert (done.returncode, done.stdout, done.stderr.splitlines()[0]) == (2, "", "#   tools/built.sh NAME")
+    done = subprocess.run([TOP / "tools/proved_program.sh", *words.split()], capture_output=True, text=True)
+    assert (done.returncode, done.stdout, done.stderr.splitlines()[0]) == (2, "", "#   tools/proved_program.sh NAME")

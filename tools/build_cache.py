@@ -25,7 +25,7 @@ TOOLS = Path(__file__).resolve().parent
 PROGRAMS = ("pdregress", "pdrecord")
 # What builds and runs what is kept: a change of it makes what was kept before the work of another one.
 MADE_BY = (
-    *("kept_builds.py", "kit_tools.py", "building.py", "either.rattle", "fault_handler.c"),
+    *("build_cache.py", "kit_tools.py", "building.py", "combined.rattle", "fault_handler.c"),
     *("fault_places.py", "tell_fault.py", "run_unproved.py", "../pdregress", "../pdrecord"),
 )
 SUM = "sum"
@@ -76,7 +76,7 @@ class Kept:
             os.close(descriptor)
 
 
-def kept_programs(top: Path, ways: tuple[str, ...]) -> Path | None:
+def cached_programs(top: Path, ways: tuple[str, ...]) -> Path | None:
     """The folder of both programs of a tree, in the first of these ways in which they are kept, if they are."""
     try:
         kept = kept_of(top, known_kit())
@@ -111,8 +111,8 @@ def is_read(path: str) -> bool:
 
 def main_of(top: Path) -> Path:
     """The main file that makes one program of both: the tree's own, or where it has none this tree's."""
-    own = top / "tools" / "either.rattle"
-    return own if own.is_file() else TOOLS / "either.rattle"
+    own = top / "tools" / "combined.rattle"
+    return own if own.is_file() else TOOLS / "combined.rattle"
 
 
 def folder_of_all(top: Path) -> Path:

@@ -1,12 +1,12 @@
 """Runs pdregress and pdrecord of a tree many times without proofs, after one build:
 
-try_both.py [--seconds N] [--tree FOLDER] STARTS ANSWERS
+run_batch.py [--seconds N] [--tree FOLDER] STARTS ANSWERS
 
-The tree is this one, or FOLDER. What is built is its both.rattle, or else this tree's, which starts the programs in
+The tree is this one, or FOLDER. What is built is its batch.rattle, or else this tree's, which starts the programs in
 memory, as often as its input says, or what comes through a named pipe. The folder STARTS has such inputs, which are run
-one after the other, and the folder ANSWERS gets for each file NAME.output, NAME.errors and NAME.status, as try_cases.py
-puts them. Where nothing was run, a line on standard error says why, with what was said, and the status is 2; else it is
-0.
+one after the other, and the folder ANSWERS gets for each file NAME.output, NAME.errors and NAME.status, as run_cases.py
+puts them. Where nothing was run, a line on standard error says why, with what `rt try` printed, and the status is 2;
+else it is 0.
 """
 from __future__ import annotations
 
@@ -20,30 +20,30 @@ from pathlib import Path
 
 import rt_try
 import signals
-from try_cases import FAULT, put
+from run_cases import FAULT, put
 
-# both.rattle is built in the place of this program's main file, and needs what the other one stands on, too.
+# batch.rattle replaces this program's main file, and needs the libraries of the other one, too.
 PROGRAM = "pdrecord"
 OTHER = "pdregress"
-MAIN = rt_try.TOP / "tools" / "both.rattle"
+MAIN = rt_try.TOP / "tools" / "batch.rattle"
 MODULE = "mod record_program;"
-# What of a crate is read: definitions and proofs are not.
+# The part of a crate that is read, without definitions and proofs.
 PART = "src"
 
 
-def put_tree(tree: Path, room: Path) -> None:
-    """Puts into a folder a tree of the same crates, in which both.rattle is the main file of its program."""
+def put_tree(tree: Path, folder: Path) -> None:
+    """Puts into a folder a tree of the same crates, in which batch.rattle is the main file of its program."""
     for crate in (tree / "crates").iterdir():
         if (crate / PART).is_dir():
-            shutil.copytree(crate / PART, room / "crates" / crate.name / PART)
-    sources = room / "crates" / PROGRAM / "src"
+            shutil.copytree(crate / PART, folder / "crates" / crate.name / PART)
+    sources = folder / "crates" / PROGRAM / "src"
     modules = sorted(it.stem for it in sources.glob("*.rt") if it.stem != "main")
     # On one line, so that each line keeps its number.
     declared = " ".join(f"mod {it};" for it in modules)
     (sources / "main.rt").write_text(main_of(tree).read_text().replace(MODULE, declared))
-    (room / "crates.txt").write_text(with_both((tree / "crates.txt").read_text()))
+    (folder / "crates.txt").write_text(with_other_libraries((tree / "crates.txt").read_text()))
     if (tree / "HANDLES").exists():
-        shutil.copy(tree / "HANDLES", room)
+        shutil.copy(tree / "HANDLES", folder)
 
 
 def main_of(tree: Path) -> Path:
@@ -52,38 +52,38 @@ def main_of(tree: Path) -> Path:
     return own if own.is_file() else MAIN
 
 
-def with_both(table: str) -> str:
+def with_other_libraries(table: str) -> str:
     """A crates.txt in which the program stands on the libraries of the other one, too.
 
-    >>> with_both("low:\\npdregress may_wait=1: low a\\npdrecord: low b\\n")
+    >>> with_other_libraries("low:\\npdregress may_wait=1: low a\\npdrecord: low b\\n")
     'low:\\npdregress may_wait=1: low a\\npdrecord: low b  low a\\n'
     """
     found = re.search(rf"^{OTHER}\b[^:]*:(.*)$", table, re.MULTILINE)
     return re.sub(rf"^{PROGRAM}\b.*$", rf"\g<0> {found[1] if found else ''}", table, flags=re.MULTILINE)
 
 
-def placed(said: bytes, room: Path, tree: Path) -> bytes:
-    """What is said, with the places in the tree."""
-    said = rt_try.placed(PROGRAM, said, room)
-    said = said.replace(os.fsencode(room / "crates" / PROGRAM / "src" / "main.rt"), os.fsencode(main_of(tree)))
-    return said.replace(os.fsencode(room / "crates"), os.fsencode(tree / "crates"))
+def placed(printed: bytes, folder: Path, tree: Path) -> bytes:
+    """What `rt try` printed, with the places in the tree."""
+    printed = rt_try.placed(PROGRAM, printed, folder)
+    printed = printed.replace(os.fsencode(folder / "crates" / PROGRAM / "src" / "main.rt"), os.fsencode(main_of(tree)))
+    return printed.replace(os.fsencode(folder / "crates"), os.fsencode(tree / "crates"))
 
 
-def run(asked: argparse.Namespace, tree: Path) -> None:
+def run(options: argparse.Namespace, tree: Path) -> None:
     """Builds, starts and answers."""
-    files = sorted(asked.starts.iterdir())
+    files = sorted(options.starts.iterdir())
     cases = [rt_try.Case((), it.read_bytes()) for it in files]
-    with tempfile.TemporaryDirectory(prefix="pdboth-") as folder:
-        room = Path(folder).resolve()
-        put_tree(tree, room)
+    with tempfile.TemporaryDirectory(prefix="pdbatch-") as name:
+        folder = Path(name).resolve()
+        put_tree(tree, folder)
         try:
-            # What is built runs in any case, so that nothing has to be interpreted.
-            answers = rt_try.run_cases(PROGRAM, cases, room, asked.seconds, top=room, steps=1)
+            # The program is built in any case, so that nothing has to be interpreted.
+            answers = rt_try.run_cases(PROGRAM, cases, folder, options.seconds, top=folder, steps=1)
         except rt_try.Untried as untried:
             reason = untried.reason
-            raise rt_try.Untried(rt_try.NoAnswer(reason.name, reason.why, placed(reason.said, room, tree))) from None
+            raise rt_try.Untried(rt_try.NoAnswer(reason.name, reason.why, placed(reason.said, folder, tree))) from None
     for file, tried in zip(files, answers):
-        put(asked.answers, file.name, tried)
+        put(options.answers, file.name, tried)
 
 
 def main() -> int:
@@ -92,10 +92,10 @@ def main() -> int:
     parser.add_argument("--tree", metavar="FOLDER", type=Path, default=rt_try.TOP, help="the tree of the programs")
     parser.add_argument("starts", metavar="STARTS", type=Path)
     parser.add_argument("answers", metavar="ANSWERS", type=Path)
-    asked = parser.parse_args()
+    options = parser.parse_args()
     signals.heed()
     try:
-        run(asked, asked.tree.absolute())
+        run(options, options.tree.absolute())
     except rt_try.Untried as untried:
         print(f"{PROGRAM}: unproved: {untried}", file=sys.stderr)
         sys.stderr.flush()

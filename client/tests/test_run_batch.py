@@ -27,7 +27,7 @@ def test_each_start_of_both_programs_has_its_own_words_input_and_answer(tmp_path
     starts.mkdir()
     answers.mkdir()
     (starts / "a").write_bytes(input_of(cases))
-    words: list[str | Path] = [sys.executable, "-B", TOP / "tools/try_both.py", starts, answers]
+    words: list[str | Path] = [sys.executable, "-B", TOP / "tools/run_batch.py", starts, answers]
     done = subprocess.run(words, stdin=subprocess.DEVNULL, capture_output=True, timeout=SECONDS)
     assert (done.returncode, done.stdout, done.stderr) == (0, b"", b"")
     output, errors, status = ((answers / f"a.{end}").read_bytes() for end in ("output", "errors", "status"))

@@ -1,5 +1,5 @@
 #!/usr/bin/env python3
-"""The programs of this tree that were proved last, of which ./prove keeps copies: kept_programs.py
+"""The programs of this tree that were proved last, of which ./prove keeps copies: last_proved.py
 
 Prints the folder that has them, or says with status 2 that there is none. It is below ~/.cache/pdregress, or below
 XDG_CACHE_HOME: one folder for each tree, of a few megabytes, with the programs and a file `commit`.
@@ -54,7 +54,7 @@ def main() -> int:
     try:
         kept = folder()
     except RuntimeError as error:
-        print(f"kept_programs: {error}", file=sys.stderr)
+        print(f"last_proved: {error}", file=sys.stderr)
         return 2
     if not (kept / COMMIT).is_file():
         print("./prove has kept no programs of this tree", file=sys.stderr)

@@ -1,7 +1,7 @@
-"""Says where a proved program is, as tools/built.sh asks: built.py [--sums | --files] NAME
+"""Prints where a proved program is, for tools/proved_program.sh: proved_program.py [--sums | --files] NAME
 
-What finds out is kept_sums.py, which reads all files. That takes a tenth of a second, so it keeps their stamps, and
-while all files have these, nothing is read.
+proof_sums.py reads all files and decides. That takes a tenth of a second, so it keeps their stamps, and while all files
+have these, nothing is read.
 """
 from __future__ import annotations
 
@@ -23,13 +23,13 @@ def is_unchanged(program: str) -> bool:
         return False
 
 
-def main(words: list[str]) -> int:
-    if len(words) == 1 and is_unchanged(words[0]):
-        os.write(1, os.fsencode(f"{TOP}/crates/{words[0]}/out/{words[0]}\n"))
+def main(arguments: list[str]) -> int:
+    if len(arguments) == 1 and is_unchanged(arguments[0]):
+        os.write(1, os.fsencode(f"{TOP}/crates/{arguments[0]}/out/{arguments[0]}\n"))
         return 0
-    from kept_sums import answer  # Who finds nothing changed doesn't pay for this.
+    from proof_sums import answer  # Imported late, since it takes time.
 
-    return answer(TOP, words)
+    return answer(TOP, arguments)
 
 
 if __name__ == "__main__":

@@ -15,8 +15,8 @@ from kit import command_of_kit, file_of_identity, kit_identity
 from source_sums import HANDLES, TABLE, NoFile, Unreadable, lines_of, places_below, sources_in, sums, sums_of
 
 KIT = b"kit: "
-# What decides here. Where it is changed, what it found before doesn't count.
-MADE_BY = [f"tools/{it}.py" for it in ("built", "crate_graph", "kept_sums", "kit", "source_sums", "stamps")]
+# The files that decide. Where one is changed, what it found before doesn't count.
+MADE_BY = [f"tools/{it}.py" for it in ("proved_program", "crate_graph", "proof_sums", "kit", "source_sums", "stamps")]
 FAULT = 2
 
 
@@ -91,27 +91,27 @@ def looked_at(top: str, program: str) -> Iterator[str]:
         yield from (f"{top}/{it}" for it, _ in places_below(top, program) if it not in (TABLE, HANDLES))
 
 
-def answer(top: str, words: list[str]) -> int:
-    """Prints what tools/built.sh is asked for in [--sums | --files] NAME, and gives its status."""
-    *asked, program = words
-    said = f"{program} isn't proved and built, or has changed since: run ./prove {program}"
+def answer(top: str, arguments: list[str]) -> int:
+    """Prints the answer of tools/proved_program.sh to [--sums | --files] NAME, and gives the status."""
+    *options, program = arguments
+    message = f"{program} isn't proved and built, or has changed since: run ./prove {program}"
     try:
-        octets = octets_for(asked, top, program)
+        octets = output_for(options, top, program)
     except NoFile as why:
-        octets, said = b"", f"{program} isn't proved: {why}"
+        octets, message = b"", f"{program} isn't proved: {why}"
     except Unreadable as why:
-        octets, said = b"", str(why) if asked else said
+        octets, message = b"", str(why) if options else message
     if not octets:
-        print(said, file=sys.stderr)
+        print(message, file=sys.stderr)
         return FAULT
     sys.stdout.buffer.write(octets)
     return 0
 
 
-def octets_for(asked: list[str], top: str, program: str) -> bytes:
-    """What is printed for these words: nothing where a program isn't proved."""
-    if asked == ["--files"]:
+def output_for(options: list[str], top: str, program: str) -> bytes:
+    """What is printed with these options: nothing where a program isn't proved."""
+    if options == ["--files"]:
         return b"".join(os.fsencode(it) + b"\0" for it in looked_at(top, program))
-    if asked == ["--sums"]:
+    if options == ["--sums"]:
         return lines_of(sums(top, program)) + kit_line(kit_identity() or "")
     return os.fsencode(f"{top}/{path_of(program)}\n") if is_proved(top, program) else b""

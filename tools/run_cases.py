@@ -1,12 +1,12 @@
 """Runs a program on many cases without proofs, after one build:
 
-try_cases.py [--seconds N] [--tree FOLDER] PROGRAM CASES ANSWERS [-- WORD..]
+run_cases.py [--seconds N] [--tree FOLDER] PROGRAM CASES ANSWERS [-- WORD..]
 
 The program is the one of this tree, or of the one below FOLDER. The folder CASES has for each case a file NAME, its
-input, and a file NAME.args, its words, one a line; each WORD stands before these in every case. The folder ANSWERS gets
-NAME.output and NAME.errors, what the program wrote, and NAME.status: a number, or where there is none why, as `TooSlow:
-the program didn't end within 60 seconds`. Where nothing was run, a line on standard error says why, with what was said,
-and the status is 2; else it is 0.
+input, and a file NAME.args, its arguments, one a line; each WORD stands before these in every case. The folder ANSWERS
+gets NAME.output and NAME.errors, what the program wrote, and NAME.status: a number, or where there is none why, as
+`TooSlow: the program didn't end within 60 seconds`. Where nothing was run, a line on standard error says why, with what
+`rt try` printed, and the status is 2; else it is 0.
 """
 from __future__ import annotations
 
@@ -44,13 +44,15 @@ def put(folder: Path, name: str, tried: rt_try.Tried) -> None:
         (folder / f"{name}.status").write_text(f"{tried.name}: {tried.why}")
 
 
-def run(asked: argparse.Namespace) -> None:
-    cases = cases_in(asked.cases)
-    with tempfile.TemporaryDirectory(prefix=f"{asked.program}-") as room:
-        words = [os.fsencode(it) for it in asked.words]
-        answers = rt_try.run_cases(asked.program, list(cases.values()), Path(room), asked.seconds, words, asked.tree)
+def run(options: argparse.Namespace) -> None:
+    cases = cases_in(options.cases)
+    with tempfile.TemporaryDirectory(prefix=f"{options.program}-") as room:
+        words = [os.fsencode(it) for it in options.words]
+        answers = rt_try.run_cases(
+            options.program, list(cases.values()), Path(room), options.seconds, words, options.tree
+        )
     for name, tried in zip(cases, answers):
-        put(asked.answers, name, tried)
+        put(options.answers, name, tried)
 
 
 def main() -> int:
@@ -60,15 +62,15 @@ def main() -> int:
     parser.add_argument("program", metavar="PROGRAM")
     parser.add_argument("cases", metavar="CASES", type=Path)
     parser.add_argument("answers", metavar="ANSWERS", type=Path)
-    parser.add_argument("words", metavar="WORD", nargs="*", help="a word of every case")
-    asked = parser.parse_args()
+    parser.add_argument("words", metavar="WORD", nargs="*", help="an argument of every case")
+    options = parser.parse_args()
     signals.heed()
     try:
-        run(asked)
+        run(options)
     except rt_try.Untried as untried:
-        print(f"{asked.program}: unproved: {untried}", file=sys.stderr)
+        print(f"{options.program}: unproved: {untried}", file=sys.stderr)
         sys.stderr.flush()
-        sys.stderr.buffer.write(rt_try.placed(asked.program, untried.reason.said, asked.tree.absolute()))
+        sys.stderr.buffer.write(rt_try.placed(options.program, untried.reason.said, options.tree.absolute()))
         return FAULT
     except signals.Stopped as signal:
         signals.end_by(signal.number)

@@ -1,4 +1,4 @@
-"""Tests of tools/owed_sections.py: which paragraphs of the sender's page a change owes."""
+"""Tests of tools/affected_sections.py: which paragraphs of the sender's page a change affects."""
 
 import sys
 from pathlib import Path
@@ -8,7 +8,7 @@ import pytest
 TOP = Path(__file__).resolve().parents[1]
 sys.path.insert(0, str(TOP / "tools"))
 
-from owed_sections import SectionOwed, cited_in, sections_owed  # noqa: E402
+from affected_sections import AffectedParagraph, affected_paragraphs, cited_in  # noqa: E402
 
 PAGE = """# The sender
 Before all (RFC 1, section 1)
@@ -73,12 +73,12 @@ def write(tree: Path, definitions: str = DEFINITIONS, code: str = CODE) -> Path:
     return tree
 
 
-def owed(tmp_path: Path, old: str, new: str) -> list[SectionOwed]:
-    """What is owed where a text of the tree is changed."""
+def affected(tmp_path: Path, old: str, new: str) -> list[AffectedParagraph]:
+    """The paragraphs that are affected where a text of the tree is changed."""
     before = write(tmp_path / "before")
     assert (DEFINITIONS + CODE).count(old) == 1
     after = write(tmp_path / "after", DEFINITIONS.replace(old, new), CODE.replace(old, new))
-    return list(sections_owed(before, after))
+    return list(affected_paragraphs(before, after))
 
 
 LINUX = """# Linux
@@ -109,13 +109,13 @@ ABOVE, LATER = (10, "As RFC 2, section 5, has"), (12, "Later. (Steps 3 and 4)")
 def test_the_paragraphs_that_cite_what_a_change_cites(
     old: str, new: str, wanted: list[tuple[int, str]], rule: str, tmp_path: Path
 ) -> None:
-    found = owed(tmp_path, old, new)
+    found = affected(tmp_path, old, new)
     assert [(it.line, it.name) for it in found if it.page] == wanted
     assert {it.rules for it in found} == ({(rule,)} if rule else set())
 
 
 def test_what_is_gone_counts_as_changed(tmp_path: Path) -> None:
-    found = owed(tmp_path, "-- (step 4)\nabbrev pub fourth : ℕ\nfourth = 4\n", "")
+    found = affected(tmp_path, "-- (step 4)\nabbrev pub fourth : ℕ\nfourth = 4\n", "")
     assert [(it.line, it.heading, it.sections) for it in found] == [
         (10, "Two", ("RFC 2, section 5",)),
         (12, "Two", ("RFC 2, section 5",)),
@@ -125,7 +125,7 @@ def test_what_is_gone_counts_as_changed(tmp_path: Path) -> None:
 def test_rows_of_the_table_beside_linux_are_named_too(tmp_path: Path) -> None:
     write(tmp_path / "after")
     (tmp_path / "after/docs/LINUX.md").write_text(LINUX)
-    found = [(it.page, it.line, it.name) for it in owed(tmp_path, "reached = limit", "reached = 5")]
+    found = [(it.page, it.line, it.name) for it in affected(tmp_path, "reached = limit", "reached = 5")]
     assert found == [("docs/SENDER.md", *BOLD), ("docs/LINUX.md", 7, "a place")]
 
 
@@ -140,5 +140,5 @@ def test_sections_steps_and_names_are_read() -> None:
     ]
 
 
-def test_of_this_tree_as_it_is_nothing_is_owed() -> None:
-    assert not list(sections_owed(TOP, TOP))
+def test_of_this_tree_as_it_is_nothing_is_affected() -> None:
+    assert not list(affected_paragraphs(TOP, TOP))

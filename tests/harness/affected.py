@@ -1,0 +1,77 @@
+"""Which rows of tests/cases a changed sender affects: it answers them wrongly, and otherwise than the one before."""
+
+from collections.abc import Iterator, Sequence
+from dataclasses import dataclass, replace
+from typing import Any
+
+from harness.asking import Call, Sayings, run_in_step
+from harness.changed import AnsweredTable, Answers, answered_tables_in
+from harness.comparing import Case, Run
+from harness.tables import case_files
+
+WORKERS = b"--workers"
+# No input that is about the sender has so many octets.
+LONG = 200_000
+
+
+@dataclass(frozen=True)
+class ChangedRow:
+    """A row that is answered otherwise now: its file and line, and of a run its title."""
+
+    file: str
+    line: int
+    title: str = ""
+
+
+def answered_tables() -> list[AnsweredTable]:
+    """All tables whose rows have answers, without the runs that test nothing of the sender."""
+    tables = [it for file in case_files() for it in answered_tables_in(file)]
+    return [replace(it, cases=[case for case in it.cases if not is_left_out(case)]) for it in tables]
+
+
+def is_left_out(case: Case[Any]) -> bool:
+    """Whether a case tests nothing of the sender.
+
+    That is a refusal of arguments, a run with workers, which is made without them, too, or a long one, about limits of
+    inputs.
+    """
+    runs = [it for it in case.tries if isinstance(it, Run)]
+    return any(it.is_refusal or WORKERS in it.words or len(it.given) > LONG for it in runs)
+
+
+def calls_of(tables: Sequence[AnsweredTable]) -> list[Call]:
+    """The calls of the programs, in one step."""
+    kept: list[Call] = []
+
+    def keep(calls: Sequence[Call]) -> Sayings:
+        kept.extend(calls)
+        return [None] * len(calls)
+
+    list(run_in_step([it.answers() for it in tables], keep))
+    return kept
+
+
+def answers_to(tables: Sequence[AnsweredTable], said: Sayings) -> Iterator[list[Answers]]:
+    """The answers to the cases of each table, by the answers to these calls."""
+    each = iter(said)
+    return run_in_step([it.answers() for it in tables], lambda calls: [next(each) for _ in calls])
+
+
+def is_affected(case: Case[Any], before: Answers, after: Answers) -> bool:
+    """Whether the sender after answers a try of a case wrongly, and otherwise than the one before."""
+    return any(new is not None and new != it.wanted and new != old for it, old, new in zip(case.tries, before, after))
+
+
+def affected_rows(tables: Sequence[AnsweredTable], before: Sayings, after: Sayings) -> Iterator[ChangedRow]:
+    """The rows that are affected, each once, in the order of files and lines."""
+    for table, one, other in zip(tables, answers_to(tables, before), answers_to(tables, after)):
+        seen = set()
+        for case, old, new in zip(table.cases, one, other):
+            if case.row.line not in seen and is_affected(case, old, new):
+                seen.add(case.row.line)
+                yield ChangedRow(case.row.file, case.row.line, case.row.text if table.table.kind == "stories" else "")
+
+
+def count_unanswered(tables: Sequence[AnsweredTable], after: Sayings) -> int:
+    """How many cases have a try without an answer."""
+    return sum(None in answers for each in answers_to(tables, after) for answers in each)

@@ -1,0 +1,107 @@
+#!/usr/bin/env -S python3 -B
+"""Which rows of tests/cases and paragraphs of pages a changed sender affects; `pdsuite compare` runs it.
+
+affected.py starts: prints how the programs are started for the rows. Each start is three parts: the program's name and
+its arguments, with zeros between them; its input; and how many octets it writes at most. A part is octets after a line
+with their number.
+
+affected.py list ANSWERS [--before FOLDER]: prints JSON that names the rows that are answered otherwise now, and the
+paragraphs that may be wrong now. The file ANSWERS has six parts for each start: the output, the error text and the
+status of the sender before, and those of the one after. A status that is no number means that there is no answer.
+FOLDER is the tree of the sender before, by which the paragraphs are found.
+
+affected.py changed --before FOLDER [--after FOLDER]: prints JSON that lists the functions and constants of the sender
+that changed, with the names in them. Without --after it is this tree's.
+"""
+from __future__ import annotations
+
+import argparse
+import json
+import re
+import sys
+from collections.abc import Iterator, Sequence
+from dataclasses import asdict
+from pathlib import Path
+from typing import Optional
+
+from affected_sections import affected_paragraphs, names_changed
+
+TOP = Path(__file__).resolve().parents[1]
+sys.path.insert(0, str(TOP / "tests"))
+
+from harness.asking import Call, Said  # noqa: E402
+from harness.affected import affected_rows, answered_tables, calls_of, count_unanswered  # noqa: E402
+
+NUMBER = re.compile(rb"(\d+)\n")
+# A program writes so many octets at most, and so many for each octet of its input, also where it explains.
+OUTPUT = 4_096
+OUTPUT_PER_OCTET = 2
+EXPLANATION_PER_OCTET = 24
+
+
+def part(octets: bytes) -> bytes:
+    """A part, after the number of its octets."""
+    return b"%d\n%b" % (len(octets), octets)
+
+
+def parts(octets: bytes) -> Iterator[bytes]:
+    """The parts of a text.
+
+    >>> list(parts(part(b"a") + part(b"") + part(b"1\\n2")))
+    [b'a', b'', b'1\\n2']
+    """
+    at = 0
+    while found := NUMBER.match(octets, at):
+        at = found.end() + int(found[1])
+        yield octets[found.end() : at]
+
+
+def start_of(call: Call) -> bytes:
+    """A start of a program."""
+    per_octet = EXPLANATION_PER_OCTET if b"--explain" in call.words else OUTPUT_PER_OCTET
+    most = OUTPUT + per_octet * len(call.given)
+    words = b"\0".join([call.program.encode(), *call.words])
+    return b"".join(map(part, (words, call.given, b"%d" % most)))
+
+
+def answer_of(output: bytes, errors: bytes, status: bytes) -> Optional[Said]:
+    """The answer to a start, if there is one."""
+    return Said(output, errors, int(status)) if status.strip().isdigit() else None
+
+
+def listed(answers: bytes, before: Optional[Path]) -> dict[str, object]:
+    """The rows and paragraphs that are affected."""
+    tables = answered_tables()
+    each = list(zip(*[parts(answers)] * 6))
+    old = [answer_of(*it[:3]) for it in each]
+    new = [answer_of(*it[3:]) for it in each]
+    paragraphs = None if before is None else [asdict(it) for it in affected_paragraphs(before, TOP)]
+    return {
+        "rows": [asdict(it) for it in affected_rows(tables, old, new)],
+        "unheard": count_unanswered(tables, new),
+        "sections": paragraphs,
+    }
+
+
+def main(arguments: Sequence[str]) -> int:
+    parser = argparse.ArgumentParser(description=__doc__, formatter_class=argparse.RawDescriptionHelpFormatter)
+    commands = parser.add_subparsers(dest="command", required=True)
+    commands.add_parser("starts")
+    list_command = commands.add_parser("list")
+    list_command.add_argument("--before", metavar="FOLDER", type=Path)
+    list_command.add_argument("answers", metavar="ANSWERS", type=Path)
+    changed_command = commands.add_parser("changed")
+    changed_command.add_argument("--before", metavar="FOLDER", type=Path, required=True)
+    changed_command.add_argument("--after", metavar="FOLDER", type=Path, default=TOP)
+    options = parser.parse_args(arguments)
+    if options.command == "changed":
+        print(json.dumps([asdict(it) for it in names_changed(options.before, options.after)]))
+    elif options.command == "starts":
+        sys.stdout.buffer.writelines(start_of(it) for it in calls_of(answered_tables()))
+    else:
+        print(json.dumps(listed(options.answers.read_bytes(), options.before)))
+    return 0
+
+
+if __name__ == "__main__":
+    sys.exit(main(sys.argv[1:]))
