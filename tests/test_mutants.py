@@ -180,8 +180,8 @@ def test_mutants_of_python_and_shell(file: str, mutant: Mutant) -> None:
     """Each finds what it takes away, once, and names a test that is there."""
     assert list(changed_files(mutant, TOP))
     test = named_test(FileMutant(file, mutant))
-    if test.kind == "edges":
-        text = "".join(it.read_text() for it in (TOP / "tests" / "edges").glob(f"{test.place}.sh"))
+    if test.kind == "shell":
+        text = "".join(it.read_text() for it in (TOP / "tests" / "shell").glob(f"{test.place}.sh"))
         assert f"expect {test.line} " in text
     else:
         path, _, name = test.place.partition("::")
@@ -190,11 +190,11 @@ def test_mutants_of_python_and_shell(file: str, mutant: Mutant) -> None:
 
 
 def test_a_mutant_of_python_and_shell_is_of_any_file_of_the_tree() -> None:
-    (mutant,) = read_text("# a\nfails: edges b c\nfile: check\nold: x\nnew: y\n", True, ())
-    assert (mutant.test, mutant.changes) == ("edges b c", [Change("check", "x", "y")])
+    (mutant,) = read_text("# a\nfails: shell b c\nfile: check\nold: x\nnew: y\n", True, ())
+    assert (mutant.test, mutant.changes) == ("shell b c", [Change("check", "x", "y")])
     for path in ("/check", "../check", "a/../../check"):
         with pytest.raises(MutantError) as error:
-            read_text(f"# a\nfails: edges b c\nfile: {path}\nold: x\nnew: y\n", True, ())
+            read_text(f"# a\nfails: shell b c\nfile: {path}\nold: x\nnew: y\n", True, ())
         assert str(error.value) == f"3: 'file: {path}' has to name a file of the tree, before 'old:'"
 
 
@@ -203,14 +203,14 @@ def test_a_mutant_of_python_and_shell_is_of_any_file_of_the_tree() -> None:
     [
         ("client test_a.py::test_b", NamedTest("client", "test_a.py::test_b")),
         ("tests test_a.py", NamedTest("tests", "test_a.py")),
-        ("edges links own-link", NamedTest("edges", "links", "own-link")),
+        ("shell links own-link", NamedTest("shell", "links", "own-link")),
     ],
 )
 def test_a_mutant_names_its_test(test: str, wanted: NamedTest) -> None:
     assert named_test(FileMutant("a", mutant_of(test=test))) == wanted
 
 
-@pytest.mark.parametrize("test", ["client", "edges links", "run a title", "client a b"])
+@pytest.mark.parametrize("test", ["client", "shell links", "run a title", "client a b"])
 def test_what_names_no_test(test: str) -> None:
     with pytest.raises(MutantError):
         named_test(FileMutant("a", mutant_of(test=test)))
@@ -224,9 +224,9 @@ def test_what_names_no_test(test: str) -> None:
         (NamedTest("client", "a"), 4, "no such test", False, False),
         (NamedTest("tests", "a"), 2, "an import that fails", False, False),
         (NamedTest("tests", "a"), 124, "", False, True),
-        (NamedTest("edges", "a", "b"), 1, "ok edge b\nFAILED edge c:\n", True, False),
-        (NamedTest("edges", "a", "b"), 1, "ok edge bb\nFAILED edge b:\n", False, True),
-        (NamedTest("edges", "a", "b"), 2, "a: not found\n", False, False),
+        (NamedTest("shell", "a", "b"), 1, "ok shell b\nFAILED shell c:\n", True, False),
+        (NamedTest("shell", "a", "b"), 1, "ok shell bb\nFAILED shell b:\n", False, True),
+        (NamedTest("shell", "a", "b"), 2, "a: not found\n", False, False),
     ],
 )
 def test_the_verdict_of_a_test(test: NamedTest, status: int, printed: str, passes: bool, fails: bool) -> None:
@@ -238,7 +238,7 @@ def test_tests_are_run_in_a_copy(tmp_path: Path) -> None:
     assert (folder, words[-2:]) == (tmp_path / "client", ["tests/test_a.py", "tests/test_b.py::c"])
     folder, words = command_of("tests", ["test_a.py"], tmp_path)
     assert (folder, words[-3:]) == (tmp_path, ["-c", "tests/pytest.ini", "tests/test_a.py"])
-    assert command_of("edges", ["links"], tmp_path) == (tmp_path, [tmp_path / "tests" / "edges.sh", "links"])
+    assert command_of("shell", ["links"], tmp_path) == (tmp_path, [tmp_path / "tests" / "shell.sh", "links"])
 
 
 class PassingCopies(TreeCopies):
@@ -248,16 +248,16 @@ class PassingCopies(TreeCopies):
 
     def run_tests(self, kind: str, places: Sequence[str], tree: Path, line: str = "") -> "tuple[int, str]":
         self.calls.append((kind, [*places], line))
-        return 0, f"ok edge {line}\n"
+        return 0, f"ok shell {line}\n"
 
 
-def test_each_line_of_edges_is_run_alone_before_a_mutant_is_applied(tmp_path: Path) -> None:
+def test_each_line_of_shell_is_run_alone_before_a_mutant_is_applied(tmp_path: Path) -> None:
     """One that needs those before it would fail with any mutant, and so would see each."""
     copies = PassingCopies(tmp_path, 1)
     copies.idle.put(tmp_path)
-    lines = [NamedTest("edges", "links", it) for it in ("one", "other")]
+    lines = [NamedTest("shell", "links", it) for it in ("one", "other")]
     refuse_failing([*lines, NamedTest("tests", "a"), NamedTest("tests", "b")], copies, 1)
-    assert copies.calls == [("edges", ["links"], "one"), ("edges", ["links"], "other"), ("tests", ["a", "b"], "")]
+    assert copies.calls == [("shell", ["links"], "one"), ("shell", ["links"], "other"), ("tests", ["a", "b"], "")]
 
 
 def test_a_mutant_is_taken_back(tmp_path: Path) -> None:

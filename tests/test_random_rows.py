@@ -15,7 +15,7 @@ from harness.asking import Call, Said, Sayings, run
 from harness.comparing import Finding
 from harness.kinds import groups_of
 from harness.random_rows import Draw, joined
-from harness.recoveries import drawn_transfers
+from harness.model_runs import drawn_transfers
 from harness.tables import TOP, Chance
 from store_rows import STORED, Stored
 

@@ -1,8 +1,8 @@
 """Whether the test of each mutant of Python and shell sees it: the test is run on a copy of the tree that has it.
 
-A mutant names its test: `client NODE` or `tests NODE`, a test of pytest below client/tests or tests, or `edges FILE
-NAME`, a line of tests/edges.sh. First each test is to pass on a copy as it is. Then a mutant is seen where its test
-fails, or doesn't end in time; a test that isn't found, or that pytest can't begin, sees nothing.
+A mutant names its test: `client NODE` or `tests NODE`, a test of pytest below client/tests or tests, or `shell FILE
+NAME`, a line of a file of tests/shell. First each test is to pass on a copy as it is. Then a mutant is seen where its
+test fails, or doesn't end in time; a test that isn't found, or that pytest can't begin, sees nothing.
 """
 from __future__ import annotations
 
@@ -40,23 +40,23 @@ class FileMutant:
 
 @dataclass(frozen=True)
 class NamedTest:
-    """A test of pytest, by the folder in which it is started, or a line of a file of tests/edges, and its verdict."""
+    """A test of pytest, by the folder in which it is started, or a line of a file of tests/shell, and its verdict."""
 
     kind: str
     place: str
     line: str = ""
 
     def passes(self, status: int, printed: str) -> bool:
-        return f"ok edge {self.line}\n" in printed if self.line else status == 0
+        return f"ok shell {self.line}\n" in printed if self.line else status == 0
 
     def fails(self, status: int, printed: str) -> bool:
-        return status == TOO_SLOW or (f"FAILED edge {self.line}:\n" in printed if self.line else status == FAILED)
+        return status == TOO_SLOW or (f"FAILED shell {self.line}:\n" in printed if self.line else status == FAILED)
 
 
 def test_command(kind: str, places: Sequence[str], tree: Path) -> tuple[Path, CommandLine]:
-    """The folder and the command that run tests of a kind in a tree: several of pytest, or one file of tests/edges."""
-    if kind == "edges":
-        return tree, [tree / "tests" / "edges.sh", *places]
+    """The folder and the command that run tests of a kind in a tree: several of pytest, or one file of tests/shell."""
+    if kind == "shell":
+        return tree, [tree / "tests" / "shell.sh", *places]
     command = [PYTHON, "-I", "-B", "-m", "pytest", "-q", "-x", "--tb=short", "-p", "no:cacheprovider"]
     if kind == "tests":
         command += ["-c", "tests/pytest.ini"]
@@ -68,10 +68,10 @@ def named_test(mutant: FileMutant) -> NamedTest:
     kind, *places = mutant.mutant.test.split(" ")
     if kind in ("client", "tests") and len(places) == 1:
         return NamedTest(kind, places[0])
-    if kind == "edges" and len(places) == 2:
+    if kind == "shell" and len(places) == 2:
         return NamedTest(kind, *places)
     test = mutant.mutant.test
-    raise MutantError(f"{mutant.name}: '{test}' is none of `client NODE`, `tests NODE` and `edges FILE NAME`")
+    raise MutantError(f"{mutant.name}: '{test}' is none of `client NODE`, `tests NODE` and `shell FILE NAME`")
 
 
 @dataclass
@@ -108,11 +108,11 @@ class TreeCopies:
             self.idle.put(tree)
 
     def run_tests(self, kind: str, places: Sequence[str], tree: Path, line: str = "") -> tuple[int, str]:
-        """The status of tests of a kind in a copy, and what they print; of tests/edges all lines, or the named one."""
+        """The status of tests of a kind in a copy, and what they print; of tests/shell all lines, or the named one."""
         folder, command = test_command(kind, places, tree)
         variables = {"PDSUITE_PROGRAMS": str(self.programs)} if self.programs else {}
         if line:
-            variables["EDGE"] = line
+            variables["SHELL_TEST"] = line
         log = tree.with_suffix(".log")
         limited = ["timeout", "-k", "10", str(self.seconds), *command]
         status = self.commands.call(limited, folder, log, PYTHONDONTWRITEBYTECODE="1", **variables)
@@ -156,7 +156,7 @@ def is_seen(mutant: FileMutant, copies: TreeCopies) -> bool:
 
 
 def failure(tests: Sequence[NamedTest], copies: TreeCopies) -> str:
-    """What tests of a kind print without a mutant, if one of them doesn't pass; a line of tests/edges is run alone."""
+    """What tests of a kind print without a mutant, if one of them doesn't pass; a line of tests/shell is run alone."""
     places = list(dict.fromkeys(it.place for it in tests))
     with copies.one() as tree:
         status, printed = copies.run_tests(tests[0].kind, places, tree, tests[0].line)
@@ -166,7 +166,7 @@ def failure(tests: Sequence[NamedTest], copies: TreeCopies) -> str:
 def refuse_failing(tests: Iterable[NamedTest], copies: TreeCopies, at_once: int) -> None:
     """Refuses to go on where a test doesn't pass on the tree as it is; those of a kind of pytest are run together.
 
-    A line of tests/edges is run alone, as it is with a mutant: one that needs those before it would fail with any.
+    A line of tests/shell is run alone, as it is with a mutant: one that needs those before it would fail with any.
     """
     parts: dict[tuple[str, str, str], list[NamedTest]] = {}
     for it in tests:

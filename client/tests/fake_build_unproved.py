@@ -12,7 +12,7 @@ import time
 from pathlib import Path
 
 NOTES = Path(os.environ["NOTES"])
-HERE = Path(os.environ["STAND_INS"])
+HERE = Path(os.environ["FAKE_PROGRAMS"])
 SOURCE = "crates/pdregress/src/rule.rt"
 
 

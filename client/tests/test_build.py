@@ -34,7 +34,7 @@ def tree(tmp_path: Path, monkeypatch: pytest.MonkeyPatch) -> Tree:
         shutil.copy(TOP / "tools" / name, tree.top / "tools")
     shutil.copy(TOP / "pdregress", tree.top)
     (tree.top / "pdrecord").symlink_to("pdregress")
-    shutil.copytree(TOP / "tests/kit", tmp_path / "kit")
+    shutil.copytree(TOP / "tests/fake_kit", tmp_path / "kit")
     for name in ("pdregress", "pdrecord"):
         (tree.top / "crates" / name / "src/main.rt").write_text(f"{name}\n")
     write(tree.suite, one=ROW, two=b"row fail 2 seq\n")
@@ -48,7 +48,7 @@ def tree(tmp_path: Path, monkeypatch: pytest.MonkeyPatch) -> Tree:
 
 def call(tree: Tree, *words: str | Path) -> Called:
     """Calls the tree's ./pdsuite, where what is built is the fake programs."""
-    return tree.call(*words, STAND_INS=str(tree.bin), PATH=os.environ["PATH"])
+    return tree.call(*words, FAKE_PROGRAMS=str(tree.bin), PATH=os.environ["PATH"])
 
 
 def calls(tree: Tree) -> list[str]:
@@ -132,7 +132,7 @@ exit 2
 
 def test_where_an_optimised_program_stops_the_plain_one_says_why(tree: Tree, monkeypatch: pytest.MonkeyPatch) -> None:
     (tree.bin / "pdregress").write_text(STOPS)
-    monkeypatch.setenv("STAND_INS", str(tree.bin))
+    monkeypatch.setenv("FAKE_PROGRAMS", str(tree.bin))
     with Stop(()) as stop, Screen(False, False) as screen:
         (sender,) = with_programs([Sender("it", None, tree.top)], "optimised", stop, screen)
         assert (str(sender), sender.is_proved) == ("it, unproved", False)
@@ -144,7 +144,7 @@ def test_many_scripts_are_run_by_an_optimised_build_where_one_is_kept(
     tree: Tree, monkeypatch: pytest.MonkeyPatch
 ) -> None:
     (tree.bin / "pdregress").write_text("#!/bin/sh\necho $BUILT >$NOTES/built\nexit 2\n")
-    monkeypatch.setenv("STAND_INS", str(tree.bin))
+    monkeypatch.setenv("FAKE_PROGRAMS", str(tree.bin))
     with Stop(()) as stop:
         for folder in (built_folder(tree.top, "optimised", stop), built_folder(tree.top, "plain", stop)):
             assert folder.is_dir()

@@ -90,7 +90,7 @@ class Tree:
         return {
             **there,
             "NOTES": str(self.notes),
-            "STAND_INS": str(HERE),
+            "FAKE_PROGRAMS": str(HERE),
             "XDG_CACHE_HOME": str(self.notes / "cache"),
             "PATH": f"{self.bin}:{os.environ['PATH']}",
         }

@@ -11,7 +11,7 @@ from model.rules import RFC6675, RFC9937
 from harness.asking import Asking, Said
 from harness.comparing import Case, Finding, Kind, Run, case_of, tell_runs
 from harness.recordings import RECORDS
-from harness.recoveries import drawn_transfers, tell_transfers
+from harness.model_runs import drawn_transfers, tell_transfers
 from harness.tables import TOP, Row, Table, Unread
 
 ROW = re.compile(r"([1-9]\d*) ([a-z0-9 ]+) from (\d+)")

@@ -1,11 +1,11 @@
-# Tests of what counts tests, by the last lines and the status: ./check on steps that stand in, tests/run on rows of a small tree,
-# with pytest and without it, and tests/client.sh where pytest stands in.
+# Tests of what counts tests, by the last lines and the status: ./check with fake steps, tests/run on rows of a small tree, with
+# pytest and without it, and tests/client.sh with a fake of pytest.
 small=$work/small
 
 make_small_tree() {
-    mkdir -p "$small/tests/edges" "$small/tools" "$small/client" "$small/tests/cases/empty" "$small/one" "$small/all"
+    mkdir -p "$small/tests/shell" "$small/tools" "$small/client" "$small/tests/cases/empty" "$small/one" "$small/all"
     cp -R "$top/tests/run" "$top/tests/conftest.py" "$top/tests/pytest.ini" "$top/tests/harness" "$top/tests/model" "$top/tests/drawn" "$top/tests/client.sh" "$small/tests"
-    copy_built "$small"
+    copy_proof_tools "$small"
     printf '[a] opening\n< 0\n' >"$small/tests/cases/openings.cases"
     printf '#!/bin/sh\necho a1 pass 1\necho total 1 pass 1 fail 0 syntax 0 unsupported 0 limit 0 pending 0\n' >"$small/one/pdregress"
     chmod +x "$small/one/pdregress"
@@ -15,8 +15,8 @@ make_small_tree() {
     rows fails '[a] scripts\npass 2: 0\npass 1: 1'
     rows no_table 'a row'
     rows no_text '[a] scripts\npass 1: \377'
-    rows untold '[a] refusals\nno | $ {}'
-    rows untold_and_marked '[a] refusals\n#? taken\nno | $ {}'
+    rows unanswered '[a] refusals\nno | $ {}'
+    rows unanswered_and_marked '[a] refusals\n#? taken\nno | $ {}'
     echo 'import nothing_of_this_name' >"$small/tests/cases/test_no_import.py"
     printf 'import pytest\n\n\ndef test_passes():\n    pass\n\n\ndef test_exits():\n    pytest.exit("a")\n' >"$small/tests/cases/test_exits.py"
 }
@@ -34,15 +34,15 @@ counted() { # COUNT COMMAND..: the last lines that it writes, without times
     return "$code"
 }
 
-run_rows() { # WORD..: what counts rows of the small tree
+run_rows() { # ARGUMENT..: what counts rows of the small tree
     (cd "$small/tests/cases" && counted 1 ../run "$@")
 }
 
-run_alone() { # WORD..: the same by pytest without xdist
+run_alone() { # ARGUMENT..: the same by pytest without xdist
     (cd "$small/tests/cases" && counted 1 /usr/bin/python3 -I -B -m pytest -c ../pytest.ini -q -p no:xdist "$@")
 }
 
-run_plainly() { # WORD..: the same where pytest is missing
+run_plainly() { # ARGUMENT..: the same where pytest is missing
     (cd "$small/tests/cases" && counted 1 ../harness/plain.py "$@")
 }
 
@@ -56,9 +56,9 @@ test_rows() {
     expect harness-unread "$(printf '1 passed, 2 failed\nstatus 1')" run_rows passes.cases no_table.cases no_text.cases --programs ../../one --continue-on-collection-errors
     expect harness-an-error-is-counted "$(printf '0 passed, 1 failed\nstatus 2')" run_rows passes.cases test_no_import.py --programs ../../one
     expect harness-a-run-that-is-left "$(printf '1 passed, 1 failed\nstatus 2')" run_rows test_exits.py
-    expect harness-untold "$(printf '0 passed, 0 failed\nstatus 0')" run_rows untold.cases --unproved
-    expect harness-untold-and-marked "$(printf '0 passed, 1 failed\nstatus 1')" run_rows untold_and_marked.cases --unproved
-    expect harness-nothing-is-proved "$(printf '0 passed, 5 failed\nstatus 1')" run_rows untold.cases --proved
+    expect harness-unanswered "$(printf '0 passed, 0 failed\nstatus 0')" run_rows unanswered.cases --unproved
+    expect harness-unanswered-and-marked "$(printf '0 passed, 1 failed\nstatus 1')" run_rows unanswered_and_marked.cases --unproved
+    expect harness-nothing-is-proved "$(printf '0 passed, 5 failed\nstatus 1')" run_rows unanswered.cases --proved
 }
 
 test_rows_plainly() {
@@ -66,8 +66,8 @@ test_rows_plainly() {
     expect plain-a-row-fails "$(printf '1 passed, 1 failed\nstatus 1')" run_plainly fails.cases --programs ../../one
     expect plain-no-row-is-there "$(printf '0 passed, 1 failed\nstatus 1')" run_plainly empty --programs ../../one
     expect plain-a-test-of-pytest "$(printf '1 passed, 1 failed\nstatus 1')" run_plainly passes.cases test_exits.py --programs ../../one
-    expect plain-untold-and-marked "$(printf '0 passed, 1 failed\nstatus 1')" run_plainly untold_and_marked.cases --unproved
-    expect plain-nothing-is-proved "$(printf '0 passed, 5 failed\nstatus 1')" run_plainly untold.cases --proved
+    expect plain-unanswered-and-marked "$(printf '0 passed, 1 failed\nstatus 1')" run_plainly unanswered_and_marked.cases --unproved
+    expect plain-nothing-is-proved "$(printf '0 passed, 5 failed\nstatus 1')" run_plainly unanswered.cases --proved
 }
 
 step() { # PATH TEXT: a step of the small tree, a shell program
@@ -86,9 +86,9 @@ check_small() { # TEXT COUNT: the last lines of ./check, of which one step is th
     counted "$2" "$small/checked/check" runs
 }
 
-check_words() { # COUNT WORD..: the last lines of ./check, whose steps each pass so many tests
+check_steps() { # COUNT STEP..: the last lines of ./check, whose steps each pass so many tests
     copy_check
-    printf '%s\n' 1:tests/run 10:tests/edges.sh 100:tests/client.sh 1000:tests/documents.py 10000:tools/gate.py 100000:tools/fail_alloc.sh |
+    printf '%s\n' 1:tests/run 10:tests/shell.sh 100:tests/client.sh 1000:tests/documents.py 10000:tools/gate.py 100000:tools/fail_alloc.sh |
         while IFS=: read -r number file; do step "checked/$file" "echo $number passed, 0 failed"; done
     step checked/tests/packages.sh 'exit 1'
     count=$1
@@ -96,9 +96,9 @@ check_words() { # COUNT WORD..: the last lines of ./check, whose steps each pass
     counted "$count" "$small/checked/check" "$@"
 }
 
-handed_on() { # WORD..: what ./check hands on to its steps
+handed_on() { # ARGUMENT..: the arguments that ./check gives its steps
     copy_check
-    for file in tests/run tests/edges.sh tests/client.sh tests/documents.py tests/packages.sh tools/gate.py tools/fail_alloc.sh; do
+    for file in tests/run tests/shell.sh tests/client.sh tests/documents.py tests/packages.sh tools/gate.py tools/fail_alloc.sh; do
         step "checked/$file" "echo ${file##*/} \$* >>'$work/handed'; echo 1 passed, 0 failed"
     done
     rm -f "$work/handed"
@@ -115,7 +115,7 @@ test_check() {
     expect check-a-step-fails "$(printf '3 passed, 2 failed\n3 passed, 2 failed\nstatus 1')" check_small 'echo 3 passed, 2 failed; exit 1' 2
     expect check-no-count "$(stepped 'came to no end' 0 1)" check_small 'echo 3 passed, 0 failed; echo more' 2
     expect check-nothing-written "$(stepped 'came to no end' 0 1)" check_small : 2
-    expect check-a-count-of-other-words "$(stepped 'came to no end' 0 1)" check_small 'echo " passed,  failed"' 2
+    expect check-a-count-without-numbers "$(stepped 'came to no end' 0 1)" check_small 'echo " passed,  failed"' 2
     expect check-a-count-of-octal-digits "$(stepped 'came to no end' 0 1)" check_small 'echo 010 passed, 0 failed' 2
     expect check-a-count-with-more "$(stepped 'came to no end' 0 1)" check_small 'echo 3 passed, 0 failed, 1 error' 2
     expect check-a-step-that-counts-nothing "$(stepped 'tried nothing' 0 1)" check_small 'echo 0 passed, 0 failed' 2
@@ -124,15 +124,15 @@ test_check() {
     expect check-a-status-without-a-failure "$(stepped 'ended with status 1, whatever it counts' 3 1)" check_small 'echo 3 passed, 0 failed; exit 1' 2
     expect check-failures-without-a-status "$(stepped 'ended with status 0, whatever it counts' 3 3)" check_small 'echo 3 passed, 2 failed' 2
     expect check-no-step "$(stepped 'came to no end' 0 1)" check_small 'exec /none' 2
-    expect check-steps-are-added "$(printf '1101 passed, 0 failed\nstatus 0')" check_words 1 runs client documents
-    expect check-tests-runs-each-step "$(printf '1112 passed, 0 failed\nstatus 0')" check_words 1 tests
-    expect check-runs-each-step "$(printf '111112 passed, 0 failed\nstatus 0')" check_words 1
-    expect check-hands-on-what-it-is-told "$(printf '%s\n' gate.py packages.sh 'run --proved' edges.sh 'run tests/test_[!k]*.py' client.sh \
+    expect check-steps-are-added "$(printf '1101 passed, 0 failed\nstatus 0')" check_steps 1 runs client documents
+    expect check-tests-runs-each-step "$(printf '1112 passed, 0 failed\nstatus 0')" check_steps 1 tests
+    expect check-runs-each-step "$(printf '111112 passed, 0 failed\nstatus 0')" check_steps 1
+    expect check-hands-on-its-options "$(printf '%s\n' gate.py packages.sh 'run --proved' shell.sh 'run tests/test_[!k]*.py' client.sh \
         'fail_alloc.sh --part' documents.py; echo status 0)" handed_on
-    expect check-tests-hands-on-what-it-is-told "$(printf '%s\n' 'packages.sh --no-install' 'run --unproved' 'edges.sh --unproved' \
+    expect check-tests-hands-on-its-options "$(printf '%s\n' 'packages.sh --no-install' 'run --unproved' 'shell.sh --unproved' \
         'run tests/test_[!k]*.py' 'client.sh --unproved --no-install' 'documents.py --pages'; echo status 0)" handed_on tests --no-install
-    expect check-a-step-is-none "$(printf 'status 2')" check_words 0 runs none
-    expect check-no-word "$(printf '0 passed, 1 failed\nstatus 1')" check_words 1 ''
+    expect check-a-step-is-none "$(printf 'status 2')" check_steps 0 runs none
+    expect check-no-word "$(printf '0 passed, 1 failed\nstatus 1')" check_steps 1 ''
 }
 
 client_small() { # TEXT: the last lines of tests/client.sh, where pytest is this and all other tools pass
@@ -143,7 +143,7 @@ client_small() { # TEXT: the last lines of tests/client.sh, where pytest is this
     (PATH="$small:$PATH" counted 1 "$small/tests/client.sh")
 }
 
-looked_at() { # the words of the tools that tests/client.sh calls before pytest, but for those of tools/
+looked_at() { # the arguments of the tools that tests/client.sh calls before pytest, but for those of tools/
     rm -f "$work/tools"
     client_small 'echo "1 passed in 1s"' >/dev/null
     sed -n '/pytest/!s/^-I -m //p' "$work/tools"
@@ -160,24 +160,24 @@ test_client() {
     expect client-tests-are-skipped "$(printf '4 passed, 1 failed\nstatus 1')" client_small 'echo "9 skipped in 1s"'
 }
 
-edges_small() { # TEXT: the last lines of tests/edges.sh, of which one file is this
-    cp "$top/tests/edges.sh" "$small/tests"
-    cp "$top/tests/edges/common.sh" "$small/tests/edges"
-    echo "$1" >"$small/tests/edges/own.sh"
-    counted 2 env -u EDGE "$small/tests/edges.sh" own
+shell_small() { # TEXT: the last lines of tests/shell.sh, of which one file is this
+    cp "$top/tests/shell.sh" "$small/tests"
+    cp "$top/tests/shell/common.sh" "$small/tests/shell"
+    echo "$1" >"$small/tests/shell/own.sh"
+    counted 2 env -u SHELL_TEST "$small/tests/shell.sh" own
 }
 
-test_edges() {
-    expect edges-pass "$(printf 'ok edge b\n2 passed, 0 failed\nstatus 0')" edges_small "expect a 'status 0' true; expect b 'status 3' sh -c 'exit 3'"
-    expect edges-another-status "$(printf '> status 1\n0 passed, 1 failed\nstatus 1')" edges_small "expect a 'status 0' false"
-    expect edges-another-line "$(printf 'ok edge b\n1 passed, 1 failed\nstatus 1')" edges_small "expect a 'status 0' echo c; expect b 'status 0' true"
-    expect edges-a-line-of-errors "$(printf 'ok edge b\n1 passed, 1 failed\nstatus 1')" edges_small "expect a 'status 0' sh -c 'echo c >&2'; expect b 'status 0' true"
-    expect edges-no-such-file "$(printf 'status 2')" no_such_edges
+test_shell() {
+    expect shell-pass "$(printf 'ok shell b\n2 passed, 0 failed\nstatus 0')" shell_small "expect a 'status 0' true; expect b 'status 3' sh -c 'exit 3'"
+    expect shell-another-status "$(printf '> status 1\n0 passed, 1 failed\nstatus 1')" shell_small "expect a 'status 0' false"
+    expect shell-another-line "$(printf 'ok shell b\n1 passed, 1 failed\nstatus 1')" shell_small "expect a 'status 0' echo c; expect b 'status 0' true"
+    expect shell-a-line-of-errors "$(printf 'ok shell b\n1 passed, 1 failed\nstatus 1')" shell_small "expect a 'status 0' sh -c 'echo c >&2'; expect b 'status 0' true"
+    expect shell-no-such-file "$(printf 'status 2')" no_such_file
 }
 
-no_such_edges() {
-    rm -f "$small/tests/edges/none.sh"
-    "$small/tests/edges.sh" none 2>/dev/null
+no_such_file() {
+    rm -f "$small/tests/shell/none.sh"
+    "$small/tests/shell.sh" none 2>/dev/null
 }
 
 make_small_tree
@@ -185,4 +185,4 @@ test_rows
 test_rows_plainly
 test_check
 test_client
-test_edges
+test_shell

@@ -1,5 +1,5 @@
-# A tree of crates that stand on each other, two programs among them, with ./prove and what starts the programs, and an `rt`
-# that stands in. It is read by the tests that need it.
+# A tree of crates that use each other, two programs among them, with ./prove and what starts the programs, and a fake `rt`.
+# It is read by the tests that need it.
 programs='pdregress pdrecord'
 build=$work/build
 kit=$work/kit
@@ -8,7 +8,7 @@ export NOTES="$work/notes" XDG_CACHE_HOME="$work/cache"
 make_crates() {
     rm -rf "$build" "$kit" "$NOTES" "$XDG_CACHE_HOME"
     mkdir -p "$build/packaging" "$kit/bin" "$NOTES"
-    cp "$top/tests/edges/stand_in/rt" "$kit/bin"
+    cp "$top/tests/shell/fake_rt" "$kit/bin/rt"
     echo 'a kit' >"$kit/KIT-ID"
     cp -R "$top/tools" "$top/HANDLES" "$top/prove" "$top/pdregress" "$build"
     cp "$top/packaging/programs.txt" "$build/packaging"
@@ -30,7 +30,7 @@ anew() {
     mkdir "$NOTES"
 }
 
-with_rt() { # COMMAND.. by the `rt` that stands in
+with_rt() { # COMMAND.. with the fake `rt`
     env PATH="$kit/bin:$PATH" "$@"
 }
 

@@ -1,5 +1,5 @@
-# Tests of tools/fail_alloc.sh, which refuses memory to programs: one that does nothing stands in for each.
-memory() { # COMMAND: what is counted where it stands in, and the status
+# Tests of tools/fail_alloc.sh, which refuses memory to programs: a fake that does nothing takes the place of each.
+memory() { # COMMAND: what is counted with this fake, and the status
     code=0
     BOOK=$1 DESK=$1 PROGRAM=$1 RECORD=$1 "$top/tools/fail_alloc.sh" --part /dev/null >"$work/counted" 2>&1 || code=$?
     tail -n 1 "$work/counted"

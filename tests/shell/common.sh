@@ -1,32 +1,32 @@
-# What the tests of the shell programs share: how one is told, and where. It is read by the others.
-# Each test hands its command in after the name and what is wanted: what the command writes, after `! ` what it says on
+# What the tests of the shell programs share. It is read by the others.
+# Each test gives its command after its name and the wanted output: what the command writes, after `! ` what it writes on
 # standard error, and its status.
 expect() { # NAME WANTED COMMAND..
     name=$1
-    # Where the environment names one test as EDGE, all others are left out.
-    [ "${EDGE:-$name}" = "$name" ] || return 0
+    # Where SHELL_TEST names one test, all others are left out.
+    [ "${SHELL_TEST:-$name}" = "$name" ] || return 0
     printf '%s\n' "$2" >"$work/want"
     shift 2
     status=0
-    "$@" >"$work/got" 2>"$work/said" || status=$?
-    sed 's/^/! /' "$work/said" >>"$work/got"
+    "$@" >"$work/got" 2>"$work/errors" || status=$?
+    sed 's/^/! /' "$work/errors" >>"$work/got"
     echo "status $status" >>"$work/got"
     if diff "$work/want" "$work/got" >"$work/diff"; then
-        echo "ok edge $name"
+        echo "ok shell $name"
         passed=$((passed + 1))
     else
-        echo "FAILED edge $name:"
+        echo "FAILED shell $name:"
         cat "$work/diff"
         failed=$((failed + 1))
     fi
 }
 
-# What says which programs are proved.
-built='proved_program.sh proved_program.py crate_graph.py proof_sums.py kit.py source_sums.py stamps.py'
+# The files of tools/ that decide which programs are proved.
+proof_tools='proved_program.sh proved_program.py crate_graph.py proof_sums.py kit.py source_sums.py stamps.py'
 
-copy_built() { # TREE
+copy_proof_tools() { # TREE
     mkdir -p "$1/tools"
-    for tool in $built; do cp "$top/tools/$tool" "$1/tools"; done
+    for tool in $proof_tools; do cp "$top/tools/$tool" "$1/tools"; done
 }
 
 vouch() { # TREE PROGRAM..: keeps the checksums of programs as they stand, as ./prove does

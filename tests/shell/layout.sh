@@ -12,5 +12,5 @@ formatted_anew() { # says which files `rt fmt` would change
 if command -v rt >/dev/null; then
     expect layout-of-crates "status 0" formatted_anew
 else
-    echo 'not told, needs the kit: the layout of crates'
+    echo 'not tested, needs the kit: the layout of crates'
 fi

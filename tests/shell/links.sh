@@ -2,7 +2,7 @@
 # A copy of the two names, whose programs count as proved and say which they are.
 make_tree() {
     mkdir -p "$work/tree" "$work/bin" "$work/far/tree"
-    copy_built "$work/tree"
+    copy_proof_tools "$work/tree"
     cp "$top/pdregress" "$work/tree/pdregress"
     printf '%s:\n' pdregress pdrecord >"$work/tree/crates.txt"
     for program in pdregress pdrecord; do

@@ -1,10 +1,10 @@
-# Tests the built programs where what they need is refused from outside, words that aren't UTF-8 and room for threads; how many
-# threads they start; and the scripts of files.
+# Tests the built programs where the system refuses what they need: arguments that aren't UTF-8 and memory for threads; how
+# many threads they start; and the scripts of files.
 
-# Each program says, by its own name, the same of words that can't be read.
+# Each program prints the same, with its own name, of arguments that can't be read.
 test_words() {
     for program in pdregress pdrecord; do
-        expect "$program-words-that-are-no-text" "$(printf "! $program: the arguments can't be read as text\nstatus 2")" "$("$top/tools/proved_program.sh" "$program")" "$(printf '\377')"
+        expect "$program-arguments-that-are-no-text" "$(printf "! $program: the arguments can't be read as text\nstatus 2")" "$("$top/tools/proved_program.sh" "$program")" "$(printf '\377')"
     done
 }
 
@@ -23,7 +23,7 @@ from_folder() { # COMMAND.. with a folder as its input
     "$@" </
 }
 
-# Settles a script beside workers where a thread takes a stack of 256 MB.
+# Settles a script with workers where a thread takes a stack of 256 MB.
 settle_within() ( # KILOBYTES WORKERS
     ulimit -s 262144
     ulimit -v "$1"
@@ -31,7 +31,7 @@ settle_within() ( # KILOBYTES WORKERS
         timeout 10 "$("$top/tools/proved_program.sh" pdregress)" --workers "$2"
 )
 
-# Settles a script beside workers, and prints how many of these there are then: all threads but the one that serves and the one
+# Settles a script with workers, and prints how many of these there are then: all threads but the one that serves and the one
 # that starts workers.
 count_workers() ( # WORKERS
     mkfifo "$work/commands"
@@ -54,7 +54,7 @@ count_workers() ( # WORKERS
     wait
 )
 
-# There is room for no thread, for the one that starts the workers, or for that and one of two workers.
+# There is memory for no thread, for the one that starts the workers, or for that and one of two workers.
 test_threads() {
     expect no-thread "$(printf '! pdregress: 19 OutOfMemory\nstatus 2')" settle_within 100000 1
     expect no-thread-for-a-worker "$(printf '! pdregress: 12 NoWorkers\nstatus 2')" settle_within 400000 1

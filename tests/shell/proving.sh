@@ -1,11 +1,11 @@
-# Tests of ./prove, on crates of which an `rt` says that they are proved.
-. "$top/tests/edges/crates.sh"
+# Tests of ./prove, on crates that a fake `rt` proves.
+. "$top/tests/shell/crates.sh"
 
-begun() { # what is said to be begun, in the order of the names
+begun() { # the lines of what is begun, in the order of the names
     prove "$@" 2>&1 | sed 's/;.*//' | LC_ALL=C sort
 }
 
-two_calls() { # what two say, of which one begins while the other proves: it has nothing to do
+two_calls() { # the lines of two, of which one begins while the other proves: it has nothing to do
     (TAKES=1 prove pdregress 2>&1 | sed 's/;.*//' >"$work/first") &
     while [ ! -e "$NOTES/trees" ]; do sleep 0.1; done
     prove pdregress >"$work/second" 2>&1
@@ -30,7 +30,7 @@ hung_up() { # the status of one whose terminal is closed, as `nohup` begins it
     wait $! && echo 0
 }
 
-interrupted() { # what is said by one that a signal ends while it proves, and its status
+interrupted() { # the lines of one that a signal ends while it proves, and its status
     (TAKES=60 exec env PATH="$kit/bin:$PATH" "$build/prove" --lanes 2 pdregress) 2>"$work/interrupted" &
     while [ ! -e "$NOTES/trees" ]; do sleep 0.1; done
     kill -TERM $!
@@ -49,7 +49,7 @@ kept() { # of these crates
     printf '%s\n' "$@" | sed 's,.*,&/out/build.log\n&/out/definitions.json\n&/out/incremental\n&/out/rlib,'
 }
 
-refused_words() { # the first line of what is said, and the status
+refused_words() { # the last line of the message, and the status
     code=0
     prove "$@" 2>"$work/usage" || code=$?
     tail -n 1 "$work/usage"
@@ -93,7 +93,7 @@ test_lanes() {
     expect two-calls "$(printf 'prove: %s\n' 'proved and built: pdregress' 'proved and built: pdregress'; printf 'prove: proving %s\n' high left low pdregress right; echo 'prove: waiting for another call that proves here'; echo status 0)" two_calls
 }
 
-# The kit's command `rt` stands in for a kit whose name is in "$kit/KIT-ID".
+# The fake `rt` belongs to a kit whose name is in "$kit/KIT-ID".
 test_libraries() {
     anew
     expect a-library "$(printf 'prove: proved: left\n'; printf 'prove: proving %s\n' left low; echo status 0)" begun left
@@ -212,7 +212,7 @@ after_another_kit() { # the status of a gate beside which the kit was another on
     source_of
 }
 
-in_a_lane() { # WORD.. what is said, with a name for the folder of the copies
+in_a_lane() { # WORD.. the lines, with a name for the folder of the copies
     code=0
     without_progress "$@" 2>"$work/lane" || code=$?
     sed 's,/[^ ]*/lane-[^/]*,FOLDER,' "$work/lane" >&2
@@ -257,7 +257,7 @@ three() { # NUMBER: a definition of low, which a law of right names, and another
     printf 'use Rattle.low.specs.Rule.{four}\n\nabbrev pub IsEven : Type 0\nIsEven = even four\n' >"$build/crates/right/specs/MoreLaws.antt"
 }
 
-# What a log says of a function, which stands in it too.
+# The lines of a log about a function, which are in it too.
 log_with_a_contract() {
     cat <<'LOG'
 ghost use Rattle.low.specs.Rule.{four}
@@ -273,7 +273,7 @@ src/lib.rt:9:5: error[mismatched-types]: expected `u32`, found `u64`
 LOG
 }
 
-contract_told() { # FOLDER of the definitions
+contract_lines() { # FOLDER of the definitions
     printf '! %s\n' "prove: right isn't proved, or wasn't built:" \
         'crates/right/src/lib.rt:3:1: it is not proved that what the function ensures holds when it returns (`returns-then`)' \
         'crates/right/src/lib.rt:5:9: it is not proved that what the function ensures holds when it returns (`returns-else`)' \
@@ -284,7 +284,7 @@ contract_told() { # FOLDER of the definitions
         "prove: the whole log: $build/crates/right/out/build.log"
 }
 
-changed_since() { # what is said where a proof is refused after a definition by which all was proved has changed
+changed_since() { # the lines where a proof is refused after a definition by which all was proved has changed
     three 3
     quietly pdregress
     three 2
@@ -314,8 +314,8 @@ test_changes() {
         "prove: the whole log: $build/crates/right/out/build.log"; echo status 2)" changed_since
     log_with_a_contract >"$build/crates/right/src/lib.rt"
     three 3
-    expect what-a-refused-contract-cites "$(contract_told crates/low; echo status 2)" without_progress --lanes 1 pdregress
-    expect what-watch-reads "$(contract_told "$build/crates/low" | sed "s,^! crates,$build/crates,; s/^! //"; echo status 0)" watched
+    expect what-a-refused-contract-cites "$(contract_lines crates/low; echo status 2)" without_progress --lanes 1 pdregress
+    expect what-watch-reads "$(contract_lines "$build/crates/low" | sed "s,^! crates,$build/crates,; s/^! //"; echo status 0)" watched
     echo 'fn f() {}' >"$build/crates/right/src/lib.rt"
     expect what-watch-reads-goes "$(printf 'proved\nstatus 0')" refused_is_gone
     rm -r "$build/crates/low/specs" "$build/crates/right/specs"
@@ -361,7 +361,7 @@ kept_times() { # of what, once all was proved that way: those that are as long, 
     sed -n "s/^\"\([a-z]*${1:-}\)\": \(0\.[3-9]\|[1-9]\.[0-9]\),*$/\1/p" "$XDG_CACHE_HOME/pdregress/prove.json" | LC_ALL=C sort
 }
 
-in_an_hour() { # the last that is said where each crate took an hour last
+in_an_hour() { # the last line where each crate took an hour last
     for crate in low left right high pdregress; do printf '"%s": 3600, ' "$crate" "$crate again"; done |
         sed 's/^/{/; s/, $/}/' >"$XDG_CACHE_HOME/pdregress/prove.json"
     prove "$@" 2>&1 | grep proving
@@ -377,7 +377,7 @@ test_times() {
     echo '-- an edit' >>"$build/crates/right/proofs/Lib.antt"
     expect times-over-what-is-kept "$(printf '%s again\n' high left low pdregress right; echo status 0)" kept_times ' again'
     echo '// an edit' >>"$build/crates/high/src/lib.rt"
-    expect times-are-told "$(printf 'prove: proving %s\n' 'low; 5 crates and about 120 minutes are left' 'left; 4 crates and about 120 minutes are left' 'right; 3 crates and about 120 minutes are left' 'high; 2 crates and about 120 minutes are left' 'pdregress; 1 crate and about 60 minutes are left'; echo status 0)" in_an_hour --lanes 1 pdregress
+    expect times-are-printed "$(printf 'prove: proving %s\n' 'low; 5 crates and about 120 minutes are left' 'left; 4 crates and about 120 minutes are left' 'right; 3 crates and about 120 minutes are left' 'high; 2 crates and about 120 minutes are left' 'pdregress; 1 crate and about 60 minutes are left'; echo status 0)" in_an_hour --lanes 1 pdregress
     anew
     expect no-times-can-be-kept "$(printf 'prove: proved and built: pdregress\nstatus 0')" no_cache pdregress
 }

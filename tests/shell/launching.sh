@@ -1,10 +1,10 @@
 # Tests of the two programs by their names in a tree: proved, unproved, half built, edited, and where nothing can be run; with
-# words, pipes, closed streams and signals.
-. "$top/tests/edges/crates.sh"
+# arguments, pipes, closed streams and signals.
+. "$top/tests/shell/crates.sh"
 
 first="unproved: building first, then running without proofs; $build/prove"
 
-unproved() { # PROGRAM: what is said first
+unproved() { # PROGRAM: the first line on standard error
     printf '! %s: %s %s proves it\n' "$1" "$first" "$1"
 }
 
@@ -14,14 +14,14 @@ launch() { # PROGRAM WORD.. on an empty input
     with_rt "$build/$program" "$@" </dev/null
 }
 
-given() { # what a shell program says whose words are PROGRAM WORD..
+given() { # what a shell program writes whose arguments are PROGRAM WORD..
     with_rt sh -c "$1" sh "$build/pdregress"
 }
 
-launched() { # what is wanted of an empty input: PROGRAM WORDS
+launched() { # the wanted output with an empty input: PROGRAM WORDS
     printf '%s octets=0\n' "$1"
     unproved "${1%% *}"
-    printf '! said\nstatus 0'
+    printf '! an error\nstatus 0'
 }
 
 test_unproved() {
@@ -32,7 +32,7 @@ test_unproved() {
         expect "$program-refuses-what-is-not-proved" "$(printf "! %s isn't proved and built, or has changed since: run ./prove %s\nstatus 2" "$program" "$program")" launch "$program" a --proved
     done
     expect words-of-the-tool "$(launched 'pdregress -- --cases x')" launch pdregress -- --cases x
-    expect a-word-with-a-newline "$(printf 'pdregress a\nb octets=0\n'; unproved pdregress; printf '! said\nstatus 0')" launch pdregress "$(printf 'a\nb')"
+    expect a-word-with-a-newline "$(printf 'pdregress a\nb octets=0\n'; unproved pdregress; printf '! an error\nstatus 0')" launch pdregress "$(printf 'a\nb')"
     expect from-its-folder "$(launched pdregress | sed "s,$build/prove,./prove,; s/ss o/ss  o/")" in_folder "$build" launch pdregress
     expect nothing-is-written "$(printf '0\nstatus 0')" written
 }
@@ -45,12 +45,12 @@ written() { # how many files of a tree are made or changed by a run
 }
 
 test_streams() {
-    expect slow-input "$(printf 'pdregress  octets=4\n'; unproved pdregress; printf '! said\nstatus 0')" given '{ printf a; sleep 2.5; printf bcd; } | "$1"'
+    expect slow-input "$(printf 'pdregress  octets=4\n'; unproved pdregress; printf '! an error\nstatus 0')" given '{ printf a; sleep 2.5; printf bcd; } | "$1"'
     expect closed-input "$(unproved pdregress; printf '! pdregress: 17 Read\nstatus 2')" given '"$1" <&-'
     expect input-of-a-folder "$(unproved pdregress; printf '! pdregress: 17 Read\nstatus 2')" given '"$1" </'
     expect help-reads-nothing "$(launched 'pdregress --help')" given '(sleep 30 & echo $! >"$NOTES/sleeps"; wait) | { "$1" --help; s=$?; kill "$(cat "$NOTES/sleeps")"; exit $s; }'
-    expect closed-output "$(unproved pdregress; printf '! said\n! pdregress: 18 Write\nstatus 2')" given '"$1" >&-'
-    expect full-output "$(unproved pdregress; printf '! said\n! pdregress: 18 Write\nstatus 2')" given '"$1" >/dev/full'
+    expect closed-output "$(unproved pdregress; printf '! an error\n! pdregress: 18 Write\nstatus 2')" given '"$1" >&-'
+    expect full-output "$(unproved pdregress; printf '! an error\n! pdregress: 18 Write\nstatus 2')" given '"$1" >/dev/full'
     expect closed-errors "$(printf 'pdregress  octets=0\nstatus 0')" given '"$1" </dev/null 2>&-'
     expect full-errors "status 2" given '"$1" --proved </dev/null 2>/dev/full'
     expect all-closed "status 2" given '"$1" <&- >&- 2>&-'
@@ -63,7 +63,7 @@ test_limits() {
     expect too-much-input "$(unproved pdregress; printf '! pdregress: unproved: TooMuchInput: the input has 64 MiB or more\nstatus 2')" given 'head -c 67108864 /dev/zero | "$1"'
     expect too-much-output "$(unproved pdregress; printf '! pdregress: unproved: TooMuchOutput: an output has more than 1 MiB\nstatus 2')" launch pdregress writes
     expect too-slow "$(unproved pdregress; printf "! pdregress: unproved: TooSlow: the program didn't end within 600 seconds\nstatus 2")" launch pdregress lasts
-    expect a-fault "$(unproved pdregress; printf '! pdregress: unproved: Faulted: kind=panic at=a.rt:1:2: a failed unwrap\n! said\nstatus 2')" launch pdregress faults
+    expect a-fault "$(unproved pdregress; printf '! pdregress: unproved: Faulted: kind=panic at=a.rt:1:2: a failed unwrap\n! an error\nstatus 2')" launch pdregress faults
     expect tool-fails "$(unproved pdregress; printf '! pdregress: unproved: ToolFailed: `rt try` ended with status 2\n! no linker\nstatus 2')" launch pdregress fails
     expect last-line-decides "$(unproved pdregress; printf '! checked: ended status=0\n! run=ended status=0 runners=1 proved=no\nstatus 1')" launch pdregress lies
     echo wrong >>"$build/crates/low/src/lib.rt"
@@ -167,7 +167,7 @@ test_proved() {
     expect half-built "$(launched "pdrecord a")" launch pdrecord a
 }
 
-many() { # what is answered to cases: `run_cases.py` WORD..
+many() { # the answers to cases: `run_cases.py` WORD..
     rm -rf "$work/cases" "$work/answers"
     mkdir "$work/cases" "$work/answers"
     for name in a b c d; do printf '%s\n' "$name" >"$work/cases/$name"; done
@@ -189,8 +189,8 @@ many_of_another_tree() { # PROGRAM
 }
 
 test_cases() {
-    expect cases "$(printf '%s\n' 'a.errors: said' 'a.output: pdrecord x y octets=2' 'a.status: 0' 'b.errors: ' 'b.output: ' 'b.status: 3' \
-        'c.errors: said' 'c.output: pdrecord  octets=2' 'c.status: 0' 'd.errors: ' 'd.output: ' "d.status: TooSlow: the program didn't end within 7 seconds"; echo status 0)" many --seconds 7 pdrecord
+    expect cases "$(printf '%s\n' 'a.errors: an error' 'a.output: pdrecord x y octets=2' 'a.status: 0' 'b.errors: ' 'b.output: ' 'b.status: 3' \
+        'c.errors: an error' 'c.output: pdrecord  octets=2' 'c.status: 0' 'd.errors: ' 'd.output: ' "d.status: TooSlow: the program didn't end within 7 seconds"; echo status 0)" many --seconds 7 pdrecord
     expect cases-with-words-before-their-own "$(printf '%s\n' 'a.output: pdrecord one x y octets=2' 'c.output: pdrecord one octets=2'; echo status 0)" many_with_a_word pdrecord
     mkdir "$work/other_tree"
     cp -R "$build/tools" "$work/other_tree"
