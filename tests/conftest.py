@@ -11,16 +11,16 @@ import pytest
 from _pytest._code.code import ExceptionInfo, TerminalRepr
 from _pytest.terminal import TerminalReporter
 
-from harness.comparing import Case, Finding
-from harness.kinds import Group, groups_of
-from harness.plain import at_least
-from harness.tables import Chance
-from harness.telling import PROGRAMS, Programs, heed_signals, programs_in, proved_programs, tell, tell_in_step
+from harness.compare import RowCase, RowResult
+from harness.kinds import CaseGroup, groups_of
+from harness.without_pytest import at_least
+from harness.tables import DrawOptions
+from harness.run_rows import PROGRAMS, Programs, check, check_in_step, heed_signals, programs_in, proved_programs
 
 NEEDS_BUILT = "needs a built program"
 
 
-class Differs(Exception):
+class RowFailure(Exception):
     """What is wrong about a row."""
 
 
@@ -28,14 +28,14 @@ class RowFile(pytest.File):
     """A file of rows."""
 
     def collect(self) -> Iterator["RowTable"]:
-        for group in groups_of(self.path, chance_of(self.config)):
+        for group in groups_of(self.path, draw_options_of(self.config)):
             yield RowTable.from_parent(self, name=group.name, group=group)
 
 
 class RowTable(pytest.Collector):
     """A table of rows."""
 
-    def __init__(self, group: Group, **more: object) -> None:
+    def __init__(self, group: CaseGroup, **more: object) -> None:
         super().__init__(**more)  # type: ignore[arg-type]
         self.group = group
 
@@ -47,57 +47,57 @@ class RowTable(pytest.Collector):
 class RowTest(pytest.Item):
     """A row."""
 
-    def __init__(self, case: Case[object], **more: object) -> None:
+    def __init__(self, case: RowCase[object], **more: object) -> None:
         super().__init__(**more)  # type: ignore[arg-type]
         self.case = case
 
     def runtest(self) -> None:
-        found = teller_of(self.config).finding(self)
-        if found.fault:
-            raise Differs(found.fault)
-        if found.is_untold:
+        result = row_runner_of(self.config).result(self)
+        if result.fault:
+            raise RowFailure(result.fault)
+        if result.is_unanswered:
             pytest.skip(NEEDS_BUILT)
 
     def repr_failure(self, excinfo: ExceptionInfo[BaseException]) -> str | TerminalRepr:  # type: ignore[override]
-        return str(excinfo.value) if isinstance(excinfo.value, Differs) else super().repr_failure(excinfo)
+        return str(excinfo.value) if isinstance(excinfo.value, RowFailure) else super().repr_failure(excinfo)
 
     def reportinfo(self) -> tuple[Path, int, str]:
         return self.path, self.case.row.line - 1, self.name
 
 
-class Teller:
-    """Tells the rows of a session, and keeps what is found."""
+class RowRunner:
+    """Runs the rows of a session, and keeps the results."""
 
     def __init__(self, programs: Programs) -> None:
         self.programs = programs
-        self.found: dict[str, Finding] = {}
+        self.results: dict[str, RowResult] = {}
 
-    def finding(self, item: RowTest) -> Finding:
-        """What is wrong about a row; all rows of its table that are to be tried are told together."""
-        if item.nodeid not in self.found:
-            beside = [it for it in rows_of(item.session) if it.parent is item.parent]
-            self.keep(beside, tell((group_of(item), [it.case for it in beside]), self.programs))
-        return self.found[item.nodeid]
+    def result(self, item: RowTest) -> RowResult:
+        """The result of a row; all rows of its table that are to be tested are run together."""
+        if item.nodeid not in self.results:
+            together = [it for it in rows_of(item.session) if it.parent is item.parent]
+            self.keep(together, check((group_of(item), [it.case for it in together]), self.programs))
+        return self.results[item.nodeid]
 
-    def keep(self, items: Sequence[RowTest], found: Sequence[Finding]) -> None:
-        self.found.update(zip((it.nodeid for it in items), found))
+    def keep(self, items: Sequence[RowTest], results: Sequence[RowResult]) -> None:
+        self.results.update(zip((it.nodeid for it in items), results))
 
     def are_built(self, session: pytest.Session) -> bool:
-        """Whether all programs are built that rows of a session are told to."""
+        """Whether all programs of the rows of a session are built."""
         return self.programs.are_built([group_of(items[0]) for items in tables_of(session)])
 
-    def tell_at_once(self, session: pytest.Session) -> None:
-        """Tells all rows, after one build of each program that isn't built, or a few."""
-        told = [(group_of(items[0]), [it.case for it in items]) for items in tables_of(session)]
-        for items, found in zip(tables_of(session), tell_in_step(told, self.programs)):
-            self.keep(items, found)
+    def run_at_once(self, session: pytest.Session) -> None:
+        """Runs all rows, after one build of each program that isn't built, or a few."""
+        selections = [(group_of(items[0]), [it.case for it in items]) for items in tables_of(session)]
+        for items, results in zip(tables_of(session), check_in_step(selections, self.programs)):
+            self.keep(items, results)
 
 
-TELLER = pytest.StashKey[Teller]()
+ROW_RUNNER = pytest.StashKey[RowRunner]()
 STATUS = pytest.StashKey[int]()
 
 
-def group_of(item: RowTest) -> Group:
+def group_of(item: RowTest) -> CaseGroup:
     assert isinstance(item.parent, RowTable)
     return item.parent.group
 
@@ -119,45 +119,45 @@ def is_worker(config: pytest.Config) -> bool:
     return hasattr(config, "workerinput")
 
 
-class Processes:
-    """Tells xdist, where it is there, how many processes there are to be."""
+class ProcessCount:
+    """The hook of xdist that chooses how many processes there are."""
 
     def pytest_xdist_auto_num_workers(self, config: pytest.Config) -> int:
-        """With `-n auto`, one for each processor, and none where sources are told, all at once."""
-        programs = teller_of(config).programs
+        """With `-n auto`, one for each processor, and none where sources are run, all at once."""
+        programs = row_runner_of(config).programs
         return len(os.sched_getaffinity(0)) if all(it in programs.direct for it in PROGRAMS) else 0
 
 
 def pytest_addoption(parser: pytest.Parser, pluginmanager: pytest.PytestPluginManager) -> None:
     if pluginmanager.hasplugin("xdist"):
-        pluginmanager.register(Processes())
-    group = parser.getgroup("rows", "programs that are told rows")
+        pluginmanager.register(ProcessCount())
+    group = parser.getgroup("rows", "programs that run rows")
     group.addoption("--proved", action="store_true", help="the proved programs alone; if one isn't built, that fails")
-    group.addoption("--unproved", action="store_true", help="the sources as they stand, without proofs")
+    group.addoption("--unproved", action="store_true", help="the sources as they are, without proofs")
     group.addoption("--programs", metavar="FOLDER", type=Path, help="those of a folder, and the sources of others")
     group.addoption("--seed", metavar="N", type=at_least(0), help="draws random rows and recoveries from this seed")
     group.addoption("--rows", metavar="N", type=at_least(1), help="draws so many rows at least, or recoveries, a table")
 
 
-def chance_of(config: pytest.Config) -> Chance:
-    return Chance(config.getoption("--seed"), config.getoption("--rows"))
+def draw_options_of(config: pytest.Config) -> DrawOptions:
+    return DrawOptions(config.getoption("--seed"), config.getoption("--rows"))
 
 
-def teller_of(config: pytest.Config) -> Teller:
-    """What tells the rows of a session, by the programs that were chosen."""
-    if TELLER not in config.stash:
+def row_runner_of(config: pytest.Config) -> RowRunner:
+    """The runner of the rows of a session, by the programs that were chosen."""
+    if ROW_RUNNER not in config.stash:
         if folder := config.getoption("--programs"):
             programs = programs_in(folder.absolute())
         else:
             programs = Programs() if config.getoption("--unproved") else proved_programs()
-        config.stash[TELLER] = Teller(programs)
-    return config.stash[TELLER]
+        config.stash[ROW_RUNNER] = RowRunner(programs)
+    return config.stash[ROW_RUNNER]
 
 
 def pytest_cmdline_main(config: pytest.Config) -> int | None:
     """Fails where a program isn't built that has to be."""
     heed_signals()
-    unbuilt = teller_of(config).programs.unbuilt if config.getoption("--proved") else ()
+    unbuilt = row_runner_of(config).programs.unbuilt if config.getoption("--proved") else ()
     if not unbuilt:
         return None
     print(*(f"FAILED {it}" for it in unbuilt), f"0 passed, {len(unbuilt)} failed", sep="\n")
@@ -169,29 +169,29 @@ def pytest_collect_file(file_path: Path, parent: pytest.Collector) -> RowFile | 
 
 
 def pytest_collection_finish(session: pytest.Session) -> None:
-    """Before the first test, tells what is told at once; of the processes of `-n` the first one does."""
-    config, teller = session.config, teller_of(session.config)
-    if config.option.collectonly or teller.are_built(session):
+    """Before the first test, runs the rows that are run at once; of the processes of `-n` the first one does."""
+    config, runner = session.config, row_runner_of(session.config)
+    if config.option.collectonly or runner.are_built(session):
         return
     if not is_worker(config):
         with config.pluginmanager.getplugin("capturemanager").global_and_fixture_disabled():
-            return teller.tell_at_once(session)
-    kept = config._tmp_path_factory.getbasetemp().parent / "found.json"  # type: ignore[attr-defined]
+            return runner.run_at_once(session)
+    kept = config._tmp_path_factory.getbasetemp().parent / "results.json"  # type: ignore[attr-defined]
     with kept.with_suffix(".lock").open("w") as lock:
         fcntl.flock(lock, fcntl.LOCK_EX)
         if not kept.exists():
-            teller.tell_at_once(session)
-            kept.write_text(json.dumps({name: asdict(it) for name, it in teller.found.items()}))
-    teller.found = {name: Finding(**it) for name, it in json.loads(kept.read_text()).items()}
+            runner.run_at_once(session)
+            kept.write_text(json.dumps({name: asdict(it) for name, it in runner.results.items()}))
+    runner.results = {name: RowResult(**it) for name, it in json.loads(kept.read_text()).items()}
 
 
 def pytest_terminal_summary(terminalreporter: TerminalReporter) -> None:
-    """Names the rows that were not told for want of a built program."""
-    untold = [it.nodeid for it in terminalreporter.stats.get("skipped", []) if NEEDS_BUILT in str(it.longrepr)]
-    for name in untold:
-        terminalreporter.write_line(f"not told, {NEEDS_BUILT}: {name}")
-    if untold:
-        terminalreporter.write_line(f"{len(untold)} rows need a built program")
+    """Names the rows that weren't run, since they need a built program."""
+    not_run = [it.nodeid for it in terminalreporter.stats.get("skipped", []) if NEEDS_BUILT in str(it.longrepr)]
+    for name in not_run:
+        terminalreporter.write_line(f"not run, {NEEDS_BUILT}: {name}")
+    if not_run:
+        terminalreporter.write_line(f"{len(not_run)} rows need a built program")
 
 
 def pytest_sessionfinish(session: pytest.Session, exitstatus: int) -> None:
@@ -199,7 +199,7 @@ def pytest_sessionfinish(session: pytest.Session, exitstatus: int) -> None:
 
 
 def pytest_unconfigure(config: pytest.Config) -> None:
-    """Says how many passed and failed; what comes to no end, or finds no test, counts as one that failed."""
+    """Prints how many passed and failed; a run that comes to no end, or finds no test, counts as one that failed."""
     reporter = config.pluginmanager.getplugin("terminalreporter")
     if reporter is not None and not is_worker(config):
         passed, failed, errors = (len(reporter.stats.get(it, [])) for it in ("passed", "failed", "error"))

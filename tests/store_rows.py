@@ -1,9 +1,9 @@
 #!/usr/bin/env -S python3 -B
-"""Draws the random rows anew that are stored beside test_sender and test_book, for `rt ci`, and what these say of them.
+"""Draws the random rows anew that are stored beside test_sender and test_book, for `rt ci`, and their outputs.
 
     tests/store_rows.py
 
-They are the first of those that tests/run draws. Run it after a change of the models in tests/model.
+They are the first of those that tests/run draws. ProgramRun it after a change of the models in tests/model.
 """
 
 import sys
@@ -14,12 +14,12 @@ from pathlib import Path
 sys.path.insert(0, str(Path(__file__).resolve().parent))
 
 from drawn.drawing import Amount  # noqa: E402
-from harness.random_rows import PROGRAMS, Lists, joined, with_said  # noqa: E402
+from harness.random_rows import PROGRAMS, RowLists, joined, with_drawn  # noqa: E402
 from harness.tables import TOP  # noqa: E402
 
 
 @dataclass(frozen=True)
-class Stored:
+class StoredRows:
     """So many lists of a kind that are stored beside a program, from a seed."""
 
     program: str
@@ -28,7 +28,7 @@ class Stored:
     seed: int
 
     @property
-    def lists(self) -> Lists:
+    def lists(self) -> RowLists:
         return PROGRAMS[self.program][self.kind]
 
     @property
@@ -37,7 +37,7 @@ class Stored:
 
     @property
     def output(self) -> Path:
-        """The file that has all that the program is to say."""
+        """The file that has the whole wanted output of the program."""
         return TOP / "crates" / self.program / "stdout"
 
     def rows(self) -> Iterator[str]:
@@ -45,18 +45,18 @@ class Stored:
 
 
 STORED = (
-    Stored("test_sender", "packets", 200, 20_261_124),
-    Stored("test_sender", "short boards", 12, 20_261_122),
-    Stored("test_book", "books", 17, 20_261_122),
+    StoredRows("test_sender", "packets", 200, 20_261_124),
+    StoredRows("test_sender", "short boards", 12, 20_261_122),
+    StoredRows("test_book", "books", 17, 20_261_122),
 )
 
 
-def store(it: Stored) -> None:
-    """Writes the rows, and puts what is said of them where that of the rows before stood."""
+def store(it: StoredRows) -> None:
+    """Writes the rows, and their output in place of that of the rows before."""
     before, after = it.path.read_text().splitlines(), list(it.rows())
-    said = with_said(it.output.read_bytes(), joined(it.lists.says(before)), joined(it.lists.says(after)))
+    output = with_drawn(it.output.read_bytes(), joined(it.lists.output(before)), joined(it.lists.output(after)))
     it.path.write_bytes(joined(after))
-    it.output.write_bytes(said)
+    it.output.write_bytes(output)
 
 
 if __name__ == "__main__":

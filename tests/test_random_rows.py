@@ -11,35 +11,35 @@ from drawn import books, packets
 from drawn.drawing import Amount
 from model.rules import RFC6675
 from model.scenarios import Transfer
-from harness.asking import Call, Said, Sayings, run
-from harness.comparing import Finding
+from harness.calls import Outputs, ProgramCall, ProgramOutput, run_steps
+from harness.compare import RowResult
 from harness.kinds import groups_of
 from harness.random_rows import Draw, joined
 from harness.model_runs import drawn_transfers
-from harness.tables import TOP, Chance
-from store_rows import STORED, Stored
+from harness.tables import TOP, DrawOptions
+from store_rows import STORED, StoredRows
 
 RANDOM = TOP / "tests" / "cases" / "random"
 
 
 @pytest.mark.parametrize("it", STORED, ids=[it.kind for it in STORED])
-def test_the_stored_rows_are_those_that_are_drawn(it: Stored) -> None:
+def test_the_stored_rows_are_those_that_are_drawn(it: StoredRows) -> None:
     rows = list(it.rows())
     assert it.path.read_bytes() == joined(rows)
-    assert it.output.read_bytes().count(joined(it.lists.says(rows))) == 1
+    assert it.output.read_bytes().count(joined(it.lists.output(rows))) == 1
 
 
 def test_few_random_rows_are_stored() -> None:
     assert sum(it.path.read_bytes().count(b"\n") for it in STORED) <= 2_500
 
 
-def draws(file: Path, chance: Chance = Chance()) -> list[Draw]:
-    """What the rows of a file draw."""
-    return [it for group in groups_of(file, chance) for case in group.cases for it in case.tries]
+def draws(file: Path, draw_options: DrawOptions = DrawOptions()) -> list[Draw]:
+    """The draws of the rows of a file."""
+    return [it for group in groups_of(file, draw_options) for case in group.cases for it in case.checks]
 
 
 def test_all_are_drawn_from_their_seeds_unless_a_run_chooses_otherwise() -> None:
-    chosen = Chance(seed=7, rows=40)
+    chosen = DrawOptions(seed=7, rows=40)
     every = [it for file in sorted(RANDOM.glob("*.cases")) for it in draws(file)]
     assert {(it.kind, it.amount.lists) for it in every} == {
         ("books", 1_000),
@@ -55,13 +55,13 @@ def test_all_are_drawn_from_their_seeds_unless_a_run_chooses_otherwise() -> None
 def test_a_run_chooses_of_recoveries_too(tmp_path: Path) -> None:
     file = tmp_path / "a.cases"
     file.write_text("[a] random rows of pdrecord\n5 recoveries by rfc6675 from 3\n")
-    for chance, transfers in (
-        (Chance(), drawn_transfers(5, RFC6675, 3)),
-        (Chance(0, 9), drawn_transfers(9, RFC6675, 0)),
+    for draw_options, transfers in (
+        (DrawOptions(), drawn_transfers(5, RFC6675, 3)),
+        (DrawOptions(0, 9), drawn_transfers(9, RFC6675, 0)),
     ):
-        (group,) = groups_of(file, chance)
-        told = next(group.kind.told(group.cases))
-        assert [it.given.decode() for it in told] == [it.script for it in transfers]
+        (group,) = groups_of(file, draw_options)
+        calls = next(group.kind.check_cases(group.cases))
+        assert [it.given.decode() for it in calls] == [it.script for it in transfers]
 
 
 def test_a_seed_draws_the_same_rows_again_and_another_one_others() -> None:
@@ -74,26 +74,30 @@ def test_a_seed_draws_the_same_rows_again_and_another_one_others() -> None:
 TABLES = "[a] random rows of test_sender\n2 short boards from 5\n[b] random rows of test_book\n1 books from 5\n"
 
 
-def findings(file: Path, wrong: str = "") -> list[Finding]:
-    """What is found of each table where all is said that is wanted, but of one program another number."""
+def results(file: Path, wrong: str = "") -> list[RowResult]:
+    """The results of the tables where the outputs are the wanted ones, but that of one program has another number."""
     file.write_text(TABLES)
     found = []
     for group in groups_of(file):
-        wanted = group.cases[0].tries[0].run().wanted
+        wanted = group.cases[0].checks[0].run().wanted
 
-        def say(call: Call, wanted: Said = wanted) -> Said:
-            return Said(wanted.output.replace(b"0 differ", b"1 differ"), b"", 0) if call.program == wrong else wanted
+        def answer(call: ProgramCall, wanted: ProgramOutput = wanted) -> ProgramOutput:
+            return (
+                ProgramOutput(wanted.output.replace(b"0 differ", b"1 differ"), b"", 0)
+                if call.program == wrong
+                else wanted
+            )
 
-        found += run(group.kind.told(group.cases), lambda calls: [say(it) for it in calls])
+        found += run_steps(group.kind.check_cases(group.cases), lambda calls: [answer(it) for it in calls])
     return found
 
 
-def test_what_differs_is_told_with_its_seed(tmp_path: Path) -> None:
-    assert findings(tmp_path / "a.cases") == [Finding(), Finding()]
-    sender, book = findings(tmp_path / "a.cases", "test_sender")
+def test_what_differs_is_printed_with_its_seed(tmp_path: Path) -> None:
+    assert results(tmp_path / "a.cases") == [RowResult(), RowResult()]
+    sender, book = results(tmp_path / "a.cases", "test_sender")
     assert "2 short boards from 5" in sender.fault and "+> 2 lists of 30 calls, 1 differ" in sender.fault
-    sender, other = findings(tmp_path / "a.cases", "test_book")
-    assert "+> 1 stories, " in other.fault and sender == book == Finding()
+    sender, other = results(tmp_path / "a.cases", "test_book")
+    assert "+> 1 stories, " in other.fault and sender == book == RowResult()
 
 
 @pytest.mark.parametrize("row", ["2 books from 5", "0 packets from 5", "2 packets", "2 packets from -1"])
@@ -101,28 +105,28 @@ def test_what_is_not_drawn_for_the_program_fails(row: str, tmp_path: Path) -> No
     file = tmp_path / "a.cases"
     file.write_text(f"[a] random rows of test_sender\n{row}\n")
     (group,) = groups_of(file)
-    assert [bool(case.unread) for case in group.cases] == [True]
+    assert [bool(case.error) for case in group.cases] == [True]
 
 
-COMMANDS = (["tests/run", "random"], ["tests/harness/plain.py", "tests/cases/random"])
+COMMANDS = (["tests/run", "random"], ["tests/harness/without_pytest.py", "tests/cases/random"])
 
 
 @pytest.mark.parametrize("command", COMMANDS)
-def test_a_run_draws_by_its_own_words(command: list[str], tmp_path: Path) -> None:
+def test_a_run_draws_by_its_own_options(command: list[str], tmp_path: Path) -> None:
     for name in ("test_sender", "test_book"):
         (tmp_path / name).write_text("#!/bin/sh\ngrep -hc . random_*\n")
         (tmp_path / name).chmod(0o755)
-    words = ["--programs", str(tmp_path), "--seed", "7", "--rows", "40"]
-    said = subprocess.run([*command, *words], cwd=TOP, capture_output=True, text=True).stdout
-    assert all(f" {kind} from 7: 40 rows\n" in said for kind in ("books", "packets", "short boards", "long boards"))
-    assert "\n+> 41\n" in said and said.endswith("\n0 passed, 4 failed\n")
+    options = ["--programs", str(tmp_path), "--seed", "7", "--rows", "40"]
+    printed = subprocess.run([*command, *options], cwd=TOP, capture_output=True, text=True).stdout
+    assert all(f" {kind} from 7: 40 rows\n" in printed for kind in ("books", "packets", "short boards", "long boards"))
+    assert "\n+> 41\n" in printed and printed.endswith("\n0 passed, 4 failed\n")
 
 
-@pytest.mark.parametrize("words", [["--seed", "-1"], ["--rows", "0"], ["--rows", "many"]])
-def test_a_number_that_is_none_is_refused(words: list[str]) -> None:
+@pytest.mark.parametrize("options", [["--seed", "-1"], ["--rows", "0"], ["--rows", "many"]])
+def test_a_number_that_is_none_is_refused(options: list[str]) -> None:
     for command in COMMANDS:
-        said = subprocess.run([*command, *words], cwd=TOP, capture_output=True, text=True)
-        assert said.returncode and "is wanted" in said.stderr + said.stdout
+        done = subprocess.run([*command, *options], cwd=TOP, capture_output=True, text=True)
+        assert done.returncode and "is wanted" in done.stderr + done.stdout
 
 
 def trace_of(transfer: Transfer) -> str:
@@ -150,21 +154,23 @@ def test_recoveries_are_played_as_the_second_reading_has_it(
     file.write_text("[a] random rows of pdrecord\n5 recoveries by rfc6675 from 3\n")
     (group,) = groups_of(file)
 
-    def play(calls: Sequence[Call]) -> Sayings:
+    def play(calls: Sequence[ProgramCall]) -> Outputs:
         assert [it.given for it in calls] == list(traces) and len(calls) > 1
-        return [Said(change(traces[it.given]).encode(), b"", 0) for it in calls]
+        return [ProgramOutput(change(traces[it.given]).encode(), b"", 0) for it in calls]
 
-    (found,) = run(group.kind.told(group.cases), play)
+    (found,) = run_steps(group.kind.check_cases(group.cases), play)
     assert group.cases[0].name == "5-recoveries-by-rfc6675-from-3"
     assert bool(found.fault) is bool(fault) and fault in found.fault
-    (refused,) = run(group.kind.told(group.cases), lambda calls: [Said(b"", b"17 Read\n", 2) for _ in calls])
+    (refused,) = run_steps(
+        group.kind.check_cases(group.cases), lambda calls: [ProgramOutput(b"", b"17 Read\n", 2) for _ in calls]
+    )
     assert "status 2: 17 Read" in refused.fault
 
 
 def test_a_seed_draws_the_same_recoveries_under_many_settings() -> None:
     first, again, other = (list(drawn_transfers(200, "rfc6675", seed)) for seed in (7, 7, 8))
     assert first == again != other and 200 <= sum(it.recoveries for it in first) < 210
-    told = "\n".join(it.settings for it in first)
+    settings = "\n".join(it.settings for it in first)
     keys = (
         "abc_limit",
         "initial_ssthresh",
@@ -173,7 +179,7 @@ def test_a_seed_draws_the_same_recoveries_under_many_settings() -> None:
         "min_rto_us",
         "slow_start_after_idle",
     )
-    assert all(f"{key} = " in told for key in keys) and "recovery_algorithm" not in told
+    assert all(f"{key} = " in settings for key in keys) and "recovery_algorithm" not in settings
     assert any("sackOK" not in it.script for it in first) and any("wscale" not in it.script for it in first)
 
 

@@ -29,7 +29,7 @@ from affected_sections import affected_paragraphs, names_changed
 TOP = Path(__file__).resolve().parents[1]
 sys.path.insert(0, str(TOP / "tests"))
 
-from harness.asking import Call, Said  # noqa: E402
+from harness.calls import ProgramCall, ProgramOutput  # noqa: E402
 from harness.affected import affected_rows, answered_tables, calls_of, count_unanswered  # noqa: E402
 
 NUMBER = re.compile(rb"(\d+)\n")
@@ -56,17 +56,17 @@ def parts(octets: bytes) -> Iterator[bytes]:
         yield octets[found.end() : at]
 
 
-def start_of(call: Call) -> bytes:
+def start_of(call: ProgramCall) -> bytes:
     """A start of a program."""
-    per_octet = EXPLANATION_PER_OCTET if b"--explain" in call.words else OUTPUT_PER_OCTET
+    per_octet = EXPLANATION_PER_OCTET if b"--explain" in call.arguments else OUTPUT_PER_OCTET
     most = OUTPUT + per_octet * len(call.given)
-    words = b"\0".join([call.program.encode(), *call.words])
-    return b"".join(map(part, (words, call.given, b"%d" % most)))
+    command = b"\0".join([call.program.encode(), *call.arguments])
+    return b"".join(map(part, (command, call.given, b"%d" % most)))
 
 
-def answer_of(output: bytes, errors: bytes, status: bytes) -> Optional[Said]:
+def answer_of(output: bytes, errors: bytes, status: bytes) -> Optional[ProgramOutput]:
     """The answer to a start, if there is one."""
-    return Said(output, errors, int(status)) if status.strip().isdigit() else None
+    return ProgramOutput(output, errors, int(status)) if status.strip().isdigit() else None
 
 
 def listed(answers: bytes, before: Optional[Path]) -> dict[str, object]:
@@ -78,7 +78,7 @@ def listed(answers: bytes, before: Optional[Path]) -> dict[str, object]:
     paragraphs = None if before is None else [asdict(it) for it in affected_paragraphs(before, TOP)]
     return {
         "rows": [asdict(it) for it in affected_rows(tables, old, new)],
-        "unheard": count_unanswered(tables, new),
+        "unanswered": count_unanswered(tables, new),
         "sections": paragraphs,
     }
 

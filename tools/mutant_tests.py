@@ -20,10 +20,10 @@ from proofs import TOP, copy_crates
 
 sys.path.insert(0, str(TOP / "tests"))
 
-from harness.asking import NO_STATUS, Said  # noqa: E402
-from harness.comparing import Run, run_fault  # noqa: E402
-from harness.named import runs_named  # noqa: E402
-from harness.tables import Unread as UnreadRow  # noqa: E402
+from harness.calls import NO_STATUS, ProgramOutput  # noqa: E402
+from harness.compare import ProgramRun, run_fault  # noqa: E402
+from harness.named_runs import runs_named  # noqa: E402
+from harness.tables import RowError as UnreadRow  # noqa: E402
 
 
 @dataclass(frozen=True)
@@ -43,7 +43,7 @@ class ProgramTest:
     """The test that has to see a mutant: runs of a program."""
 
     program: str
-    runs: tuple[Run, ...]
+    runs: tuple[ProgramRun, ...]
 
 
 @dataclass(frozen=True)
@@ -80,7 +80,7 @@ def count_failed(test: ProgramTest, tree: Path, times: int, limits: RunLimits) -
         folder.mkdir()
     for name, run in runs.items():
         (cases / name).write_bytes(run.given)
-        (cases / f"{name}.args").write_bytes(b"".join(word + b"\n" for word in run.words))
+        (cases / f"{name}.args").write_bytes(b"".join(it + b"\n" for it in run.arguments))
     arguments: list[str | Path] = ["--seconds", str(limits.seconds), "--tree", tree, test.program, cases, answers]
     log = tree / "log"
     if limits.commands.call([sys.executable, "-B", TOP / "tools" / "run_cases.py", *arguments], tree, log):
@@ -88,11 +88,11 @@ def count_failed(test: ProgramTest, tree: Path, times: int, limits: RunLimits) -
     return sum(bool(run_fault(run, answer(answers, name))) for name, run in runs.items())
 
 
-def answer(folder: Path, name: str) -> Said:
+def answer(folder: Path, name: str) -> ProgramOutput:
     """What was answered to a case; one that didn't end has no status."""
     output, errors = ((folder / f"{name}.{kind}").read_bytes() for kind in ("output", "errors"))
     status = (folder / f"{name}.status").read_text()
-    return Said(output, errors, int(status)) if status.isdigit() else Said(b"", errors, NO_STATUS)
+    return ProgramOutput(output, errors, int(status)) if status.isdigit() else ProgramOutput(b"", errors, NO_STATUS)
 
 
 @contextlib.contextmanager

@@ -5,7 +5,7 @@ from collections.abc import Iterator
 from dataclasses import dataclass
 from itertools import repeat
 
-from drawn.drawing import Amount, Dice
+from drawn.drawing import Amount, SeededDice
 from model.board import Board
 from model.rules import RFC6675, RFC9937, Rules
 from model.spans import Span, size
@@ -53,7 +53,7 @@ class Mix:
 
 SHORT = Mix(calls=30, acks=3, expiries=4, block=150, written=1_000_000)
 
-# Lists in which runs of SACKed octets gather.
+# BookLists in which runs of SACKed octets gather.
 LONG = Mix(calls=250, acks=200, expiries=100, block=6, written=2_000)
 
 
@@ -69,10 +69,10 @@ def said(*answers: int | Span | None) -> str:
     return " ".join(said_one(answer) for answer in answers)
 
 
-class Trial:
+class BoardCalls:
     """A scoreboard with congestion control, on which random calls are made; each gives the rows of what it does."""
 
-    def __init__(self, mix: Mix, dice: Dice, counts: Counter[str]) -> None:
+    def __init__(self, mix: Mix, dice: SeededDice, counts: Counter[str]) -> None:
         self.mix = mix
         self.dice = dice
         self.counts = counts
@@ -247,9 +247,9 @@ class Trial:
 
 def rows(mix: Mix, seed: int, amount: Amount) -> Iterator[str]:
     """All rows: lists of calls, the title that ends them, and what they came to."""
-    dice = Dice(seed)
+    dice = SeededDice(seed)
     counts: Counter[str] = Counter()
-    for each in amount.of(list(Trial(mix, dice, counts).rows()) for _ in repeat(None)):
+    for each in amount.of(list(BoardCalls(mix, dice, counts).rows()) for _ in repeat(None)):
         yield from each
     yield f"== lists of {mix.calls} calls"
     yield from (f"# {name} {counts[word]}" for word, name in NAMES.items() if counts[word])

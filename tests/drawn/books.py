@@ -5,7 +5,7 @@ from collections import Counter
 from collections.abc import Iterator
 from functools import cache
 
-from drawn.drawing import Amount, Dice
+from drawn.drawing import Amount, SeededDice
 from model.book import (
     CONNECTION,
     DEFAULTS,
@@ -58,18 +58,18 @@ def sum_of_piece(low: int, piece: str) -> tuple[int, int]:
     return factor, rest
 
 
-def drawn_kind(dice: Dice) -> str:
+def drawn_kind(dice: SeededDice) -> str:
     """The kind of a line, mostly of one that passes."""
     kind = dice.below(210)
     return list(LINES)[kind] if kind < len(LINES) else "a"
 
 
-def drawn_kinds(dice: Dice, bound: int) -> Text:
+def drawn_kinds(dice: SeededDice, bound: int) -> Text:
     """Fewer lines than so many."""
     return "".join(drawn_kind(dice) for _ in range(dice.below(bound)))
 
 
-def drawn_text(dice: Dice) -> Text:
+def drawn_text(dice: SeededDice) -> Text:
     """Lines, in two of three texts after those that make a connection, with others between them."""
     opening = "".join(kind + drawn_kinds(dice, 4) for kind in CONNECTION) if dice.below(3) else ""
     return opening + drawn_kinds(dice, 16)
@@ -87,17 +87,17 @@ def word_rows() -> Iterator[str]:
     yield from (f"let a{count} {lines_of('a' * count)} -> ok" for count in range(2, LONGEST + 1))
 
 
-class Lists:
+class BookLists:
     """Draws lists of calls, and counts the kinds of calls by their answers."""
 
     def __init__(self, seed: int) -> None:
-        self.dice = Dice(seed)
+        self.dice = SeededDice(seed)
         self.counts: Counter[tuple[str, str]] = Counter()
         self.spared = 0
         self.spared_behind = 0
 
     def one_after_the_other(self) -> Iterator[list[str]]:
-        """Lists without end."""
+        """BookLists without end."""
         while True:
             yield list(self.rows())
 
@@ -189,7 +189,7 @@ class Lists:
 
 def rows(seed: int, amount: Amount) -> Iterator[str]:
     """All rows: what is counted, the words that stand for lines, and the lists."""
-    lists = Lists(seed)
+    lists = BookLists(seed)
     made = list(amount.of(lists.one_after_the_other()))
     yield f"== {len(made)} random lists of {CALLS} calls"
     for (call, answer), count in sorted(lists.counts.items()):

@@ -4,7 +4,7 @@ from collections.abc import Iterator
 from dataclasses import dataclass
 
 
-class Dice:
+class SeededDice:
     """Numbers that are the same at each run."""
 
     def __init__(self, seed: int) -> None:

@@ -3,7 +3,7 @@
 from collections.abc import Iterator
 from itertools import repeat
 
-from drawn.drawing import Amount, Dice
+from drawn.drawing import Amount, SeededDice
 
 # The flags in the order in which they are written, and one of how many packets has each.
 FLAGS = {"F": 4, "S": 4, "R": 4, "P": 2}
@@ -17,12 +17,12 @@ def seconds(moment: int) -> str:
     return f"{moment // 1_000_000}.{moment % 1_000_000:06}".rstrip("0").rstrip(".")
 
 
-def moment(dice: Dice) -> int:
+def moment(dice: SeededDice) -> int:
     """Microseconds below 3,600 s, often with few decimals."""
     return dice.below(3_600) * (1, 1_000, 100_000, 1_000_000)[dice.below(4)]
 
 
-def time(dice: Dice) -> Part:
+def time(dice: SeededDice) -> Part:
     """A time."""
     first = moment(dice)
     last = first + moment(dice) % 1_000_000_000
@@ -38,25 +38,25 @@ def time(dice: Dice) -> Part:
     return f"after {first}", f"+{seconds(first)}"
 
 
-def number(dice: Dice) -> int:
+def number(dice: SeededDice) -> int:
     """A sequence number, often a small one."""
     return dice.below((20, 100_000, 2**32 - 1)[dice.below(3)])
 
 
-def flags(dice: Dice) -> str:
+def flags(dice: SeededDice) -> str:
     """Some of the flags."""
     bits = "".join(flag for flag, packets in FLAGS.items() if dice.below(packets) == 0)
     return bits + ("." if dice.below(4) else "") or "-"
 
 
-def blocks(dice: Dice) -> Part:
+def blocks(dice: SeededDice) -> Part:
     """One to four blocks."""
     edges = [(number(dice), number(dice)) for _ in range(dice.below(4) + 1)]
     words = " ".join(f"{start} {end}" for start, end in edges)
     return f"sack {len(edges)} {words}", "sack " + " ".join(f"{start}:{end}" for start, end in edges)
 
 
-def option(dice: Dice) -> Part:
+def option(dice: SeededDice) -> Part:
     """An option."""
     match dice.below(7):
         case 0:
@@ -75,7 +75,7 @@ def option(dice: Dice) -> Part:
             return word, word
 
 
-def row(dice: Dice) -> str:
+def row(dice: SeededDice) -> str:
     """A packet whose end is at least its start: its row, with how it is written at the end."""
     when, written_when = time(dice)
     bits = flags(dice)
@@ -91,7 +91,7 @@ def row(dice: Dice) -> str:
 
 def rows(seed: int, amount: Amount) -> Iterator[str]:
     """All rows: a packet each, and the title that ends them."""
-    dice = Dice(seed)
+    dice = SeededDice(seed)
     for packet in amount.of([row(dice)] for _ in repeat(None)):
         yield from packet
     yield "== random packets"

@@ -4,9 +4,9 @@ from collections.abc import Iterator, Sequence
 from dataclasses import dataclass, replace
 from typing import Any
 
-from harness.asking import Call, Sayings, run_in_step
-from harness.changed import AnsweredTable, Answers, answered_tables_in
-from harness.comparing import Case, Run
+from harness.calls import Outputs, ProgramCall, run_in_step
+from harness.answered_tables import AnsweredTable, Answers, answered_tables_in
+from harness.compare import RowCase, ProgramRun
 from harness.tables import case_files
 
 WORKERS = b"--workers"
@@ -29,21 +29,21 @@ def answered_tables() -> list[AnsweredTable]:
     return [replace(it, cases=[case for case in it.cases if not is_left_out(case)]) for it in tables]
 
 
-def is_left_out(case: Case[Any]) -> bool:
+def is_left_out(case: RowCase[Any]) -> bool:
     """Whether a case tests nothing of the sender.
 
     That is a refusal of arguments, a run with workers, which is made without them, too, or a long one, about limits of
     inputs.
     """
-    runs = [it for it in case.tries if isinstance(it, Run)]
-    return any(it.is_refusal or WORKERS in it.words or len(it.given) > LONG for it in runs)
+    runs = [it for it in case.checks if isinstance(it, ProgramRun)]
+    return any(it.is_refusal or WORKERS in it.arguments or len(it.given) > LONG for it in runs)
 
 
-def calls_of(tables: Sequence[AnsweredTable]) -> list[Call]:
+def calls_of(tables: Sequence[AnsweredTable]) -> list[ProgramCall]:
     """The calls of the programs, in one step."""
-    kept: list[Call] = []
+    kept: list[ProgramCall] = []
 
-    def keep(calls: Sequence[Call]) -> Sayings:
+    def keep(calls: Sequence[ProgramCall]) -> Outputs:
         kept.extend(calls)
         return [None] * len(calls)
 
@@ -51,18 +51,18 @@ def calls_of(tables: Sequence[AnsweredTable]) -> list[Call]:
     return kept
 
 
-def answers_to(tables: Sequence[AnsweredTable], said: Sayings) -> Iterator[list[Answers]]:
+def answers_to(tables: Sequence[AnsweredTable], outputs: Outputs) -> Iterator[list[Answers]]:
     """The answers to the cases of each table, by the answers to these calls."""
-    each = iter(said)
+    each = iter(outputs)
     return run_in_step([it.answers() for it in tables], lambda calls: [next(each) for _ in calls])
 
 
-def is_affected(case: Case[Any], before: Answers, after: Answers) -> bool:
-    """Whether the sender after answers a try of a case wrongly, and otherwise than the one before."""
-    return any(new is not None and new != it.wanted and new != old for it, old, new in zip(case.tries, before, after))
+def is_affected(case: RowCase[Any], before: Answers, after: Answers) -> bool:
+    """Whether the sender after answers a check of a case wrongly, and otherwise than the one before."""
+    return any(new is not None and new != it.wanted and new != old for it, old, new in zip(case.checks, before, after))
 
 
-def affected_rows(tables: Sequence[AnsweredTable], before: Sayings, after: Sayings) -> Iterator[ChangedRow]:
+def affected_rows(tables: Sequence[AnsweredTable], before: Outputs, after: Outputs) -> Iterator[ChangedRow]:
     """The rows that are affected, each once, in the order of files and lines."""
     for table, one, other in zip(tables, answers_to(tables, before), answers_to(tables, after)):
         seen = set()
@@ -72,6 +72,6 @@ def affected_rows(tables: Sequence[AnsweredTable], before: Sayings, after: Sayin
                 yield ChangedRow(case.row.file, case.row.line, case.row.text if table.table.kind == "stories" else "")
 
 
-def count_unanswered(tables: Sequence[AnsweredTable], after: Sayings) -> int:
-    """How many cases have a try without an answer."""
+def count_unanswered(tables: Sequence[AnsweredTable], after: Outputs) -> int:
+    """How many cases have a check without an answer."""
     return sum(None in answers for each in answers_to(tables, after) for answers in each)

@@ -1,59 +1,77 @@
-"""Tables of cuts: a script or an input that grows octet by octet, and what is said of it at each."""
+"""Tables of cuts: a script or an input that grows octet by octet, and the answer to it at each."""
 
 from collections.abc import Iterator, Sequence
 from dataclasses import dataclass, replace
 from typing import Optional, Union
 
-from harness.asking import Asking, Said
-from harness.comparing import Answer, Case, Finding, Kind, Run, Script, case_of, report_of, run_answers
-from harness.comparing import script_answers, tell_runs, tell_scripts, verdict_of
-from harness.tables import PROGRAM, Row, Table, octets, parted
+from harness.calls import CallSteps, ProgramOutput
+from harness.compare import (
+    RowAnswer,
+    RowCase,
+    RowResult,
+    TableKind,
+    ProgramRun,
+    ExpectedScript,
+    case_of,
+    report_of,
+    run_answers,
+)
+from harness.compare import script_answers, check_runs, check_scripts, verdict_of
+from harness.tables import PROGRAM, TableRow, Table, octets, parted
 
-# What an input begins with, and no script.
+# The first octets of an input; no script has them.
 INPUT = b"add "
-Cut = Union[Script, Run]
+CutCheck = Union[ExpectedScript, ProgramRun]
 
 
 @dataclass
-class Growing:
-    """What has grown so far: the first octets of an input, or of a script."""
+class GrowingInput:
+    """The octets so far, of an input or of a script."""
 
     octets: bytes = b""
 
-    def tries(self, row: Row) -> Iterator[Cut]:
-        """A row `WHAT | PIECE`: what is said of what ends at one of the octets of the piece."""
-        what, piece = parted(row.text, " | ", "a row has what is said and a |")
+    def checks_of(self, row: TableRow) -> Iterator[CutCheck]:
+        """A row `ANSWER | PIECE`: the answer where the text ends at one of the octets of the piece."""
+        answer, piece = parted(row.text, " | ", "a row has an answer and a |")
         for octet in octets(piece):
             self.octets += bytes([octet])
             part = replace(row, part=f", at {len(self.octets)}")
-            yield self.cut(part, what)
+            yield self.cut(part, answer)
 
-    def cut(self, row: Row, what: str) -> Cut:
-        """What is told: an input, of which a fault is said or the verdict of its only script `a`, or a script."""
+    def cut(self, row: TableRow, answer: str) -> CutCheck:
+        """The check of the octets so far: an input, with a fault or the verdict of its only script `a`, or a script."""
         if not self.octets.startswith(INPUT[: len(self.octets)]):
-            return Script(row, "", self.octets, verdict_of(what))
-        if what[:1].isdigit():
-            return Run(row, PROGRAM, (), self.octets, Said(b"", f"pdregress: {what}\n".encode(), 2))
-        return Run(row, PROGRAM, (), self.octets, report_of({"a": verdict_of(what)}))
+            return ExpectedScript(row, "", self.octets, verdict_of(answer))
+        if answer[:1].isdigit():
+            return ProgramRun(row, PROGRAM, (), self.octets, ProgramOutput(b"", f"pdregress: {answer}\n".encode(), 2))
+        return ProgramRun(row, PROGRAM, (), self.octets, report_of({"a": verdict_of(answer)}))
 
 
-def cuts(table: Table) -> Iterator[Case[Cut]]:
+def cuts(table: Table) -> Iterator[RowCase[CutCheck]]:
     """A script or an input, a piece of it a row."""
-    growing = Growing()
+    growing = GrowingInput()
     for row in table.rows:
-        yield case_of(row, lambda: growing.tries(row))
+        yield case_of(row, lambda: growing.checks_of(row))
 
 
-def tell_cuts(tries: Sequence[Cut]) -> Asking[list[Finding]]:
-    """Compares what is said of scripts, or of inputs."""
-    runs = [it for it in tries if isinstance(it, Run)]
-    return (yield from (tell_runs(runs) if runs else tell_scripts([it for it in tries if isinstance(it, Script)])))
+def check_cuts(checks: Sequence[CutCheck]) -> CallSteps[list[RowResult]]:
+    """Compares the answers to scripts, or to inputs."""
+    runs = [it for it in checks if isinstance(it, ProgramRun)]
+    return (
+        yield from (
+            check_runs(runs) if runs else check_scripts([it for it in checks if isinstance(it, ExpectedScript)])
+        )
+    )
 
 
-def cut_answers(tries: Sequence[Cut]) -> Asking[list[Optional[Answer]]]:
-    """What is said of each script, or of each input."""
-    runs = [it for it in tries if isinstance(it, Run)]
-    return (yield from (run_answers(runs) if runs else script_answers([it for it in tries if isinstance(it, Script)])))
+def cut_answers(checks: Sequence[CutCheck]) -> CallSteps[list[Optional[RowAnswer]]]:
+    """The answer to each script, or to each input."""
+    runs = [it for it in checks if isinstance(it, ProgramRun)]
+    return (
+        yield from (
+            run_answers(runs) if runs else script_answers([it for it in checks if isinstance(it, ExpectedScript)])
+        )
+    )
 
 
-CUTS = Kind(cuts, tell_cuts, answer=cut_answers)
+CUTS = TableKind(cuts, check_cuts, answer=cut_answers)

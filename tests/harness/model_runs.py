@@ -1,13 +1,13 @@
-"""Recoveries of random transfers, of which a second reading of the RFCs says how they are played."""
+"""Recoveries of random transfers, whose expected events are those of a second reading of the RFCs."""
 
 import re
 from collections.abc import Iterator, Sequence
 from itertools import dropwhile, zip_longest
 
 from model.scenarios import Expected, Transfer, transfers
-from harness.asking import Asking, Said
-from harness.comparing import MAX_FAULTS, Finding
-from harness.random_scripts import Script
+from harness.calls import CallSteps, ProgramOutput
+from harness.compare import MAX_FAULTS, RowResult
+from harness.random_scripts import RandomScript
 from harness.recordings import recording
 
 STATE = re.compile(r"//= at (\d+)\.(\d{6}) (.+?)(?: sent_by:\w+)?")
@@ -26,11 +26,11 @@ def drawn_transfers(count: int, algorithm: str, seed: int) -> Iterator[Transfer]
         yield it
 
 
-def script_of(it: Transfer) -> Script:
-    return Script(f"seed {it.seed}", it.settings, it.script.encode())
+def script_of(it: Transfer) -> RandomScript:
+    return RandomScript(f"seed {it.seed}", it.settings, it.script.encode())
 
 
-def played(trace: str) -> Iterator[Expected]:
+def events_of(trace: str) -> Iterator[Expected]:
     """The events of a trace: the moment of each, the event without its time, and the state after it."""
     line = ""
     for each in trace.splitlines():
@@ -40,9 +40,9 @@ def played(trace: str) -> Iterator[Expected]:
             line = TIME.sub("", each, count=1)
 
 
-def parting(it: Transfer, trace: str) -> str:
+def first_difference(it: Transfer, trace: str) -> str:
     """The first event that is played otherwise than it is expected; empty where none is."""
-    done = dropwhile(lambda each: not each.line.startswith(LAST_OF_OPENING), played(trace))
+    done = dropwhile(lambda each: not each.line.startswith(LAST_OF_OPENING), events_of(trace))
     before = shown(next(done, None))
     for wanted, found in zip_longest(it.expected, done):
         if found != wanted:
@@ -55,22 +55,22 @@ def shown(it: Expected | None) -> str:
     return "nothing more" if it is None else f"{it.at / SECOND:.6f} {it.line} // {it.state}"
 
 
-def fault_of(it: Transfer, said: Said) -> str:
-    """What is wrong about what the recorder said of a transfer."""
-    if said.status != 0:
-        why = f"status {said.status}: {said.errors.decode(errors='backslashreplace')}"
+def fault_of(it: Transfer, output: ProgramOutput) -> str:
+    """What is wrong about the recording of a transfer."""
+    if output.status != 0:
+        why = f"status {output.status}: {output.errors.decode(errors='backslashreplace')}"
     else:
-        why = parting(it, said.output.decode(errors="backslashreplace"))
+        why = first_difference(it, output.output.decode(errors="backslashreplace"))
     return why and f"seed {it.seed} under {it.settings!r}: {why}"
 
 
-def tell_transfers(drawn: Sequence[Sequence[Transfer]]) -> Asking[list[Finding]]:
-    """Records the transfers of each draw, and holds what is played beside what is expected."""
-    said = iter((yield [recording(script_of(it), b"--trace") for each in drawn for it in each]))
-    return [finding_of([(it, next(said)) for it in each]) for each in drawn]
+def check_transfers(drawn: Sequence[Sequence[Transfer]]) -> CallSteps[list[RowResult]]:
+    """Records the transfers of each draw, and compares the events with those that are expected."""
+    outputs = iter((yield [recording(script_of(it), b"--trace") for each in drawn for it in each]))
+    return [result_of([(it, next(outputs)) for it in each]) for each in drawn]
 
 
-def finding_of(told: Sequence[tuple[Transfer, Said | None]]) -> Finding:
-    faults = [fault for it, said in told if said is not None and (fault := fault_of(it, said))]
-    more = [f"{len(faults)} of {len(told)} transfers are played otherwise"] if faults else []
-    return Finding("\n".join([*faults[:MAX_FAULTS], *more]), any(said is None for _, said in told))
+def result_of(played: Sequence[tuple[Transfer, ProgramOutput | None]]) -> RowResult:
+    faults = [fault for it, output in played if output is not None and (fault := fault_of(it, output))]
+    more = [f"{len(faults)} of {len(played)} transfers are played otherwise"] if faults else []
+    return RowResult("\n".join([*faults[:MAX_FAULTS], *more]), any(output is None for _, output in played))

@@ -6,7 +6,7 @@ from dataclasses import dataclass
 
 
 @dataclass(frozen=True)
-class Script:
+class RandomScript:
     """A script with its settings; `name` says where it comes from."""
 
     name: str
@@ -73,7 +73,7 @@ def random_event(dice: random.Random, top: list[int]) -> str:
     return f"{seen} > P. 1:1001(1000) ack 1"
 
 
-def random_scripts(count: int) -> Iterator[Script]:
+def random_scripts(count: int) -> Iterator[RandomScript]:
     """Scripts with random events after a handshake.
 
     Some have comments, texts, notes, several events on a line and blank lines.
@@ -86,4 +86,4 @@ def random_scripts(count: int) -> Iterator[Script]:
             parts.append(random_event(dice, top))
             parts.append(dice.choice(ENDS))
         settings = dice.choice(["", "", "sack = false", "tolerance_us = 0", "min_rto_us = 200000", "mss = 536"])
-        yield Script(f"random:{seed}", settings, "".join(parts).encode())
+        yield RandomScript(f"random:{seed}", settings, "".join(parts).encode())

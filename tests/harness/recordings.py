@@ -1,4 +1,4 @@
-"""Tables of recordings: scripts are recorded, and what holds of every recording is tested.
+"""Tables of recordings: scripts are recorded, and what is true of every recording is tested.
 
 It passes, it has each comment and each blank line of its script once, and recording it again gives the same octets.
 """
@@ -8,12 +8,12 @@ from collections import Counter
 from collections.abc import Iterator, Sequence
 from dataclasses import dataclass, replace
 
-from harness.asking import Asking, Call, Said, Sayings
-from harness.comparing import Case, Finding, Kind, batches, input_of, verdicts_said
-from harness.comparing import Script as Told
-from harness.random_scripts import Script, random_scripts
+from harness.calls import CallSteps, ProgramCall, ProgramOutput, Outputs
+from harness.compare import RowCase, RowResult, TableKind, batches, input_of, verdicts_in
+from harness.compare import ExpectedScript
+from harness.random_scripts import RandomScript, random_scripts
 from harness.scripts import script_of, terms_of
-from harness.tables import PROGRAM, Row, Table, Unread, case_files, read_tables
+from harness.tables import PROGRAM, TableRow, Table, RowError, case_files, read_tables
 
 TRACE = re.compile(rb"//= at (\d+\.\d{6}) [A-Z]")
 RECORDS = "pdrecord"
@@ -28,19 +28,19 @@ PIECE = re.compile(
 
 
 @dataclass(frozen=True)
-class Refused:
-    """A script that isn't recorded, with the status and what is said."""
+class RefusedRecording:
+    """A script that isn't recorded, with the status and the error text."""
 
-    script: Script
+    script: RandomScript
     status: int
-    said: bytes
+    errors: bytes
 
 
 @dataclass(frozen=True)
-class Recorded:
+class DoneRecording:
     """A script and its recording, with a trace and without."""
 
-    script: Script
+    script: RandomScript
     text: bytes
     trace: bytes
 
@@ -58,55 +58,57 @@ def settings_text(settings: list[str]) -> str:
     return "\n".join(f"{key} = {value}" for key, value in texts.items())
 
 
-def table_scripts() -> Iterator[Script]:
+def table_scripts() -> Iterator[RandomScript]:
     """The scripts of all tables of scripts, each option of a header in a line of its own."""
     for table in (it for file in case_files() for it in read_tables(file) if it.kind == "scripts"):
         for row in table.rows:
             _, terms, text = script_of(table, row)
             settings, options = terms_of(terms)
             head = "".join(f"{option}\n" for option in options).encode()
-            yield Script(f"{row.file}:{row.line}", settings_text(settings), head + text)
+            yield RandomScript(f"{row.file}:{row.line}", settings_text(settings), head + text)
 
 
-def chosen_scripts(row: Row) -> list[Script]:
+def chosen_scripts(row: TableRow) -> list[RandomScript]:
     """The scripts that a row takes."""
     found = CHOICE.fullmatch(row.text)
     if not found:
-        raise Unread("a row is `each N of the tables and COUNT random scripts`")
+        raise RowError("a row is `each N of the tables and COUNT random scripts`")
     return [*table_scripts(), *random_scripts(int(found[2]))][:: int(found[1])]
 
 
-def recordings(table: Table) -> Iterator[Case[Script]]:
+def recordings(table: Table) -> Iterator[RowCase[RandomScript]]:
     """A case for each script that a row takes."""
     for row in table.rows:
         for script in chosen_scripts(row):
             name = re.sub(r".*/|\.cases", "", script.name).replace(":", "-")
-            yield Case(name, replace(row, text=script.name), (script,))
+            yield RowCase(name, replace(row, text=script.name), (script,))
 
 
-def recording(script: Script, *words: bytes) -> Call:
+def recording(script: RandomScript, *options: bytes) -> ProgramCall:
     """The call that records a script."""
-    return Call(RECORDS, (b"--settings", script.settings.encode(), *words), script.text)
+    return ProgramCall(RECORDS, (b"--settings", script.settings.encode(), *options), script.text)
 
 
-def as_told(script: Script, text: bytes) -> Told:
-    """What runs a text under the settings of a script."""
+def under_settings(script: RandomScript, text: bytes) -> ExpectedScript:
+    """A text to run under the settings of a script."""
     settings = (line.replace(" = ", " ").replace('"', "") for line in script.settings.splitlines())
     commands = "".join(f"set {it}\n" for it in settings)
-    return Told(Row(script.name, 0, ""), commands, text.removesuffix(b"\n"), "")
+    return ExpectedScript(TableRow(script.name, 0, ""), commands, text.removesuffix(b"\n"), "")
 
 
-def verdicts(tried: Sequence[Told], told: Sequence[list[int]], said: Sayings) -> Asking[dict[int, str]]:
-    """The verdicts of scripts that were told together, or alone where a run stopped at a fault."""
+def verdicts(
+    scripts: Sequence[ExpectedScript], each_batch: Sequence[list[int]], outputs: Outputs
+) -> CallSteps[dict[int, str]]:
+    """The verdicts of scripts that were run in batches, or by themselves where a batch stopped at a fault."""
     rows: dict[int, str] = {}
     stopped: list[int] = []
-    for places, answer in zip(told, said, strict=True):
-        rows.update(zip(places, verdicts_said(answer, len(places))))
-        if answer is not None and answer.status not in REGULAR:
+    for places, output in zip(each_batch, outputs, strict=True):
+        rows.update(zip(places, verdicts_in(output, len(places))))
+        if output is not None and output.status not in REGULAR:
             stopped += places
     if stopped:
-        alone = yield [Call(PROGRAM, (), input_of([tried[place]])) for place in stopped]
-        rows.update((place, verdicts_said(answer, 1)[0]) for place, answer in zip(stopped, alone, strict=True))
+        alone = yield [ProgramCall(PROGRAM, (), input_of([scripts[place]])) for place in stopped]
+        rows.update((place, verdicts_in(output, 1)[0]) for place, output in zip(stopped, alone, strict=True))
     return rows
 
 
@@ -123,7 +125,7 @@ def comments_and_blanks(text: bytes) -> Counter[bytes]:
     return comments + blanks
 
 
-def kept_faults(done: Recorded) -> Iterator[str]:
+def kept_faults(done: DoneRecording) -> Iterator[str]:
     """What is wrong about the comments and blank lines of a recording: each stays, once."""
     script = comments_and_blanks(without_trace(done.script.text))
     kept = comments_and_blanks(done.text)
@@ -132,81 +134,82 @@ def kept_faults(done: Recorded) -> Iterator[str]:
 
 
 def grown_too_large(row: str) -> str:
-    """What may be said in place of a row: of a run that stops at a full outbox the recording may be over the limits."""
+    """A refusal in place of a row: of a run that stops at a full outbox the recording may be over the limits."""
     return "2 TooLarge" if row.startswith("limit") else row
 
 
-def refusal_faults(refused: Refused, row: str) -> Iterator[str]:
+def refusal_faults(refused: RefusedRecording, row: str) -> Iterator[str]:
     """What is wrong about a refusal.
 
     It has to be the row, unless that is about what the script expects, or the recording is too large, whose packets
     leave before they fill the outbox.
     """
-    line, _, below = refused.said.decode(errors="backslashreplace").partition("\n")
-    words = line.removeprefix("pdrecord: ")
+    line, _, below = refused.errors.decode(errors="backslashreplace").partition("\n")
+    reason = line.removeprefix("pdrecord: ")
     if refused.status != 1:
-        yield f"status {refused.status}: {refused.said!r}"
-    elif bool(below) == words.startswith("2") or not re.fullmatch(r"(  [ -~]*\n)*", below):
-        yield f"refused by {words!r}, with {below!r} below it"
-    elif row and not row.startswith(("pass", "fail")) and words not in (row, grown_too_large(row)):
-        yield f"refused by {words!r}, where the row is {row!r}"
+        yield f"status {refused.status}: {refused.errors!r}"
+    elif bool(below) == reason.startswith("2") or not re.fullmatch(r"(  [ -~]*\n)*", below):
+        yield f"refused by {reason!r}, with {below!r} below it"
+    elif row and not row.startswith(("pass", "fail")) and reason not in (row, grown_too_large(row)):
+        yield f"refused by {reason!r}, where the row is {row!r}"
 
 
-def row_faults(done: Recorded, row: str) -> Iterator[str]:
+def row_faults(done: DoneRecording, row: str) -> Iterator[str]:
     """What is wrong about the row of a recording: it has to pass, with all of its events."""
     if row != f"pass {done.events}":
         yield f"{row}, with {done.events} events"
 
 
-def again_faults(done: Recorded, again: Said | None, traced: Said | None) -> Iterator[str]:
+def again_faults(done: DoneRecording, again: ProgramOutput | None, traced: ProgramOutput | None) -> Iterator[str]:
     """What is wrong about recording a recording."""
-    if again != Said(done.text, b"", 0):
+    if again != ProgramOutput(done.text, b"", 0):
         yield "another recording of the recording"
-    if traced != Said(done.trace, b"", 0):
+    if traced != ProgramOutput(done.trace, b"", 0):
         yield "another trace of the trace"
     if without_trace(done.trace) != done.text:
         yield "a trace that isn't the recording"
 
 
-def recorded(scripts: Sequence[Script]) -> Asking[list[Recorded | Refused | None]]:
-    """What recording scripts comes to; none where only a built program can be told that."""
-    said = yield [recording(it, *words) for it in scripts for words in ((), (b"--trace",))]
-    each: list[Recorded | Refused | None] = []
-    for script, plain, traced in zip(scripts, said[::2], said[1::2], strict=True):
+def recorded(scripts: Sequence[RandomScript]) -> CallSteps[list[DoneRecording | RefusedRecording | None]]:
+    """The recordings of scripts; none where only a built program can record one."""
+    outputs = yield [recording(it, *options) for it in scripts for options in ((), (b"--trace",))]
+    each: list[DoneRecording | RefusedRecording | None] = []
+    for script, plain, traced in zip(scripts, outputs[::2], outputs[1::2], strict=True):
         if plain is None or traced is None:
             each.append(None)
         elif plain.status != 0:
-            each.append(Refused(script, plain.status, plain.errors))
+            each.append(RefusedRecording(script, plain.status, plain.errors))
         else:
-            each.append(Recorded(script, plain.output, traced.output))
+            each.append(DoneRecording(script, plain.output, traced.output))
     return each
 
 
-def calls_again(done: Recorded) -> tuple[Call, Call]:
+def calls_again(done: DoneRecording) -> tuple[ProgramCall, ProgramCall]:
     """The calls that record a recording, with its trace too."""
     again = replace(done.script, text=done.text)
     return recording(again), recording(replace(again, text=done.trace), b"--trace")
 
 
-def tell_recordings(scripts: Sequence[Script]) -> Asking[list[Finding]]:
-    """Records scripts and their recordings, and runs what was recorded, or the script where that is refused."""
+def check_recordings(scripts: Sequence[RandomScript]) -> CallSteps[list[RowResult]]:
+    """Records scripts and their recordings, and runs each recording, or the script if that is refused."""
     each = yield from recorded(scripts)
-    kept = [it for it in each if isinstance(it, Recorded)]
-    refused = [it for it in each if isinstance(it, Refused)]
+    kept = [it for it in each if isinstance(it, DoneRecording)]
+    refused = [it for it in each if isinstance(it, RefusedRecording)]
     calls = [call for it in kept for call in calls_again(it)]
-    tried = [*(as_told(it.script, it.text) for it in kept), *(as_told(it.script, it.script.text) for it in refused)]
-    told = batches(tried)
-    runs = [Call(PROGRAM, (), input_of([tried[place] for place in places])) for places in told]
-    said = yield [*calls, *runs]
-    rows = yield from verdicts(tried, told, said[len(calls) :])
+    texts = [*((it.script, it.text) for it in kept), *((it.script, it.script.text) for it in refused)]
+    expected = [under_settings(*it) for it in texts]
+    each_batch = batches(expected)
+    runs = [ProgramCall(PROGRAM, (), input_of([expected[place] for place in places])) for places in each_batch]
+    outputs = yield [*calls, *runs]
+    rows = yield from verdicts(expected, each_batch, outputs[len(calls) :])
     faults: dict[str, list[str]] = {}
     for at, it in enumerate(kept):
-        again, traced = said[2 * at : 2 * at + 2]
+        again, traced = outputs[2 * at : 2 * at + 2]
         faults[it.script.name] = [*again_faults(it, again, traced), *kept_faults(it), *row_faults(it, rows[at])]
     for at, other in enumerate(refused, len(kept)):
         faults[other.script.name] = list(refusal_faults(other, rows[at]))
     lines = ["\n".join(f"{it.name}: {fault}" for fault in faults.get(it.name, [])) for it in scripts]
-    return [Finding(it, is_untold=done is None) for it, done in zip(lines, each, strict=True)]
+    return [RowResult(it, is_unanswered=done is None) for it, done in zip(lines, each, strict=True)]
 
 
-RECORDINGS = Kind(recordings, tell_recordings, (RECORDS, PROGRAM))
+RECORDINGS = TableKind(recordings, check_recordings, (RECORDS, PROGRAM))

@@ -1,4 +1,4 @@
-"""Tables of stories, which are runs of a program line by line, and stories that stand beside a program that tests."""
+"""Tables of stories, which are runs of a program line by line, and the files of stories of test programs."""
 
 import os
 import re
@@ -8,9 +8,21 @@ from collections.abc import Iterator
 from dataclasses import dataclass, field
 from pathlib import Path
 
-from harness.asking import Said
-from harness.comparing import Case, Kind, Run, add_command, run_answers, tell_runs
-from harness.tables import MARK, TOP, Opening, Row, Table, Unread, lines_of, octets, parted, place_in_tree, reading
+from harness.calls import ProgramOutput
+from harness.compare import RowCase, TableKind, ProgramRun, add_command, run_answers, check_runs
+from harness.tables import (
+    MARK,
+    TOP,
+    Opening,
+    RowError,
+    Table,
+    TableRow,
+    lines_of,
+    octets,
+    parted,
+    place_in_tree,
+    reading,
+)
 
 
 def slug(title: str) -> str:
@@ -19,13 +31,13 @@ def slug(title: str) -> str:
 
 
 @dataclass
-class Story:
-    """A story as far as it was read: its title, its first line, and what the program is told and is to say."""
+class RunStory:
+    """A story as far as it was read: its title, its first line, the arguments, the input and the wanted outputs."""
 
     table: Table
     title: str = ""
-    first: Row | None = None
-    words: list[bytes] = field(default_factory=list)
+    first: TableRow | None = None
+    arguments: list[bytes] = field(default_factory=list)
     given: bytes = b""
     output: bytes = b""
     errors: bytes = b""
@@ -33,15 +45,14 @@ class Story:
     workers: list[str] = field(default_factory=list)
     is_short: bool = False
     is_whole: bool = False
-    rows: list[Row] = field(default_factory=list)
+    rows: list[TableRow] = field(default_factory=list)
 
-    def take(self, row: Row) -> None:
-        """Takes a line."""
+    def read_row(self, row: TableRow) -> None:
         self.rows.append(row)
         mark, _, rest = row.text.partition(" ")
         match mark:
             case "$":
-                self.words.append(octets(rest))
+                self.arguments.append(octets(rest))
             case "*":
                 self.workers = rest.split()
             case "after":
@@ -58,13 +69,13 @@ class Story:
             case "=" if rest in ("0", "1", "2"):
                 self.status, self.is_whole = int(rest), True
             case "=":
-                raise Unread("a status is 0, 1 or 2")
+                raise RowError("a status is 0, 1 or 2")
             case _:
-                raise Unread("a line of a story begins with $ < <# << ~ + > ># >> ! !~ * after or =")
+                raise RowError("a line of a story begins with $ < <# << ~ + > ># >> ! !~ * after or =")
 
     def opening(self, name: str) -> Opening:
         if name not in self.table.openings:
-            raise Unread("there is no such opening")
+            raise RowError("there is no such opening")
         return self.table.openings[name]
 
     def put(self, opening: Opening) -> None:
@@ -72,7 +83,7 @@ class Story:
         self.output += opening.output
 
     def given_of(self, mark: str, rest: str) -> bytes:
-        """The octets of an input that a line stands for."""
+        """The octets of the input that a line writes."""
         if mark == "~":
             return octets(rest)
         if mark == "<<":
@@ -83,12 +94,12 @@ class Story:
             return add_command(name, self.opening(opening).given + octets(text))
         return lines_of(rest, mark == "<#")
 
-    def runs(self, row: Row) -> Iterator[tuple[str, Run]]:
-        """The run, and those beside workers, each with its name."""
-        wanted = Said(self.output, self.errors, self.status)
+    def runs(self, row: TableRow) -> Iterator[tuple[str, ProgramRun]]:
+        """The run, and those with workers, each with its name."""
+        wanted = ProgramOutput(self.output, self.errors, self.status)
         for name, more in [("", ()), *((f"-{it}", ("--workers", it)) for it in self.workers)]:
-            words = (*self.words, *(word.encode() for word in more))
-            run = Run(row, self.table.program, words, self.given, wanted, self.is_short)
+            arguments = (*self.arguments, *(it.encode() for it in more))
+            run = ProgramRun(row, self.table.program, arguments, self.given, wanted, self.is_short)
             yield slug(self.title) + name, run
 
 
@@ -96,16 +107,16 @@ def lines_in(path: str) -> bytes:
     """The lines of a file of the tree, or of the commands that add the scripts of a folder."""
     whole = TOP / path
     if not whole.exists():
-        raise Unread(f"there is no {path}")
+        raise RowError(f"there is no {path}")
     if path.endswith("/"):
         files = sorted(whole.glob("*.pkt"), key=os.fsencode)
         return subprocess.run([TOP / "tools" / "add_scripts.sh", *files], capture_output=True, check=True).stdout
     return whole.read_bytes().removesuffix(b"\n") + b"\n"
 
 
-def stories_in(table: Table) -> Iterator[Story]:
+def stories_in(table: Table) -> Iterator[RunStory]:
     """The stories of a table; a comment before the first line of one is its title."""
-    story = Story(table)
+    story = RunStory(table)
     for row in table.lines:
         if row.text.startswith("#"):
             if story.first is None and not row.text.startswith(MARK):
@@ -113,48 +124,48 @@ def stories_in(table: Table) -> Iterator[Story]:
             continue
         story.first = story.first or row
         with reading(row):
-            story.take(row)
+            story.read_row(row)
         if story.is_whole:
             yield story
-            story = Story(table)
+            story = RunStory(table)
     if story.first is not None:
-        raise Unread(f"{story.first}: the last story has no status")
+        raise RowError(f"{story.first}: the last story has no status")
 
 
-def stories(table: Table) -> Iterator[Case[Run]]:
+def stories(table: Table) -> Iterator[RowCase[ProgramRun]]:
     """Runs of the program, written line by line."""
     names: Counter[str] = Counter()
     for story in stories_in(table):
         assert story.first is not None
-        row = Row(story.first.file, story.first.line, story.title)
+        row = TableRow(story.first.file, story.first.line, story.title)
         for name, run in story.runs(row):
             names[name] += 1
             more = f"-{names[name]}" if names[name] > 1 else ""
-            yield Case(f"{name}{more}", row, (run,))
+            yield RowCase(f"{name}{more}", row, (run,))
 
 
-def titled_stories(table: Table) -> Iterator[Case[Run]]:
+def titled_stories(table: Table) -> Iterator[RowCase[ProgramRun]]:
     """Each story of the files that are rows as a run, so that one that hangs has its name."""
     for row in table.rows:
         yield from stories_of(TOP / row.text, table.program)
 
 
-def stories_of(file: Path, program: str) -> Iterator[Case[Run]]:
+def stories_of(file: Path, program: str) -> Iterator[RowCase[ProgramRun]]:
     """The stories of a file, each with the texts up to its end, and its rows, none of which is to differ."""
     texts: list[bytes] = []
     line = 1
     for number, story in enumerate(re.split(rb"^# ", file.read_bytes(), flags=re.MULTILINE)):
         title, *lines = story.split(b"\n")
-        told = [it for it in lines if it.strip()]
-        texts += [it for it in told if it.startswith(b"text ")]
-        rows = [it for it in told if not it.startswith(b"text ")]
+        written = [it for it in lines if it.strip()]
+        texts += [it for it in written if it.startswith(b"text ")]
+        rows = [it for it in written if not it.startswith(b"text ")]
         if number and rows:
             given = b"".join(it + b"\n" for it in (*texts, *rows))
-            wanted = Said(b"%d rows, 0 differ\n" % len((*texts, *rows)), b"", 0)
-            row = Row(place_in_tree(file), line, title.decode())
-            yield Case(slug(row.text), row, (Run(row, program, (b"stories",), given, wanted),))
+            wanted = ProgramOutput(b"%d rows, 0 differ\n" % len((*texts, *rows)), b"", 0)
+            row = TableRow(place_in_tree(file), line, title.decode())
+            yield RowCase(slug(row.text), row, (ProgramRun(row, program, (b"stories",), given, wanted),))
         line += story.count(b"\n")
 
 
-STORIES = Kind(stories, tell_runs, answer=run_answers)
-TITLED_STORIES = Kind(titled_stories, tell_runs)
+STORIES = TableKind(stories, check_runs, answer=run_answers)
+TITLED_STORIES = TableKind(titled_stories, check_runs)

@@ -15,26 +15,26 @@ PROGRAM = "pdregress"
 HEADING = re.compile(r"\[([^]]+)\] ([a-z ]+?)(?: of (\w+))?(?: after (\w+))?")
 # The kinds that may stand after an opening.
 OPENED = ("opening", "scripts", "explained")
-# A line that begins so stands before a row whose answer was taken from the program.
+# The first octets of a line before a row whose answer was taken from the program.
 MARK = "#?"
 SHORT = {b"n": b"\n", b"r": b"\r", b"t": b"\t", b"\\": b"\\"}
 
 
-class Unread(Exception):
+class RowError(Exception):
     """Why a row isn't written as its table wants it."""
 
 
 @contextmanager
-def reading(row: "Row") -> Iterator[None]:
-    """Where a row can't be read, says which one it is."""
+def reading(row: "TableRow") -> Iterator[None]:
+    """Adds to an error the row that can't be read."""
     try:
         yield
-    except Unread as why:
-        raise Unread(f"{row}: {why}") from None
+    except RowError as why:
+        raise RowError(f"{row}: {why}") from None
 
 
 @dataclass(frozen=True)
-class Row:
+class TableRow:
     """A line of a file of rows, and of what it stands for the part that is meant: a length or an octet."""
 
     file: str
@@ -48,15 +48,15 @@ class Row:
 
 @dataclass(frozen=True)
 class Opening:
-    """What stands before a script or an input, and what is then written before the rest of an output."""
+    """The text before a script or an input, and the one before the rest of an output."""
 
     given: bytes = b""
     output: bytes = b""
 
 
 @dataclass(frozen=True)
-class Chance:
-    """What a run chooses of what is drawn: the seed of each table, and how many rows, at least, or recoveries."""
+class DrawOptions:
+    """The options of a run that draws: the seed of each table, and how many rows, at least, or recoveries."""
 
     seed: int | None = None
     rows: int | None = None
@@ -64,25 +64,25 @@ class Chance:
 
 @dataclass(frozen=True)
 class Table:
-    """A table: its heading, its name and kind, the program that is told, and its lines, comments among them."""
+    """A table: its heading, its name and kind, the program that it runs, and its lines, comments among them."""
 
-    heading: Row
+    heading: TableRow
     name: str
     kind: str
     program: str = PROGRAM
     opening: str = ""
     before: Opening = Opening()
     openings: Mapping[str, Opening] = field(default_factory=dict)
-    lines: list[Row] = field(default_factory=list)
-    chance: Chance = Chance()
+    lines: list[TableRow] = field(default_factory=list)
+    draw_options: DrawOptions = DrawOptions()
 
     @property
-    def rows(self) -> list[Row]:
+    def rows(self) -> list[TableRow]:
         """The lines that are no comments."""
         return [row for row in self.lines if not row.text.startswith("#")]
 
     @property
-    def marks(self) -> list[Row]:
+    def marks(self) -> list[TableRow]:
         """The lines that mark the row after them."""
         return [row for row in self.lines if row.text.startswith(MARK)]
 
@@ -96,10 +96,10 @@ def octets(text: str) -> bytes:
     """The octets that a row writes."""
 
     def octet(found: re.Match[bytes]) -> bytes:
-        word = found[1]
-        if not word:
-            raise Unread("there is no such escape")
-        return SHORT[word] if word in SHORT else bytes([int(word[1:], 16)])
+        escape = found[1]
+        if not escape:
+            raise RowError("there is no such escape")
+        return SHORT[escape] if escape in SHORT else bytes([int(escape[1:], 16)])
 
     whole = re.sub(r"\\<(\d+) (.*?)\\>", lambda found: found[2] * int(found[1]), text)
     return re.sub(rb"\\(x[0-9a-f]{2}|[nrt\\]|)", octet, whole.encode())
@@ -111,7 +111,7 @@ def lines_of(rest: str, is_many: bool) -> bytes:
         return octets(rest) + b"\n"
     found = re.fullmatch(r"(\d+) (\d+) (.*)", rest)
     if not found:
-        raise Unread("such a line has two numbers and a text")
+        raise RowError("such a line has two numbers and a text")
     numbers = range(int(found[1]), int(found[2]) + 1)
     return b"".join(octets(found[3].replace("#", str(number))) + b"\n" for number in numbers)
 
@@ -120,19 +120,19 @@ def parted(text: str, mark: str, why: str) -> tuple[str, str]:
     """What stands before the first mark and after it."""
     front, found, back = text.partition(mark)
     if not found:
-        raise Unread(why)
+        raise RowError(why)
     return front, back
 
 
-def heading_of(row: Row) -> Table:
+def heading_of(row: TableRow) -> Table:
     """The table of a heading `[NAME] KIND`, perhaps with `of PROGRAM` and `after OPENING`, without its lines."""
     found = HEADING.fullmatch(row.text)
     if not found:
-        raise Unread("a heading is [NAME] KIND")
+        raise RowError("a heading is [NAME] KIND")
     if found[3] and not found[2].endswith(("stories", "random rows")):
-        raise Unread("only stories and random rows are of a program")
+        raise RowError("only stories and random rows are of a program")
     if found[4] and found[2] not in OPENED:
-        raise Unread("only openings, scripts and what is explained stand after one")
+        raise RowError("only openings, scripts and what is explained stand after one")
     return Table(row, found[1], found[2], found[3] or PROGRAM, found[4] or "")
 
 
@@ -140,16 +140,16 @@ def tables_of(file: Path) -> list[Table]:
     """The tables of a file, as they are written."""
     tables: list[Table] = []
     for number, line in enumerate(file.read_bytes().decode().split("\n"), 1):
-        row = Row(place_in_tree(file), number, line)
+        row = TableRow(place_in_tree(file), number, line)
         with reading(row):
             if line.startswith("["):
                 tables.append(heading_of(row))
             elif line and tables:
                 tables[-1].lines.append(row)
             elif line and (not line.startswith("#") or line.startswith(MARK)):
-                raise Unread("a row stands in a table")
+                raise RowError("a row stands in a table")
     if not tables:
-        raise Unread("a file has a table at least")
+        raise RowError("a file has a table at least")
     return tables
 
 
@@ -164,18 +164,18 @@ def opening_of(table: Table) -> Opening:
             elif mark in ("<", "~"):
                 given += octets(rest) + (b"\n" if mark == "<" else b"")
             else:
-                raise Unread("a line of an opening begins with <, ~ or >")
+                raise RowError("a line of an opening begins with <, ~ or >")
     return Opening(given, output)
 
 
 def opened(table: Table, openings: Mapping[str, Opening]) -> Table:
     """A table with the openings before it, and with the one that it names."""
     if table.opening not in openings:
-        raise Unread("there is no such opening")
+        raise RowError("there is no such opening")
     if not table.rows:
-        raise Unread("a table has a row at least")
+        raise RowError("a table has a row at least")
     if table.kind == "opening" and table.name in openings:
-        raise Unread("an opening has this name")
+        raise RowError("an opening has this name")
     return replace(table, before=openings[table.opening], openings=openings)
 
 

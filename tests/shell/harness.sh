@@ -43,7 +43,7 @@ run_alone() { # ARGUMENT..: the same by pytest without xdist
 }
 
 run_plainly() { # ARGUMENT..: the same where pytest is missing
-    (cd "$small/tests/cases" && counted 1 ../harness/plain.py "$@")
+    (cd "$small/tests/cases" && counted 1 ../harness/without_pytest.py "$@")
 }
 
 test_rows() {

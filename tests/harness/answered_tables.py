@@ -5,13 +5,13 @@ from dataclasses import dataclass
 from pathlib import Path
 from typing import Any, Optional
 
-from harness.asking import Asking
-from harness.comparing import Answer, Case, said_lines
+from harness.calls import CallSteps
+from harness.compare import RowAnswer, RowCase, output_lines
 from harness.kinds import KINDS
 from harness.recordings import RECORDS
-from harness.tables import PROGRAM, Table, Unread, read_tables
+from harness.tables import PROGRAM, Table, RowError, read_tables
 
-Answers = list[Optional[Answer]]
+Answers = list[Optional[RowAnswer]]
 # The programs in which the sender runs.
 SENDER_PROGRAMS = (PROGRAM, RECORDS)
 
@@ -22,14 +22,14 @@ class AnsweredTable:
 
     file: Path
     table: Table
-    cases: list[Case[Any]]
+    cases: list[RowCase[Any]]
 
-    def answers(self) -> Asking[list[Answers]]:
-        """The answers to the tries of each case."""
+    def answers(self) -> CallSteps[list[Answers]]:
+        """The answers to the checks of each case."""
         answer = KINDS[self.table.kind].answer
         assert answer is not None
-        answers = iter((yield from answer([it for case in self.cases for it in case.tries])))
-        return [[next(answers) for _ in case.tries] for case in self.cases]
+        answers = iter((yield from answer([it for case in self.cases for it in case.checks])))
+        return [[next(answers) for _ in case.checks] for case in self.cases]
 
 
 def answered_tables_in(file: Path) -> Iterator[AnsweredTable]:
@@ -38,16 +38,16 @@ def answered_tables_in(file: Path) -> Iterator[AnsweredTable]:
         for table in read_tables(file):
             if table.kind in KINDS and KINDS[table.kind].answer and table.program in SENDER_PROGRAMS:
                 yield AnsweredTable(file, table, list(KINDS[table.kind].read(table)))
-    except Unread:
+    except RowError:
         return
 
 
-def difference(case: Case[Any], answers: Sequence[Optional[Answer]]) -> Optional[tuple[Answer, Answer]]:
-    """The wanted answer of a case and the given one, of its first try where they differ."""
-    each = ((it.wanted, answer) for it, answer in zip(case.tries, answers))
+def difference(case: RowCase[Any], answers: Sequence[Optional[RowAnswer]]) -> Optional[tuple[RowAnswer, RowAnswer]]:
+    """The wanted answer of a case and the given one, of its first check where they differ."""
+    each = ((it.wanted, answer) for it, answer in zip(case.checks, answers))
     return next(((wanted, answer) for wanted, answer in each if answer is not None and answer != wanted), None)
 
 
-def one_line(answer: Answer) -> str:
+def one_line(answer: RowAnswer) -> str:
     """An answer on one line."""
-    return answer if isinstance(answer, str) else " ".join(said_lines(answer))
+    return answer if isinstance(answer, str) else " ".join(output_lines(answer))

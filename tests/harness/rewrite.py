@@ -4,21 +4,21 @@ from collections.abc import Iterator, Mapping, Sequence
 from dataclasses import dataclass, field
 from difflib import SequenceMatcher
 
-from harness.asking import Said
-from harness.stories import Story
-from harness.tables import MARK, Row
+from harness.calls import ProgramOutput
+from harness.stories import RunStory
+from harness.tables import MARK, TableRow
 
 MARKED = f"{MARK} taken from the program: work it out by hand, and then take this line away"
-# New lines by the numbers of those in whose place they stand.
+# New lines by the numbers of those that they replace.
 Lines = dict[int, list[str]]
 WRITTEN = {ord("\\"): "\\\\", ord("\t"): "\\t", ord("\r"): "\\r"}
 STATUSES = (0, 1, 2)
-# The marks of lines of a story that say what is said on the two outputs.
+# The marks of the lines of a story that have the two outputs.
 OUTPUT = (">", ">#", ">>", "after")
 ERRORS = ("!", "!~")
 
 
-class Untaken(Exception):
+class AcceptError(Exception):
     """Why a row can't be written with another answer."""
 
 
@@ -29,50 +29,50 @@ def written(line: bytes) -> str:
     return text.replace("\\\\<", "\\\\\\x3c")
 
 
-def with_verdict(row: Row, verdict: str) -> Lines:
+def with_verdict(row: TableRow, verdict: str) -> Lines:
     """A row `VERDICT: SCRIPT` or `VERDICT under TERM, ..: SCRIPT` with another verdict."""
     head, _, script = row.text.partition(":")
     _, under, terms = head.partition(" under ")
     return {row.line: [MARKED, f"{verdict}{under}{terms}:{script}"]}
 
 
-def with_explained(rows: Sequence[Row], turned: Mapping[int, str]) -> Lines:
+def with_explained(rows: Sequence[TableRow], changed: Mapping[int, str]) -> Lines:
     """The rows of a table of explanations; those of some lines have another answer, which stands before them."""
     lines: Lines = {}
     wanted = ""
-    # What the last line `> WHAT` says, as far as it was written, and whether it is marked.
-    said = ("", False)
+    # The last line `> WHAT` that is written so far, and whether it is marked.
+    last = ("", False)
     for row, after in zip(rows, [*rows[1:], None]):
         if row.text.startswith("> "):
             wanted = row.text
-            if after is not None and after.text.startswith("<") and after.line not in turned:
-                said = (wanted, False)
+            if after is not None and after.text.startswith("<") and after.line not in changed:
+                last = (wanted, False)
             else:
                 lines[row.line] = []
             continue
-        now = (f"> {turned[row.line]}", True) if row.line in turned else (wanted, False)
-        if now != said:
+        now = (f"> {changed[row.line]}", True) if row.line in changed else (wanted, False)
+        if now != last:
             lines[row.line] = [*([MARKED] if now[1] else []), now[0], row.text]
-        said = now
+        last = now
     return lines
 
 
 @dataclass
-class Piece:
-    """A line of a story that stands for lines that are said, and these as they are said now."""
+class StoryPiece:
+    """A line of a story that stands for lines of an output, and these lines as they are now."""
 
-    row: Row
+    row: TableRow
     mark: str
     before: list[bytes]
     now: list[bytes] = field(default_factory=list)
 
     def lines(self) -> list[str]:
-        """The line as it stands, and lines for what else is said; or other lines in its place."""
+        """The line as it stands, and lines for the rest of the output; or other lines in its place."""
         count = len(self.before)
         if self.now[:count] == self.before:
             return [self.row.text, *self.written(self.now[count:])]
         if self.mark in (">>", "after"):
-            raise Untaken(f"'{self.row.text}' says otherwise now: change what it names")
+            raise AcceptError(f"'{self.row.text}' differs now: change what it names")
         return list(self.written(self.now))
 
     def written(self, lines: Sequence[bytes]) -> Iterator[str]:
@@ -83,59 +83,59 @@ class Piece:
                 yield f"> {written(line)}"
 
 
-def pieces_of(story: Story, marks: Sequence[str]) -> Iterator[Piece]:
+def pieces_of(story: RunStory, marks: Sequence[str]) -> Iterator[StoryPiece]:
     """The lines of a story with these marks."""
     for row in story.rows:
         mark = row.text.partition(" ")[0]
         if mark in marks:
-            alone = Story(story.table)
-            alone.take(row)
-            yield Piece(row, mark, (alone.output + alone.errors).split(b"\n")[:-1])
+            alone = RunStory(story.table)
+            alone.read_row(row)
+            yield StoryPiece(row, mark, (alone.output + alone.errors).split(b"\n")[:-1])
 
 
-def share(pieces: Sequence[Piece], said: Sequence[bytes]) -> list[bytes]:
-    """Shares what is said among lines; the answer is what is said before the first of them."""
+def share(pieces: Sequence[StoryPiece], output: Sequence[bytes]) -> list[bytes]:
+    """Shares the lines of an output among pieces; the result is the lines before the first piece."""
     owners = [piece for piece in pieces for _ in piece.before]
     before = [line for piece in pieces for line in piece.before]
     first: list[bytes] = []
-    for _, start, end, low, high in SequenceMatcher(None, before, list(said), autojunk=False).get_opcodes():
-        for place, line in enumerate(said[low:high], start):
+    for _, start, end, low, high in SequenceMatcher(None, before, list(output), autojunk=False).get_opcodes():
+        for place, line in enumerate(output[low:high], start):
             owner = owners[min(place, end - 1)] if start < end else owners[start - 1] if start else None
             (first if owner is None else owner.now).append(line)
     return first
 
 
-def lines_said(text: bytes) -> list[bytes]:
-    """The lines of what is said, which ends with a newline."""
+def whole_lines(text: bytes) -> list[bytes]:
+    """The lines of an output, which ends with a newline."""
     *lines, last = text.split(b"\n")
     if last:
-        raise Untaken("what is said has no newline at its end")
+        raise AcceptError("the output has no newline at its end")
     return lines
 
 
-def with_said(story: Story, marks: Sequence[str], said: bytes) -> tuple[Lines, list[str]]:
-    """The lines of a story with these marks, as they say this, and those that stand at its end where it has none."""
+def with_output(story: RunStory, marks: Sequence[str], output: bytes) -> tuple[Lines, list[str]]:
+    """The lines of a story with these marks, with another output, and those at its end where it has none."""
     pieces = list(pieces_of(story, marks))
-    first = share(pieces, lines_said(said))
+    first = share(pieces, whole_lines(output))
     lines = {it.row.line: it.lines() for it in pieces}
-    before = list(Piece(story.rows[-1], marks[0], []).written(first))
+    before = list(StoryPiece(story.rows[-1], marks[0], []).written(first))
     if pieces:
         begin = pieces[0].row.line
         lines[begin] = [*before, *lines[begin]]
     return lines, [] if pieces else before
 
 
-def with_story(story: Story, wanted: Said, said: Said) -> Lines:
-    """A story with what is said now. Lines that say the same stay as they are written."""
-    if said.status not in STATUSES:
-        raise Untaken("the program came to no end")
+def with_story(story: RunStory, wanted: ProgramOutput, output: ProgramOutput) -> Lines:
+    """A story with another output. Lines whose output is the same stay as they are written."""
+    if output.status not in STATUSES:
+        raise AcceptError("the program came to no end")
     lines: Lines = {}
     more: list[str] = []
-    for marks, one, other in ((OUTPUT, wanted.output, said.output), (ERRORS, wanted.errors, said.errors)):
+    for marks, one, other in ((OUTPUT, wanted.output, output.output), (ERRORS, wanted.errors, output.errors)):
         if one != other:
-            changed, last = with_said(story, marks, other)
+            changed, last = with_output(story, marks, other)
             lines, more = {**lines, **changed}, [*more, *last]
     begin, end = story.rows[0], story.rows[-1]
-    lines[end.line] = [*more, f"= {said.status}"]
+    lines[end.line] = [*more, f"= {output.status}"]
     lines[begin.line] = [MARKED, *lines.get(begin.line, [begin.text])]
     return lines

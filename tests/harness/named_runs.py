@@ -2,25 +2,25 @@
 
 from collections.abc import Iterator
 
-from harness.asking import Said
-from harness.comparing import Case, Run
+from harness.calls import ProgramOutput
+from harness.compare import RowCase, ProgramRun
 from harness.stories import slug, stories, titled_stories
-from harness.tables import CASES, TOP, Row, Unread, read_tables
+from harness.tables import CASES, TOP, TableRow, RowError, read_tables
 
 DESK = "test_desk"
-# What test_desk tries after the stories, a word each, and a line of its output.
+# The parts of test_desk after the stories: the argument of each, which has a line of the output.
 PARTS = ("overlap", "schedules", "orders")
 
 
-def parts() -> Iterator[Case[Run]]:
-    """Each further part of test_desk as a run, which is told no story."""
+def parts() -> Iterator[RowCase[ProgramRun]]:
+    """Each further part of test_desk as a run without a story."""
     lines = (TOP / "crates" / DESK / "stdout").read_bytes().splitlines(keepends=True)[1:]
-    for word, line in zip(PARTS, lines, strict=True):
-        row = Row(f"crates/{DESK}/stdout", 1, word)
-        yield Case(word, row, (Run(row, DESK, (word.encode(),), b"", Said(line, b"", 0)),))
+    for part, line in zip(PARTS, lines, strict=True):
+        row = TableRow(f"crates/{DESK}/stdout", 1, part)
+        yield RowCase(part, row, (ProgramRun(row, DESK, (part.encode(),), b"", ProgramOutput(line, b"", 0)),))
 
 
-def cases_of(kind: str) -> list[Case[Run]]:
+def cases_of(kind: str) -> list[RowCase[ProgramRun]]:
     """The cases among which a name of this kind is looked for."""
     match kind:
         case "story":
@@ -33,12 +33,12 @@ def cases_of(kind: str) -> list[Case[Run]]:
             return []
 
 
-def runs_named(test: str) -> list[Run]:
-    """The runs of this name; of a story that is told beside workers these alone."""
+def runs_named(test: str) -> list[ProgramRun]:
+    """The runs of this name; of a story that is run with workers these runs alone."""
     kind, _, title = test.partition(" ")
     name = slug(title)
     cases = [case for case in cases_of(kind) if slug(case.row.text) == name]
     if not cases:
-        raise Unread(f"there is no {test}")
-    beside = [case for case in cases if case.name != name]
-    return [run for case in beside or cases for run in case.tries]
+        raise RowError(f"there is no {test}")
+    with_workers = [case for case in cases if case.name != name]
+    return [run for case in with_workers or cases for run in case.checks]
