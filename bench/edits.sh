@@ -7,7 +7,7 @@
 # Last, a script that grows by an event a settle to 4,096: each of the last ten settles may cost 1.5 times what one costs
 # after an edit of the last line of the same script, added whole. The status tells whether it does.
 #
-#   bench/edits.sh [TURNS]      2,000 turns if nothing is said, a tenth of them for instructions
+#   bench/edits.sh [TURNS]      2,000 turns by default, a tenth of them for instructions
 . "$(dirname "$0")/program.sh"
 turns=${1:-2000}
 transfers 1 >"$work/script"

@@ -3,7 +3,7 @@
 # those without that word. Where all scripts fail at their last event, by another packet or by none, they may be 1.5 times as
 # many, where none fails 1.02 times; the status tells whether they are no more. Needs valgrind.
 #
-#   bench/explain.sh [SCRIPTS]      1,000 scripts of 60 events if nothing is said
+#   bench/explain.sh [SCRIPTS]      1,000 scripts of 60 events by default
 . "$(dirname "$0")/program.sh"
 scripts=${1:-1000}
 

@@ -46,7 +46,7 @@ def hover(client: LspClient, uri: str) -> float:
     return (time.monotonic() - begin) * 1_000
 
 
-def told(what: str, times: list[float]) -> None:
+def print_times(what: str, times: list[float]) -> None:
     """Prints the median and the worst."""
     middle, worst = statistics.median(times), max(times)
     print(f"{len(times)} times: {what} after {middle:.1f} ms, the median; {worst:.1f} ms at worst")
@@ -68,8 +68,8 @@ def main() -> int:
             uri = uris[number // 2 * 7 % len(uris)]
             changes.append(change(client, uri, is_bad=number % 2 == 0))
             hovers.append(hover(client, uri))
-    told("diagnostics come", changes)
-    told("hover is answered", hovers)
+    print_times("diagnostics come", changes)
+    print_times("hover is answered", hovers)
     return int(statistics.median(changes) > MEDIAN or max(changes) > MOST or max(hovers) > HOVER)
 
 

@@ -15,7 +15,7 @@ from trees import Mutant
 import building
 from mutant_files import Change, place_of
 from build_cache import PROGRAMS
-from kit_tools import known_kit, words_of_compiler, words_of_linker
+from kit_tools import compiler_command, known_kit, linker_command
 
 # The function that gives the number, in the root of each crate that a mutant changes.
 CHOOSER = "chosen_mutant"
@@ -34,7 +34,7 @@ _FIRST_USE = re.compile(r"^use |^pub use |^mod ", re.MULTILINE)
 Body = tuple[int, int]
 
 
-class BuildError(Exception):
+class OneBuildError(Exception):
     """That mutants can't be built into one program, and why."""
 
 
@@ -58,7 +58,7 @@ def _with_bodies(text: str, changes: Iterable[tuple[int, Change]]) -> str:
         begin, end = place_of(it, text, True)
         body = next((one for one in bodies if one[0] <= begin and end <= one[1]), None)
         if body is None:
-            raise BuildError(f"{it.file}: '{it.old}' stands in no function")
+            raise OneBuildError(f"{it.file}: '{it.old}' stands in no function")
         found.setdefault(body, {}).setdefault(number, []).append(((begin, end), it.new))
     for (begin, end), numbers in sorted(found.items(), reverse=True):
         arms = "".join(f"{number} => {{{_changed(text, (begin, end), it)}}}\n" for number, it in numbers.items())
@@ -90,36 +90,29 @@ def bodies_in(text: str) -> Iterator[Body]:
 
 def build(tree: Path, folder: Path) -> Path:
     """Builds a tree with all mutants in a folder; the program serves as both."""
-    kit, words = known_kit(), None
+    kit = known_kit()
     building.read(kit, tree, folder, print_phase)
     module = folder / "module.ll"
-    words = [
-        str(kit.compiler),
-        "-x",
-        "ir",
-        "-S",
-        "-emit-llvm",
-        "-O0",
-        str(folder / "entry/module.bc"),
-        "-o",
-        str(module),
-    ]
-    subprocess.run(words, check=True)
+    source = str(folder / "entry/module.bc")
+    command = [str(kit.compiler), "-x", "ir", "-S", "-emit-llvm", "-O0", source, "-o", str(module)]
+    subprocess.run(command, check=True)
     text, count = _DEFINED.subn(lambda it: f"{it[1]}{_LOADS}{it[2]}", module.read_text())
     if not count:
-        raise BuildError("the module doesn't have the function that gives the number")
+        raise OneBuildError("the module doesn't have the function that gives the number")
     module.write_text(f"{text}\n{_GLOBAL}")
-    given = (folder / "entry/words").read_text().splitlines()
-    compile_words = [it.replace("module.bc", "module.ll") for it in words_of_compiler(kit, given)]
-    building.checked(compile_words, folder, lambda: print_phase(building.COMPILING))
-    building.checked(building.words_of_handler(kit, folder / "handler.o"), folder, lambda: None)
+    given = (folder / "entry/arguments").read_text().splitlines()
+    compile_command = [it.replace("module.bc", "module.ll") for it in compiler_command(kit, given)]
+    building.run_checked(compile_command, folder, lambda: print_phase(building.COMPILING))
+    building.run_checked(building.handler_command(kit, folder / "handler.o"), folder, lambda: None)
     program = folder / "program"
-    building.checked(words_of_linker(kit, (folder / "module.o", folder / "handler.o"), program), folder, lambda: None)
+    building.run_checked(
+        linker_command(kit, (folder / "module.o", folder / "handler.o"), program), folder, lambda: None
+    )
     return program
 
 
 def print_phase(phase: str) -> None:
-    """Builds say nothing here."""
+    """Builds print nothing here."""
 
 
 def choose(program: Path, number: int, folder: Path) -> dict[str, Path]:
@@ -128,7 +121,7 @@ def choose(program: Path, number: int, folder: Path) -> dict[str, Path]:
     mark = b"".join(it.to_bytes(4, "little") for it in _MARK)
     place = octets.find(mark)
     if place < 0 or octets.find(mark, place + 1) >= 0:
-        raise BuildError("the program doesn't have just one place for the number")
+        raise OneBuildError("the program doesn't have just one place for the number")
     place += len(mark)
     folder.mkdir()
     for name in PROGRAMS:

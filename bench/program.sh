@@ -54,6 +54,6 @@ transfers() { # how many
 instructions() { # the input, and the words
     input=$1
     shift
-    valgrind --tool=callgrind --callgrind-out-file="$work/calls" "$program" "$@" <"$input" >/dev/null 2>"$work/said" || [ $? -le 2 ]
+    valgrind --tool=callgrind --callgrind-out-file="$work/calls" "$program" "$@" <"$input" >/dev/null 2>"$work/errors" || [ $? -le 2 ]
     sed -n 's/^summary: \([0-9]*\).*/\1/p; s/^totals: \([0-9]*\).*/\1/p' "$work/calls" | head -n 1
 }

@@ -4,7 +4,7 @@
 # takes. They may be 3 times as many; the status tells whether they are no more. It also says what a start costs by itself,
 # and how many times it is with the starts of pdrecord, and where pdregress is started for each script too. Needs valgrind.
 #
-#   bench/record.sh [SCRIPTS]      100 scripts of 60 events if nothing is said, as valgrind takes a second for each. RECORD
+#   bench/record.sh [SCRIPTS]      100 scripts of 60 events by default, as valgrind takes a second for each. RECORD
 #                                  names another build of pdrecord
 . "$(dirname "$0")/program.sh"
 record=${RECORD:-$top/crates/pdrecord/out/pdrecord}

@@ -54,7 +54,7 @@ SECONDS = 60.0
 
 
 @dataclass(frozen=True)
-class Bench:
+class SearchBench:
     """What all mutants are searched with: the base, its scripts, the program with all mutants, and the options."""
 
     base: Path
@@ -116,7 +116,7 @@ def main() -> int:
             apply_all(mutants, tree)
             work.mkdir()
             shutil.copy(build(tree, work), program)
-        bench = Bench(base, scripts_in(base, stop), program, options, stop)
+        bench = SearchBench(base, scripts_in(base, stop), program, options, stop)
         found = []
         for number, mutant in enumerate(mutants, 1):
             if not options.names or mutant.name in options.names:

@@ -51,7 +51,7 @@ Rows = Mapping[str, str]
 
 
 @dataclass
-class Tree:
+class SenderTree:
     """A clone with a copy of the suite, the texts of each rule by its files, and which rule was put there when."""
 
     top: Path
@@ -84,9 +84,9 @@ class Tree:
 
     def run(self) -> Rows:
         """The rows of `pdsuite run`."""
-        words = [self.top / "pdsuite", "run", "-v", SUITE]
-        said = subprocess.run(words, cwd=self.top, capture_output=True, text=True).stdout
-        return {it[1]: row_of(it) for it in map(ROW.match, said.splitlines()) if it}
+        command = [self.top / "pdsuite", "run", "-v", SUITE]
+        printed = subprocess.run(command, cwd=self.top, capture_output=True, text=True).stdout
+        return {it[1]: row_of(it) for it in map(ROW.match, printed.splitlines()) if it}
 
     def standing(self, since: float, until: float) -> set[str]:
         """The rules that stood at some time between two moments."""
@@ -98,7 +98,7 @@ def row_of(found: "re.Match[str]") -> str:
     return f"{found[2] or ''} {found[3]}"
 
 
-class Watching:
+class WatchRun:
     """A started `pdsuite watch -v`: what it has printed, the rows that stand, and those of each report that is current.
 
     Of a report it is known after which moment it began, and when it ended.
@@ -158,7 +158,7 @@ class Watching:
             self._since = moment
 
 
-def measure(tree: Tree, watching: Watching) -> None:
+def measure(tree: SenderTree, watching: WatchRun) -> None:
     """Says how long after a save of each rule, and of a script, the first row comes."""
     script = tree.top / SUITE / SAVED[0]
     for rule in [it for it in tree.texts if it not in (OWN, WRONG)] + [OWN]:
@@ -177,7 +177,7 @@ def measure(tree: Tree, watching: Watching) -> None:
         watching.first(watching.first(time.monotonic(), f"{SUITE}/"), "total ")
 
 
-def truths(tree: Tree) -> dict[str, list[Rows]]:
+def truths(tree: SenderTree) -> dict[str, list[Rows]]:
     """The rows of each rule under each setting, but for the scripts that are saved; none of one that isn't built."""
     found: dict[str, list[Rows]] = {WRONG: []}
     for rule in (it for it in tree.texts if it != WRONG):
@@ -194,7 +194,7 @@ def untouched(rows: Rows) -> Rows:
     return {path: row for path, row in rows.items() if path.removeprefix(f"{SUITE}/") not in SAVED}
 
 
-def hold_storm(tree: Tree, watching: Watching, saves: int, seed: int, most: int) -> None:
+def hold_storm(tree: SenderTree, watching: WatchRun, saves: int, seed: int, most: int) -> None:
     """Saves rules, settings and scripts at random, and waits until the rows that stand are those of a run.
 
     A save of a rule has at most so many lines that make its build a new one.
@@ -221,7 +221,7 @@ def hold_storm(tree: Tree, watching: Watching, saves: int, seed: int, most: int)
     print(f"{saves} saves, the last one of {last}: the {len(truth)} rows that stand are those of a run", flush=True)
 
 
-def hold_reports(tree: Tree, watching: Watching, known: Mapping[str, list[Rows]]) -> bool:
+def hold_reports(tree: SenderTree, watching: WatchRun, known: Mapping[str, list[Rows]]) -> bool:
     """Whether each report that counts as current has the rows of a rule that stood while it was made."""
     is_well = True
     for since, moment, rows in watching.reports:
@@ -240,18 +240,18 @@ def main() -> int:
     parser.add_argument("--seed", type=int, default=1, help="which ones")
     parser.add_argument("--rule", action="append", default=[], help="a rule of rules.mutants, and no other")
     parser.add_argument("--kept", action="store_true", help="have no rule built anew in the storm")
-    asked = parser.parse_args()
+    options = parser.parse_args()
     print(f"{os.cpu_count()} processors, load {os.getloadavg()[0]:.1f}", flush=True)
     with tempfile.TemporaryDirectory(prefix="pdsender-") as folder:
-        tree = Tree(Path(folder) / "tree")
-        tree.prepare(asked.rule)
+        tree = SenderTree(Path(folder) / "tree")
+        tree.prepare(options.rule)
         tree.put_rule(OWN)
-        watching = Watching(tree.top)
+        watching = WatchRun(tree.top)
         try:
             watching.first(0.0, "total ")
             measure(tree, watching)
             known = truths(tree)
-            hold_storm(tree, watching, asked.saves, asked.seed, 0 if asked.kept else 1)
+            hold_storm(tree, watching, options.saves, options.seed, 0 if options.kept else 1)
         finally:
             watching.end()
         is_well = hold_reports(tree, watching, known)

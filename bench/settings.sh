@@ -4,7 +4,7 @@
 # first time. What the commands and the reports themselves cost is taken off. Tells nanoseconds, and where valgrind is there
 # instructions, which don't vary with the load. The scripts are to be answered again at least five times as fast.
 #
-#   bench/settings.sh [SCRIPTS]      1,000 scripts if nothing is said, at most 1,024; a tenth of them for instructions
+#   bench/settings.sh [SCRIPTS]      1,000 scripts by default, at most 1,024; a tenth of them for instructions
 . "$(dirname "$0")/program.sh"
 scripts=${1:-1000}
 
@@ -40,7 +40,7 @@ nanoseconds() { # the input, and the words
     input=$1
     shift
     begin=$(date +%s%N)
-    "$program" "$@" <"$input" >/dev/null 2>"$work/said" || [ $? -eq 2 ]
+    "$program" "$@" <"$input" >/dev/null 2>"$work/errors" || [ $? -eq 2 ]
     echo $(($(date +%s%N) - begin))
 }
 

@@ -3,7 +3,7 @@
 # is there, also a settle of 1,024 scripts of which one changed: the instructions for each script that didn't change, in which
 # the octets of its row are counted. What ten such settles of that one script alone take is taken off.
 #
-#   bench/settle.sh [SCRIPTS [EVENTS]]      1,000 scripts of 60 events if nothing is said
+#   bench/settle.sh [SCRIPTS [EVENTS]]      1,000 scripts of 60 events by default
 . "$(dirname "$0")/program.sh"
 scripts=${1:-1000}
 events=${2:-60}

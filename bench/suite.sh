@@ -8,7 +8,7 @@
 # Or measures `pdsuite lsp` with 500 scripts of 60 events open: the time from a change to its diagnostics, 20 ms in the median
 # and 60 ms at most, and to what hover shows, 30 ms at most.
 #
-#   bench/suite.sh [SCRIPTS [EVENTS]]      100,000 scripts of 20 events if nothing is said. PDSUITE_PROGRAMS names the folder
+#   bench/suite.sh [SCRIPTS [EVENTS]]      100,000 scripts of 20 events by default. PDSUITE_PROGRAMS names the folder
 #                                          of another build, or PROGRAM that of pdregress
 #   bench/suite.sh watch [SAVES]
 #   bench/suite.sh idle [SECONDS [SCRIPTS]]
@@ -93,7 +93,7 @@ if [ "$mode" = cluster ]; then
     exit
 fi
 
-# The client runs in this process, so that its processor time is told from that of the programs.
+# The client runs in this process, so that its processor time and that of the programs are apart.
 cat >"$work/measure.py" <<'END'
 import os
 import sys

@@ -2,7 +2,7 @@
 # Measures a settle over generated scripts that transfer data: events per second, and where valgrind is there the
 # instructions of an event and the memory that the program takes beside its texts.
 #
-#   bench/transfers.sh [SCRIPTS]      1,000 scripts of 60 events if nothing is said
+#   bench/transfers.sh [SCRIPTS]      1,000 scripts of 60 events by default
 . "$(dirname "$0")/program.sh"
 scripts=${1:-1000}
 events=60

@@ -1,4 +1,4 @@
-"""Measures `pdsuite watch` over a folder: how long after a save its row comes, and how long after it the whole report; or
+"""Measures `pdsuite watch` over a folder: how long after a save its row comes, and how long after it the report; or
 what it takes of a processor while nothing happens.
 
 It is called by bench/suite.sh. Every second save is in place, every other one beside and renamed.

@@ -1,15 +1,15 @@
 #!/bin/sh
-# Measures a settle beside workers, over generated scripts that take long: without workers, with 1 and with 4, and how the
+# Measures a settle with workers, over generated scripts that take long: without workers, with 1 and with 4, and how the
 # times compare. A settle after a changed setting is measured, so that taking the scripts in, which no worker shares, and a
 # first settle are taken off. Far more scripts stand there than tracks are kept, and they come in the same order each time: a
 # script's track is gone before its turn comes, so each is read and run whole. Of several tries the best counts, since times
-# are noisy. A processor alone is often faster than four that are busy: so it also tells what 1 worker takes while three more
-# such programs run, and how 4 compare with that. Where valgrind is there, it also tells the instructions without workers and
-# with 1, which don't vary with the load, on a tenth of the scripts. Then it tells what acts cost beside a worker: the
+# are noisy. A processor alone is often faster than four that are busy: so it also prints what 1 worker takes while three more
+# such programs run, and how 4 compare with that. Where valgrind is there, it also prints the instructions without workers and
+# with 1, which don't vary with the load, on a tenth of the scripts. Then it prints what acts cost with a worker: the
 # memory that 1,000 scripts of nine lines take whose last line is edited 20 times each; and the instructions of 60,000 sets and
 # 2,000 reports without a script, so that no job runs and each report is compared with all acts.
 #
-#   bench/workers.sh [SCRIPTS [EVENTS [TRIES]]]      1,000 scripts of 2,000 events, 5 tries if nothing is said
+#   bench/workers.sh [SCRIPTS [EVENTS [TRIES]]]      1,000 scripts of 2,000 events, 5 tries by default
 . "$(dirname "$0")/program.sh"
 scripts=${1:-1000}
 events=${2:-2000}

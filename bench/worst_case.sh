@@ -5,7 +5,7 @@
 # than 2 seconds, and one that takes more than 50 ms at the greatest size no more than 6 times as long as at a quarter of it.
 # The status tells whether that is so. RECORD names another build of pdrecord.
 #
-#   bench/worst_case.sh [KIND..]      the kinds of scripts that are named, all if nothing is said
+#   bench/worst_case.sh [KIND..]      the kinds of scripts that are named, all by default
 . "$(dirname "$0")/program.sh"
 record=${RECORD:-$top/crates/pdrecord/out/pdrecord}
 [ -n "${RECORD:-}" ] || "$top/pdrecord" </dev/null >/dev/null

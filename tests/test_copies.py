@@ -12,7 +12,7 @@ TOP = Path(__file__).resolve().parents[1]
 sys.path.insert(0, str(TOP / "tools"))
 
 import copies  # noqa: E402
-from copies import Copy, copied, settled  # noqa: E402
+from copies import Copy, checked_copy, copied  # noqa: E402
 from source_sums import Unreadable  # noqa: E402
 
 CRATES = ("low", "top")
@@ -97,8 +97,8 @@ def test_a_copy_that_changes_while_it_is_made_is_refused(
 ) -> None:
     def late(top: Path, crates: tuple[str, ...]) -> Copy:
         change(top)
-        return settled(top, crates)
+        return checked_copy(top, crates)
 
-    monkeypatch.setattr(copies, "settled", late)
+    monkeypatch.setattr(copies, "checked_copy", late)
     with pytest.raises(Unreadable, match="copy has changed while it was made"):
         copied(tree, CRATES, [tmp_path / "copy"])

@@ -15,7 +15,7 @@ PAGE = "# a\n\n```console\n$ echo a\na\n$ echo b\nc\n```\n\n```console slow\n$ e
 
 
 def commands_of(text: str, why: str | None, monkeypatch: pytest.MonkeyPatch) -> list[main.Test]:
-    """What is told of the commands of a page, in an empty tree, where the programs aren't built for this reason."""
+    """The results of the commands of a page, in an empty tree, where the programs aren't built for this reason."""
 
     def built_tree(files: list[Path], folder: Path) -> str | None:
         folder.mkdir()
@@ -39,7 +39,7 @@ def test_what_watch_prints_of_a_build_is_left_to_who_walks_without_proofs(tmp_pa
     page = "```console follow\n$ sh -c 'echo a; sleep 60'\na\n```\n\n```console follow\nb\n```\n"
     steps = list(shown_in(page))
     assert list(walk(steps, tmp_path, 0.5, is_proved=True)) == []
-    assert [it.said for it in walk(steps, tmp_path, 0.5, is_proved=False)] == [None, ""]
+    assert [it.printed_instead for it in walk(steps, tmp_path, 0.5, is_proved=False)] == [None, ""]
 
 
 def test_a_block_of_an_unknown_kind_fails(monkeypatch: pytest.MonkeyPatch) -> None:

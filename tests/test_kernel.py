@@ -13,14 +13,14 @@ import tempfile
 import unittest
 from pathlib import Path
 
-from kernel.compare import Difference, Span, differing, is_told
+from kernel.compare import Difference, TimeSpan, differing, is_expected
 from kernel.device import NoDevice
-from kernel.main import Job, choice_of, run_once, runners, sorted_files
+from kernel.main import ScriptJob, options_of, run_once, runners, sorted_files
 from kernel.report import places_of, row_of
-from kernel.run import Outcome
-from kernel.script import Refused, read_script
-from kernel.settings import Settings, Tuning, settings_of, tuning_of
-from kernel.wire import PEER_ISN, Seen, decode, encode
+from kernel.run import RunOutcome
+from kernel.script import UnsupportedScript, read_script
+from kernel.settings import KernelSettings, Tuning, settings_of, tuning_of
+from kernel.wire import PEER_ISN, SeenPacket, decode, encode
 from pdsuite.faults import Fault
 from pdsuite.packetdrill.items import Call, Packet, TcpOption, Time
 
@@ -42,7 +42,7 @@ class Examples(unittest.TestCase):
                 self.assertEqual(doctest.testmod(importlib.import_module(f"kernel.{name}")).failed, 0)
 
 
-class Reading(unittest.TestCase):
+class ReadingTest(unittest.TestCase):
     def test_a_packet_with_all_its_parts(self) -> None:
         (event,) = read_script("\n+.5~+1 > P. 1:11(10) ack 2 win 3 <nop,sack 1:2 3:4> // why\n")
         options = (TcpOption("nop"), TcpOption("sack", (1, 2, 3, 4)))
@@ -67,7 +67,7 @@ class Reading(unittest.TestCase):
             "\n* < . 1:1(0) win 1",
             "\n0 > . 1:9(9)",
         ):
-            with self.assertRaises(Refused) as caught:
+            with self.assertRaises(UnsupportedScript) as caught:
                 read_script(text)
             self.assertEqual(caught.exception.line, 2)
 
@@ -93,20 +93,20 @@ class Wire(unittest.TestCase):
 
 
 class Comparing(unittest.TestCase):
-    seen = Seen(1.2, frozenset("."), 1, 1000, 1, 502, ())
+    seen = SeenPacket(1.2, frozenset("."), 1, 1000, 1, 502, ())
 
     def test_each_field_is_named(self) -> None:
         expected = Packet(False, "P", 1, 501, 2, 257, (TcpOption("nop"),))
-        fields = differing(expected, self.seen, Span(0.0, 1.0), frozenset())
+        fields = differing(expected, self.seen, TimeSpan(0.0, 1.0), frozenset())
         self.assertEqual(fields, ["time", "flags", "push", "seq", "ack", "win", "options"])
-        self.assertFalse(is_told(expected, self.seen))
+        self.assertFalse(is_expected(expected, self.seen))
 
     def test_what_is_ignored_or_not_written_does_not_differ(self) -> None:
         expected = Packet(False, "P.", 1, 1001)
         self.assertEqual(differing(expected, self.seen, None, {"push"}), [])
 
 
-class Setup(unittest.TestCase):
+class SetupTest(unittest.TestCase):
     def test_the_nearest_table_wins_and_words_before_all(self) -> None:
         with tempfile.TemporaryDirectory() as name:
             top = Path(name)
@@ -139,7 +139,7 @@ class Setup(unittest.TestCase):
         return str(raised.exception)
 
     def test_settings_become_switches_and_a_route(self) -> None:
-        tuning = tuning_of(read_script(OPENING), Settings(min_rto_us=300_000), {"net.ipv4.tcp_frto": "0"})
+        tuning = tuning_of(read_script(OPENING), KernelSettings(min_rto_us=300_000), {"net.ipv4.tcp_frto": "0"})
         self.assertEqual(tuning.route[:4], ("initcwnd", "4", "rto_min", "300ms"))
         self.assertIn(("net.ipv4.tcp_frto", "0"), tuning.sysctls)
         self.assertIn(("net.ipv4.tcp_rmem", "4096 131070 4194304"), tuning.sysctls)
@@ -152,29 +152,29 @@ class Setup(unittest.TestCase):
 
     def test_a_field_that_is_none_is_refused(self) -> None:
         with self.assertRaises(SystemExit), contextlib.redirect_stderr(io.StringIO()):
-            choice_of(["--ignore", "winter", "a.pkt"])
+            options_of(["--ignore", "winter", "a.pkt"])
 
 
 class Reporting(unittest.TestCase):
     def test_places_are_counted_over_runs(self) -> None:
-        bad = Outcome((Difference(9, "win", "a"), Difference(7, "time", "b")))
-        runs = [bad, Outcome(), Outcome((Difference(9, "win", "c"),))]
+        bad = RunOutcome((Difference(9, "win", "a"), Difference(7, "time", "b")))
+        runs = [bad, RunOutcome(), RunOutcome((Difference(9, "win", "c"),))]
         self.assertEqual([(it.line, it.field, it.runs) for it in places_of(runs)], [(7, "time", 1), (9, "win", 2)])
         rows = ["x: 1 of 3 pass", "  line 7 time: 1 of 3, b", "  line 9 win: 2 of 3, a"]
         self.assertEqual(list(row_of("x", runs)), rows)
 
 
-class Running(unittest.TestCase):
-    """Runs against the kernel; said to be skipped where there is no tun device."""
+class RunningTest(unittest.TestCase):
+    """Runs against the kernel, which are skipped where there is no tun device."""
 
-    def run_text(self, text: str, *ignored: str) -> Outcome:
+    def run_text(self, text: str, *ignored: str) -> RunOutcome:
         events = read_script(OPENING + text)
-        job = Job(Path("a.pkt"), events, tuning_of(events, Settings(), {}), frozenset(ignored))
+        job = ScriptJob(Path("a.pkt"), events, tuning_of(events, KernelSettings(), {}), frozenset(ignored))
         with runners(1) as pool:
             found = pool.apply(run_once, (job,))
         if isinstance(found, NoDevice):
             self.skipTest(f"no tun device here: {found}")
-        assert isinstance(found, Outcome)
+        assert isinstance(found, RunOutcome)
         return found
 
     def test_a_segment_is_sent(self) -> None:
@@ -195,7 +195,7 @@ class Running(unittest.TestCase):
         events = read_script(OPENING)
         tuning = Tuning((("net.ipv4.no_such_switch", "1"),), (), 1500, False)
         with runners(1) as pool:
-            self.assertIsInstance(pool.apply(run_once, (Job(Path("a"), events, tuning, frozenset()),)), NoDevice)
+            self.assertIsInstance(pool.apply(run_once, (ScriptJob(Path("a"), events, tuning, frozenset()),)), NoDevice)
 
 
 if __name__ == "__main__":

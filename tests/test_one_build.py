@@ -9,7 +9,7 @@ TOP = Path(__file__).resolve().parents[1]
 sys.path[:0] = [str(TOP / "tools"), str(TOP / "bench")]
 
 from mutant_files import Change, Mutant  # noqa: E402
-from one_build import BuildError, apply_all, bodies_in, choose  # noqa: E402
+from one_build import OneBuildError, apply_all, bodies_in, choose  # noqa: E402
 
 SOURCE = """//! A crate.
 const LEAST: u32 = 3;
@@ -60,7 +60,7 @@ def test_bodies_are_found_whatever_stands_before_them() -> None:
 
 
 def test_each_mutant_has_a_body_of_its_own_and_the_last_is_as_it_was(tmp_path: Path) -> None:
-    with pytest.raises(BuildError, match="stands in no function"):
+    with pytest.raises(OneBuildError, match="stands in no function"):
         apply_all([mutant("outside", ("LEAST: u32 = 3", "LEAST: u32 = 4"))], tree_in(tmp_path / "outside"))
     first = mutant("a", ("self.a < self.b", "true"), ("return self.a;", "return 0;"))
     apply_all([first, mutant("b", ("self.a < self.b", "false"))], tree_in(tmp_path / "again"))
@@ -77,5 +77,5 @@ def test_a_number_is_written_where_the_program_reads_it(tmp_path: Path) -> None:
     programs = choose(program, 7, tmp_path / "seven")
     assert {it.read_bytes() for it in programs.values()} == {b"before" + mark + b"\7\0\0\0" + b"after"}
     program.write_bytes(b"no number")
-    with pytest.raises(BuildError):
+    with pytest.raises(OneBuildError):
         choose(program, 7, tmp_path / "none")

@@ -148,7 +148,7 @@ class Tree:
 
 @pytest.fixture(params=["looked at", "not looked at"])
 def tree(request: pytest.FixtureRequest, tmp_path: Path) -> Tree:
-    """A tree, where the program was found to be proved before, or wasn't asked about."""
+    """A tree, where the program was found to be proved before, or wasn't looked at."""
     made = Tree(tmp_path)
     if request.param == "looked at":
         assert made.is_proved()
@@ -172,8 +172,8 @@ def test_a_program_is_not_proved_any_more(done: str, tree: Tree) -> None:
 
 def test_what_is_linked_is_named(tree: Tree) -> None:
     tree.do("mv crates/low/proofs/f elsewhere && ln -s ../../../elsewhere crates/low/proofs/f")
-    said = "top isn't proved: crates/low/proofs/f is a link: put the file or folder itself there\n"
-    assert tree.found() == (2, "", said)
+    message = "top isn't proved: crates/low/proofs/f is a link: put the file or folder itself there\n"
+    assert tree.found() == (2, "", message)
 
 
 def test_a_tree_that_is_copied_or_moved_stays_proved(tree: Tree) -> None:

@@ -18,7 +18,7 @@ try:
     print("begun", flush=True)
     sys.stdin.read()
     print("not stopped")
-except signals.Stopped as signal_that_came:
+except signals.StoppedBySignal as signal_that_came:
     for number in signals.SIGNALS:
         os.kill(os.getpid(), number)
     print("ended", flush=True)

@@ -13,7 +13,7 @@ from collections.abc import Iterator
 from dataclasses import dataclass, field, replace
 from pathlib import Path
 
-from changed_rules import Key, Rule, files_of, named_in, names_of, rules_in
+from changed_rules import Key, SpecRule, files_of, named_in, names_of, rules_in
 from affected_defaults import changed_defaults, places_of
 
 # The pages whose paragraphs, or rows of tables, are about rules.
@@ -109,7 +109,7 @@ class SourceItem:
     is_constant: bool = False
 
 
-def definitions_in(crate: str, file: str, text: str) -> Iterator[tuple[Rule, list[Citation]]]:
+def definitions_in(crate: str, file: str, text: str) -> Iterator[tuple[SpecRule, list[Citation]]]:
     """The definitions of a file, each with what it cites."""
     above = heading_in(text.partition("\n")[0])
     head, line = above, 0

@@ -19,14 +19,14 @@ from dataclasses import dataclass
 from pathlib import Path
 
 import source_sums
-from kit_tools import Kit, Unknown, known_kit
+from kit_tools import BuildKit, UnknownKitError, known_kit
 
 TOOLS = Path(__file__).resolve().parent
 PROGRAMS = ("pdregress", "pdrecord")
 # What builds and runs what is kept: a change of it makes what was kept before the work of another one.
 MADE_BY = (
     *("build_cache.py", "kit_tools.py", "building.py", "combined.rattle", "fault_handler.c"),
-    *("fault_places.py", "tell_fault.py", "run_unproved.py", "../pdregress", "../pdrecord"),
+    *("fault_places.py", "report_fault.py", "run_unproved.py", "../pdregress", "../pdrecord"),
 )
 SUM = "sum"
 # The ways to build.
@@ -38,12 +38,12 @@ RECENT = 3_600.0
 BETWEEN = 0.2
 
 
-class Unkept(Exception):
+class CacheError(Exception):
     """That nothing can be kept, and why."""
 
 
 @dataclass(frozen=True)
-class Kept:
+class CachedBuild:
     """The place of a build: its folder, whether or not it is there yet."""
 
     folder: Path
@@ -54,8 +54,8 @@ class Kept:
         try:
             if any(not is_own(it) for it in (self.folder.parent, self.folder, folder)):
                 return None
-            said = (folder / SUM).read_text()
-            if sums_of_programs(folder) != {said}:
+            written = (folder / SUM).read_text()
+            if sums_of_programs(folder) != {written}:
                 return None
             os.utime(self.folder)
         except OSError:
@@ -79,18 +79,18 @@ class Kept:
 def cached_programs(top: Path, ways: tuple[str, ...]) -> Path | None:
     """The folder of both programs of a tree, in the first of these ways in which they are kept, if they are."""
     try:
-        kept = kept_of(top, known_kit())
-    except (Unknown, Unkept, source_sums.Unreadable, OSError):
+        kept = cached_build(top, known_kit())
+    except (UnknownKitError, CacheError, source_sums.Unreadable, OSError):
         return None
     return next((it for it in map(kept.programs, ways) if it is not None), None)
 
 
-def kept_of(top: Path, kit: Kit) -> Kept:
+def cached_build(top: Path, kit: BuildKit) -> CachedBuild:
     """Where the build of a tree by this kit is kept."""
-    return Kept(folder_of_all(top) / key_of(top, kit))
+    return CachedBuild(folder_of_all(top) / key_of(top, kit))
 
 
-def key_of(top: Path, kit: Kit) -> str:
+def key_of(top: Path, kit: BuildKit) -> str:
     """The checksum of what a build is made of: the sources that are read, what builds them, and the kit."""
     paths = sorted({it for name in PROGRAMS for it in source_sums.sources_below(str(top), name) if is_read(it)})
     sources = source_sums.lines_of(source_sums.sums_of(str(top), paths))
@@ -122,7 +122,7 @@ def folder_of_all(top: Path) -> Path:
             folder.mkdir(mode=0o700, parents=True, exist_ok=True)
             if is_own(folder) and os.access(folder, os.W_OK | os.X_OK):
                 return folder
-    raise Unkept("no folder of this user's own can be written")
+    raise CacheError("no folder of this user's own can be written")
 
 
 def cache() -> Iterator[Path]:
@@ -160,7 +160,7 @@ def is_locked(descriptor: int) -> bool:
     return True
 
 
-def make_room(all_builds: Path, own: Path) -> None:
+def remove_old_builds(all_builds: Path, own: Path) -> None:
     """Removes builds that weren't used for the longest time, where all of them are too large; never the own one."""
     with contextlib.suppress(OSError):
         found = sorted((it.stat().st_mtime, it) for it in all_builds.iterdir() if it.is_dir() and it != own)

@@ -55,13 +55,13 @@ def found(tree: Path, way: str, is_kept: bool) -> int:
 
 def built(tree: Path, way: str) -> int:
     """Builds in this way; the status."""
-    import building  # Who finds what is kept doesn't pay for this.
+    import building  # Imported late, since it takes time.
 
     try:
         print(f"built {building.build(tree, way, Phases().note)}", flush=True)
     except building.NotCompiled as refused:
         print(f"unproved: NotCompiled: {refused}", file=sys.stderr, flush=True)
-        sys.stderr.buffer.write(refused.said)
+        sys.stderr.buffer.write(refused.printed)
         return FAULT
     except building.NoBuild as reason:
         print(f"unproved: NoBuild: {reason}", file=sys.stderr)
@@ -74,11 +74,11 @@ def main() -> int:
     parser.add_argument("--tree", metavar="FOLDER", type=Path, default=TOP, help="the tree of the programs")
     parser.add_argument("--kept", action="store_true", help="builds nothing")
     parser.add_argument("--way", choices=list(SERVES), default=ANY, help="how they are built")
-    asked = parser.parse_args()
+    options = parser.parse_args()
     signals.heed()
     try:
-        return found(asked.tree.absolute(), asked.way, asked.kept)
-    except signals.Stopped as signal:
+        return found(options.tree.absolute(), options.way, options.kept)
+    except signals.StoppedBySignal as signal:
         signals.end_by(signal.number)
 
 

@@ -2,7 +2,7 @@
 
 The kit's reader of sources is called as `rt try` calls it, with a toolchain whose compiler keeps the module that it is
 handed. Of that module the kit's own compiler and linker make the program, in one of two ways: plain, which is ready
-first and says where it stops, or optimised. No step runs anything of what is built.
+first and reports where it stops, or optimised. No step runs anything of what is built.
 """
 from __future__ import annotations
 
@@ -18,39 +18,51 @@ from typing import Callable
 
 import source_sums
 from fault_places import places_of
-from build_cache import PLAIN, PROGRAMS, SUM, TOOLS, Kept, Unkept, is_own, kept_of, main_of, make_room, sum_of
-from kit_tools import NATIVE, Kit, Unknown, known_kit, words_of_linker, words_of_reader
-from kit_tools import words_of_compiler, words_of_plain_compiler
+from build_cache import (
+    PLAIN,
+    PROGRAMS,
+    SUM,
+    TOOLS,
+    CachedBuild,
+    CacheError,
+    is_own,
+    cached_build,
+    main_of,
+    remove_old_builds,
+    sum_of,
+)
+from kit_tools import NATIVE, BuildKit, UnknownKitError, known_kit, linker_command, reader_command
+from kit_tools import compiler_command, plain_compiler_command
 
 # The program whose main file takes the place of both, and the mark for the modules of its crate.
 PROGRAM = "pdrecord"
 MODULE = "mod record_program;"
-# What the reader's status says of sources that don't compile.
+# The reader's status for sources that don't compile.
 REFUSED = 1
 GRACE = 10.0
-# How often it is told which phase goes on, in seconds.
+# How often the current phase is noted, in seconds.
 TURN = 1.0
 READING, COMPILING, LINKING, WAITING = "reading", "compiling", "linking", "waiting"
-# Stands in for the kit's compiler: keeps the module of the program and the words for it, and ends the reader.
+# A fake of the kit's compiler: keeps the module of the program and the arguments for it, and ends the reader.
 COMPILER = """#!/bin/sh
 for word; do
     if [ "$word" = -fsanitize=address ]; then
-        printf '%s\\n' "$@" >"{room}/words" && ln module.bc "{room}/module.bc"
+        printf '%s\\n' "$@" >"{folder}/arguments" && ln module.bc "{folder}/module.bc"
         exit 1
     fi
 done
 exec "{compiler}" "$@"
 """
-# Is told of each phase as it begins, and then about each second.
+# Called for each phase as it begins, and then about each second.
 Note = Callable[[str], None]
 
 
 class NotCompiled(Exception):
-    """That the sources don't compile, with what the compiler says, in octets."""
+    """That the sources don't compile, with the compiler's messages, in octets."""
 
-    def __init__(self, said: bytes) -> None:
+    def __init__(self, printed: bytes) -> None:
         super().__init__("the program doesn't compile")
-        self.said = said
+        self.printed = printed
 
 
 class NoBuild(Exception):
@@ -61,33 +73,33 @@ def build(top: Path, way: str, note: Note) -> Path:
     """The folder of both programs of a tree, built in this way, if need be now; a note comes with each phase."""
     try:
         kit = known_kit()
-        kept = kept_of(top, kit)
+        kept = cached_build(top, kit)
         if (found := kept.programs(way)) is not None:
             return found
         with kept.alone(lambda: note(WAITING)):
             found = kept.programs(way) or made(kept, kit, top, way, note)
-        make_room(kept.folder.parent, kept.folder)
+        remove_old_builds(kept.folder.parent, kept.folder)
         return found
-    except (Unknown, Unkept, source_sums.Unreadable, OSError) as error:
+    except (UnknownKitError, CacheError, source_sums.Unreadable, OSError) as error:
         raise NoBuild(str(error)) from error
 
 
-def made(kept: Kept, kit: Kit, top: Path, way: str, note: Note) -> Path:
+def made(kept: CachedBuild, kit: BuildKit, top: Path, way: str, note: Note) -> Path:
     """Builds in a folder beside, and puts what is whole in its place."""
     for left in kept.folder.parent.glob(f"{kept.folder.name}.*.part"):
         shutil.rmtree(left, ignore_errors=True)
-    room = kept.folder.with_name(f"{kept.folder.name}.{os.getpid()}.part")
-    room.mkdir(mode=0o700)
+    folder = kept.folder.with_name(f"{kept.folder.name}.{os.getpid()}.part")
+    folder.mkdir(mode=0o700)
     try:
         if not is_whole(kept.folder):
-            read(kit, top, room, note)
+            read(kit, top, folder, note)
             shutil.rmtree(kept.folder, ignore_errors=True)
-            (room / "entry").rename(kept.folder)
-        link(kit, kept.folder, room, way, note)
+            (folder / "entry").rename(kept.folder)
+        link(kit, kept.folder, folder, way, note)
         shutil.rmtree(kept.folder / way, ignore_errors=True)
-        (room / way).rename(kept.folder / way)
+        (folder / way).rename(kept.folder / way)
     finally:
-        shutil.rmtree(room, ignore_errors=True)
+        shutil.rmtree(folder, ignore_errors=True)
     found = kept.programs(way)
     if found is None:
         raise NoBuild("what was built isn't there")
@@ -102,25 +114,25 @@ def is_whole(entry: Path) -> bool:
         return False
 
 
-def read(kit: Kit, top: Path, room: Path, note: Note) -> None:
+def read(kit: BuildKit, top: Path, folder: Path, note: Note) -> None:
     """Reads the sources of a tree, and leaves in the folder `entry` all that programs are made of later."""
-    tree, toolchain, entry = room / "tree", room / "toolchain", room / "entry"
+    tree, toolchain, entry = folder / "tree", folder / "toolchain", folder / "entry"
     put_tree(top, tree)
-    put_toolchain(kit, toolchain, room)
-    (room / "temporary").mkdir()
-    words = words_of_reader(kit, tree, PROGRAM, toolchain)
-    status, said = run(words, tree / "crates" / PROGRAM, room / "temporary", lambda: note(READING))
-    if not (room / "module.bc").exists():
-        refused = placed(said, tree, top)
+    put_toolchain(kit, toolchain, folder)
+    (folder / "temporary").mkdir()
+    command = reader_command(kit, tree, PROGRAM, toolchain)
+    status, printed = run(command, tree / "crates" / PROGRAM, folder / "temporary", lambda: note(READING))
+    if not (folder / "module.bc").exists():
+        refused = placed(printed, tree, top)
         # This tree's main file may not fit the crates of another one, an older one, say.
         if status == REFUSED and not (is_lent(top) and os.fsencode(main_of(top)) in refused):
             raise NotCompiled(refused)
         raise NoBuild(f"the kit's reader ended with status {status}")
     entry.mkdir(mode=0o700)
-    (room / "module.bc").rename(entry / "module.bc")
-    (room / "words").rename(entry / "words")
+    (folder / "module.bc").rename(entry / "module.bc")
+    (folder / "arguments").rename(entry / "arguments")
     (entry / "places.json").write_text(json.dumps(places_of(tree)))
-    shutil.copy(TOOLS / "tell_fault.py", entry)
+    shutil.copy(TOOLS / "report_fault.py", entry)
     (entry / SUM).write_text(sum_of(entry / "module.bc"))
 
 
@@ -154,64 +166,64 @@ def with_both(table: str) -> str:
     return "\n".join(f"{it.partition('#')[0].rstrip()} {other}" if it == own else it for it in lines)
 
 
-def put_toolchain(kit: Kit, toolchain: Path, room: Path) -> None:
+def put_toolchain(kit: BuildKit, toolchain: Path, folder: Path) -> None:
     """Puts into a folder the toolchain that the reader is given."""
     (toolchain / "bin").mkdir(parents=True)
     (toolchain / "lib").symlink_to(kit.compiler.parents[1] / "lib")
     for name in ("ld.lld", "llvm-ar"):
         (toolchain / "bin" / name).symlink_to(kit.compiler.with_name(name))
     compiler = toolchain / "bin" / "clang"
-    compiler.write_text(COMPILER.format(room=room, compiler=kit.compiler))
+    compiler.write_text(COMPILER.format(folder=folder, compiler=kit.compiler))
     compiler.chmod(0o700)
 
 
-def placed(said: bytes, tree: Path, top: Path) -> bytes:
-    """What the compiler says, with the places in the tree that was asked for."""
+def placed(printed: bytes, tree: Path, top: Path) -> bytes:
+    """The compiler's messages, with the places in the tree that is built."""
     own = os.fsencode(top / "crates" / PROGRAM)
-    lines = (own + b"/" + it if it.startswith((b"src/", b"specs/")) else it for it in said.split(b"\n"))
-    said = b"\n".join(lines).replace(os.fsencode(tree), os.fsencode(top))
-    return said.replace(own + b"/src/main.rt", os.fsencode(main_of(top)))
+    lines = (own + b"/" + it if it.startswith((b"src/", b"specs/")) else it for it in printed.split(b"\n"))
+    printed = b"\n".join(lines).replace(os.fsencode(tree), os.fsencode(top))
+    return printed.replace(own + b"/src/main.rt", os.fsencode(main_of(top)))
 
 
-def link(kit: Kit, entry: Path, room: Path, way: str, note: Note) -> None:
+def link(kit: BuildKit, entry: Path, folder: Path, way: str, note: Note) -> None:
     """Makes the program of a module in one way, by its two names and with its checksum."""
-    folder, module, handler = room / way, room / "module.o", room / "handler.o"
-    folder.mkdir(mode=0o700)
-    given = (entry / "words").read_text().splitlines()
-    (room / "module.bc").unlink(missing_ok=True)
-    (room / "module.bc").symlink_to(entry / "module.bc")
-    words = words_of_plain_compiler(kit, given) if way == PLAIN else words_of_compiler(kit, given)
-    checked(words, room, lambda: note(COMPILING))
-    checked(words_of_handler(kit, handler), room, lambda: note(COMPILING))
-    first, *others = (folder / it for it in PROGRAMS)
-    checked(words_of_linker(kit, (module, handler), first), room, lambda: note(LINKING))
+    made_folder, module, handler = folder / way, folder / "module.o", folder / "handler.o"
+    made_folder.mkdir(mode=0o700)
+    given = (entry / "arguments").read_text().splitlines()
+    (folder / "module.bc").unlink(missing_ok=True)
+    (folder / "module.bc").symlink_to(entry / "module.bc")
+    command = plain_compiler_command(kit, given) if way == PLAIN else compiler_command(kit, given)
+    run_checked(command, folder, lambda: note(COMPILING))
+    run_checked(handler_command(kit, handler), folder, lambda: note(COMPILING))
+    first, *others = (made_folder / it for it in PROGRAMS)
+    run_checked(linker_command(kit, (module, handler), first), folder, lambda: note(LINKING))
     for other in others:
         os.link(first, other)
-    (folder / SUM).write_text(sum_of(first))
+    (made_folder / SUM).write_text(sum_of(first))
 
 
-def words_of_handler(kit: Kit, made_file: Path) -> list[str]:
-    """The command that compiles what says where a program stops."""
+def handler_command(kit: BuildKit, made_file: Path) -> list[str]:
+    """The command that compiles the handler of faults."""
     python = f'-DPYTHON="{sys.executable}"'
-    words = [*NATIVE, "-O1", "-fPIE", "-ffreestanding", "-fno-omit-frame-pointer", python]
-    return [str(kit.compiler), *words, "-c", "-x", "c", str(TOOLS / "fault_handler.c"), "-o", str(made_file)]
+    options = [*NATIVE, "-O1", "-fPIE", "-ffreestanding", "-fno-omit-frame-pointer", python]
+    return [str(kit.compiler), *options, "-c", "-x", "c", str(TOOLS / "fault_handler.c"), "-o", str(made_file)]
 
 
-def checked(words: list[str], room: Path, turn: Callable[[], None]) -> None:
+def run_checked(command: list[str], folder: Path, turn: Callable[[], None]) -> None:
     """Runs a tool of the kit that has to do its work."""
-    status, said = run(words, room, room, turn)
+    status, printed = run(command, folder, folder, turn)
     if status:
-        lines = said.decode(errors="replace").split("\n")
-        raise NoBuild(f"{Path(words[0]).name} ended with status {status}: {lines[0]}")
+        lines = printed.decode(errors="replace").split("\n")
+        raise NoBuild(f"{Path(command[0]).name} ended with status {status}: {lines[0]}")
 
 
-def run(words: list[str], folder: Path, temporary: Path, turn: Callable[[], None]) -> tuple[int, bytes]:
-    """Runs a command in a session of its own, with a turn at first and after each second; its status, and what it says.
+def run(command: list[str], folder: Path, temporary: Path, turn: Callable[[], None]) -> tuple[int, bytes]:
+    """Runs a command in a session of its own, with a turn at first and after each second; its status and error text.
 
     Whatever ends this, ends all of it.
     """
     process = subprocess.Popen(
-        words,
+        command,
         cwd=folder,
         stdin=subprocess.DEVNULL,
         stdout=subprocess.DEVNULL,
@@ -223,8 +235,8 @@ def run(words: list[str], folder: Path, temporary: Path, turn: Callable[[], None
         while True:
             turn()
             with contextlib.suppress(subprocess.TimeoutExpired):
-                _, said = process.communicate(timeout=TURN)
-                return process.returncode, said
+                _, printed = process.communicate(timeout=TURN)
+                return process.returncode, printed
     finally:
         end(process)
 

@@ -20,7 +20,7 @@ Key = tuple[str, str, str]
 
 
 @dataclass(frozen=True)
-class Rule:
+class SpecRule:
     """A definition: its crate, its file, its name and its line; and its text, without comments and layout."""
 
     crate: str
@@ -40,7 +40,7 @@ class Rule:
         return f"crates/{self.crate}/specs/{self.file}.antt:{self.line}"
 
 
-def rules_in(crate: str, file: str, text: str) -> Iterator[Rule]:
+def rules_in(crate: str, file: str, text: str) -> Iterator[SpecRule]:
     """The definitions of a file: each begins after an empty line, below its comments.
 
     >>> text = "use A.{b}\\n\\n-- why\\nabbrev pub one : ℕ\\none =   1 -- so\\n\\npub record R : Type 0 where\\n  a : ℕ"
@@ -51,10 +51,10 @@ def rules_in(crate: str, file: str, text: str) -> Iterator[Rule]:
     for block in text.split("\n\n"):
         lines = [COMMENT.sub("", it) for it in block.split("\n")]
         skipped = next((number for number, it in enumerate(lines) if it.strip()), len(lines))
-        words = " ".join(" ".join(lines).split())
-        head = HEAD.match(words)
-        if head and not re.match(r"(?:pub )?(?:use|mod) ", words):
-            yield Rule(crate, file, head["name"], line + skipped, words)
+        text_of_rule = " ".join(" ".join(lines).split())
+        head = HEAD.match(text_of_rule)
+        if head and not re.match(r"(?:pub )?(?:use|mod) ", text_of_rule):
+            yield SpecRule(crate, file, head["name"], line + skipped, text_of_rule)
         line += len(lines) + 1
 
 
@@ -64,7 +64,7 @@ def files_of(folder: Path) -> Iterator[tuple[str, str]]:
         yield path.stem, path.read_text(encoding="utf-8")
 
 
-def rules_of(folders: Iterable[Path]) -> Iterator[Rule]:
+def rules_of(folders: Iterable[Path]) -> Iterator[SpecRule]:
     """The definitions of crates."""
     for folder in folders:
         for file, text in files_of(folder):
@@ -80,7 +80,7 @@ def keep(out: Path, folders: Iterable[Path]) -> None:
     fresh.replace(out / KEPT)
 
 
-def changed(out: Path, folders: Iterable[Path]) -> list[Rule]:
+def changed(out: Path, folders: Iterable[Path]) -> list[SpecRule]:
     """The definitions that aren't those by which a crate was proved; none where nothing is kept of that."""
     try:
         kept = json.loads((out / KEPT).read_text(encoding="utf-8"))
@@ -105,8 +105,8 @@ def named_in(crate: str, file: str, text: str, own: set[str]) -> dict[str, Key]:
     return found
 
 
-def names_of(rule: Rule, names: dict[str, Key]) -> set[Key]:
-    """What a definition names, by what the words of its file name."""
+def names_of(rule: SpecRule, names: dict[str, Key]) -> set[Key]:
+    """The definitions that a definition names."""
     found = set()
     for word in WORD.findall(rule.text):
         head, dot, field = word.partition(".")
@@ -118,9 +118,9 @@ def names_of(rule: Rule, names: dict[str, Key]) -> set[Key]:
     return found
 
 
-def laws_naming(rule: Rule, folders: list[Path]) -> list[Rule]:
+def laws_naming(rule: SpecRule, folders: list[Path]) -> list[SpecRule]:
     """The laws of these crates that name a definition, also through others."""
-    named: dict[Rule, set[Key]] = {}
+    named: dict[SpecRule, set[Key]] = {}
     for folder in folders:
         for file, text in files_of(folder):
             rules = list(rules_in(folder.name, file, text))
@@ -132,7 +132,7 @@ def laws_naming(rule: Rule, folders: list[Path]) -> list[Rule]:
     return [it for it in named if it.key in reached and LAWS.search(it.file)]
 
 
-def told(out: Path, folders: list[Path]) -> Iterator[str]:
+def change_lines(out: Path, folders: list[Path]) -> Iterator[str]:
     """What changed in the definitions of a crate and those below it since it was proved, and the laws that name it."""
     for rule in changed(out, folders):
         yield f"{rule.place}: `{rule.name}` isn't as it was when this was proved last"

@@ -22,11 +22,11 @@ from documents.walking import walk  # noqa: E402
 SECONDS = 4 * 3_600.0
 
 
-def main(words: list[str]) -> int:
-    """Clones, walks, and says whether all was printed as it is shown."""
+def main(arguments: list[str]) -> int:
+    """Clones, walks, and prints whether all was printed as it is shown."""
     parser = argparse.ArgumentParser(description=__doc__, formatter_class=argparse.RawDescriptionHelpFormatter)
     parser.add_argument("folder", type=Path, metavar="FOLDER", help="the folder for the clones: not there yet")
-    folder = parser.parse_args(words).folder.absolute()
+    folder = parser.parse_args(arguments).folder.absolute()
     folder.mkdir(parents=True)
     tree = folder / "pdregress"
     # What was built before doesn't count: a newcomer has nothing.
@@ -37,11 +37,11 @@ def main(words: list[str]) -> int:
     text = (tree / "docs/TUTORIAL.md").read_text(encoding="utf-8")
     for step in walk(list(shown_in(text)), tree, SECONDS, is_proved=False):
         name = step.shown.command.partition("\n")[0] or "what watch prints"
-        state = "ok" if step.said is None else "FAILED"
+        state = "ok" if step.printed_instead is None else "FAILED"
         print(f"{state} {step.shown.line}: {name} ({step.seconds:.1f} s)", flush=True)
-        if step.said is not None:
-            print(step.said, flush=True)
-        passed, failed = passed + (step.said is None), failed + (step.said is not None)
+        if step.printed_instead is not None:
+            print(step.printed_instead, flush=True)
+        passed, failed = passed + (step.printed_instead is None), failed + (step.printed_instead is not None)
     print(f"{(time.monotonic() - begin) / 60:.0f} minutes")
     print(f"{passed} passed, {failed} failed")
     return 1 if failed else 0

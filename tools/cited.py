@@ -1,7 +1,7 @@
 """What a refused contract cites: definitions of specs/, also through others, each with its place.
 
 The kit names a line of a function. The contract stands below the function's head, a clause on each line, and the
-file's lines `ghost use` say which definitions the words of it name.
+file's lines `ghost use` say which definitions it names.
 """
 from __future__ import annotations
 
@@ -11,12 +11,12 @@ from dataclasses import dataclass
 from itertools import islice
 from pathlib import Path
 
-from changed_rules import Key, Rule, files_of, named_in, names_of, rules_in
+from changed_rules import Key, SpecRule, files_of, named_in, names_of, rules_in
 
 HEAD = re.compile(r"\s*(?:pub(?:\([^)]*\))? )?(?:(?:final|const|unsafe) )*fn (?P<name>\w+)[<(]")
 CLAUSE = re.compile(r"\s+(?:requires|ensures)\b")
 USE = re.compile(r"^\s*ghost (use .*)$", re.MULTILINE)
-# What is said of a contract that isn't proved.
+# The message about a contract that isn't proved.
 REFUSED = re.compile(r"(?P<path>\S+\.rt):(?P<line>\d+):\d+: it is not proved ")
 # So many definitions are named.
 MOST = 12
@@ -59,7 +59,7 @@ class Definitions:
     """The definitions of crates, and what each of them names."""
 
     def __init__(self, folders: list[Path]) -> None:
-        self._rules: dict[Key, Rule] = {}
+        self._rules: dict[Key, SpecRule] = {}
         self._named: dict[Key, set[Key]] = {}
         for folder in folders:
             for file, text in files_of(folder):
@@ -68,10 +68,10 @@ class Definitions:
                 self._rules.update((it.key, it) for it in rules)
                 self._named.update((it.key, names_of(it, names)) for it in rules)
 
-    def cited(self, contract: Contract, text: str) -> Iterator[Rule]:
+    def cited(self, contract: Contract, text: str) -> Iterator[SpecRule]:
         """The definitions that a contract of a file with this text names, then those that these name, and so on."""
         names = named_in("", "", "\n".join(USE.findall(text)), set())
-        level = names_of(Rule("", "", "", 0, " ".join(contract.clauses)), names)
+        level = names_of(SpecRule("", "", "", 0, " ".join(contract.clauses)), names)
         seen: set[Key] = set()
         while level:
             seen |= level
@@ -86,7 +86,7 @@ def with_contracts(errors: Iterable[str], definitions: Definitions, top: Path) -
     for error in errors:
         found = REFUSED.match(error)
         if found or not error.startswith(("fn ", " ")):
-            now = list(told(Path(found["path"]), int(found["line"]), definitions, top)) if found else []
+            now = list(contract_lines(Path(found["path"]), int(found["line"]), definitions, top)) if found else []
             if now != last:
                 yield from last
                 last = now
@@ -94,8 +94,8 @@ def with_contracts(errors: Iterable[str], definitions: Definitions, top: Path) -
     yield from last
 
 
-def told(file: Path, line: int, definitions: Definitions, top: Path) -> Iterator[str]:
-    """What is said of the contract of the function in which a line of a file stands."""
+def contract_lines(file: Path, line: int, definitions: Definitions, top: Path) -> Iterator[str]:
+    """The lines about the contract of the function at a line of a file."""
     text = file.read_text(encoding="utf-8", errors="replace")
     contract = contract_at(text, line)
     if contract is None:

@@ -41,7 +41,7 @@ def copied(top: Path, crates: tuple[str, ...], trees: list[Path]) -> tuple[dict[
         for tree in trees:
             (tree / path).parent.mkdir(parents=True, exist_ok=True)
             (tree / path).write_bytes(octets)
-    copies = [settled(tree, crates) for tree in trees]
+    copies = [checked_copy(tree, crates) for tree in trees]
     # From here on a change of a copy shows by its stamps, so what is in it now is what is proved.
     for tree in trees:
         if {it: (tree / it).read_bytes() for it in sources_in(places_of(str(tree), crates))} != written:
@@ -60,7 +60,7 @@ def lines_for(crates: tuple[str, ...], table: bytes) -> bytes:
     return b"".join(it for it in lines if names.intersection(it.partition(b":")[0].split()[:1]))
 
 
-def settled(tree: Path, crates: tuple[str, ...]) -> Copy:
+def checked_copy(tree: Path, crates: tuple[str, ...]) -> Copy:
     """A copy that was made, once each change of it from then on shows."""
     until = time.monotonic() + STILL
     while time.monotonic() < until:

@@ -2,15 +2,15 @@
 # Refuses each allocation in turn, one a run, the numbers going up until runs meet no refusal. What is run is a row:
 #   - the calls below the programs, table by table of crates/test_book/memory.txt, and those of a desk and of its workers,
 #     and a run of the program over memory, of crates/test_desk/memory.txt: a call that is refused is made again, and it
-#     and all calls after it are to answer as with memory, or as a row says of a worker that left. Where what tells the
-#     rows found no memory, no call did.
-#   - the program test_book, with its word `memory`, which lets a first want of memory pass and makes the call again.
+#     and all calls after it are to answer as with memory, or as a row says of a worker that left. Where the
+#     runner of the rows found no memory, no call did.
+#   - the program test_book, with its argument `memory`, which lets a first refusal pass and makes the call again.
 #   - pdregress, with no input, with a script of one line, with an edit, with those of examples/ or the ones named, and with
-#     a settings text that is taken and one that is refused, each without workers, with one and with two. It says so by
-#     status 2 and the fault 19 (beside workers also 12, where they all left), and what it wrote is a prefix of what it
+#     a settings text that is taken and one that is refused, each without workers, with one and with two. It reports that
+#     by status 2 and the fault 19 (with workers also 12, where they all left), and what it wrote is a prefix of what it
 #     writes with memory; or the refusal made no difference.
-#   - pdrecord, with no input, with a script that is recorded, with a trace too, and with one that isn't. It says so by
-#     status 2 and the fault 19 and writes nothing, or the refusal made no difference.
+#   - pdrecord, with no input, with a script that is recorded, with a trace too, and with one that isn't. It reports that
+#     by status 2 and the fault 19 and writes nothing, or the refusal made no difference.
 # No run may take longer than a minute: some wait seconds for a thread that can't be made. Prints a line for each row, with
 # the refusals met, and `N passed, M failed` last.
 # Needs a C compiler. PROGRAM, RECORD, BOOK and DESK name other builds of pdregress, pdrecord, test_book and test_desk.
@@ -105,7 +105,7 @@ is_prefix() { # FILE OF: the octets of FILE begin OF
     cmp -s -n "$(wc -c <"$1")" "$1" "$2"
 }
 
-is_told() { # whether the program told want of memory
+is_reported() { # whether the program reported that it was out of memory
     [ "$status" -eq 2 ] && grep -q '^pdregress: 19 \|^pdregress: 12 \|^pdrecord: .*19 \|memory' "$work/error"
 }
 
@@ -113,19 +113,19 @@ is_told() { # whether the program told want of memory
 try_program() { # NAME COMMAND..
     begin "$1"
     shift
-    told=0
+    reported=0
     run_whole "$@"
     while [ "$idle" -lt 3 ]; do
         refuse "$@" || true
-        if is_told; then
-            told=$((told + 1))
+        if is_reported; then
+            reported=$((reported + 1))
             is_prefix "$work/out" "$work/whole" || complain "allocation $n: no prefix was written"
         elif [ "$status" -ne "$whole" ] || ! cmp -s "$work/out" "$work/whole"; then
             complain "allocation $n: other output, status $status: $(cat "$work/error")"
         fi
         n=$((n + step))
     done
-    end "; $told times told"
+    end "; reported $reported times"
 }
 
 try_test() { # NAME COMMAND..: a test that makes again what is refused

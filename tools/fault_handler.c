@@ -1,4 +1,4 @@
-/* Says where a program stops that isn't proved: where it meets a check that fails, it becomes tell_fault.py, which lies in the
+/* Says where a program stops that isn't proved: where it meets a check that fails, it becomes report_fault.py, which lies in the
    folder above its own. The words of that are the program's name and its path, the number of the signal, and the addresses
    from that of the check up through its callers, counted from the program's beginning; numbers have sixteen digits' base.
    Built by the kit's compiler alone, without headers: PYTHON is the path of an interpreter, in quotation marks. */
@@ -49,7 +49,7 @@ static char *written(char *digits, word value)
 /* The path of the tool, in the folder above that of the program. */
 static void find_tool(void)
 {
-    const char *name = "/tell_fault.py";
+    const char *name = "/report_fault.py";
     long length = readlink("/proc/self/exe", program, PATH - 1), at;
     int folders = 2;
     if (length <= 0)

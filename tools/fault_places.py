@@ -1,4 +1,4 @@
-"""Which functions of a tree are on which lines, for tell_fault.py, with the lines that can have a fault."""
+"""Which functions of a tree are on which lines, for report_fault.py, with the lines that can have a fault."""
 from __future__ import annotations
 
 import re

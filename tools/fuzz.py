@@ -40,7 +40,7 @@ VALUES = [
     b"0", b"1", b"true", b"false", b"1000", b"65495", b"1048576", b"x", b"-1", b"18446744073709551616", b"rfc5681",
     b'"rfc6928"', b"rfc6675",
 ]
-# What many settings take, and words that one takes.
+# Values that many settings take, and values of one setting.
 RIGHT = [b"1000", b"5000", b"60000000", b"true", b"rfc6928", b"rfc9937"]
 PIECES = [
     b"+0", b"0", b"+0.1", b"*", b"+0~+1", b"0.5~0.7", b"...", b" ", b" ", b"\t", b"<", b">", b"S", b"S.", b".", b"P.",
@@ -76,7 +76,7 @@ def pieces(dice, count):
 
 
 def traffic(dice, count):
-    """About so many octets of a connection on which anything is said."""
+    """About so many octets of a connection with any packets and calls."""
     lines, size = list(LINES), 0
     while size < count:
         numbers = (dice.choice((1, 1001, 2001, dice.randrange(1, 100_000))), dice.choice((1001, 2001, 3001, 257)))
@@ -106,7 +106,7 @@ def scripts(dice, make):
 
 
 def commands(dice):
-    """Commands in any order with any words, which a first bad one would end: each is well formed."""
+    """Commands in any order with any arguments, which a first bad one would end: each is well formed."""
     parts, size = [], 0
     while size < OCTETS:
         kind, name = dice.randrange(8), dice.choice(NAMES)
@@ -182,17 +182,17 @@ KINDS = {
 }
 
 
-class Figures:
+class RunFigures:
     def __init__(self):
         self.runs, self.ends, self.seconds, self.kib, self.last_kib, self.octets = 0, {}, 0.0, 0, 0, 0
 
 
-def timed(words, text, figures):
+def timed(command, text, figures):
     """Runs a program, its time and memory added to the figures; how it ended, or none where it came to no end."""
     with tempfile.NamedTemporaryFile() as resident:
         bound = ["timeout", str(SECONDS), "/usr/bin/time", "-f", "%M", "-o", resident.name]
         begin = time.monotonic()
-        ended = subprocess.run([*bound, *words], input=text, capture_output=True)
+        ended = subprocess.run([*bound, *command], input=text, capture_output=True)
         figures.seconds = max(figures.seconds, time.monotonic() - begin)
         last = resident.read().split()[-1:]
     if ended.returncode == 124 or not last:
@@ -202,99 +202,99 @@ def timed(words, text, figures):
     return ended
 
 
-def run(program, words, text, figures):
+def run(program, arguments, text, figures):
     """One run, its figures added; what was wrong, if something was."""
     figures.runs += 1
-    ended = timed([program, *words], text, figures)
+    ended = timed([program, *arguments], text, figures)
     if ended is None:
         return "no end within %d s" % SECONDS
     figures.ends[ended.returncode] = figures.ends.get(ended.returncode, 0) + 1
     return fault_of(ended.returncode, ended.stdout, ended.stderr, figures.last_kib)
 
 
-def run_beside(program, text, figures):
-    """One stream without workers and with some; what the second says otherwise, if something."""
-    said = []
+def run_with_workers(program, text, figures):
+    """One stream without workers and with some; how the outputs differ, if they do."""
+    outputs = []
     for workers in (0, WORKERS):
         ended = timed([program, "--workers", str(workers)], text, figures)
         if ended is None:
             return "no end within %d s with %d workers" % (SECONDS, workers)
         if figures.last_kib > MOST_KIB:
             return "%d KiB with %d workers" % (figures.last_kib, workers)
-        said.append((ended.returncode, ended.stdout, ended.stderr))
-    status, output, told = said[0]
+        outputs.append((ended.returncode, ended.stdout, ended.stderr))
+    status, output, errors = outputs[0]
     figures.runs += 1
     figures.ends[status] = figures.ends.get(status, 0) + 1
     figures.octets += len(output)
-    if said[1] != said[0]:
-        return "status %d, then %d beside workers, which say another thing" % (status, said[1][0])
-    if status not in (0, 1, 2) or (status == 2) != bool(FAULT.match(told)):
-        return "status %d, and told %r" % (status, told[:80])
+    if outputs[1] != outputs[0]:
+        return "status %d, then %d with workers, whose output differs" % (status, outputs[1][0])
+    if status not in (0, 1, 2) or (status == 2) != bool(FAULT.match(errors)):
+        return "status %d, and wrote %r" % (status, errors[:80])
     return None
 
 
 def run_explaining(program, text, figures):
-    """One stream without and with reasons; what the second says otherwise, if something."""
+    """One stream without and with reasons; how the outputs differ, if they do."""
     plain = subprocess.run([program], input=text, capture_output=True, timeout=SECONDS)
     with open("/dev/full", "wb") as full:
-        unheard = subprocess.run([program, "--explain"], input=text, stdout=subprocess.PIPE, stderr=full, timeout=SECONDS)
-    if (unheard.returncode, unheard.stdout) != (plain.returncode, plain.stdout):
-        return "another report or status where nobody hears"
-    for words in ([], ["--only", "a"], ["--json"]):
-        ended = timed([program, "--explain", *words], text, figures)
+        unread = subprocess.run([program, "--explain"], input=text, stdout=subprocess.PIPE, stderr=full, timeout=SECONDS)
+    if (unread.returncode, unread.stdout) != (plain.returncode, plain.stdout):
+        return "another report or status where nobody reads"
+    for options in ([], ["--only", "a"], ["--json"]):
+        ended = timed([program, "--explain", *options], text, figures)
         if ended is None:
-            return "no end within %d s with %s" % (SECONDS, words)
+            return "no end within %d s with %s" % (SECONDS, options)
         if figures.last_kib > MOST_KIB:
-            return "%d KiB with %s" % (figures.last_kib, words)
+            return "%d KiB with %s" % (figures.last_kib, options)
         if (ended.returncode, ended.stdout) != (plain.returncode, plain.stdout):
-            return "another report or status with %s" % words
-        if not ended.stderr.endswith(plain.stderr) or not are_blocks(ended.stderr[: -len(plain.stderr) or None], words):
-            return "told %r with %s" % (ended.stderr[-200:], words)
+            return "another report or status with %s" % options
+        if not ended.stderr.endswith(plain.stderr) or not are_blocks(ended.stderr[: -len(plain.stderr) or None], options):
+            return "wrote %r with %s" % (ended.stderr[-200:], options)
         figures.octets += len(ended.stderr)
     figures.runs += 1
     return None
 
 
-def are_blocks(said, words):
-    """Whether what was said is blocks, or where JSON was asked for an object a line."""
-    if "--json" not in words:
-        return bool(BLOCKS.fullmatch(said)) and (not words or all(it.startswith((b"a:", b"  ")) for it in said.split(b"\n")[:-1]))
+def are_blocks(text, options):
+    """Whether a text is blocks, or with --json an object a line."""
+    if "--json" not in options:
+        return bool(BLOCKS.fullmatch(text)) and (not options or all(it.startswith((b"a:", b"  ")) for it in text.split(b"\n")[:-1]))
     try:
-        return all(isinstance(json.loads(line), dict) for line in said.decode("ascii").splitlines())
+        return all(isinstance(json.loads(line), dict) for line in text.decode("ascii").splitlines())
     except ValueError:
         return False
 
 
 def run_closed(program, text, workers):
-    """One stream whose output or whose input fails; what is said otherwise than the fault, if something."""
-    words = [program, "--workers", str(workers)]
+    """One stream whose output or whose input fails; what is wrong about the fault, if something."""
+    command = [program, "--workers", str(workers)]
     with open("/dev/full", "wb") as full:
-        ended = subprocess.run(words, input=text + b"settle\n", stdout=full, stderr=subprocess.PIPE, timeout=SECONDS)
+        ended = subprocess.run(command, input=text + b"settle\n", stdout=full, stderr=subprocess.PIPE, timeout=SECONDS)
     if (ended.returncode, ended.stderr) != (2, b"pdregress: 18 Write\n"):
-        return "an output that takes nothing: status %d, told %r" % (ended.returncode, ended.stderr[:80])
+        return "an output that takes nothing: status %d, wrote %r" % (ended.returncode, ended.stderr[:80])
     folder = os.open("/", os.O_RDONLY)
     try:
-        ended = subprocess.run(words, stdin=folder, capture_output=True, timeout=SECONDS)
+        ended = subprocess.run(command, stdin=folder, capture_output=True, timeout=SECONDS)
     finally:
         os.close(folder)
     if (ended.returncode, ended.stdout, ended.stderr) != (2, b"", b"pdregress: 17 Read\n"):
-        return "an input that can't be read: status %d, told %r" % (ended.returncode, ended.stderr[:80])
+        return "an input that can't be read: status %d, wrote %r" % (ended.returncode, ended.stderr[:80])
     return None
 
 
-def fuzz_beside(program, rounds, seed):
-    """Streams without workers and beside some, and streams that fail; prints a line and gives how many were wrong."""
-    figures, wrong = Figures(), 0
+def fuzz_workers(program, rounds, seed):
+    """Streams without workers and with some, and streams that fail; prints a line and gives how many were wrong."""
+    figures, wrong = RunFigures(), 0
     for number in range(seed, seed + rounds):
         dice = random.Random(f"beside {number}")
-        faults = [run_beside(program, stream(dice), figures) for _ in range(STREAMS)]
+        faults = [run_with_workers(program, stream(dice), figures) for _ in range(STREAMS)]
         faults += [run_closed(program, added(b"a", traffic(dice, 200)), workers) for workers in (0, WORKERS)]
         for fault in filter(None, faults):
             wrong += 1
-            print(f"beside workers, seed {number}: {fault}")
+            print(f"with workers, seed {number}: {fault}")
     ends = ", ".join(f"{count} with status {status}" for status, count in sorted(figures.ends.items()))
     print(
-        f"beside {WORKERS} workers: {figures.runs} streams, {ends}, {figures.octets} octets the same; "
+        f"with {WORKERS} workers: {figures.runs} streams, {ends}, {figures.octets} octets the same; "
         f"{figures.seconds:.2f} s at most, {figures.kib} KiB at most"
     )
     return wrong
@@ -302,7 +302,7 @@ def fuzz_beside(program, rounds, seed):
 
 def fuzz_explaining(program, rounds, seed):
     """Streams that are explained; prints a line and gives how many were wrong."""
-    figures, wrong = Figures(), 0
+    figures, wrong = RunFigures(), 0
     for number in range(seed, seed + rounds):
         dice = random.Random(f"explaining {number}")
         for fault in filter(None, (run_explaining(program, stream(dice), figures) for _ in range(STREAMS))):
@@ -315,13 +315,13 @@ def fuzz_explaining(program, rounds, seed):
     return wrong
 
 
-def fault_of(status, said, told, kib):
+def fault_of(status, output, errors, kib):
     if status not in (0, 1, 2):
         return "status %d" % status
-    if status < 2 and (told or not LAST_LINE.search(said)):
+    if status < 2 and (errors or not LAST_LINE.search(output)):
         return "status %d, and no report at the end" % status
-    if status == 2 and not (FAULT.match(told) or told.startswith((b"error: ", b"pdregress: the arguments"))):
-        return "status 2, and no fault named: %r" % told[:80]
+    if status == 2 and not (FAULT.match(errors) or errors.startswith((b"error: ", b"pdregress: the arguments"))):
+        return "status 2, and no fault named: %r" % errors[:80]
     if kib > MOST_KIB:
         return "%d KiB" % kib
     return None
@@ -331,16 +331,16 @@ def main():
     program, rounds, seed = sys.argv[1], int(sys.argv[2]), int(sys.argv[3])
     wrong = 0
     for kind, make in KINDS.items():
-        figures = Figures()
+        figures = RunFigures()
         for number in range(seed, seed + rounds):
-            for words, text in make(random.Random(f"{kind} {number}")):
-                fault = run(program, words, text, figures)
+            for arguments, text in make(random.Random(f"{kind} {number}")):
+                fault = run(program, arguments, text, figures)
                 if fault:
                     wrong += 1
                     print(f"{kind}, seed {number}: {fault}")
         ends = ", ".join(f"{count} with status {status}" for status, count in sorted(figures.ends.items()))
         print(f"{kind}: {figures.runs} runs, {ends}; {figures.seconds:.2f} s at most, {figures.kib} KiB at most")
-    wrong += fuzz_beside(program, rounds, seed)
+    wrong += fuzz_workers(program, rounds, seed)
     wrong += fuzz_explaining(program, rounds, seed)
     print(f"{wrong} wrong, bound {MOST_KIB} KiB and {SECONDS} s a run")
     sys.exit(1 if wrong else 0)

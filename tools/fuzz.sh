@@ -6,7 +6,7 @@
 # to say nothing that doesn't print. Prints a line a kind: its runs, how they ended, the longest time and the most
 # memory. Outside the gate: needs Python and GNU time.
 #
-#   tools/fuzz.sh [ROUNDS [SEED]]      10 rounds from seed 1 if nothing is said; a round is a run of each kind, and a
+#   tools/fuzz.sh [ROUNDS [SEED]]      10 rounds from seed 1 by default; a round is a run of each kind, and a
 #                                      hundred streams. PROGRAM names another build.
 set -eu
 top=$(cd "$(dirname "$0")/.." && pwd)

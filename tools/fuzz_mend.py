@@ -56,15 +56,15 @@ class Spoiled:
 
 
 def spoil_time(line: str, old: str, chance: random.Random) -> str | None:
-    """Another time by more than the tolerance, in its column where there is room."""
+    """Another time by more than the tolerance, in its column where there is space."""
     single = SINGLE.match(line)
     if single is None:
         return None
     sign, seconds = single.groups()
     other = chance.choice([it for it in TIMES if abs(float(it) - float(seconds)) > 0.01])
     new = sign + other
-    room = len(old) + len(line[len(old) :]) - len(line[len(old) :].lstrip(" "))
-    return new.ljust(room - 1) + " " + line[room:] if len(new) < room else new + " " + line[room:]
+    width = len(old) + len(line[len(old) :]) - len(line[len(old) :].lstrip(" "))
+    return new.ljust(width - 1) + " " + line[width:] if len(new) < width else new + " " + line[width:]
 
 
 def spoil_number(old: str, chance: random.Random, most: int | None = None) -> str:
@@ -133,9 +133,9 @@ def is_same_time(one: str, other: str) -> bool:
     return apart <= TOLERANCE + 1e-9 and one[first.end() :].split() == other[second.end() :].split()
 
 
-def judge(it: Spoiled, answer: rt_try.Tried) -> tuple[bool, bool, list[str]]:
+def judge(it: Spoiled, answer: rt_try.TryResult) -> tuple[bool, bool, list[str]]:
     """Whether only the spoiled line was changed, whether it came back, and what was made."""
-    if not isinstance(answer, rt_try.Answer) or answer.status != 0:
+    if not isinstance(answer, rt_try.TryOutput) or answer.status != 0:
         return False, False, [str(answer)]
     made = answer.output.decode().splitlines()
     others = len(made) == len(it.new) and all(
@@ -162,22 +162,22 @@ def main() -> int:
     parser.add_argument("--show", action="store_true", help="print the cases that didn't come back")
     parser.add_argument("--program", metavar="FILE", type=Path, help="a built pdrecord")
     parser.add_argument("paths", metavar="PATH", type=Path, nargs="*", default=[TOP / "examples/suite"])
-    asked = parser.parse_args()
+    options = parser.parse_args()
     suite = SuiteConfig(option_of(""))
     with Stop() as stop:
-        scripts = [it for it in scripts_of(found_of(asked.paths, [], suite, stop), suite) if not it.fault]
-    chance = random.Random(asked.seed)
-    cases = [spoil(scripts, chance) for _ in range(asked.count)]
-    judged = [judge(it, answer) for it, answer in zip(cases, answers_of(cases, asked.program))]
+        scripts = [it for it in scripts_of(found_of(options.paths, [], suite, stop), suite) if not it.fault]
+    chance = random.Random(options.seed)
+    cases = [spoil(scripts, chance) for _ in range(options.count)]
+    judged = [judge(it, answer) for it, answer in zip(cases, answers_of(cases, options.program))]
     for it, (_, back, made) in zip(cases, judged):
-        if asked.show and not back:
+        if options.show and not back:
             print(*shown(it, made), sep="\n")
     others, back = sum(one for one, _, _ in judged), sum(it for _, it, _ in judged)
     print(f"{len(cases)} cases, only the line changed in {others}, its old text back in {back}")
     return 0 if back == len(cases) else 1
 
 
-def answers_of(cases: Sequence[Spoiled], program: Path | None) -> list[rt_try.Tried]:
+def answers_of(cases: Sequence[Spoiled], program: Path | None) -> list[rt_try.TryResult]:
     """What the program answers to each."""
     if program is None:
         return unproved_answers(cases)
@@ -185,30 +185,30 @@ def answers_of(cases: Sequence[Spoiled], program: Path | None) -> list[rt_try.Tr
         return list(pool.map(lambda it: answer_of(case_of(it), program), cases))
 
 
-def answer_of(case: rt_try.Case, program: Path) -> rt_try.Tried:
-    done = subprocess.run([program, *case.words, b"--minimal"], input=case.given, capture_output=True)
-    return rt_try.Answer(done.stdout, done.stderr, done.returncode)
+def answer_of(case: rt_try.TryCase, program: Path) -> rt_try.TryResult:
+    done = subprocess.run([program, *case.arguments, b"--minimal"], input=case.given, capture_output=True)
+    return rt_try.TryOutput(done.stdout, done.stderr, done.returncode)
 
 
-def unproved_answers(cases: Sequence[Spoiled]) -> list[rt_try.Tried]:
+def unproved_answers(cases: Sequence[Spoiled]) -> list[rt_try.TryResult]:
     """The same unproved. A word of a case has no newline, so settings of two keys have a build of their own."""
     groups: dict[tuple[bytes, ...], list[int]] = {}
     runs = [case_of(it) for it in cases]
     for number, case in enumerate(runs):
-        groups.setdefault(case.words if any(b"\n" in it for it in case.words) else (), []).append(number)
-    found: dict[int, rt_try.Tried] = {}
+        groups.setdefault(case.arguments if any(b"\n" in it for it in case.arguments) else (), []).append(number)
+    found: dict[int, rt_try.TryResult] = {}
     for shared, numbers in groups.items():
-        with tempfile.TemporaryDirectory(prefix="spoiled-") as room:
-            own = [rt_try.Case(() if shared else runs[it].words, runs[it].given) for it in numbers]
-            words = [b"--minimal", *shared]
-            found |= zip(numbers, rt_try.run_cases("pdrecord", own, Path(room), 60, words, steps=1))
+        with tempfile.TemporaryDirectory(prefix="spoiled-") as folder:
+            own = [rt_try.TryCase(() if shared else runs[it].arguments, runs[it].given) for it in numbers]
+            arguments = [b"--minimal", *shared]
+            found |= zip(numbers, rt_try.run_cases("pdrecord", own, Path(folder), 60, arguments, steps=1))
     return [found[number] for number in range(len(cases))]
 
 
-def case_of(it: Spoiled) -> rt_try.Case:
+def case_of(it: Spoiled) -> rt_try.TryCase:
     text = settings_text(it.script.settings)
-    words = (b"--settings", text.encode()) if text else ()
-    return rt_try.Case(words, "".join(f"{line}\n" for line in it.new).encode())
+    arguments = (b"--settings", text.encode()) if text else ()
+    return rt_try.TryCase(arguments, "".join(f"{line}\n" for line in it.new).encode())
 
 
 if __name__ == "__main__":

@@ -12,17 +12,17 @@ import sys
 
 import proof_sums
 import stamps
-from copies import settled
+from copies import checked_copy
 from crate_graph import dependencies
 from proof_sums import path_of
 from proofs import TOP
-from proving_kit import Kit, Refused, working
+from proving_kit import ProvingKit, ProofRefusedError, working
 from source_sums import TABLE, Unreadable, places_of, sources_below, sources_in, sums_of
 
 COUNTS = re.compile(r"(\d+) passed, (\d+) failed\b")
 
 
-def run_gate(kit: Kit) -> tuple[str, int]:
+def run_gate(kit: ProvingKit) -> tuple[str, int]:
     """Runs the kit's gate, hands its lines through but for the last, and gives that with the status."""
     last = ""
     with subprocess.Popen(
@@ -35,7 +35,7 @@ def run_gate(kit: Kit) -> tuple[str, int]:
     return last, gate.returncode
 
 
-def keep_sums(programs: list[str], sums: dict[str, str], kit: Kit) -> None:
+def keep_sums(programs: list[str], sums: dict[str, str], kit: ProvingKit) -> None:
     """Keeps the checksums of programs and of what their proofs read beside them."""
     top = str(TOP)
     for program in programs:
@@ -49,7 +49,7 @@ def prove_all() -> int:
     top = str(TOP)
     crates = tuple(dependencies((TOP / TABLE).read_text()))
     programs = {it: stamps.stamp_of(f"{top}/{path_of(it)}") for it in crates}
-    before = settled(TOP, crates)
+    before = checked_copy(TOP, crates)
     sums = sums_of(top, sources_in(places_of(top, crates)))
     last, status = run_gate(kit)
     built = [
@@ -57,10 +57,10 @@ def prove_all() -> int:
     ]
     try:
         if changed := before.changed():
-            raise Refused(f"{changed} has changed while rt ci ran: no program is taken for proved")
+            raise ProofRefusedError(f"{changed} has changed while rt ci ran: no program is taken for proved")
         kit.check()
         keep_sums(built, sums, kit)
-    except (Refused, Unreadable) as why:
+    except (ProofRefusedError, Unreadable) as why:
         print(f"gate: {why}")
         last = COUNTS.sub(lambda it: f"{it[1]} passed, {int(it[2]) + 1} failed", last)
         status = status or 1
@@ -71,7 +71,7 @@ def prove_all() -> int:
 def main() -> int:
     try:
         return prove_all()
-    except (Refused, Unreadable, OSError) as why:
+    except (ProofRefusedError, Unreadable, OSError) as why:
         print(f"gate: {why}", file=sys.stderr)
         return 2
     except KeyboardInterrupt:

@@ -4,7 +4,7 @@
 # its licence, and stay outside this repository. It needs apt-get, dpkg-deb, tar and xz, and some 160 MB of room for a
 # while. Outside the gate.
 #
-#   tools/kernel_scripts.sh FOLDER [PACKAGE]      PACKAGE is linux-source-6.12 if nothing is said
+#   tools/kernel_scripts.sh FOLDER [PACKAGE]      PACKAGE is linux-source-6.12 by default
 #
 # Where this machine's sources don't have the package it says so, names those that they have, and ends with status 2.
 set -eu
@@ -41,8 +41,8 @@ fi
 
 work=$(mktemp -d)
 trap 'rm -rf "$work"' EXIT
-(cd "$work" && apt-get download "$package" >"$work/said" 2>&1) || {
-    cat "$work/said" >&2
+(cd "$work" && apt-get download "$package" >"$work/errors" 2>&1) || {
+    cat "$work/errors" >&2
     refuse "$package: apt-get download failed"
 }
 tests=tools/testing/selftests
@@ -51,9 +51,9 @@ version=${package#linux-source-}
 dpkg-deb --fsys-tarfile "$work"/"$package"_*.deb |
     tar -xO --wildcards "./usr/src/linux-source-$version.tar.*" |
     tar -xJ -C "$folder" --strip-components=4 --wildcards \
-        "*/$tests/net/packetdrill/*" "*/$tests/net/netfilter/packetdrill/*" 2>"$work/said" || {
+        "*/$tests/net/packetdrill/*" "*/$tests/net/netfilter/packetdrill/*" 2>"$work/errors" || {
     # A folder that this version of the kernel doesn't have is no fault, as long as there are scripts.
-    grep -q 'Not found in archive' "$work/said" || { cat "$work/said" >&2 && refuse "$package: can't be unpacked"; }
+    grep -q 'Not found in archive' "$work/errors" || { cat "$work/errors" >&2 && refuse "$package: can't be unpacked"; }
 }
 count=$(find "$folder" -name '*.pkt' | wc -l)
 [ "$count" -gt 0 ] || refuse "$package: has no packetdrill scripts"

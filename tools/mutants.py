@@ -31,7 +31,7 @@ from mutant_python import TreeCopies, try_python
 from mutant_tests import RunLimits, try_tests
 from parallel import Commands
 from proofs import TOP
-from rt_try import Untried, find_kit
+from rt_try import NotRunError, find_kit
 
 
 CONTRACTS, TESTS, PYTHON = "contracts", "tests", "python"
@@ -105,10 +105,10 @@ def main() -> int:
     signals.heed()
     try:
         return try_all(options)
-    except (MutantError, Untried) as reason:
+    except (MutantError, NotRunError) as reason:
         print(f"mutants: {reason}", file=sys.stderr)
         return 2
-    except signals.Stopped as signal:
+    except signals.StoppedBySignal as signal:
         signals.end_by(signal.number)
 
 

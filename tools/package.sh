@@ -124,7 +124,7 @@ listed() { # the packages of the input, as a field of a control file has them
 
 libraries() { # what the programs need of the C library
     printf 'Source: %s\n\nPackage: %s\nArchitecture: amd64\n' "$name" "$name" >"$work/debian/control"
-    (cd "$work" && find "debian/$name/usr/bin" -type f -exec dpkg-shlibdeps -O {} + 2>"$work/said") | sed -n 's/^shlibs:Depends=//p'
+    (cd "$work" && find "debian/$name/usr/bin" -type f -exec dpkg-shlibdeps -O {} + 2>"$work/errors") | sed -n 's/^shlibs:Depends=//p'
 }
 
 control() {
@@ -133,7 +133,7 @@ control() {
     (cd "$root" && find etc -type f) | sed 's,^,/,' >"$root/DEBIAN/conffiles"
     (cd "$root" && find usr -type f -exec md5sum {} + | LC_ALL=C sort -k 2) >"$root/DEBIAN/md5sums"
     libraries=$(libraries)
-    [ -n "$libraries" ] || die "$(tail -n 1 "$work/said")"
+    [ -n "$libraries" ] || die "$(tail -n 1 "$work/errors")"
     depends="python3 (>= 3.11), $(listed <"$top/client/packages.txt"), $libraries"
     # What is large only few commands need.
     recommends=$(grep -vxF -f "$top/packaging/suggests.txt" "$top/client/packages-more.txt" | listed)

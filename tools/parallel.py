@@ -16,7 +16,7 @@ T = TypeVar("T")
 R = TypeVar("R")
 
 
-class Ended(Exception):
+class CommandsStoppedError(Exception):
     """No command is begun any more."""
 
 
@@ -28,19 +28,19 @@ class Commands:
     is_stopped: bool = False
     lock: Lock = field(default_factory=Lock)
 
-    def call(self, words: Sequence[Union[str, Path]], folder: Path, said: Path, **more: str) -> int:
-        """Runs a command in a folder, with these variables besides; what it says goes to a file. The status is its."""
-        with said.open("wb") as file:
+    def call(self, words: Sequence[Union[str, Path]], folder: Path, log: Path, **variables: str) -> int:
+        """Runs a command in a folder, with these variables, and writes its output to a file; its status."""
+        with log.open("wb") as file:
             with self.lock:
                 if self.is_stopped:
-                    raise Ended
+                    raise CommandsStoppedError
                 process = subprocess.Popen(
                     words,
                     cwd=folder,
                     stdin=subprocess.DEVNULL,
                     stdout=file,
                     stderr=subprocess.STDOUT,
-                    env={**os.environ, **more},
+                    env={**os.environ, **variables},
                     start_new_session=True,
                 )
                 self.running.add(process)

@@ -35,7 +35,7 @@ if TYPE_CHECKING:
 
 TOP = Path(__file__).resolve().parents[1]
 # What two lanes take at most, in octets, and how many jobs each of them gives a proof.
-ROOM = 16_000_000_000
+FOLDER = 16_000_000_000
 JOBS = 2
 # How the folder of a lane begins that stands in what is kept of a crate.
 LANE = "lane-"
@@ -74,12 +74,12 @@ class Lane:
         return self.tree / "crates" / crate / "out"
 
     def call(self, crate: str, *words: str) -> int:
-        """Calls rt on a crate, in a session of its own, and gives its status; what it says is the crate's log."""
+        """Calls rt on a crate, in a session of its own, and gives its status; the crate's log has its output."""
         out = self.out(crate)
         out.mkdir(parents=True, exist_ok=True)
-        said = out / "build.log"
-        said.unlink(missing_ok=True)
-        with said.open("wb") as log:
+        log_file = out / "build.log"
+        log_file.unlink(missing_ok=True)
+        with log_file.open("wb") as log:
             with self.lock:
                 if self.is_stopped:
                     raise Unproved(crate)
@@ -93,7 +93,7 @@ class Lane:
                 )
             status = self.proving.wait()
         # Whoever reads it knows the tree alone.
-        said.write_bytes(said.read_bytes().replace(os.fsencode(self.tree), os.fsencode(TOP)))
+        log_file.write_bytes(log_file.read_bytes().replace(os.fsencode(self.tree), os.fsencode(TOP)))
         return status
 
     def prove_library(self, library: str) -> None:
@@ -118,21 +118,21 @@ class Lane:
             self.proving.wait()
 
 
-def hand_over(folder: Path, to: Path, room: Path) -> None:
-    """Puts what a folder has, lanes apart, in another place, by hard links where that can be, instead of what is there.
+def hand_over(source: Path, to: Path, folder: Path) -> None:
+    """Puts the parts of a folder, lanes apart, in another place, by hard links if possible, instead of what is there.
 
-    ROOM is a folder of the same file system, where each part is made first, so that one who is killed leaves either.
+    Each part is made first in a further folder of the same file system, so that who is killed leaves either whole.
     """
-    if not folder.is_dir():
+    if not source.is_dir():
         return
     to.mkdir(parents=True, exist_ok=True)
-    for part in (it for it in folder.iterdir() if not it.name.startswith(LANE)):
-        hand_over_part(part, to / part.name, room)
+    for part in (it for it in source.iterdir() if not it.name.startswith(LANE)):
+        hand_over_part(part, to / part.name, folder)
 
 
-def hand_over_part(part: Path, to: Path, room: Path) -> None:
+def hand_over_part(part: Path, to: Path, folder: Path) -> None:
     """Puts a folder or a file in another place, instead of what stands there."""
-    fresh, before = room / "fresh", room / "before"
+    fresh, before = folder / "fresh", folder / "before"
     for left in (fresh, before):
         shutil.rmtree(left, ignore_errors=True)
         left.unlink(missing_ok=True)
@@ -194,9 +194,9 @@ def free_memory() -> int:
     return free if limit is None else min(free, limit - (taken or 0))
 
 
-def has_room() -> bool:
+def has_memory() -> bool:
     """Whether there are the processors and the memory for two lanes."""
-    return len(os.sched_getaffinity(0)) >= 2 * JOBS and free_memory() >= ROOM
+    return len(os.sched_getaffinity(0)) >= 2 * JOBS and free_memory() >= FOLDER
 
 
 def file_of_times() -> Path:
@@ -292,7 +292,7 @@ class Used(NamedTuple):
 
 
 @dataclass
-class Seen:
+class SeenProcesses:
     """What was seen of the processes, of each work, from when to when, and of each crate, how long."""
 
     processes: dict[psutil.Process | None, Used] = field(default_factory=dict)
@@ -300,12 +300,12 @@ class Seen:
     clock: dict[str, float] = field(default_factory=lambda: defaultdict(float))
 
 
-def told_work(words: list[str], folder: str) -> Work | None:
+def work_of(words: list[str], folder: str) -> Work | None:
     """What a process does, by its words and its folder; none where these tell nothing.
 
-    >>> told_work(["rattle", "build", "--crate-name", "pd_lex"], "/tmp/x/crates/pd_lex")
+    >>> work_of(["rattle", "build", "--crate-name", "pd_lex"], "/tmp/x/crates/pd_lex")
     ('pd_lex', 'proof')
-    >>> told_work(["rattle", "check", "--crate-name", "pd_lex"], "/tmp/rt-edit-7-x1")
+    >>> work_of(["rattle", "check", "--crate-name", "pd_lex"], "/tmp/rt-edit-7-x1")
     ('pd_lex', 'edits')
     """
     if ran := next((it for it in words if re.match(r".*/rt-run-[^/]+/bin/", it)), ""):
@@ -316,7 +316,7 @@ def told_work(words: list[str], folder: str) -> Work | None:
     return (os.path.basename(folder), "proof") if re.search(r"/crates/\w+$", folder) else None
 
 
-def look(seen: Seen, root: psutil.Process, now: float, passed: float) -> None:
+def look(seen: SeenProcesses, root: psutil.Process, now: float, passed: float) -> None:
     """Looks at a process and those below it, at a moment by the clock, so many seconds after the last look."""
     import psutil
 
@@ -326,7 +326,7 @@ def look(seen: Seen, root: psutil.Process, now: float, passed: float) -> None:
         with contextlib.suppress(psutil.Error):
             parent = found.get(it.ppid())
             known = [one.work for one in map(seen.processes.get, (it, parent)) if one and one.work]
-            work = known[0] if known else told_work(it.cmdline(), it.cwd())
+            work = known[0] if known else work_of(it.cmdline(), it.cwd())
             used = it.cpu_times()
             seen.processes[it] = Used(work, parent, sum(used[:2]), sum(used[2:4]))
             works |= {work} if work else set()
@@ -336,15 +336,15 @@ def look(seen: Seen, root: psutil.Process, now: float, passed: float) -> None:
         seen.clock[crate] += passed
 
 
-def charged(seen: Seen) -> dict[str, float]:
+def charged(seen: SeenProcesses) -> dict[str, float]:
     """The processor seconds of each crate: of its processes, and of their children that ended between two looks."""
-    told: dict[psutil.Process, float] = defaultdict(float)
+    by_children: dict[psutil.Process, float] = defaultdict(float)
     seconds: dict[str, float] = defaultdict(float)
     for it in seen.processes.values():
-        told[it.parent] += it.own + it.waited
+        by_children[it.parent] += it.own + it.waited
     for process, it in seen.processes.items():
         if it.work:
-            seconds[it.work[0]] += it.own + max(0.0, it.waited - told[process])
+            seconds[it.work[0]] += it.own + max(0.0, it.waited - by_children[process])
     return dict(sorted(seconds.items(), key=lambda it: -it[1]))
 
 
@@ -365,7 +365,7 @@ def longest_chain(spans: dict[Work, tuple[float, float]], uses: dict[str, list[s
     return chain
 
 
-def report(seen: Seen, uses: dict[str, list[str]], processor: float, clock: float) -> Iterator[str]:
+def report(seen: SeenProcesses, uses: dict[str, list[str]], processor: float, clock: float) -> Iterator[str]:
     seconds = {crate: it for crate, it in charged(seen).items() if crate in uses}
     rest = processor - sum(seconds.values())
     yield "minutes of processors and by the clock:"
@@ -381,7 +381,7 @@ def run_gate(command: list[str], clone: Path) -> int:
     """Runs the command in the clone, and prints what it cost; the status is its."""
     import psutil  # ./prove does without.
 
-    seen, began, now = Seen(), time.monotonic(), 0.0
+    seen, began, now = SeenProcesses(), time.monotonic(), 0.0
     started = subprocess.Popen(command, cwd=clone, stdin=subprocess.DEVNULL, stdout=sys.stderr)
     while started.poll() is None:
         before, now = now, time.monotonic() - began

@@ -9,12 +9,12 @@ Two crates are proved side by side, in two lanes, where the machine has four pro
 crate comes into its lane by hard links, and so does what is proved into the tree and the other lane. The copies are
 gone at the end.
 
-Says on standard error which crate is proved, how many are left, and about how long they take: as long as they took
-last on this machine, as a file below ~/.cache/pdregress says. Where one isn't proved, it says each error with its file
-and line, each contract that is refused with the definitions that it cites, which definitions aren't those by which it
-was proved last, and which laws name them. Interrupted, it keeps what was proved. Both end with status 2, and so does a
-kit that doesn't say what its file KIT-ID has, or changes meanwhile. Two calls in one tree work one after the other. In
-the end it keeps copies of all programs that are proved, with their commit, as tools/last_proved.py says.
+Prints on standard error which crate is proved, how many are left, and about how long they take: as long as they took
+last on this machine, as a file below ~/.cache/pdregress says. Where one isn't proved, it prints each error with its
+file and line, each contract that is refused with the definitions that it cites, which definitions aren't those by which
+it was proved last, and which laws name them. Interrupted, it keeps what was proved. Both end with status 2, and so does
+a kit that doesn't print what its file KIT-ID has, or changes meanwhile. Two calls in one tree work one after the other.
+In the end it keeps copies of all programs that are proved, with their commit, as tools/last_proved.py says.
 """
 from __future__ import annotations
 
@@ -34,18 +34,18 @@ from pathlib import Path
 import proof_sums
 import proving_kit
 import signals
-from changed_rules import keep, told
+from changed_rules import change_lines, keep
 from cited import Definitions, with_contracts
 from copies import copied
 from crate_graph import dependencies, libraries_below
 from last_proved import keep_programs
-from proofs import JOBS, LANE, TOP, Lane, Times, Unproved, amount, hand_over, has_room, held, key_of, time_of_proof
+from proofs import JOBS, LANE, TOP, Lane, Times, Unproved, amount, hand_over, has_memory, held, key_of, time_of_proof
 from prove_errors import errors
-from proving_kit import Kit, Refused
+from proving_kit import ProvingKit, ProofRefusedError
 from source_sums import TABLE, Unreadable, places_of, sources_below, sources_in, sums_of
 
 
-# What was said last of a proof that was refused.
+# The last message about a proof that was refused.
 REFUSED = TOP / "crates" / "pdregress" / "out" / "refused"
 
 
@@ -54,7 +54,7 @@ class Interrupted(Exception):
 
 
 @dataclass
-class Running:
+class RunningProof:
     """A crate that is proved now, in which lane, since when, and what its time is kept as."""
 
     crate: str
@@ -67,24 +67,24 @@ class Running:
 class Work:
     """The crates that are to be proved, those that are, and those that a lane is at.
 
-    `sums` are the checksums of what was copied, and `room` is a folder for what is handed over.
+    `sums` are the checksums of what was copied, and `folder` is one for what is handed over.
     """
 
-    kit: Kit
+    kit: ProvingKit
     sums: dict[str, str]
-    room: Path
+    folder: Path
     uses: dict[str, list[str]]
     waiting: list[str]
     times: Times
     expected: dict[str, float]
     proved: set[str] = field(default_factory=set)
-    running: dict[Future[None], Running] = field(default_factory=dict)
+    running: dict[Future[None], RunningProof] = field(default_factory=dict)
 
-    def say_begun(self, crate: str, lanes: int) -> None:
-        """Says that a crate is begun, and what is left."""
+    def print_begun(self, crate: str, lanes: int) -> None:
+        """Prints that a crate is begun, and what is left."""
         left = {*self.waiting, crate, *(it.crate for it in self.running.values())}
         seconds = max([sum(map(self.expected.__getitem__, left)) / lanes, *map(self.chain_above, left)])
-        say(f"proving {crate}; {amount(len(left), seconds)} are left")
+        print_line(f"proving {crate}; {amount(len(left), seconds)} are left")
 
     def next_crate(self) -> str | None:
         """Of the crates whose libraries are proved the one with the longest chain of others above it."""
@@ -109,10 +109,10 @@ class Work:
                 lane.stop()
             pool.shutdown()
             for it in self.running.values():
-                with contextlib.suppress(Refused), held(it.crate, waits=False) as is_held:
+                with contextlib.suppress(ProofRefusedError), held(it.crate, waits=False) as is_held:
                     if is_held:
                         self.check(it.lane)
-                        hand_over(it.lane.out(it.crate), out_of(it.crate), self.room)
+                        hand_over(it.lane.out(it.crate), out_of(it.crate), self.folder)
 
     def begin(self, pool: ThreadPoolExecutor, lanes: list[Lane]) -> None:
         """Gives each lane that is free a crate, with what is kept of it."""
@@ -123,9 +123,9 @@ class Work:
                 return
             self.waiting.remove(crate)
             with held(crate):
-                hand_over(out_of(crate), lane.out(crate), self.room)
-            self.say_begun(crate, len(lanes))
-            running = Running(crate, lane, key_of(crate), time.time())
+                hand_over(out_of(crate), lane.out(crate), self.folder)
+            self.print_begun(crate, len(lanes))
+            running = RunningProof(crate, lane, key_of(crate), time.time())
             prove_crate = lane.prove_program if is_program(lane.tree, crate) else lane.prove_library
             self.running[pool.submit(prove_crate, crate)] = running
 
@@ -141,20 +141,20 @@ class Work:
             self.keep_sums(it.crate, it.lane.tree)
         else:
             for other in (lane for lane in lanes if lane.tree != it.lane.tree):
-                hand_over(out / "rlib", other.out(it.crate) / "rlib", self.room)
+                hand_over(out / "rlib", other.out(it.crate) / "rlib", self.folder)
         with held(it.crate):
-            hand_over(out, out_of(it.crate), self.room)
+            hand_over(out, out_of(it.crate), self.folder)
         # Only now, so that what was proved isn't lost where a signal comes in the midst.
         del self.running[future]
         self.proved.add(it.crate)
 
     def check(self, lane: Lane) -> None:
-        """Sees that what is proved in a lane is what was copied, by the kit that was there at the beginning."""
+        """Checks that what is proved in a lane is what was copied, by the kit that was there at the beginning."""
         if changed := lane.copy.changed():
-            raise Refused(f"{lane.tree}/{changed} has changed while it was proved: run this again")
+            raise ProofRefusedError(f"{lane.tree}/{changed} has changed while it was proved: run this again")
         self.kit.check()
 
-    def keep_time(self, it: Running) -> None:
+    def keep_time(self, it: RunningProof) -> None:
         """Keeps what a proof took, if it was one: a crate that hasn't changed isn't proved again."""
         if time_of_proof(it.lane.out(it.crate)) >= it.begun:
             self.times.keep(it.key, time.time() - it.begun)
@@ -166,7 +166,7 @@ class Work:
         proof_sums.put(f"{tree}/{path}.sums", proof_sums.record(sums_of(str(tree), [path]), read, self.kit.name))
 
 
-def say(text: str) -> None:
+def print_line(text: str) -> None:
     print(f"prove: {text}", file=sys.stderr, flush=True)
 
 
@@ -179,8 +179,8 @@ def is_program(tree: Path, crate: str) -> bool:
     return (tree / "crates" / crate / "src" / "main.rt").exists()
 
 
-def prove(named: list[str], uses: dict[str, list[str]], lanes: int, kit: Kit) -> str | None:
-    """Proves crates and those below them. Where what their proofs read isn't in the tree any more, that is told."""
+def prove(named: list[str], uses: dict[str, list[str]], lanes: int, kit: ProvingKit) -> str | None:
+    """Proves crates and those below them. If the tree has other files than their proofs read, the answer says so."""
     crates = tuple(dict.fromkeys(low for it in named for low in [*libraries_below(it, uses), it]))
     times = Times.read()
     out = out_of(named[0])
@@ -211,7 +211,7 @@ def alone() -> Iterator[None]:
         try:
             fcntl.flock(tree, fcntl.LOCK_EX | fcntl.LOCK_NB)
         except BlockingIOError:
-            say("waiting for another call that proves here")
+            print_line("waiting for another call that proves here")
             fcntl.flock(tree, fcntl.LOCK_EX)
         yield
     finally:
@@ -234,12 +234,12 @@ def refusal(crate: str, folders: list[Path], shown: Callable[[str], str], top: P
     found = with_contracts(errors(text, folder, shown), Definitions(folders), top)
     yield f"prove: {crate} isn't proved, or wasn't built:"
     yield from list(found) or text.splitlines()[-5:] or [""]
-    yield from told(log.parent, folders)
+    yield from change_lines(log.parent, folders)
     yield f"prove: the whole log: {log}"
 
 
-def say_errors(crate: str, uses: dict[str, list[str]]) -> None:
-    """Says why a crate isn't proved, and leaves that for `watch` and editors, which may be called from elsewhere."""
+def print_errors(crate: str, uses: dict[str, list[str]]) -> None:
+    """Prints why a crate isn't proved, and leaves that for `watch` and editors, which may be called from elsewhere."""
     folders = folders_for(TOP, crate, uses)
     print(*refusal(crate, folders, os.path.relpath, Path()), sep="\n", file=sys.stderr, flush=True)
     with contextlib.suppress(OSError):
@@ -261,19 +261,19 @@ def run(named: list[str], every: list[str], lanes: int) -> None:
         kit.check()
         proving_kit.working()
         if changed:
-            raise Refused(f"{changed}, and what was proved is as all was before: run this again")
+            raise ProofRefusedError(f"{changed}, and what was proved is as all was before: run this again")
         proved = [it for it in every if proof_sums.is_proved(str(TOP), it)]
-        # Where libraries alone were asked for, what is kept stays.
+        # If only libraries are named, the kept programs stay.
         if set(proved).intersection(named):
             keep_programs(proved)
 
 
-def say_proved(crates: list[str]) -> None:
+def print_proved(crates: list[str]) -> None:
     programs = [it for it in crates if is_program(TOP, it)]
     if programs:
-        say(f"proved and built: {', '.join(programs)}")
+        print_line(f"proved and built: {', '.join(programs)}")
     if libraries := [it for it in crates if it not in programs]:
-        say(f"proved: {', '.join(libraries)}")
+        print_line(f"proved: {', '.join(libraries)}")
 
 
 def main() -> int:
@@ -282,25 +282,25 @@ def main() -> int:
     parser = argparse.ArgumentParser(prog="prove", allow_abbrev=False, description=(__doc__ or "").partition("\n")[0])
     parser.add_argument("crates", metavar="CRATE", nargs="*", help=f"{', '.join(every)}, or a library")
     parser.add_argument("--lanes", type=int, choices=(1, 2), help="how many crates are proved side by side")
-    asked = parser.parse_args()
-    named = list(dict.fromkeys(asked.crates)) or every
+    options = parser.parse_args()
+    named = list(dict.fromkeys(options.crates)) or every
     for unknown in (it for it in named if it not in uses):
         parser.error(f"there is no crate {unknown}; there are {', '.join(uses)}")
     signals.heed()
     try:
-        run(named, every, asked.lanes or (2 if has_room() else 1))
-        say_proved(named)
+        run(named, every, options.lanes or (2 if has_memory() else 1))
+        print_proved(named)
     except Unproved as crate:
-        say_errors(str(crate), uses)
+        print_errors(str(crate), uses)
         return 2
     except Interrupted as at:
-        say(f"interrupted at {at}; what was proved is kept: run it again to go on")
+        print_line(f"interrupted at {at}; what was proved is kept: run it again to go on")
         return 2
-    except (Refused, Unreadable) as why:
-        say(str(why))
+    except (ProofRefusedError, Unreadable) as why:
+        print_line(str(why))
         return 2
     except OSError as error:
-        say(f"can't go on: {error}")
+        print_line(f"can't go on: {error}")
         return 2
     except KeyboardInterrupt:
         return 2

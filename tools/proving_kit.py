@@ -1,4 +1,4 @@
-"""The kit by which ./prove proves: one that says its name, and that is the same from the beginning to the end."""
+"""The kit by which ./prove proves: one that prints its name, and that is the same from the beginning to the end."""
 from __future__ import annotations
 
 import os
@@ -11,12 +11,12 @@ from kit import command_of_kit, file_of_identity, identity_of
 from stamps import stamps_of
 
 
-class Refused(Exception):
+class ProofRefusedError(Exception):
     """Why nothing is proved by the kit that is there."""
 
 
 @dataclass(frozen=True)
-class Kit:
+class ProvingKit:
     """A kit's command, what names the kit, and the stamps of its programs."""
 
     command: str
@@ -24,36 +24,38 @@ class Kit:
     stamps: dict[str, str]
 
     def check(self) -> None:
-        """Sees that this kit is the one that is on the PATH, and as it was."""
+        """Checks that this kit is the one that is on the PATH, and as it was."""
         if found() != self:
-            raise Refused(f"the kit of {self.command} has changed while it proved: run this again")
+            raise ProofRefusedError(f"the kit of {self.command} has changed while it proved: run this again")
 
 
-def found() -> Kit:
+def found() -> ProvingKit:
     """The kit whose command is on the PATH, by its files alone."""
     command = command_of_kit()
     if command is None:
-        raise Refused("the Rattle kit's command 'rt' has to be on the PATH")
+        raise ProofRefusedError("the Rattle kit's command 'rt' has to be on the PATH")
     place = Path(file_of_identity(command))
     name = identity_of(command)
     if not name:
-        raise Refused(f"{command} is of no kit: {place} doesn't say which")
+        raise ProofRefusedError(f"{command} is of no kit: {place} doesn't say which")
     programs = sorted(str(it) for it in Path(os.path.realpath(command)).parent.iterdir())
-    return Kit(os.path.abspath(command), name, stamps_of("", [str(place), *programs]))
+    return ProvingKit(os.path.abspath(command), name, stamps_of("", [str(place), *programs]))
 
 
-def working() -> Kit:
-    """The kit whose command is on the PATH. It says that it is what its file says."""
+def working() -> ProvingKit:
+    """The kit whose command is on the PATH, if it prints the name that its file has."""
     it = found()
     call = shlex.join([it.command, "--version"])
     try:
-        said = subprocess.run(
+        printed = subprocess.run(
             [it.command, "--version"], stdin=subprocess.DEVNULL, capture_output=True, encoding="utf-8", errors="replace"
         )
     except OSError as error:
-        raise Refused(f"{call}: {error.strerror}") from None
-    if said.returncode:
-        raise Refused(f"{call} ends with status {said.returncode}")
-    if " ".join(said.stdout.split()) != it.name:
-        raise Refused(f"{call} prints {said.stdout.strip()!r}, and {file_of_identity(it.command)} has {it.name!r}")
+        raise ProofRefusedError(f"{call}: {error.strerror}") from None
+    if printed.returncode:
+        raise ProofRefusedError(f"{call} ends with status {printed.returncode}")
+    if " ".join(printed.stdout.split()) != it.name:
+        raise ProofRefusedError(
+            f"{call} prints {printed.stdout.strip()!r}, and {file_of_identity(it.command)} has {it.name!r}"
+        )
     return it

@@ -1,7 +1,7 @@
 #!/usr/bin/env python3
 """Prints what to read to believe a promise: the files with their lines, from the highest crate down, the nearest first.
 
-    tools/reading_list.py headline       the rows that a report shows, and the calls that they are said of
+    tools/reading_list.py headline       the rows that a report shows, and their calls
     tools/reading_list.py octets         what the program writes
     tools/reading_list.py FUNCTION..     public functions, as pd_cli::run, or clauses of them, as Book::show.whole,parts
 
@@ -33,31 +33,31 @@ LISTS = {
 }
 
 
-class Unknown(Exception):
+class UnknownNameError(Exception):
     """That a word names no public function, or no clause of it."""
 
 
 Name = tuple[str, str]  # a file or a crate, and a word there
-Index = dict[Name, "Place | Name"]  # where that is defined, or the name that it stands for
+Index = dict[Name, "ListedPlace | Name"]  # where that is defined, or the name that it stands for
 
 
 @dataclass(frozen=True, eq=False)
-class Place:  # lines of a file that define or promise something
+class ListedPlace:  # lines of a file that define or promise something
     file: str
     start: int
     text: str
 
 
-def read(path: Path, crate: str) -> Iterator[tuple[Name, "Place | Name"]]:
+def read(path: Path, crate: str) -> Iterator[tuple[Name, "ListedPlace | Name"]]:
     file, text, owner, start = str(path.relative_to(CRATES)), path.read_text(encoding="utf-8"), "", 1
     yield from imports_of(file, crate, text)
     for part in text.replace("pub(crate) ", "pub ").split("\n\n"):
         owner = found[1] if (found := OWNER.search(part)) else owner
-        here, scopes = Place(file, start, part), {file, crate if path.suffix == ".rt" else file}
+        here, scopes = ListedPlace(file, start, part), {file, crate if path.suffix == ".rt" else file}
         for name in DEFINED.findall(part) + [owner] * ("    ghost Value" in part):
             yield from (((scope, name.strip("◌")), here) for scope in scopes)
         if found := FUNCTION.search(part):
-            yield (crate, f"{owner}::{found[1]}".lstrip(":")), Place(file, start, f"{owner} {part[: found.end()]}")
+            yield (crate, f"{owner}::{found[1]}".lstrip(":")), ListedPlace(file, start, f"{owner} {part[: found.end()]}")
         owner = "" if f"\n{part}".endswith("\n}") else owner
         start += part.count("\n") + 2
 
@@ -77,7 +77,7 @@ def read_index() -> Index:
     return dict(item for path in paths for item in read(path, path.relative_to(CRATES).parts[0]))
 
 
-def meant(index: Index, file: str, word: str) -> list[Place]:
+def meant(index: Index, file: str, word: str) -> list[ListedPlace]:
     """What a word of a file stands for, also where that file has it from another one."""
     head, _, rest = word.partition(".")
     found = index.get((file, head))
@@ -86,17 +86,17 @@ def meant(index: Index, file: str, word: str) -> list[Place]:
     return [found] if found else []
 
 
-def contract(index: Index, wanted: str) -> Place:
+def contract(index: Index, wanted: str) -> ListedPlace:
     name, _, clauses = wanted.partition(".")
     found = [place for key in index if f"::{'::'.join(key)}".endswith(f"::{name}") for place in meant(index, *key)]
     head, *parts = re.split(r"\n(?= *ensures)", found[0].text if len(found) == 1 else "")
     kept = [part for part in parts if not clauses or part.split()[1] in clauses.split(",")]
     if len(found) != 1 or len(kept) < len(clauses.split(",")):
-        raise Unknown(f"{wanted}: each word has to name one public function, and clauses of it")
-    return Place(found[0].file, found[0].start, "\n".join([head, *kept]))
+        raise UnknownNameError(f"{wanted}: each word has to name one public function, and clauses of it")
+    return ListedPlace(found[0].file, found[0].start, "\n".join([head, *kept]))
 
 
-def reached(index: Index, functions: list[str]) -> list[Place]:
+def reached(index: Index, functions: list[str]) -> list[ListedPlace]:
     """The contracts of functions and all that they rest on, what is nearer first."""
     places = [contract(index, wanted) for wanted in functions]
     for here in places:
@@ -122,5 +122,5 @@ def main(words: list[str]) -> None:
 if __name__ == "__main__":
     try:
         main(sys.argv[1:])
-    except Unknown as unknown:
+    except UnknownNameError as unknown:
         sys.exit(f"reading_list: {unknown}")

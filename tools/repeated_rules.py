@@ -72,8 +72,8 @@ def repeats(it: Definition, words: list[str], at: int) -> bool:
     return True
 
 
-def told(each: list[Definition], path: Path) -> Iterator[tuple[int, str]]:
-    """What one file repeats, with its lines."""
+def repetitions(each: list[Definition], path: Path) -> Iterator[tuple[int, str]]:
+    """The rules that one file repeats, with its lines."""
     text = path.read_text(encoding="utf-8")
     found = [
         (word, number)
@@ -101,7 +101,7 @@ def main(crates: list[str]) -> int:
     for path in sorted(TOP.glob("crates/*/proofs/**/*.antt")):
         name = path.relative_to(TOP)
         if not crates or name.parts[1] in crates:
-            for line, what in sorted(set(told(each, path))):
+            for line, what in sorted(set(repetitions(each, path))):
                 print(f"{name}:{line}: {what}")
     return 0
 

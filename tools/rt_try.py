@@ -21,7 +21,7 @@ from typing import Union
 TOP = Path(__file__).resolve().parents[1]
 # The input that `rt try` hands on is below this, in octets.
 MOST_INPUT = 64 << 20
-# What a run gets where nobody says otherwise, and what `rt try` gets to end what it started, in seconds.
+# The seconds that a run gets by default, and those that `rt try` gets to end what it started.
 SECONDS = 600
 GRACE = 10
 
@@ -36,15 +36,15 @@ REFUSED = 1
 
 
 @dataclass(frozen=True)
-class Case:
-    """The words of a run and its input."""
+class TryCase:
+    """The arguments of a run and its input."""
 
-    words: tuple[bytes, ...]
+    arguments: tuple[bytes, ...]
     given: bytes
 
 
 @dataclass(frozen=True)
-class Answer:
+class TryOutput:
     """What a program wrote on its two outputs, and its status."""
 
     output: bytes
@@ -54,17 +54,17 @@ class Answer:
 
 @dataclass(frozen=True)
 class NoAnswer:
-    """Why there is no answer: a name that stays, a sentence, and what `rt try` said, where that tells more."""
+    """Why there is no answer: a name that stays, a sentence, and what `rt try` printed, where that explains more."""
 
     name: str
     why: str
-    said: bytes = b""
+    printed: bytes = b""
 
 
-Tried = Union[Answer, NoAnswer]
+TryResult = Union[TryOutput, NoAnswer]
 
 
-class Untried(Exception):
+class NotRunError(Exception):
     """That nothing was run, and why."""
 
     def __init__(self, reason: NoAnswer) -> None:
@@ -73,32 +73,32 @@ class Untried(Exception):
 
 
 @dataclass(frozen=True)
-class Called:
+class TryCall:
     """A call of `rt try` that has ended."""
 
     status: int
     output: bytes
-    said: bytes
+    printed: bytes
 
 
-def run_once(program: str, words: Sequence[bytes], given: Path, room: Path, seconds: int = SECONDS) -> Tried:
-    """What a program answers to these words, with a file as its input."""
+def run_once(program: str, arguments: Sequence[bytes], given: Path, folder: Path, seconds: int = SECONDS) -> TryResult:
+    """The result of a program with these arguments, and a file as its input."""
     if given.stat().st_size >= MOST_INPUT:
-        raise Untried(NoAnswer("TooMuchInput", "the input has 64 MiB or more"))
-    called = call(program, [b"--seconds", b"%d" % seconds, b"--", *words], given, room)
-    return answer_of(called, called.output, called.said, seconds)
+        raise NotRunError(NoAnswer("TooMuchInput", "the input has 64 MiB or more"))
+    called = call(program, [b"--seconds", b"%d" % seconds, b"--", *arguments], given, folder)
+    return result_of(called, called.output, called.printed, seconds)
 
 
 def run_cases(
     program: str,
-    cases: Sequence[Case],
-    room: Path,
+    cases: Sequence[TryCase],
+    folder: Path,
     seconds: int = SECONDS,
-    words: Sequence[bytes] = (),
+    arguments: Sequence[bytes] = (),
     top: Path = TOP,
     steps: int | None = None,
-) -> list[Tried]:
-    """What a program answers to each case, in whose own words is no newline; those of all cases may have some.
+) -> list[TryResult]:
+    """The results of cases, in whose own arguments is no newline; those of all cases may have some.
 
     Outputs get a newline at their end if need be. So many steps are interpreted first, if the number is given.
     """
@@ -107,36 +107,37 @@ def run_cases(
     # By chance no program writes such a name.
     token = secrets.token_hex(8)
     names = [f"{token}-{number:06}".encode() for number in range(len(cases))]
-    folder = room / "cases"
-    folder.mkdir()
+    case_folder = folder / "cases"
+    case_folder.mkdir()
     for name, case in zip(names, cases):
-        write_case(folder / name.decode(), case)
-    asked = [b"--seconds", b"%d" % seconds, b"--cases", os.fsencode(folder)]
-    asked += [] if steps is None else [b"--steps", b"%d" % steps]
-    called = call(program, asked + ([b"--", *words] if words else []), Path(os.devnull), room, top)
-    shutil.rmtree(folder)
+        write_case(case_folder / name.decode(), case)
+    options = [b"--seconds", b"%d" % seconds, b"--cases", os.fsencode(case_folder)]
+    options += [] if steps is None else [b"--steps", b"%d" % steps]
+    called = call(program, options + ([b"--", *arguments] if arguments else []), Path(os.devnull), folder, top)
+    shutil.rmtree(case_folder)
     outputs = dict(parted(rb"^== (%b-\d+)\n" % token.encode(), called.output))
     return [
-        answer_of(called, outputs.get(name, b""), said, seconds) for name, said in zip(names, told_of(names, called))
+        result_of(called, outputs.get(name, b""), printed, seconds)
+        for name, printed in zip(names, printed_by_case(names, called))
     ]
 
 
-def write_case(file: Path, case: Case) -> None:
+def write_case(file: Path, case: TryCase) -> None:
     """Writes a case as `rt try --cases` reads it."""
-    if any(b"\n" in word for word in case.words):
-        raise ValueError("a word of a case has a newline")
+    if any(b"\n" in it for it in case.arguments):
+        raise ValueError("an argument of a case has a newline")
     file.write_bytes(case.given)
-    file.with_name(f"{file.name}.args").write_bytes(b"".join(word + b"\n" for word in case.words))
+    file.with_name(f"{file.name}.args").write_bytes(b"".join(it + b"\n" for it in case.arguments))
 
 
-def told_of(names: Sequence[bytes], called: Called) -> Iterator[bytes]:
-    """Of each case what was said of it, ended by a line as the last one of a single run."""
+def printed_by_case(names: Sequence[bytes], called: TryCall) -> Iterator[bytes]:
+    """What `rt try` printed for each case, ended by a line as the last one of a single run."""
     begin = 0
     for name in names:
-        end = re.compile(rb"^case=%b (.*\n)" % name, re.MULTILINE).search(called.said, begin)
+        end = re.compile(rb"^case=%b (.*\n)" % name, re.MULTILINE).search(called.printed, begin)
         if end is None:
-            raise Untried(why_untried(called))
-        yield called.said[begin : end.start()] + end[1]
+            raise NotRunError(why_not_run(called))
+        yield called.printed[begin : end.start()] + end[1]
         begin = end.end()
 
 
@@ -146,13 +147,13 @@ def parted(heading: bytes, text: bytes) -> Iterator[tuple[bytes, bytes]]:
     return zip(parts[::2], parts[1::2])
 
 
-def answer_of(called: Called, output: bytes, said: bytes, seconds: int) -> Tried:
-    """The answer, by the last line that was said."""
-    last = LAST.search(said)
+def result_of(called: TryCall, output: bytes, printed: bytes, seconds: int) -> TryResult:
+    """The result, by the last line that was printed."""
+    last = LAST.search(printed)
     if last is None or last[1] == b"none":
-        raise Untried(why_untried(called))
+        raise NotRunError(why_not_run(called))
     if last[1] == b"ended":
-        return Answer(output, said[: last.start()], int(last[2]))
+        return TryOutput(output, printed[: last.start()], int(last[2]))
     found = CHECKED.search(last[0])
     why = found[1] if found else last[1]
     if why.startswith(TOO_MUCH_OUTPUT):
@@ -160,49 +161,49 @@ def answer_of(called: Called, output: bytes, said: bytes, seconds: int) -> Tried
     if why.startswith(TOO_SLOW):
         return NoAnswer("TooSlow", f"the program didn't end within {seconds} seconds")
     if last[1] == b"fault":
-        return NoAnswer("Faulted", why.decode(errors="replace"), said[: last.start()])
+        return NoAnswer("Faulted", why.decode(errors="replace"), printed[: last.start()])
     return NoAnswer("NoAnswer", why.decode(errors="replace"))
 
 
-def why_untried(called: Called) -> NoAnswer:
+def why_not_run(called: TryCall) -> NoAnswer:
     """Why `rt try` ran nothing, or stopped on the way."""
-    said = LAST.sub(b"", called.said)
+    printed = LAST.sub(b"", called.printed)
     if called.status == REFUSED:
-        return NoAnswer("NotCompiled", "the program doesn't compile", said)
-    return NoAnswer("ToolFailed", f"`rt try` ended with status {called.status}", said)
+        return NoAnswer("NotCompiled", "the program doesn't compile", printed)
+    return NoAnswer("ToolFailed", f"`rt try` ended with status {called.status}", printed)
 
 
 def find_kit() -> None:
-    """Sees that there is the kit's command."""
+    """Checks that there is the kit's command."""
     if shutil.which("rt") is None:
-        raise Untried(NoAnswer("NoKit", "the Rattle kit's command 'rt' has to be on the PATH"))
+        raise NotRunError(NoAnswer("NoKit", "the Rattle kit's command 'rt' has to be on the PATH"))
 
 
-def placed(program: str, said: bytes, top: Path = TOP) -> bytes:
-    """What is said, with whole paths of the files of the program's own crate."""
+def placed(program: str, printed: bytes, top: Path = TOP) -> bytes:
+    """Printed lines, with whole paths of the files of the program's own crate."""
     folder = os.fsencode(top / "crates" / program)
-    return re.sub(rb"^(?=src/|specs/|proofs/)", lambda _: folder + b"/", said, flags=re.MULTILINE)
+    return re.sub(rb"^(?=src/|specs/|proofs/)", lambda _: folder + b"/", printed, flags=re.MULTILINE)
 
 
-def call(program: str, words: Sequence[bytes], given: Path, room: Path, top: Path = TOP) -> Called:
+def call(program: str, arguments: Sequence[bytes], given: Path, folder: Path, top: Path = TOP) -> TryCall:
     """Calls `rt try` on a program. Whatever ends this, ends what was started."""
     find_kit()
-    output, said = room / "output", room / "said"
-    with given.open("rb") as input_file, output.open("wb") as output_file, said.open("wb") as said_file:
+    output, log = folder / "output", folder / "log"
+    with given.open("rb") as input_file, output.open("wb") as output_file, log.open("wb") as log_file:
         process = subprocess.Popen(
-            [b"rt", b"try", *words],
+            [b"rt", b"try", *arguments],
             cwd=top / "crates" / program,
             stdin=input_file,
             stdout=output_file,
-            stderr=said_file,
-            env={**os.environ, "TMPDIR": str(room)},
+            stderr=log_file,
+            env={**os.environ, "TMPDIR": str(folder)},
             start_new_session=True,
         )
         try:
             status = process.wait()
         finally:
             end(process)
-    return Called(status, output.read_bytes(), said.read_bytes())
+    return TryCall(status, output.read_bytes(), log.read_bytes())
 
 
 def end(process: subprocess.Popen[bytes]) -> None:

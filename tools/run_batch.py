@@ -72,18 +72,20 @@ def placed(printed: bytes, folder: Path, tree: Path) -> bytes:
 def run(options: argparse.Namespace, tree: Path) -> None:
     """Builds, starts and answers."""
     files = sorted(options.starts.iterdir())
-    cases = [rt_try.Case((), it.read_bytes()) for it in files]
+    cases = [rt_try.TryCase((), it.read_bytes()) for it in files]
     with tempfile.TemporaryDirectory(prefix="pdbatch-") as name:
         folder = Path(name).resolve()
         put_tree(tree, folder)
         try:
             # The program is built in any case, so that nothing has to be interpreted.
             answers = rt_try.run_cases(PROGRAM, cases, folder, options.seconds, top=folder, steps=1)
-        except rt_try.Untried as untried:
-            reason = untried.reason
-            raise rt_try.Untried(rt_try.NoAnswer(reason.name, reason.why, placed(reason.said, folder, tree))) from None
-    for file, tried in zip(files, answers):
-        put(options.answers, file.name, tried)
+        except rt_try.NotRunError as error:
+            reason = error.reason
+            raise rt_try.NotRunError(
+                rt_try.NoAnswer(reason.name, reason.why, placed(reason.printed, folder, tree))
+            ) from None
+    for file, result in zip(files, answers):
+        put(options.answers, file.name, result)
 
 
 def main() -> int:
@@ -96,12 +98,12 @@ def main() -> int:
     signals.heed()
     try:
         run(options, options.tree.absolute())
-    except rt_try.Untried as untried:
-        print(f"{PROGRAM}: unproved: {untried}", file=sys.stderr)
+    except rt_try.NotRunError as error:
+        print(f"{PROGRAM}: unproved: {error}", file=sys.stderr)
         sys.stderr.flush()
-        sys.stderr.buffer.write(untried.reason.said)
+        sys.stderr.buffer.write(error.reason.printed)
         return FAULT
-    except signals.Stopped as signal:
+    except signals.StoppedBySignal as signal:
         signals.end_by(signal.number)
     return 0
 

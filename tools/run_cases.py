@@ -1,12 +1,12 @@
 """Runs a program on many cases without proofs, after one build:
 
-run_cases.py [--seconds N] [--tree FOLDER] PROGRAM CASES ANSWERS [-- WORD..]
+run_cases.py [--seconds N] [--tree FOLDER] PROGRAM CASES ANSWERS [-- ARGUMENT..]
 
 The program is the one of this tree, or of the one below FOLDER. The folder CASES has for each case a file NAME, its
-input, and a file NAME.args, its arguments, one a line; each WORD stands before these in every case. The folder ANSWERS
-gets NAME.output and NAME.errors, what the program wrote, and NAME.status: a number, or where there is none why, as
-`TooSlow: the program didn't end within 60 seconds`. Where nothing was run, a line on standard error says why, with what
-`rt try` printed, and the status is 2; else it is 0.
+input, and a file NAME.args, its arguments, one a line; each ARGUMENT stands before these in every case. The folder
+ANSWERS gets NAME.output and NAME.errors, what the program wrote, and NAME.status: a number, or where there is none why,
+as `TooSlow: the program didn't end within 60 seconds`. Where nothing was run, a line on standard error says why, with
+what `rt try` printed, and the status is 2; else it is 0.
 """
 from __future__ import annotations
 
@@ -22,37 +22,37 @@ import signals
 FAULT = 2
 
 
-def cases_in(folder: Path) -> dict[str, rt_try.Case]:
+def cases_in(folder: Path) -> dict[str, rt_try.TryCase]:
     """The cases of a folder by their names."""
     files = sorted(it for it in folder.iterdir() if it.suffix != ".args")
-    return {it.name: rt_try.Case(words_of(it.with_name(f"{it.name}.args")), it.read_bytes()) for it in files}
+    return {it.name: rt_try.TryCase(arguments_of(it.with_name(f"{it.name}.args")), it.read_bytes()) for it in files}
 
 
-def words_of(file: Path) -> tuple[bytes, ...]:
+def arguments_of(file: Path) -> tuple[bytes, ...]:
     return tuple(file.read_bytes().split(b"\n")[:-1])
 
 
-def put(folder: Path, name: str, tried: rt_try.Tried) -> None:
+def put(folder: Path, name: str, result: rt_try.TryResult) -> None:
     """Writes what a program answered."""
-    if isinstance(tried, rt_try.Answer):
-        (folder / f"{name}.output").write_bytes(tried.output)
-        (folder / f"{name}.errors").write_bytes(tried.errors)
-        (folder / f"{name}.status").write_text(str(tried.status))
+    if isinstance(result, rt_try.TryOutput):
+        (folder / f"{name}.output").write_bytes(result.output)
+        (folder / f"{name}.errors").write_bytes(result.errors)
+        (folder / f"{name}.status").write_text(str(result.status))
     else:
         (folder / f"{name}.output").write_bytes(b"")
-        (folder / f"{name}.errors").write_bytes(tried.said)
-        (folder / f"{name}.status").write_text(f"{tried.name}: {tried.why}")
+        (folder / f"{name}.errors").write_bytes(result.printed)
+        (folder / f"{name}.status").write_text(f"{result.name}: {result.why}")
 
 
 def run(options: argparse.Namespace) -> None:
     cases = cases_in(options.cases)
-    with tempfile.TemporaryDirectory(prefix=f"{options.program}-") as room:
-        words = [os.fsencode(it) for it in options.words]
-        answers = rt_try.run_cases(
-            options.program, list(cases.values()), Path(room), options.seconds, words, options.tree
+    with tempfile.TemporaryDirectory(prefix=f"{options.program}-") as folder:
+        arguments = [os.fsencode(it) for it in options.arguments]
+        results = rt_try.run_cases(
+            options.program, list(cases.values()), Path(folder), options.seconds, arguments, options.tree
         )
-    for name, tried in zip(cases, answers):
-        put(options.answers, name, tried)
+    for name, result in zip(cases, results):
+        put(options.answers, name, result)
 
 
 def main() -> int:
@@ -62,17 +62,17 @@ def main() -> int:
     parser.add_argument("program", metavar="PROGRAM")
     parser.add_argument("cases", metavar="CASES", type=Path)
     parser.add_argument("answers", metavar="ANSWERS", type=Path)
-    parser.add_argument("words", metavar="WORD", nargs="*", help="an argument of every case")
+    parser.add_argument("arguments", metavar="ARGUMENT", nargs="*", help="an argument of every case")
     options = parser.parse_args()
     signals.heed()
     try:
         run(options)
-    except rt_try.Untried as untried:
-        print(f"{options.program}: unproved: {untried}", file=sys.stderr)
+    except rt_try.NotRunError as error:
+        print(f"{options.program}: unproved: {error}", file=sys.stderr)
         sys.stderr.flush()
-        sys.stderr.buffer.write(rt_try.placed(options.program, untried.reason.said, options.tree.absolute()))
+        sys.stderr.buffer.write(rt_try.placed(options.program, error.reason.printed, options.tree.absolute()))
         return FAULT
-    except signals.Stopped as signal:
+    except signals.StoppedBySignal as signal:
         signals.end_by(signal.number)
     return 0
 

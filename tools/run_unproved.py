@@ -1,11 +1,11 @@
-"""Runs a program of this tree once without proofs, as its launcher asks: run_unproved.py PROGRAM [WORD..]
+"""Runs a program of this tree once without proofs, as its launcher calls it: run_unproved.py PROGRAM [ARGUMENT..]
 
 A line on standard error says so first. The program is built, if it isn't kept from before, and takes the place of this
 process.
 
 Where none can be built and kept, `rt try` runs it: the program's input is read whole before anything is built, then its
-two outputs and its status are handed through. Where there are none, a line says why, with what was said, and the status
-is 2.
+two outputs and its status are handed through. Where there are none, a line says why, with what `rt try` printed, and
+the status is 2.
 """
 from __future__ import annotations
 
@@ -37,8 +37,8 @@ PHASES = {
 }
 
 
-class Failed(Exception):
-    """A fault of the streams, in the words that the program has for it."""
+class StreamFault(Exception):
+    """A fault of the streams, as the program names it."""
 
 
 def say(program: str, text: str) -> None:
@@ -64,12 +64,12 @@ def way_to_prove(program: str) -> str:
     return f"{command} {program}"
 
 
-def check_words(words: list[str]) -> None:
-    """Sees that the words are text: `rt try` takes no others, and no program does."""
+def check_arguments(arguments: list[str]) -> None:
+    """Checks that the arguments are text: `rt try` takes no others, and no program does."""
     try:
-        "".join(words).encode()
+        "".join(arguments).encode()
     except UnicodeEncodeError:
-        raise rt_try.Untried(rt_try.NoAnswer("NotText", "a word isn't UTF-8")) from None
+        raise rt_try.NotRunError(rt_try.NoAnswer("NotText", "an argument isn't UTF-8")) from None
 
 
 def keep_input(file: Path) -> None:
@@ -80,14 +80,14 @@ def keep_input(file: Path) -> None:
             try:
                 octets = os.read(0, min(BLOCK, left))
             except OSError:
-                raise Failed("17 Read") from None
+                raise StreamFault("17 Read") from None
             if not octets:
                 return
             kept.write(octets)
             left -= len(octets)
 
 
-class Progress:
+class BuildProgress:
     """Shows on a terminal which phase of a build goes on, and for how long. What it shows is gone at its end."""
 
     def __init__(self, program: str) -> None:
@@ -111,45 +111,45 @@ class Progress:
 
 def find(program: str) -> Path:
     """The folder of the programs, which are built if none are kept; a line says first that the program isn't proved."""
-    # Where both ways are kept, the plain one says more of a fault.
+    # If both ways are kept, the plain one explains a fault better.
     folder = cached_programs(rt_try.TOP, (PLAIN, OPTIMISED))
     first = "running without proofs" if folder else "building first, then running without proofs"
     say(program, f"unproved: {first}; {way_to_prove(program)} proves it")
     if folder is not None:
         return folder
-    progress = Progress(program)
+    progress = BuildProgress(program)
     try:
         return building.build(rt_try.TOP, PLAIN, progress.note)
     finally:
         progress.end()
 
 
-def become(program: Path, words: list[str]) -> NoReturn:
+def become(program: Path, arguments: list[str]) -> NoReturn:
     """Puts a program in the place of this process, with its streams, and the signals as a shell hands them on."""
     for number in (signal.SIGPIPE, signal.SIGXFSZ):
         signal.signal(number, signal.SIG_DFL)
     for descriptor in range(3):
         os.set_inheritable(descriptor, True)
-    os.execv(program, [str(program), *words])
+    os.execv(program, [str(program), *arguments])
 
 
-def run(program: str, words: list[str]) -> int:
+def run(program: str, arguments: list[str]) -> int:
     """Runs the program by `rt try`, and gives the status."""
-    with tempfile.TemporaryDirectory(prefix=f"{program}-") as folder:
-        room = Path(folder)
-        given = room / "input"
-        if any(word in HELP for word in words):
+    with tempfile.TemporaryDirectory(prefix=f"{program}-") as name:
+        folder = Path(name)
+        given = folder / "input"
+        if any(it in HELP for it in arguments):
             given.touch()
         else:
             if os.isatty(0):
                 say(program, "unproved: reading the input first, up to its end (Ctrl-D)")
             keep_input(given)
-        answer = rt_try.run_once(program, [os.fsencode(word) for word in words], given, room)
+        answer = rt_try.run_once(program, [os.fsencode(it) for it in arguments], given, folder)
     if isinstance(answer, rt_try.NoAnswer):
-        raise rt_try.Untried(answer)
+        raise rt_try.NotRunError(answer)
     put(2, answer.errors)
     if not put(1, answer.output):
-        raise Failed("18 Write")
+        raise StreamFault("18 Write")
     return answer.status
 
 
@@ -165,25 +165,25 @@ def open_streams() -> None:
 
 def main() -> int:
     open_streams()
-    program, *words = sys.argv[1:]
+    program, *arguments = sys.argv[1:]
     signals.heed()
     try:
         rt_try.find_kit()
-        check_words(words)
+        check_arguments(arguments)
         with contextlib.suppress(building.NoBuild, FileNotFoundError):
-            become(find(program) / program, words)
-        return run(program, words)
+            become(find(program) / program, arguments)
+        return run(program, arguments)
     except building.NotCompiled as refused:
         say(program, f"unproved: NotCompiled: {refused}")
-        put(2, refused.said)
-    except Failed as fault:
+        put(2, refused.printed)
+    except StreamFault as fault:
         say(program, str(fault))
-    except rt_try.Untried as untried:
-        say(program, f"unproved: {untried}")
-        put(2, rt_try.placed(program, untried.reason.said))
+    except rt_try.NotRunError as error:
+        say(program, f"unproved: {error}")
+        put(2, rt_try.placed(program, error.reason.printed))
     except OSError as error:
         say(program, f"unproved: NoRoom: {error}")
-    except signals.Stopped as signal:
+    except signals.StoppedBySignal as signal:
         signals.end_by(signal.number)
     return FAULT
 

@@ -52,11 +52,11 @@ class Setting:
 
 def settings(rows: str, words: str) -> Iterator[Setting]:
     """The settings, by the texts of the rows and of the words."""
-    said = WORD.findall(words)
-    named = {rule: word for _, rule, word in said}
+    found = WORD.findall(words)
+    named = {rule: word for _, rule, word in found}
     for key, takes, least, greatest, unit, unset in ROW.findall(rows):
         ends = (int(least), int(greatest)) if least else None
-        of_kind = tuple(word for kind, _, word in said if kind == KIND.get(takes))
+        of_kind = tuple(word for kind, _, word in found if kind == KIND.get(takes))
         choice = () if ends else of_kind or ("true", "false")
         yield Setting(key, ends, unit, choice, named.get(unset, unset))
 
@@ -64,11 +64,11 @@ def settings(rows: str, words: str) -> Iterator[Setting]:
 def for_page(rows: list[Setting]) -> str:
     """The table of the page, with the last two columns of the page as they are."""
     lines = (line.split("|") for line in PAGE.read_text(encoding="utf-8").splitlines())
-    told = {cells[1].strip(" `"): "|".join(cells[5:7]) for cells in lines if len(cells) == 8}
+    kept = {cells[1].strip(" `"): "|".join(cells[5:7]) for cells in lines if len(cells) == 8}
 
     def row(it: Setting) -> str:
         unit = f" {it.unit}" if it.unit else ""
-        return f"| `{it.key}` |{unit} | {it.range} | {it.shown_default} |{told.get(it.key, ' | ')}|\n"
+        return f"| `{it.key}` |{unit} | {it.range} | {it.shown_default} |{kept.get(it.key, ' | ')}|\n"
 
     return HEAD + "".join(map(row, rows))
 
@@ -100,17 +100,17 @@ def for_man(rows: list[Setting]) -> str:
 MADE = {"page": for_page, "client": for_client, "man": for_man}
 
 
-def main(words: list[str]) -> int:
-    """Prints the one that is asked for."""
+def main(arguments: list[str]) -> int:
+    """Prints the chosen table."""
     text = (SPECS / "Rows.antt").read_text(encoding="utf-8")
     rows = list(settings(text, (SPECS / "Words.antt").read_text(encoding="utf-8")))
     if len(rows) != len(re.findall(r"^row_of \w+ =", text, re.MULTILINE)):
         print("settings_table: a row isn't read; each is one line, as the others are", file=sys.stderr)
         return 1
-    if len(words) != 1 or words[0] not in MADE:
+    if len(arguments) != 1 or arguments[0] not in MADE:
         print((__doc__ or "").strip(), file=sys.stderr)
         return 2
-    print(MADE[words[0]](rows), end="")
+    print(MADE[arguments[0]](rows), end="")
     return 0
 
 

@@ -8,7 +8,7 @@ from typing import NoReturn
 SIGNALS = (signal.SIGINT, signal.SIGTERM, signal.SIGHUP)
 
 
-class Stopped(KeyboardInterrupt):
+class StoppedBySignal(KeyboardInterrupt):
     """A signal came."""
 
     def __init__(self, number: int) -> None:
@@ -17,7 +17,7 @@ class Stopped(KeyboardInterrupt):
 
 
 def heed() -> None:
-    """Lets the first signal end the work by `Stopped`. One that is ignored, as `nohup` ignores one, stays so."""
+    """Lets the first signal raise `StoppedBySignal`. One that is ignored, as `nohup` ignores one, stays so."""
     for number in SIGNALS:
         if signal.getsignal(number) != signal.SIG_IGN:
             signal.signal(number, stop)
@@ -27,7 +27,7 @@ def stop(number: int, _frame: object) -> NoReturn:
     for other in SIGNALS:
         if signal.getsignal(other) == stop:
             signal.signal(other, pass_over)
-    raise Stopped(number)
+    raise StoppedBySignal(number)
 
 
 def pass_over(_number: int, _frame: object) -> None:

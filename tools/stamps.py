@@ -1,4 +1,4 @@
-"""Stamps of files: what the file system says of a file, by which it is known to be as it was without being read.
+"""Stamps of files: data of the file system, by which a file is known to be as it was without being read.
 
 A stamp has the moment of the last change by the file system's clock, which no program can set, and the number of the
 file, its size, and more. Stamps are compared for equality alone, so a clock that was set back lets no change pass. But
@@ -35,7 +35,7 @@ def stamps_of(top: str, paths: list[str]) -> dict[str, str]:
 
 
 def probe_in(folder: str) -> os.stat_result | None:
-    """What is said of a file that is made now in a folder, and removed again, if one can be made there.
+    """The data of a file that is made now in a folder, and removed again, if one can be made there.
 
     It is None, too, where the file system has no clock of its own, but gives what a program set as the moment of a
     change.

@@ -21,7 +21,7 @@ from tests.tree_fixture import Tree
 
 _TOOLS = (
     *("build_unproved.py", "building.py", "crate_graph.py", "combined.rattle", "fault_handler.c", "fault_places.py"),
-    *("build_cache.py", "kit_tools.py", "run_unproved.py", "source_sums.py", "tell_fault.py"),
+    *("build_cache.py", "kit_tools.py", "run_unproved.py", "source_sums.py", "report_fault.py"),
 )
 ROW = b"row pass 1\n"
 

@@ -38,7 +38,7 @@ def joined(lines: Iterator[str]) -> str | None:
 
 
 def test_pages(files: list[Path], pages: dict[str, Page]) -> Iterator[Test]:
-    """What is told of the pages by reading them."""
+    """The tests that only read the pages."""
     for name, page in pages.items():
         yield f"links of {name}", joined(broken_links(pages, page))
         yield f"no log in {name}", joined(log_words(page))
@@ -55,7 +55,7 @@ def test_pages(files: list[Path], pages: dict[str, Page]) -> Iterator[Test]:
 
 
 def unproved_line(program: str) -> str:
-    """What a program says first that runs without its proofs: here with a kit that does nothing."""
+    """The first line of a program that runs without its proofs: here with a kit that does nothing."""
     with tempfile.TemporaryDirectory() as kit:
         (Path(kit) / "rt").symlink_to("/bin/false")
         path = f"{kit}:{os.environ.get('PATH', os.defpath)}"
@@ -75,8 +75,8 @@ def test_unproved_lines(page: Page) -> Iterator[Test]:
     """The lines that a page shows of programs that run without their proofs."""
     for shown in shown_in(page.text):
         for line in filter(UNPROVED.match, shown.wanted):
-            said = unproved_line(line.partition(":")[0])
-            yield f"{page.name}:{shown.line}: the line `unproved`", None if line == said else f"it is now\n{said}"
+            now = unproved_line(line.partition(":")[0])
+            yield f"{page.name}:{shown.line}: the line `unproved`", None if line == now else f"it is now\n{now}"
 
 
 def built_tree(files: list[Path], folder: Path) -> str | None:
@@ -85,10 +85,10 @@ def built_tree(files: list[Path], folder: Path) -> str | None:
         (folder / path.parent).mkdir(parents=True, exist_ok=True)
         shutil.copy2(TOP / path, folder / path, follow_symlinks=False)
     for name in (TOP / "packaging/programs.txt").read_text().split():
-        said = subprocess.run([TOP / "tools/proved_program.sh", name], capture_output=True, text=True, check=False)
-        if said.returncode:
-            return said.stderr.strip()
-        built = Path(said.stdout.strip())
+        done = subprocess.run([TOP / "tools/proved_program.sh", name], capture_output=True, text=True, check=False)
+        if done.returncode:
+            return done.stderr.strip()
+        built = Path(done.stdout.strip())
         out = folder / "crates" / name / "out"
         out.mkdir()
         for path in (built, built.with_suffix(".sums")):
@@ -109,17 +109,18 @@ def test_commands(files: list[Path], page: Page) -> Iterator[Test]:
             return
         for step in walk(steps, tree, SECONDS, is_proved=True):
             name = f"{page.name}:{step.shown.line}: {step.shown.command.partition(chr(10))[0] or 'what watch prints'}"
-            yield name, None if step.said is None else f"it isn't shown that this is printed:\n{step.said}"
+            printed = step.printed_instead
+            yield name, None if printed is None else f"it isn't shown that this is printed:\n{printed}"
 
 
-def main(words: list[str]) -> int:
-    """Makes the tests, and says which of them fail."""
+def main(arguments: list[str]) -> int:
+    """Makes the tests, and prints which of them fail."""
     parser = argparse.ArgumentParser(description=__doc__, formatter_class=argparse.RawDescriptionHelpFormatter)
     parser.add_argument("--pages", action="store_true", help="run no command that a page shows: this needs no program")
     parser.add_argument(
         "--write", action="store_true", help="put into the pages what tools make of them, and test no more"
     )
-    chosen = parser.parse_args(words)
+    chosen = parser.parse_args(arguments)
     files = tracked(TOP)
     pages = {page.name: page for page in read_pages(TOP, files)}
     if chosen.write:

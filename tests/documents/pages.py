@@ -64,9 +64,9 @@ class Page:
 
 def tracked(top: Path) -> list[Path]:
     """The files of the tree: those that git tracks, or in a copy without git all that aren't hidden or built."""
-    said = subprocess.run(["git", "-C", top, "ls-files", "-z"], capture_output=True, check=False)
-    if said.returncode == 0:
-        listed = [Path(name) for name in said.stdout.decode().split("\0") if name]
+    done = subprocess.run(["git", "-C", top, "ls-files", "-z"], capture_output=True, check=False)
+    if done.returncode == 0:
+        listed = [Path(name) for name in done.stdout.decode().split("\0") if name]
         return [path for path in listed if (top / path).is_file()]
     found = (path.relative_to(top) for path in top.rglob("*") if path.is_file())
     return sorted(path for path in found if "out" not in path.parts and not path.parts[0].startswith("."))

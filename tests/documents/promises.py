@@ -10,7 +10,7 @@ from documents.pages import Page
 sys.path.insert(0, str(Path(__file__).resolve().parents[2] / "tools"))
 
 from mutant_files import read_crates  # noqa: E402
-from reading_list import LISTS, Unknown, read_index, reached  # noqa: E402
+from reading_list import LISTS, UnknownNameError, read_index, reached  # noqa: E402
 
 FUNCTION = re.compile(r"`(\w+::\w+)`")
 MUTANTS = re.compile(r"\bMutants? (?:in )?(.*)$", re.MULTILINE)
@@ -42,5 +42,5 @@ def lists_without_names() -> Iterator[str]:
     for name, functions in LISTS.items():
         try:
             reached(index, list(functions))
-        except Unknown as unknown:
+        except UnknownNameError as unknown:
             yield f"{name}: {unknown}"

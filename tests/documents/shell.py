@@ -1,4 +1,4 @@
-"""A shell in a folder, and a `watch` that runs beside it."""
+"""A shell in a folder, and a `watch` that runs at the same time."""
 
 import os
 import re
@@ -46,8 +46,8 @@ class Shell:
         return done.stdout.decode(errors="replace")
 
 
-class Watching:
-    """A command that goes on beside the others, and what it has printed."""
+class WatchCommand:
+    """A command that goes on during the others, and what it has printed."""
 
     def __init__(self, command: str, folder: Path) -> None:
         self._process = subprocess.Popen(

@@ -81,12 +81,12 @@ def _form_of_line(line: str) -> str:
     return SECONDS.sub(r"in \\d+\\.\\d+ s", re.escape(line)) + r"\n"
 
 
-def fits(shown: Shown, said: str, is_proved: bool) -> bool:
+def fits(shown: Shown, printed: str, is_proved: bool) -> bool:
     """Whether a command printed what is shown. The line `unproved` counts where it is shown and nothing is proved."""
     wanted = shown.wanted
     if is_proved:
         wanted = tuple(line for line in wanted if not UNPROVED.match(line))
-    lines = said.splitlines()
+    lines = printed.splitlines()
     if not any(map(UNPROVED.match, wanted)):
         lines = [line for line in lines if not UNPROVED.match(line)]
     return form_of(wanted).fullmatch("".join(f"{line}\n" for line in lines)) is not None

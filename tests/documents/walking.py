@@ -6,7 +6,7 @@ from contextlib import ExitStack
 from dataclasses import dataclass
 from pathlib import Path
 
-from documents.shell import MINUTE, Shell, Watching
+from documents.shell import MINUTE, Shell, WatchCommand
 from documents.shown import UNHURRIED, WATCH, WATCHED, Shown, fits, form_of
 
 
@@ -15,7 +15,7 @@ class Step:
     """A command of a page, whether it printed what is shown or else what it printed, and how long it took."""
 
     shown: Shown
-    said: str | None
+    printed_instead: str | None
     seconds: float
 
 
@@ -23,18 +23,18 @@ def walk(steps: list[Shown], tree: Path, seconds: float, is_proved: bool) -> Ite
     """Runs the commands in order. Where all is proved, those that take the prover are left to who walks without."""
     shell = Shell(tree)
     with ExitStack() as stack:
-        watching: Watching | None = None
+        watching: WatchCommand | None = None
         for shown in steps:
             if shown.kind in UNHURRIED and is_proved:
                 continue
             begin = time.monotonic()
             if shown.kind in WATCHED:
                 if shown.command:
-                    watching = Watching(shown.command, shell.folder)
+                    watching = WatchCommand(shown.command, shell.folder)
                     stack.callback(watching.end)
                 patience = MINUTE if shown.kind == WATCH else seconds
-                said = watching.next(form_of(shown.wanted), patience) if watching else "nothing is watched"
+                printed_instead = watching.next(form_of(shown.wanted), patience) if watching else "nothing is watched"
             else:
                 printed = shell.run(shown.command, seconds)
-                said = None if fits(shown, printed, is_proved) else printed
-            yield Step(shown, said, time.monotonic() - begin)
+                printed_instead = None if fits(shown, printed, is_proved) else printed
+            yield Step(shown, printed_instead, time.monotonic() - begin)

@@ -6,7 +6,7 @@ from collections.abc import Iterator
 from documents.pages import Page, without_code
 from documents.sentences import sentences_of
 
-# What tells how something was once: git has it. And "behind", where it is said of time: that is "after".
+# What tells how something was once: git has it. And "behind" of time: that is "after".
 LOG = re.compile(r"\b(at commit|measured again|formerly|until now|behind)\b", re.IGNORECASE)
 COMMIT = re.compile(r"(?<!logic )\b(?=[0-9a-f]*[0-9])(?=[0-9a-f]*[a-f])[0-9a-f]{7,40}\b")
 
@@ -29,7 +29,7 @@ def lengths(pages: dict[str, Page]) -> Iterator[str]:
 
 
 def log_words(page: Page) -> Iterator[str]:
-    """A line for each commit, and for each word that tells of the past."""
+    """A line for each commit, and for each word about the past."""
     for number, line in enumerate(page.text.split("\n"), 1):
         for found in COMMIT.finditer(line):
             yield f"{page.name}:{number}: {found.group()}: a commit"

@@ -57,16 +57,16 @@ SHORT = Mix(calls=30, acks=3, expiries=4, block=150, written=1_000_000)
 LONG = Mix(calls=250, acks=200, expiries=100, block=6, written=2_000)
 
 
-def said_one(answer: int | Span | None) -> str:
+def written_answer(answer: int | Span | None) -> str:
     """An answer as it is written: a segment by its edges, and `-` for none."""
     if answer is None:
         return "-"
     return f"{answer[0]} {answer[1]}" if isinstance(answer, tuple) else str(int(answer))
 
 
-def said(*answers: int | Span | None) -> str:
+def written_answers(*answers: int | Span | None) -> str:
     """Answers as they are written."""
-    return " ".join(said_one(answer) for answer in answers)
+    return " ".join(written_answer(answer) for answer in answers)
 
 
 class BoardCalls:
@@ -97,7 +97,7 @@ class BoardCalls:
         """The whole list: how it begins, and the calls, each with what is answered after it."""
         window = self.window
         rules = window.rules
-        yield f"list {said(rules.smss, window.ssthresh, self.is_resent, rules.limit)} {rules.algorithm}"
+        yield f"list {written_answers(rules.smss, window.ssthresh, self.is_resent, rules.limit)} {rules.algorithm}"
         for _ in range(self.mix.calls):
             yield from self.call()
             yield self.answers()
@@ -125,7 +125,7 @@ class BoardCalls:
         if is_idle:
             self.window.restart()
             self.counts["restart"] += 1
-        return f"restart {said(is_idle)}"
+        return f"restart {written_answers(is_idle)}"
 
     def write(self) -> Iterator[str]:
         """Queues octets."""
@@ -149,7 +149,7 @@ class BoardCalls:
         self.window.expire(self.board)
         segment = self.board.segment_at(self.board.una)
         self.counts["expire"] += 1
-        yield f"expire {said(segment)}"
+        yield f"expire {written_answers(segment)}"
         yield self.sent(segment[1])
 
     def acknowledge(self) -> Iterator[str]:
@@ -159,20 +159,20 @@ class BoardCalls:
         known = Known.of(board)
         board.acknowledge(board.una + acked)
         yield f"ack {board.una}"
-        has_told = False
+        has_new_sack = False
         for _ in range(self.dice.below(4) if window.rules.has_sack else 0):
             end = self.between(0, board.top)
             start = max(end - self.between(0, self.mix.block), 0)
             is_new = board.mark(start, end)
-            has_told |= is_new
-            yield f"mark {said(start, end, is_new)}"
-        ack = Ack.on(board, known, self.between(100, 2_000), not self.is_once_in(4), has_told)
+            has_new_sack |= is_new
+            yield f"mark {written_answers(start, end, is_new)}"
+        ack = Ack.on(board, known, self.between(100, 2_000), not self.is_once_in(4), has_new_sack)
         was_recovering = window.is_recovering
         then, segment = window.take(board, ack)
         is_silent = then == "nothing" and window.rules.has_sack and was_recovering
         self.counts["silent" if is_silent else then] += 1
-        told = ack.has_told if window.rules.has_sack else None
-        yield f"hear {said(acked, ack.rwnd, ack.is_same_window, told)} {then} {said(segment)}"
+        news = ack.has_new_sack if window.rules.has_sack else None
+        yield f"hear {written_answers(acked, ack.rwnd, ack.is_same_window, news)} {then} {written_answers(segment)}"
         yield from self.respond(then, segment, ack.rwnd)
 
     def respond(self, then: str, segment: Span | None, rwnd: int) -> Iterator[str]:
@@ -183,7 +183,7 @@ class BoardCalls:
             yield from self.transmit_limited(rwnd)
         elif then == "entry":
             yield self.pace()
-            yield f"enter {said(self.window.enter(self.board))}"
+            yield f"enter {written_answers(self.window.enter(self.board))}"
             yield from self.recover(rwnd)
         elif then == "step-c":
             yield self.pace()
@@ -195,7 +195,7 @@ class BoardCalls:
         pipe = self.board.pipe(window.high_rxt)
         if rule := window.pace(pipe):
             self.counts[rule] += 1
-        return f"pace {said(pipe, window.cwnd, window.prr_delivered, window.prr_out)}"
+        return f"pace {written_answers(pipe, window.cwnd, window.prr_delivered, window.prr_out)}"
 
     def recover(self, rwnd: int) -> Iterator[str]:
         """Step C."""
@@ -204,11 +204,11 @@ class BoardCalls:
         for _ in range(SEGMENTS):
             found = self.window.next_seg(self.board, rwnd) if self.window.has_room(pipe) else None
             if not found:
-                yield f"next {said(rwnd, pipe)} -"
+                yield f"next {written_answers(rwnd, pipe)} -"
                 return
             rule, segment = found
             self.counts[rule] += 1
-            yield f"next {said(rwnd, pipe)} {rule} {said(segment)}"
+            yield f"next {written_answers(rwnd, pipe)} {rule} {written_answers(segment)}"
             if rule == "new":
                 yield self.sent(segment[1])
             self.window.note(rule, segment)
@@ -220,7 +220,7 @@ class BoardCalls:
         yield f"pipe {pipe}"
         for _ in range(SEGMENTS):
             segment = self.board.new_segment(rwnd) if self.window.has_room(pipe) else None
-            yield f"limited {said(rwnd, pipe, segment)}"
+            yield f"limited {written_answers(rwnd, pipe, segment)}"
             if not segment:
                 return
             yield self.sent(segment[1])
@@ -231,11 +231,11 @@ class BoardCalls:
         """What is answered after a call, also of a random octet and of octets sent again up to a random one."""
         board, window = self.board, self.window
         octet, high_rxt = self.between(board.una, board.top), self.between(board.una, board.top)
-        numbers = said(board.una, board.next, board.top, board.end, window.cwnd, window.is_recovering)
-        about = said(octet, octet < board.lost_below(), board.segment_at(octet)[1])
-        behind = said(high_rxt, board.pipe(high_rxt), board.lost_hole(high_rxt), board.hole(high_rxt))
+        numbers = written_answers(board.una, board.next, board.top, board.end, window.cwnd, window.is_recovering)
+        about = written_answers(octet, octet < board.lost_below(), board.segment_at(octet)[1])
+        behind = written_answers(high_rxt, board.pipe(high_rxt), board.lost_hole(high_rxt), board.hole(high_rxt))
         last = board.lost()[-1][1] if board.lost() else 0
-        return f"all {numbers} {self.runs()} {about} {behind} {said(board.rescue(), last)}"
+        return f"all {numbers} {self.runs()} {about} {behind} {written_answers(board.rescue(), last)}"
 
     def runs(self) -> str:
         """How many octets are free and SACKed in turns, from `una` on, up to the last SACKed one."""

@@ -15,7 +15,7 @@ from model.book import (
     Model,
     Text,
     lines_of,
-    said_settings,
+    settings_text,
 )
 
 # How many calls a list has at most.
@@ -35,10 +35,10 @@ DRAWN = (
 
 
 @cache
-def sum_of(said: str) -> int:
+def sum_of(answer: str) -> int:
     """The hash by Fowler, Noll and Vo of 32 bits (FNV-1a)."""
     total = 2_166_136_261
-    for piece in PIECES.findall(said):
+    for piece in PIECES.findall(answer):
         low = total % 256
         factor, rest = sum_of_piece(low, piece)
         total = ((total - low) * factor + rest) % 2**32
@@ -162,7 +162,7 @@ class BookLists:
             return
         self.counts["start", "a job"] += 1
         yield f"start -> {job.number} {job.script}, {len(job.text)} lines, {job.settings['tolerance_us']} us"
-        whole = f"{job.number} {job.script}, {said_settings(job.settings)}{lines_of(job.text)}"
+        whole = f"{job.number} {job.script}, {settings_text(job.settings)}{lines_of(job.text)}"
         yield f"sum job {job.number} -> {sum_of(whole)}"
         yield f"run {job.number} -> {model.run(job)}"
 

@@ -249,7 +249,7 @@ class Act:
 
 
 def lines_of(text: Text) -> str:
-    """The lines of a text as they are said."""
+    """The lines of a text as they are printed."""
     return " | ".join(LINES[kind] for kind in text)
 
 
@@ -399,13 +399,13 @@ class Model:
             for script, text in texts.items()
         }
         rows = "".join(f"{script} {verdicts[script]}, {lines_of(text)}, " for script, text in texts.items())
-        return f"{said_settings(settings)}{rows}{list(verdicts.values()).count('pending')} owed"
+        return f"{settings_text(settings)}{rows}{list(verdicts.values()).count('pending')} owed"
 
     def log(self) -> str:
         """The history with all that acts have."""
         return "".join(f"{act.kind}{act.words}, " for act in self.acts) + "end"
 
 
-def said_settings(settings: Settings) -> str:
-    """The settings as they are said."""
+def settings_text(settings: Settings) -> str:
+    """The settings as they are printed."""
     return "".join(f"{key} {value}, " for key, value in settings.items())

@@ -130,7 +130,7 @@ class _Game:
     def _settings(self) -> str:
         """The settings as TOML has them, where they aren't the defaults."""
         rules = self._rules
-        told: dict[str, tuple[object, object]] = {
+        values: dict[str, tuple[object, object]] = {
             "abc_limit": (rules.limit, 1),
             "initial_ssthresh": (rules.first_ssthresh, MOST_WINDOW),
             "initial_window": (rules.window_rule, "rfc5681"),
@@ -140,7 +140,7 @@ class _Game:
             "recovery_algorithm": (rules.algorithm, RFC6675),
             "slow_start_after_idle": (rules.restarts, False),
         }
-        return "\n".join(f"{key} = {_toml(value)}" for key, (value, default) in told.items() if value != default)
+        return "\n".join(f"{key} = {_toml(value)}" for key, (value, default) in values.items() if value != default)
 
     # ---- what is due
 

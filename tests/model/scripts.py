@@ -94,19 +94,19 @@ class Player:
         if ack != 1 or self.syn is None or any(it.name == "eol" for it in self.syn.options):
             raise Unplayed("an unusual handshake")
         options = {it.name: it.numbers for it in reversed(self.syn.options)}
-        told = self.settings.get
+        setting = self.settings.get
         self.shift = min(options["wscale"][0], MOST_SHIFT) if "wscale" in options else 0
         rules = Rules(
-            min(told("mss", 1_460), options.get("mss", (NO_MSS,))[0]),
-            has_sack="sackOK" in options and told("sack", True),
-            algorithm=told("recovery_algorithm", "rfc6675"),
-            limit=told("abc_limit", 1),
-            restarts=told("slow_start_after_idle", False),
-            transmits_early=told("limited_transmit", True),
-            window_rule=told("initial_window", "rfc5681"),
-            first_ssthresh=told("initial_ssthresh", 1 << 30),
-            least_rto=told("min_rto_us", SECOND),
-            granularity=told("granularity_us", 1_000),
+            min(setting("mss", 1_460), options.get("mss", (NO_MSS,))[0]),
+            has_sack="sackOK" in options and setting("sack", True),
+            algorithm=setting("recovery_algorithm", "rfc6675"),
+            limit=setting("abc_limit", 1),
+            restarts=setting("slow_start_after_idle", False),
+            transmits_early=setting("limited_transmit", True),
+            window_rule=setting("initial_window", "rfc5681"),
+            first_ssthresh=setting("initial_ssthresh", 1 << 30),
+            least_rto=setting("min_rto_us", SECOND),
+            granularity=setting("granularity_us", 1_000),
         )
         is_resent = self.clock - self.syn_at >= max(SECOND, rules.least_rto)
         window = field << self.shift

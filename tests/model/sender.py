@@ -79,8 +79,8 @@ class Sender:
             return []
         known = Known.of(board)
         board.acknowledge(number)
-        has_told = self._mark(blocks)
-        ack = Ack.on(board, known, window, window == self.rwnd, has_told)
+        has_new_sack = self._mark(blocks)
+        ack = Ack.on(board, known, window, window == self.rwnd, has_new_sack)
         if ack.acked:
             self._time(now)
         self.rwnd = window

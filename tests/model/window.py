@@ -31,15 +31,17 @@ class Ack:
     is_safe: bool  # SafeACK
     rwnd: int
     is_same_window: bool
-    has_told: bool  # whether a block told a new octet
+    has_new_sack: bool  # whether a block SACKed a new octet
 
     @classmethod
-    def on(cls, board: Board, known: Known, rwnd: int, is_same_window: bool, has_told: bool) -> "Ack":
+    def on(cls, board: Board, known: Known, rwnd: int, is_same_window: bool, has_new_sack: bool) -> "Ack":
         """That of the numbers and blocks that a board took since this was known."""
         acked, lost = board.una - known.una, board.lost()
         was_lost = sum(size(within(known.lost, *it)) for it in lost)
         delivered = acked + size(board.sacked) - known.sacked
-        return cls(acked, delivered, known.free, acked > 0 and was_lost == size(lost), rwnd, is_same_window, has_told)
+        return cls(
+            acked, delivered, known.free, acked > 0 and was_lost == size(lost), rwnd, is_same_window, has_new_sack
+        )
 
 
 @dataclass(slots=True)
@@ -60,7 +62,7 @@ class Window:
     prr_delivered: int = 0
     prr_out: int = 0
     recover_fs: int = 1
-    delivered: int = 0  # what the last ACK of a recovery told
+    delivered: int = 0  # what the last ACK of a recovery delivered
     is_safe: bool = False
 
     @property
@@ -120,7 +122,7 @@ class Window:
             return self._in_recovery(board, ack), None
         if ack.acked:
             self.grow(ack.acked)
-        return (self._duplicate(board, ack) if ack.has_told else "ordinary"), None
+        return (self._duplicate(board, ack) if ack.has_new_sack else "ordinary"), None
 
     def _in_recovery(self, board: Board, ack: Ack) -> str:
         """RFC 6675, section 5, steps A to C."""

@@ -59,7 +59,7 @@ test_streams() {
 }
 
 test_limits() {
-    expect no-text "$(printf "! pdregress: unproved: NotText: a word isn't UTF-8\nstatus 2")" launch pdregress "$(printf '\377')"
+    expect no-text "$(printf "! pdregress: unproved: NotText: an argument isn't UTF-8\nstatus 2")" launch pdregress "$(printf '\377')"
     expect too-much-input "$(unproved pdregress; printf '! pdregress: unproved: TooMuchInput: the input has 64 MiB or more\nstatus 2')" given 'head -c 67108864 /dev/zero | "$1"'
     expect too-much-output "$(unproved pdregress; printf '! pdregress: unproved: TooMuchOutput: an output has more than 1 MiB\nstatus 2')" launch pdregress writes
     expect too-slow "$(unproved pdregress; printf "! pdregress: unproved: TooSlow: the program didn't end within 600 seconds\nstatus 2")" launch pdregress lasts

@@ -8,7 +8,7 @@ import socket
 from collections.abc import Callable
 from dataclasses import dataclass, field
 
-from kernel.script import Refused
+from kernel.script import UnsupportedScript
 from kernel.wire import LOCAL, PORT
 from pdsuite.packetdrill.items import Call
 
@@ -21,7 +21,7 @@ OPTIONS = {
 
 
 @dataclass(frozen=True)
-class Answer:
+class KernelAnswer:
     """What a call gave: a number, and with -1 the name of the error."""
 
     result: int
@@ -30,7 +30,7 @@ class Answer:
     def agrees(self, call: Call) -> bool:
         """Whether it is what the script expects.
 
-        >>> Answer(-1, "EPIPE").agrees(Call("write", ("4", "...", "1"), -1, "EINVAL"))
+        >>> KernelAnswer(-1, "EPIPE").agrees(Call("write", ("4", "...", "1"), -1, "EINVAL"))
         False
         """
         return self.result == call.result and (call.error in (None, self.error) or self.result >= 0)
@@ -46,14 +46,14 @@ class Sockets:
     nodelay: bool
     open: dict[int, socket.socket] = field(default_factory=dict)
 
-    def answer(self, call: Call) -> Answer:
-        """Makes a call, and says what the kernel answered."""
+    def answer(self, call: Call) -> KernelAnswer:
+        """Makes a call, and gives the kernel's answer."""
         if call.name not in CALLS:
-            raise Refused(0, f"{call.name} isn't run")
+            raise UnsupportedScript(0, f"{call.name} isn't run")
         try:
-            return Answer(CALLS[call.name](self, call.arguments))
+            return KernelAnswer(CALLS[call.name](self, call.arguments))
         except OSError as fault:
-            return Answer(-1, errno.errorcode.get(fault.errno or 0, str(fault.errno)))
+            return KernelAnswer(-1, errno.errorcode.get(fault.errno or 0, str(fault.errno)))
 
     def close(self) -> None:
         """Closes what the script left open."""
@@ -96,7 +96,7 @@ def accept(sockets: Sockets, arguments: tuple[str, ...]) -> int:
 def set_option(sockets: Sockets, arguments: tuple[str, ...]) -> int:
     target = sockets.named(arguments[0])
     if (arguments[1], arguments[2]) not in OPTIONS:
-        raise Refused(0, f"{arguments[2]} isn't run")
+        raise UnsupportedScript(0, f"{arguments[2]} isn't run")
     level, name = OPTIONS[arguments[1], arguments[2]]
     value = arguments[3].strip("[] ")
     target.setsockopt(level, name, int(value) if value.isdigit() else 1)

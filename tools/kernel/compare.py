@@ -5,7 +5,7 @@ from __future__ import annotations
 from collections.abc import Set
 from dataclasses import dataclass
 
-from kernel.wire import Seen
+from kernel.wire import SeenPacket
 from pdsuite.packetdrill.items import Packet
 
 FIELDS = ("time", "flags", "push", "seq", "ack", "win", "options")
@@ -13,7 +13,7 @@ LEAST_TOLERANCE = 0.010
 
 
 @dataclass(frozen=True)
-class Span:
+class TimeSpan:
     """The moments at which a packet may leave, with the tolerance; None for any."""
 
     first: float
@@ -41,17 +41,17 @@ def tolerance_of(awaited: float) -> float:
     return max(LEAST_TOLERANCE, awaited / 8)
 
 
-def is_told(expected: Packet, seen: Seen) -> bool:
+def is_expected(expected: Packet, seen: SeenPacket) -> bool:
     """Whether a packet is the expected one, so that the run can go on where other fields differ."""
     kinds = frozenset("SFR")
     same_numbers = (expected.start, expected.length) == (seen.start, seen.length)
     return same_numbers and kinds & set(expected.flags) == kinds & seen.flags
 
 
-def differing(expected: Packet, seen: Seen, span: Span | None, ignored: Set[str]) -> list[str]:
+def differing(expected: Packet, seen: SeenPacket, span: TimeSpan | None, ignored: Set[str]) -> list[str]:
     """The fields in which a packet differs, in the order in which the program compares; `push` stands for the flag P.
 
-    >>> seen = Seen(0.0, frozenset("P."), 1, 1000, 1, 502, ())
+    >>> seen = SeenPacket(0.0, frozenset("P."), 1, 1000, 1, 502, ())
     >>> differing(Packet(False, ".", 1, 1001, 1, 257), seen, None, {"win"})
     ['push']
     """

@@ -13,7 +13,7 @@ from collections import deque
 from dataclasses import dataclass, field
 
 from kernel.settings import Tuning, sysctl_file
-from kernel.wire import LOCAL, Seen, decode, encode
+from kernel.wire import LOCAL, SeenPacket, decode, encode
 from pdsuite.packetdrill.items import Packet
 
 NEW_NET = 0x40000000
@@ -75,7 +75,7 @@ class Device:
     tun: int
     zero: float = field(default_factory=time.monotonic)
     isn: int | None = None
-    untaken: deque[Seen] = field(default_factory=deque)
+    untaken: deque[SeenPacket] = field(default_factory=deque)
     late: float = 0.0
 
     def now(self) -> float:
@@ -116,7 +116,7 @@ class Device:
         while self.listen(until):
             pass
 
-    def take(self, until: float) -> Seen | None:
+    def take(self, until: float) -> SeenPacket | None:
         """The oldest packet that wasn't taken yet; it may come up to a moment."""
         if not self.untaken:
             self.listen(until)

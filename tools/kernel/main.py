@@ -1,4 +1,4 @@
-"""The words of the command, and the runs of its scripts side by side."""
+"""The options of the command, and the runs of its scripts side by side."""
 
 from __future__ import annotations
 
@@ -15,8 +15,8 @@ from pathlib import Path
 from kernel.compare import FIELDS
 from kernel.device import NoDevice
 from kernel.report import row_of, total_of
-from kernel.run import Outcome, run_script
-from kernel.script import Event, Refused, read_script
+from kernel.run import RunOutcome, run_script
+from kernel.script import TimedEvent, UnsupportedScript, read_script
 from kernel.settings import Tuning, settings_of, tuning_of
 from pdsuite.faults import Fault
 
@@ -27,8 +27,8 @@ SECOND_TRIES = 3
 
 
 @dataclass(frozen=True)
-class Choice:
-    """What the words of the command ask for."""
+class KernelOptions:
+    """The options of the command, as they were parsed."""
 
     files: tuple[Path, ...]
     runs: int
@@ -40,11 +40,11 @@ class Choice:
 
 
 @dataclass(frozen=True)
-class Job:
+class ScriptJob:
     """One script, ready to be run."""
 
     path: Path
-    events: tuple[Event, ...]
+    events: tuple[TimedEvent, ...]
     tuning: Tuning
     ignored: Set[str]
 
@@ -65,7 +65,7 @@ def switch_in(text: str) -> tuple[str, str]:
     return name, value
 
 
-def choice_of(words: Sequence[str]) -> Choice:
+def options_of(arguments: Sequence[str]) -> KernelOptions:
     parser = argparse.ArgumentParser(prog="kernel.py", description=DESCRIPTION)
     add = parser.add_argument
     add("files", nargs="+", type=Path, metavar="FILE", help="a script, or a folder with *.pkt below it")
@@ -74,10 +74,10 @@ def choice_of(words: Sequence[str]) -> Choice:
     add("--ignore", type=fields_in, default=frozenset(), help=f"fields left uncompared, of {', '.join(FIELDS)}")
     add("--sysctl", type=switch_in, action="append", default=[], metavar="NAME=VALUE", help="a switch of the kernel")
     add("--settings", default="", help="settings as TOML, before those of pdsuite.toml")
-    add("-v", "--verbose", action="store_true", help="tell what the first run of each script saw")
-    got = parser.parse_args(words)
+    add("-v", "--verbose", action="store_true", help="print what the first run of each script saw")
+    got = parser.parse_args(arguments)
     files = tuple(sorted_files(got.files))
-    return Choice(files, got.runs, got.jobs, got.ignore, dict(got.sysctl), got.settings, got.verbose)
+    return KernelOptions(files, got.runs, got.jobs, got.ignore, dict(got.sysctl), got.settings, got.verbose)
 
 
 def sorted_files(paths: Sequence[Path]) -> Iterator[Path]:
@@ -85,12 +85,12 @@ def sorted_files(paths: Sequence[Path]) -> Iterator[Path]:
         yield from sorted(path.rglob("*.pkt")) if path.is_dir() else [path]
 
 
-def job_of(path: Path, choice: Choice) -> Job:
+def job_of(path: Path, options: KernelOptions) -> ScriptJob:
     """Reads a script and its settings."""
     text = path.read_text(encoding="latin-1")
     events = read_script(text)
-    settings = settings_of(path, text, choice.settings)
-    return Job(path, events, tuning_of(events, settings, choice.switches), choice.ignored)
+    settings = settings_of(path, text, options.settings)
+    return ScriptJob(path, events, tuning_of(events, settings, options.switches), options.ignored)
 
 
 def runners(jobs: int) -> Pool:
@@ -98,22 +98,22 @@ def runners(jobs: int) -> Pool:
     return get_context("fork").Pool(jobs, maxtasksperchild=1)
 
 
-def run_once(job: Job) -> Outcome | Refused | NoDevice:
+def run_once(job: ScriptJob) -> RunOutcome | UnsupportedScript | NoDevice:
     """A run in a process of its own; a fault comes back as a value."""
     try:
         return run_script(job.events, job.tuning, job.ignored)
-    except (Refused, NoDevice) as fault:
+    except (UnsupportedScript, NoDevice) as fault:
         return fault
 
 
-def settled(pool: Pool, job: Job, runs: int) -> list[Outcome]:
+def decided_outcomes(pool: Pool, job: ScriptJob, runs: int) -> list[RunOutcome]:
     """The runs of a script; those in which the tool was late are made again, a few times."""
-    done: list[Outcome] = []
+    done: list[RunOutcome] = []
     for turn in range(1 + SECOND_TRIES):
         wanted = runs - len(done)
         found = []
         for result in pool.map(run_once, [job] * wanted, chunksize=1):
-            if not isinstance(result, Outcome):
+            if not isinstance(result, RunOutcome):
                 raise result
             found.append(result)
         done += [it for it in found if not it.is_disturbed or turn == SECOND_TRIES]
@@ -122,45 +122,45 @@ def settled(pool: Pool, job: Job, runs: int) -> list[Outcome]:
     return done
 
 
-def tell(job: Job, outcomes: Sequence[Outcome], choice: Choice) -> None:
+def print_outcomes(job: ScriptJob, outcomes: Sequence[RunOutcome], options: KernelOptions) -> None:
     """Prints the lines about one script."""
     for line in row_of(str(job.path), outcomes):
         print(line)
-    if choice.verbose:
+    if options.verbose:
         for line in outcomes[0].seen:
             print(f"    {line}")
     sys.stdout.flush()
 
 
-def run_all(choice: Choice, pool: Pool) -> int:
+def run_all(options: KernelOptions, pool: Pool) -> int:
     """Runs the scripts one after the other, and prints the settings wherever they change."""
-    results: list[list[Outcome]] = []
-    refused, told = 0, ""
-    for path in choice.files:
+    results: list[list[RunOutcome]] = []
+    refused, last = 0, ""
+    for path in options.files:
         try:
-            job = job_of(path, choice)
-            outcomes = settled(pool, job, choice.runs)
-        except Refused as fault:
+            job = job_of(path, options)
+            outcomes = decided_outcomes(pool, job, options.runs)
+        except UnsupportedScript as fault:
             print(f"{path}: not run, {fault}")
             refused += 1
             continue
-        if str(job.tuning) != told:
-            told = str(job.tuning)
-            print(f"with {told}")
-        tell(job, outcomes, choice)
+        if str(job.tuning) != last:
+            last = str(job.tuning)
+            print(f"with {last}")
+        print_outcomes(job, outcomes, options)
         results.append(outcomes)
     print(total_of(results, refused))
     return 0 if all(not it.differences for them in results for it in them) else 1
 
 
-def main(words: Sequence[str]) -> int:
+def main(arguments: Sequence[str]) -> int:
     """The status is 0 where each run passes, 1 where one fails, and 2 where nothing can be run."""
-    choice = choice_of(words)
-    ignored = ",".join(sorted(choice.ignored)) or "nothing"
-    print(f"kernel {os.uname().release}, {choice.runs} runs each, ignoring {ignored}")
+    options = options_of(arguments)
+    ignored = ",".join(sorted(options.ignored)) or "nothing"
+    print(f"kernel {os.uname().release}, {options.runs} runs each, ignoring {ignored}")
     try:
-        with runners(choice.jobs) as pool:
-            return run_all(choice, pool)
+        with runners(options.jobs) as pool:
+            return run_all(options, pool)
     except (NoDevice, Fault, OSError, tomllib.TOMLDecodeError) as fault:
         print(f"kernel.py: {fault}", file=sys.stderr)
         return 2

@@ -5,11 +5,11 @@ from __future__ import annotations
 from collections.abc import Iterator, Sequence
 from dataclasses import dataclass
 
-from kernel.run import Outcome
+from kernel.run import RunOutcome
 
 
 @dataclass(frozen=True)
-class Place:
+class DifferencePlace:
     """A line and a field by which runs differed, how many did, and the words of the first."""
 
     line: int
@@ -18,22 +18,22 @@ class Place:
     words: str
 
 
-def places_of(outcomes: Sequence[Outcome]) -> list[Place]:
+def places_of(outcomes: Sequence[RunOutcome]) -> list[DifferencePlace]:
     """Where runs differed, in the order of lines as the first run that did came to them."""
     words: dict[tuple[int, str], list[str]] = {}
     for outcome in outcomes:
         for it in outcome.differences:
             words.setdefault((it.line, it.field), []).append(it.words)
-    places = [Place(line, name, len(them), them[0]) for (line, name), them in words.items()]
+    places = [DifferencePlace(line, name, len(them), them[0]) for (line, name), them in words.items()]
     return sorted(places, key=lambda it: it.line)
 
 
-def passes(outcomes: Sequence[Outcome]) -> int:
+def passes(outcomes: Sequence[RunOutcome]) -> int:
     """How many runs pass."""
     return sum(not it.differences for it in outcomes)
 
 
-def row_of(name: str, outcomes: Sequence[Outcome]) -> Iterator[str]:
+def row_of(name: str, outcomes: Sequence[RunOutcome]) -> Iterator[str]:
     """The lines about one script: how often it passed, and where it differs."""
     disturbed = sum(it.is_disturbed for it in outcomes)
     note = f" ({disturbed} runs on a busy machine)" if disturbed else ""
@@ -43,7 +43,7 @@ def row_of(name: str, outcomes: Sequence[Outcome]) -> Iterator[str]:
         yield f"{where}: {place.runs} of {len(outcomes)}, {place.words}"
 
 
-def total_of(results: Sequence[Sequence[Outcome]], refused: int) -> str:
+def total_of(results: Sequence[Sequence[RunOutcome]], refused: int) -> str:
     """The last line: how many scripts pass in all of their runs, in some and in none."""
     all_pass = sum(passes(it) == len(it) for it in results)
     none = sum(passes(it) == 0 for it in results)

@@ -7,11 +7,11 @@ from contextlib import closing
 from dataclasses import dataclass, field
 
 from kernel.calls import Sockets
-from kernel.compare import Difference, Span, differing, is_told, tolerance_of
+from kernel.compare import Difference, TimeSpan, differing, is_expected, tolerance_of
 from kernel.device import Device, open_device
-from kernel.script import Event, Refused
+from kernel.script import TimedEvent, UnsupportedScript
 from kernel.settings import Tuning
-from kernel.wire import Seen
+from kernel.wire import SeenPacket
 from pdsuite.packetdrill.items import Call, Packet
 
 LONGEST_WAIT = 65.0
@@ -19,7 +19,7 @@ LATE = 0.005
 
 
 @dataclass(frozen=True)
-class Outcome:
+class RunOutcome:
     """What a run came to: where it differed, what was seen, and how late the tool itself was at worst."""
 
     differences: tuple[Difference, ...] = ()
@@ -33,7 +33,7 @@ class Outcome:
 
 
 @dataclass
-class Run:
+class RunningScript:
     """A run under way. Relative times count from `base`: when the event before really happened."""
 
     device: Device
@@ -44,8 +44,8 @@ class Run:
     differences: list[Difference] = field(default_factory=list)
     seen: list[str] = field(default_factory=list)
 
-    def step(self, event: Event) -> None:
-        """Does what an event says, or awaits what it expects."""
+    def step(self, event: TimedEvent) -> None:
+        """Makes the call or sends the packet of an event, or awaits the packet that it expects."""
         first, last = event.span(self.base)
         if isinstance(event.action, Packet) and not event.action.is_inbound:
             self.expect(event, event.action, first, last)
@@ -60,14 +60,14 @@ class Run:
     def call(self, line: int, call: Call) -> None:
         try:
             answer = self.sockets.answer(call)
-        except Refused as fault:
-            raise Refused(line, str(fault)) from fault
+        except UnsupportedScript as fault:
+            raise UnsupportedScript(line, str(fault)) from fault
         self.seen.append(f"{self.device.now():.6f} line {line}: {call.name} = {answer}")
         if not answer.agrees(call):
             self.differ(line, "result", str(answer))
             self.ended = answer.result != call.result
 
-    def expect(self, event: Event, packet: Packet, first: float, last: float) -> None:
+    def expect(self, event: TimedEvent, packet: Packet, first: float, last: float) -> None:
         """Takes the next packet of the kernel and compares it."""
         is_any = event.time.first is None
         slack = tolerance_of(last - self.base)
@@ -77,15 +77,15 @@ class Run:
             self.miss(event.line, last - self.base)
             return
         self.seen.append(f"{seen.at:.6f} line {event.line}: {seen}")
-        span = None if is_any else Span(first - slack, last + slack)
+        span = None if is_any else TimeSpan(first - slack, last + slack)
         for name in differing(packet, seen, span, self.ignored):
             self.differ(event.line, name, f"at {seen.at:.3f}: {seen}")
-        self.ended = not is_told(packet, seen)
+        self.ended = not is_expected(packet, seen)
         self.base = seen.at
 
     def miss(self, line: int, awaited: float) -> None:
         """Notes that no packet came in time, and which one came later."""
-        seen: Seen | None = self.device.take(self.device.now() + max(1.0, 2 * awaited))
+        seen: SeenPacket | None = self.device.take(self.device.now() + max(1.0, 2 * awaited))
         words = f"at {seen.at:.3f}: {seen}" if seen else "nothing came"
         self.differ(line, "missing", words)
         self.ended = True
@@ -94,12 +94,12 @@ class Run:
         self.differences.append(Difference(line, name, words))
 
 
-def run_script(events: tuple[Event, ...], tuning: Tuning, ignored: Set[str]) -> Outcome:
+def run_script(events: tuple[TimedEvent, ...], tuning: Tuning, ignored: Set[str]) -> RunOutcome:
     """Runs a script once, in a namespace of this process's own."""
-    run = Run(open_device(tuning), Sockets(tuning.nodelay), ignored)
+    run = RunningScript(open_device(tuning), Sockets(tuning.nodelay), ignored)
     with closing(run.device), closing(run.sockets):
         for event in events:
             if run.ended:
                 break
             run.step(event)
-    return Outcome(tuple(run.differences), tuple(run.seen), run.device.late)
+    return RunOutcome(tuple(run.differences), tuple(run.seen), run.device.late)

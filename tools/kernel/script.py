@@ -13,7 +13,7 @@ from pdsuite.packetdrill.tokens import line_of
 NOT_RUN = frozenset("UEWC")
 
 
-class Refused(Exception):
+class UnsupportedScript(Exception):
     """A script that can't be run here, with the line and the reason."""
 
     def __init__(self, line: int, reason: str) -> None:
@@ -22,7 +22,7 @@ class Refused(Exception):
 
 
 @dataclass(frozen=True)
-class Event:
+class TimedEvent:
     """One event and the line at which it begins."""
 
     line: int
@@ -51,7 +51,7 @@ def seconds(microseconds: int) -> float:
     return whole + part / SECOND
 
 
-def read_script(text: str) -> tuple[Event, ...]:
+def read_script(text: str) -> tuple[TimedEvent, ...]:
     """The events of a text that can be run here.
 
     >>> read_script("0 listen(3, 1) = -1 EINVAL")[0].action
@@ -60,11 +60,12 @@ def read_script(text: str) -> tuple[Event, ...]:
     reading = read(text)
     events = tuple(events_of(reading.items))
     if (fault := reading.fault) is not None:
-        raise Refused(line_of(text, fault.place), f"{fault.words}: {fault.what}" if fault.what else fault.words)
+        reason = f"{fault.words}: {fault.what}" if fault.what else fault.words
+        raise UnsupportedScript(line_of(text, fault.place), reason)
     return events
 
 
-def events_of(items: tuple[Item, ...]) -> Iterator[Event]:
+def events_of(items: tuple[Item, ...]) -> Iterator[TimedEvent]:
     """The events among items; a tolerance counts for nothing here."""
     in_header = True
     for item in items:
@@ -72,21 +73,21 @@ def events_of(items: tuple[Item, ...]) -> Iterator[Event]:
             case HeaderOption("tolerance_usecs", str(value)) if in_header and re.fullmatch("[0-9]+", value):
                 continue
             case HeaderOption() | Command() | Code() if in_header and item.time is None:
-                raise Refused(item.line, "an option or command of the header that isn't run")
+                raise UnsupportedScript(item.line, "an option or command of the header that isn't run")
             case Packet() | Call():
                 in_header = False
                 yield event_of(item, item.what)
             case _:
-                raise Refused(item.line, "commands and code aren't run")
+                raise UnsupportedScript(item.line, "commands and code aren't run")
 
 
-def event_of(item: Item, action: Packet | Call) -> Event:
+def event_of(item: Item, action: Packet | Call) -> TimedEvent:
     """An event that can be run."""
-    event = Event(item.line, item.time or Time(0), action)
+    event = TimedEvent(item.line, item.time or Time(0), action)
     if item.is_blocking:
-        raise Refused(item.line, "a blocking call isn't run")
+        raise UnsupportedScript(item.line, "a blocking call isn't run")
     if isinstance(action, Packet) and not NOT_RUN.isdisjoint(action.flags):
-        raise Refused(item.line, "the flags U, E, W and C aren't run")
+        raise UnsupportedScript(item.line, "the flags U, E, W and C aren't run")
     if not event.is_awaited and not event.time.is_fixed:
-        raise Refused(item.line, "what is done needs one moment")
+        raise UnsupportedScript(item.line, "what is done needs one moment")
     return event

@@ -8,7 +8,7 @@ from dataclasses import dataclass, fields, replace
 from pathlib import Path
 from typing import Any
 
-from kernel.script import Event
+from kernel.script import TimedEvent
 from pdsuite.faults import Fault
 from pdsuite.packetdrill.items import Packet
 from pdsuite.scripts.config import OPTION, Claim, old_names
@@ -18,7 +18,7 @@ NO_MSS = 536
 
 
 @dataclass(frozen=True)
-class Settings:
+class KernelSettings:
     """The settings of docs/SETTINGS.md for which the kernel has something, with their defaults."""
 
     mss: int = 1460
@@ -48,29 +48,29 @@ class Tuning:
         return ", ".join(parts + ["TCP_NODELAY"] * self.nodelay)
 
 
-def with_table(settings: Settings, table: Mapping[str, Any]) -> Settings:
+def with_table(settings: KernelSettings, table: Mapping[str, Any]) -> KernelSettings:
     """The settings that a table leads to; keys that the kernel has nothing for are left out.
 
-    >>> with_table(Settings(), {"mss": 1000, "tolerance_us": 0}).mss
+    >>> with_table(KernelSettings(), {"mss": 1000, "tolerance_us": 0}).mss
     1000
     """
-    names = {it.name for it in fields(Settings)}
+    names = {it.name for it in fields(KernelSettings)}
     return replace(settings, **{key: value for key, value in table.items() if key in names})
 
 
-def settings_of(path: Path, text: str, words: str = "") -> Settings:
-    """The settings of a script: `words` first, then its own comments, then each `pdsuite.toml`, the nearest first.
+def settings_of(path: Path, text: str, option: str = "") -> KernelSettings:
+    """The settings of a script: `option` first, then its own comments, then each `pdsuite.toml`, the nearest first.
 
     A key or a word that has another name now is a fault, with its place and that name.
     """
-    settings = Settings()
+    settings = KernelSettings()
     for table in reversed(list(tables_of(path.resolve()))):
         settings = with_table(settings, table)
     own = {key: value for _, key, value in comments_in(text)}
     refuse_old_names(Claim(f"{path}:{line}", "", key, value) for line, key, value in comments_in(text))
-    told = tomllib.loads(words)
-    refuse_old_names(claims_in(TomlPlaces(OPTION, {}), told))
-    return with_table(with_table(settings, own), told)
+    from_option = tomllib.loads(option)
+    refuse_old_names(claims_in(TomlPlaces(OPTION, {}), from_option))
+    return with_table(with_table(settings, own), from_option)
 
 
 def refuse_old_names(claims: Iterable[Claim]) -> None:
@@ -123,12 +123,12 @@ def tables_of(path: Path) -> Iterator[dict[str, Any]]:
             return
 
 
-def segment_size(events: tuple[Event, ...], settings: Settings) -> int:
+def segment_size(events: tuple[TimedEvent, ...], settings: KernelSettings) -> int:
     """The longest segment of a connection: the lesser of both sides' MSS."""
     for event in events:
         if isinstance(event.action, Packet) and "S" in event.action.flags and event.action.is_inbound:
-            told = [it.numbers[0] for it in event.action.options if it.name == "mss"]
-            return min(settings.mss, told[0] if told else NO_MSS)
+            sizes = [it.numbers[0] for it in event.action.options if it.name == "mss"]
+            return min(settings.mss, sizes[0] if sizes else NO_MSS)
     return settings.mss
 
 
@@ -154,7 +154,7 @@ def sysctl_file(name: str) -> Path:
     return Path("/proc/sys", *name.split("."))
 
 
-def tuning_of(events: tuple[Event, ...], settings: Settings, switches: Mapping[str, str]) -> Tuning:
+def tuning_of(events: tuple[TimedEvent, ...], settings: KernelSettings, switches: Mapping[str, str]) -> Tuning:
     """The namespace for a script under settings, with further sysctls before all; what the kernel lacks is left out."""
     size = segment_size(events, settings)
     sysctls = {

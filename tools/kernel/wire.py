@@ -17,7 +17,7 @@ MODULUS = 2**32
 
 
 @dataclass(frozen=True)
-class Seen:
+class SeenPacket:
     """A packet that the kernel sent, numbers relative to both initial sequence numbers."""
 
     at: float
@@ -131,7 +131,7 @@ def encode(packet: Packet, isn: int) -> bytes:
     return lead + ends + tcp
 
 
-def decode(octets: bytes, at: float, isn: int | None) -> tuple[Seen, int] | None:
+def decode(octets: bytes, at: float, isn: int | None) -> tuple[SeenPacket, int] | None:
     """A TCP packet to the peer and the kernel's first number, or None for any other packet.
 
     The first number is known from the kernel's SYN on. An RST at 0 stands at 0 as it is: it answers a segment without
@@ -148,5 +148,5 @@ def decode(octets: bytes, at: float, isn: int | None) -> tuple[Seen, int] | None
     size = (head >> 12) * 4
     relative = start if "R" in flags and start == 0 else (start - first) % MODULUS
     known = (ack - PEER_ISN) % MODULUS if "." in flags else 0
-    seen = Seen(at, flags, relative, len(tcp) - size, known, window, decode_options(tcp[20:size]))
+    seen = SeenPacket(at, flags, relative, len(tcp) - size, known, window, decode_options(tcp[20:size]))
     return seen, first
