@@ -78,7 +78,7 @@ def listed(answers: bytes, before: Optional[Path]) -> dict[str, object]:
     paragraphs = None if before is None else [asdict(it) for it in affected_paragraphs(before, TOP)]
     return {
         "rows": [asdict(it) for it in affected_rows(tables, old, new)],
-        "unanswered": count_unanswered(tables, new),
+        "unheard": count_unanswered(tables, new),
         "sections": paragraphs,
     }
 
