@@ -13,7 +13,7 @@ from pathlib import Path
 
 from trees import Mutant
 import building
-from mutant_files import Change, place_of
+from mutant_files import TextChange, place_of
 from build_cache import PROGRAMS
 from kit_tools import compiler_command, known_kit, linker_command
 
@@ -50,7 +50,7 @@ def apply_all(mutants: Sequence[Mutant], tree: Path) -> None:
         root.write_text(root.read_text() + _FUNCTION)
 
 
-def _with_bodies(text: str, changes: Iterable[tuple[int, Change]]) -> str:
+def _with_bodies(text: str, changes: Iterable[tuple[int, TextChange]]) -> str:
     """A text whose functions have a body for each number that changes them."""
     bodies = list(bodies_in(text))
     found: dict[Body, dict[int, list[tuple[Body, str]]]] = {}

@@ -12,7 +12,7 @@ TOP = Path(__file__).resolve().parents[1]
 sys.path.insert(0, str(TOP / "tools"))
 
 from mutant_files import (  # noqa: E402
-    Change,
+    TextChange,
     Mutant,
     MutantError,
     apply,
@@ -35,8 +35,8 @@ WITH_TEST = "# late\nfails: story a title\nfile: src/a.rt\nold: f(a); g(b);\nnew
 def test_two_mutants() -> None:
     """Octets stay as they are: those that a line begins with, and a blank at its end."""
     first, second = read_text(TWO)
-    assert (first.name, first.changes) == ("first", [Change("src/a.rt", "x", "y")])
-    assert second.changes == [Change("src/a.rt", "  two  blanks", ""), Change("src/b.rt", "b: c", "d")]
+    assert (first.name, first.changes) == ("first", [TextChange("src/a.rt", "x", "y")])
+    assert second.changes == [TextChange("src/a.rt", "  two  blanks", ""), TextChange("src/b.rt", "b: c", "d")]
     assert second.text == SECOND
     assert not first.test
 
@@ -44,7 +44,7 @@ def test_two_mutants() -> None:
 def test_a_mutant_with_a_test() -> None:
     (mutant,) = read_text(WITH_TEST, need_tests=True)
     assert (mutant.name, mutant.test) == ("late", "story a title")
-    assert mutant.changes == [Change("src/a.rt", "f(a); g(b);", "g(b);")]
+    assert mutant.changes == [TextChange("src/a.rt", "f(a); g(b);", "g(b);")]
 
 
 def test_no_mutants() -> None:
@@ -122,37 +122,37 @@ def changed_text(folder: Path, text: str, mutant: Mutant) -> str:
     return (crate / "src" / "a.rt").read_text()
 
 
-def mutant_of(*changes: Change, test: str = "") -> Mutant:
+def mutant_of(*changes: TextChange, test: str = "") -> Mutant:
     return Mutant("a", [], test, list(changes))
 
 
 def test_old_texts_are_found_by_their_octets(tmp_path: Path) -> None:
-    mutant = mutant_of(Change("src/a.rt", "  b", " c"))
+    mutant = mutant_of(TextChange("src/a.rt", "  b", " c"))
     assert changed_text(tmp_path, "a b\n  b\n", mutant) == "a b\n c\n"
 
 
 def test_old_texts_of_mutants_with_tests_are_found_by_their_words(tmp_path: Path) -> None:
-    mutant = mutant_of(Change("src/a.rt", "f(a); g(b);", "g(b);"), test="run x")
+    mutant = mutant_of(TextChange("src/a.rt", "f(a); g(b);", "g(b);"), test="run x")
     assert changed_text(tmp_path, "{\n    f(a);\n\n    g(b);\n}\n", mutant) == "{\n    g(b);\n}\n"
 
 
 def test_old_texts_are_found_in_the_text_before_all_changes(tmp_path: Path) -> None:
     """What one change puts in isn't what the other one finds, whichever comes first."""
-    mutant = mutant_of(Change("src/a.rt", "y", "x"), Change("src/a.rt", "x", "y"), test="run x")
+    mutant = mutant_of(TextChange("src/a.rt", "y", "x"), TextChange("src/a.rt", "x", "y"), test="run x")
     assert changed_text(tmp_path, "x y", mutant) == "y x"
 
 
 @pytest.mark.parametrize(
     "change, why",
     [
-        (Change("src/a.rt", "x", "y"), "'x' stands in src/a.rt 2 times, and not once"),
-        (Change("src/a.rt", "z", "y"), "'z' stands in src/a.rt 0 times, and not once"),
-        (Change("src/a.rt", "b", "b"), "nothing is changed in src/a.rt"),
-        (Change("src/b.rt", "x", "y"), "there is no file src/b.rt"),
+        (TextChange("src/a.rt", "x", "y"), "'x' stands in src/a.rt 2 times, and not once"),
+        (TextChange("src/a.rt", "z", "y"), "'z' stands in src/a.rt 0 times, and not once"),
+        (TextChange("src/a.rt", "b", "b"), "nothing is changed in src/a.rt"),
+        (TextChange("src/b.rt", "x", "y"), "there is no file src/b.rt"),
     ],
 )
 @pytest.mark.parametrize("test", ["", "run x"])
-def test_what_cannot_be_applied(tmp_path: Path, change: Change, why: str, test: str) -> None:
+def test_what_cannot_be_applied(tmp_path: Path, change: TextChange, why: str, test: str) -> None:
     with pytest.raises(MutantError) as error:
         changed_text(tmp_path, "x b x", mutant_of(change, test=test))
     assert str(error.value) == why
@@ -191,7 +191,7 @@ def test_mutants_of_python_and_shell(file: str, mutant: Mutant) -> None:
 
 def test_a_mutant_of_python_and_shell_is_of_any_file_of_the_tree() -> None:
     (mutant,) = read_text("# a\nfails: shell b c\nfile: check\nold: x\nnew: y\n", True, ())
-    assert (mutant.test, mutant.changes) == ("shell b c", [Change("check", "x", "y")])
+    assert (mutant.test, mutant.changes) == ("shell b c", [TextChange("check", "x", "y")])
     for path in ("/check", "../check", "a/../../check"):
         with pytest.raises(MutantError) as error:
             read_text(f"# a\nfails: shell b c\nfile: {path}\nold: x\nnew: y\n", True, ())
@@ -262,7 +262,7 @@ def test_each_line_of_shell_is_run_alone_before_a_mutant_is_applied(tmp_path: Pa
 
 def test_a_mutant_is_taken_back(tmp_path: Path) -> None:
     path = crate_of(tmp_path, "a b\n") / "src" / "a.rt"
-    with applied(FileMutant("x", mutant_of(Change("src/a.rt", "b", "c"), test="tests a")), tmp_path):
+    with applied(FileMutant("x", mutant_of(TextChange("src/a.rt", "b", "c"), test="tests a")), tmp_path):
         assert path.read_text() == "a c\n"
     assert path.read_text() == "a b\n"
 

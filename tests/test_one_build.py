@@ -8,7 +8,7 @@ import pytest
 TOP = Path(__file__).resolve().parents[1]
 sys.path[:0] = [str(TOP / "tools"), str(TOP / "bench")]
 
-from mutant_files import Change, Mutant  # noqa: E402
+from mutant_files import TextChange, Mutant  # noqa: E402
 from one_build import OneBuildError, apply_all, bodies_in, choose  # noqa: E402
 
 SOURCE = """//! A crate.
@@ -43,7 +43,7 @@ FILE = "crates/a/src/pairs.rt"
 
 
 def mutant(name: str, *changes: "tuple[str, str]") -> Mutant:
-    return Mutant(name, test="search", changes=[Change(FILE, old, new) for old, new in changes])
+    return Mutant(name, test="search", changes=[TextChange(FILE, old, new) for old, new in changes])
 
 
 def tree_in(folder: Path) -> Path:

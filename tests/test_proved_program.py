@@ -92,7 +92,7 @@ CHANGES = {
 }
 
 
-class Tree:
+class ProvedTree:
     """A tree with a program that prints its name, the kit on the PATH, and the answer of proved_program.sh."""
 
     def __init__(self, folder: Path) -> None:
@@ -147,9 +147,9 @@ class Tree:
 
 
 @pytest.fixture(params=["looked at", "not looked at"])
-def tree(request: pytest.FixtureRequest, tmp_path: Path) -> Tree:
+def tree(request: pytest.FixtureRequest, tmp_path: Path) -> ProvedTree:
     """A tree, where the program was found to be proved before, or wasn't looked at."""
-    made = Tree(tmp_path)
+    made = ProvedTree(tmp_path)
     if request.param == "looked at":
         assert made.is_proved()
         assert (made.top / f"{PROGRAM}.stamps").exists()
@@ -157,26 +157,26 @@ def tree(request: pytest.FixtureRequest, tmp_path: Path) -> Tree:
 
 
 @pytest.mark.parametrize("done", STAYS.values(), ids=STAYS)
-def test_a_program_stays_proved(done: str, tree: Tree) -> None:
+def test_a_program_stays_proved(done: str, tree: ProvedTree) -> None:
     tree.do(done)
     assert tree.found() == (0, f"{tree.top}/{PROGRAM}\n", "")
 
 
 @pytest.mark.parametrize("done", CHANGES.values(), ids=CHANGES)
-def test_a_program_is_not_proved_any_more(done: str, tree: Tree) -> None:
+def test_a_program_is_not_proved_any_more(done: str, tree: ProvedTree) -> None:
     tree.do(done)
     assert not tree.is_proved()
     tree.do(SET_BACK)
     assert not tree.is_proved()
 
 
-def test_what_is_linked_is_named(tree: Tree) -> None:
+def test_what_is_linked_is_named(tree: ProvedTree) -> None:
     tree.do("mv crates/low/proofs/f elsewhere && ln -s ../../../elsewhere crates/low/proofs/f")
     message = "top isn't proved: crates/low/proofs/f is a link: put the file or folder itself there\n"
     assert tree.found() == (2, "", message)
 
 
-def test_a_tree_that_is_copied_or_moved_stays_proved(tree: Tree) -> None:
+def test_a_tree_that_is_copied_or_moved_stays_proved(tree: ProvedTree) -> None:
     tree.do("cp -R . ../other")
     tree.top = tree.top.with_name("other")
     assert tree.is_proved()
@@ -186,7 +186,7 @@ def test_a_tree_that_is_copied_or_moved_stays_proved(tree: Tree) -> None:
 
 
 def test_where_nothing_can_be_kept_all_is_read_each_time(tmp_path: Path) -> None:
-    tree = Tree(tmp_path)
+    tree = ProvedTree(tmp_path)
     tree.do(f"mkdir {PROGRAM}.stamps")
     assert tree.is_proved() and tree.is_proved()
     tree.do(CHANGES["an edit in place while the clock stands back"])
@@ -194,7 +194,7 @@ def test_where_nothing_can_be_kept_all_is_read_each_time(tmp_path: Path) -> None
 
 
 def test_what_changed_in_the_tick_of_a_look_is_read_again(tmp_path: Path, monkeypatch: pytest.MonkeyPatch) -> None:
-    tree = Tree(tmp_path)
+    tree = ProvedTree(tmp_path)
     monkeypatch.setenv("PATH", tree.environment["PATH"])
     # As if the clock hadn't moved on since this source was written.
     monkeypatch.setattr(stamps, "probe_in", lambda _: (tree.top / CODE).stat())
@@ -205,7 +205,7 @@ def test_what_changed_in_the_tick_of_a_look_is_read_again(tmp_path: Path, monkey
 def test_where_a_program_can_set_the_clock_of_a_file_nothing_is_kept(
     tmp_path: Path, monkeypatch: pytest.MonkeyPatch
 ) -> None:
-    tree = Tree(tmp_path)
+    tree = ProvedTree(tmp_path)
     monkeypatch.setenv("PATH", tree.environment["PATH"])
     assert stamps.probe_in(str(tmp_path))
     # As FAT has it, where the moment of a change is that of the last edit, which any program may set.
@@ -219,7 +219,7 @@ def test_where_a_program_can_set_the_clock_of_a_file_nothing_is_kept(
 def test_what_changes_while_it_is_read_is_read_again(
     done: str, tmp_path: Path, monkeypatch: pytest.MonkeyPatch
 ) -> None:
-    tree = Tree(tmp_path)
+    tree = ProvedTree(tmp_path)
     monkeypatch.setenv("PATH", tree.environment["PATH"])
 
     def read_and_change(top: str, paths: list[str]) -> dict[str, str]:
@@ -234,7 +234,7 @@ def test_what_changes_while_it_is_read_is_read_again(
 
 
 def test_what_comes_before_the_stamps_are_taken_is_read_again(tmp_path: Path, monkeypatch: pytest.MonkeyPatch) -> None:
-    tree = Tree(tmp_path)
+    tree = ProvedTree(tmp_path)
     monkeypatch.setenv("PATH", tree.environment["PATH"])
     taken = stamps.stamps_of
 
@@ -247,7 +247,7 @@ def test_what_comes_before_the_stamps_are_taken_is_read_again(tmp_path: Path, mo
     assert not tree.is_proved()
 
 
-def test_stamps_that_were_cut_short_are_not_taken(tree: Tree) -> None:
+def test_stamps_that_were_cut_short_are_not_taken(tree: ProvedTree) -> None:
     assert tree.is_proved()
     tree.do(
         f"head -c -40 {PROGRAM}.stamps >x && cat x >{PROGRAM}.stamps && echo 'fn g() {{}}' >>crates/top/src/main.rt"
@@ -256,7 +256,7 @@ def test_stamps_that_were_cut_short_are_not_taken(tree: Tree) -> None:
 
 
 def test_all_is_named_on_which_it_depends(tmp_path: Path) -> None:
-    tree = Tree(tmp_path)
+    tree = ProvedTree(tmp_path)
     tree.do("rm HANDLES && ln -s nowhere crates/low/src/.#lib.rt && ln -s lib.rt crates/low/src/other.rt")
     below = [
         "HANDLES",

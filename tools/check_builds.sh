@@ -1,6 +1,6 @@
 #!/bin/sh
-# Holds builds without proofs, plain and optimised, to what is promised of them: each says all rows of tests/cases as they are
-# written, but those of test_desk, and where an overflow, a bad index or a failed unwrap is planted, it stops with a fault that
+# Checks builds without proofs, plain and optimised, by what is promised of them: each passes all rows of tests/cases but those
+# of test_desk, and where an overflow, a bad index or a failed unwrap is put into its code, it stops with a fault that
 # has the place, and with no verdict. Prints a line for each, and `N passed, M failed` last. It takes four builds, of some
 # minutes each where none is kept.
 #
@@ -38,7 +38,7 @@ rows() {
 }
 
 # The sources, in which a line that begins with o, b or u stops whoever keeps it.
-planted() {
+with_faults() {
     mkdir -p "$work/tree"
     cp -R "$top/crates.txt" "$top/HANDLES" "$work/tree"
     (cd "$top" && find crates -path '*/src/*' -name '*.rt') | while read -r file; do
@@ -78,12 +78,12 @@ stops() { # PROGRAM LINE WANTED: whether it stops so on a script with this line,
     [ ! -s "$work/output" ] && grep -q "^pdregress: unproved: Faulted: kind=$3: " "$work/errors"
 }
 
-line_of() { # TEXT in the file that is planted
+line_of() { # TEXT in the file with the faults
     grep -n -F "$1" "$list" | cut -d: -f1
 }
 
 faults() {
-    planted
+    with_faults
     file=crates/pd_text/src/line_list.rt
     program=$(built "$work/tree" plain)/pdregress
     in=in=pd_text::line_list:

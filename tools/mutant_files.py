@@ -28,7 +28,7 @@ class MutantError(Exception):
 
 
 @dataclass(frozen=True)
-class Change:
+class TextChange:
     """A text that comes once in a file, and the text that replaces it."""
 
     file: str
@@ -43,7 +43,7 @@ class Mutant:
     name: str
     lines: list[str] = field(default_factory=list)
     test: str = ""
-    changes: list[Change] = field(default_factory=list)
+    changes: list[TextChange] = field(default_factory=list)
 
     @property
     def text(self) -> str:
@@ -91,7 +91,7 @@ class Reader:
         elif key == "old" and self.file and not self.old:
             self.old = value.removeprefix(" ")
         elif key == "new" and self.old:
-            mutant.changes.append(Change(self.file, self.old, value.removeprefix(" ")))
+            mutant.changes.append(TextChange(self.file, self.old, value.removeprefix(" ")))
             self.old = ""
         else:
             raise MutantError(f"a line '{key}:' can't stand there")
@@ -149,7 +149,7 @@ def read_python(top: Path) -> dict[str, list[Mutant]]:
     return {str(file.relative_to(top)): read_file(file, is_python=True) for file in files}
 
 
-def place_of(change: Change, text: str, any_blanks: bool) -> tuple[int, int]:
+def place_of(change: TextChange, text: str, any_blanks: bool) -> tuple[int, int]:
     """The place of the old text, which comes just once, perhaps whatever blanks and newlines part its words."""
     pattern = r"\s+".join(map(re.escape, change.old.split())) if any_blanks else re.escape(change.old)
     found = list(re.finditer(pattern, text))

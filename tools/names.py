@@ -2,8 +2,9 @@
 """Finds names that don't explain themselves: a noun of more than one type, and words that prose is to avoid.
 
 Types are those of crates/*/src, and the classes of client, tools, tests and bench but for classes of tests. Prose is
-pages, comments and docstrings. tools/names.toml has the words, what to write instead, and what may stay, with the
-reason. Prints a line `PLACE: WORD` for each name that is left; the status is 1 if there is one.
+pages, comments and docstrings, without what is written as code. tools/names.toml has the words, what to write instead,
+and what may stay, with the reason. Prints a line `PLACE: WORD` for each name that is left; the status is 1 if there is
+one.
 """
 from __future__ import annotations
 
@@ -23,11 +24,12 @@ from pathlib import Path
 TOP = Path(__file__).resolve().parents[1]
 RATTLE_TYPE = re.compile(r"^ *(?:pub(?:\([a-z]+\))? )?(?:struct|enum|trait|type) (\w+)", re.MULTILINE)
 PYTHON_FOLDERS = ("client", "tools", "tests", "bench")
+CODE = re.compile(r"`[^`]*`")
 COMMENTS = {".rt": r"//(.*)", ".antt": r"(?:^|\s)--(.*)", ".sh": r"(?:^|\s)#(.*)", ".md": r"(.*)"}
 
 
 @dataclass(frozen=True)
-class Text:
+class SourceText:
     """A file of the tree: its path below the top, and its text."""
 
     path: str
@@ -39,15 +41,15 @@ class Text:
         return ".sh" if self.text.startswith("#!/bin/sh") else Path(self.path).suffix
 
 
-def texts() -> Iterator[Text]:
+def texts() -> Iterator[SourceText]:
     """The files that git has and that are text."""
     listed = subprocess.run(["git", "ls-files", "-z"], cwd=TOP, capture_output=True, check=True).stdout
     for path in map(TOP.joinpath, filter(None, listed.decode().split("\0"))):
         if not path.is_symlink() and path.is_file():
-            yield Text(str(path.relative_to(TOP)), path.read_text(encoding="utf-8", errors="replace"))
+            yield SourceText(str(path.relative_to(TOP)), path.read_text(encoding="utf-8", errors="replace"))
 
 
-def types_in(text: Text) -> Iterator[tuple[int, str]]:
+def types_in(text: SourceText) -> Iterator[tuple[int, str]]:
     """The types of a file by their lines, but for a type that is local to another one, as an associated type is."""
     if text.suffix == ".rt" and "/src/" in text.path:
         for found in RATTLE_TYPE.finditer(text.text):
@@ -69,7 +71,7 @@ def python_prose(source: str) -> Iterator[tuple[int, str]]:
             yield from enumerate(text.split("\n"), node.body[0].lineno)
 
 
-def prose_in(text: Text) -> Iterator[tuple[int, str]]:
+def prose_in(text: SourceText) -> Iterator[tuple[int, str]]:
     """The prose of a file, by its lines."""
     if text.suffix == ".py":
         yield from python_prose(text.text)
@@ -79,10 +81,12 @@ def prose_in(text: Text) -> Iterator[tuple[int, str]]:
             yield from ((number, found[1]) for found in comment.finditer(line))
 
 
-def repeated_nouns(files: list[Text], explained: dict[str, str]) -> Iterator[tuple[str, str]]:
-    """The places of each noun that names more than one type."""
+def repeated_nouns(
+    files: list[SourceText], explained: dict[str, str], second: dict[str, str]
+) -> Iterator[tuple[str, str]]:
+    """The places of each noun that names more than one type; second readings have the nouns of the first ones."""
     places: defaultdict[str, list[str]] = defaultdict(list)
-    for text in files:
+    for text in (it for it in files if not any(fnmatch(it.path, pattern) for pattern in second)):
         for line, noun in types_in(text):
             places[noun].append(f"{text.path}:{line}")
     for noun, each in sorted(places.items()):
@@ -90,14 +94,14 @@ def repeated_nouns(files: list[Text], explained: dict[str, str]) -> Iterator[tup
             yield from ((place, noun) for place in each)
 
 
-def words_left(files: list[Text], words: dict[str, str], explained: dict[str, str]) -> Iterator[tuple[str, str]]:
+def words_left(files: list[SourceText], words: dict[str, str], explained: dict[str, str]) -> Iterator[tuple[str, str]]:
     """The places of the words that prose is to avoid, each with what to write instead."""
     patterns = [(re.compile(rf"\b(?:{it})\b", re.IGNORECASE), instead) for it, instead in words.items()]
     for text in files:
         allowed = [it.rpartition(": ")[2] for it in explained if fnmatch(text.path, it.rpartition(": ")[0])]
         for line, prose in prose_in(text):
             for pattern, instead in patterns:
-                for found in pattern.finditer(prose):
+                for found in pattern.finditer(CODE.sub("", prose)):
                     if found[0].lower() not in allowed:
                         yield f"{text.path}:{line}", f"{found[0]} ({instead})"
 
@@ -106,7 +110,8 @@ def main() -> int:
     with (TOP / "tools" / "names.toml").open("rb") as file:
         table = tomllib.load(file)
     files = list(texts())
-    left = [*repeated_nouns(files, table["nouns"]), *words_left(files, table["words"], table["explained"])]
+    nouns = repeated_nouns(files, table["nouns"], table["second_readings"])
+    left = [*nouns, *words_left(files, table["words"], table["explained"])]
     for place, word in left:
         print(f"{place}: {word}")
     return 1 if left else 0

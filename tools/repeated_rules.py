@@ -18,7 +18,7 @@ CLAUSE = re.compile(r"^(\w[\w-]*)((?: \w+)*) =(?=\s)(.*(?:\n +.*)*)", re.MULTILI
 TOKEN = re.compile(r"[()\[\]{},;]|[^\s()\[\]{},;]+")
 UNREAD = re.compile(r"--.*|^(?:pub )?use .*$", re.MULTILINE)
 COMMON = {*"()[]{},;", "if", "then", "else", "Some", "None"}
-# So many words of a body have to be its own, for it to be told from others.
+# So many words of a body have to be its own, so that it differs from others.
 OWN = 4
 
 

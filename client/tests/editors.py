@@ -62,7 +62,7 @@ def environment(programs: Path) -> dict[str, str]:
     return {**os.environ, "PDSUITE_PROGRAMS": str(programs), "LC_ALL": "C.UTF-8"}
 
 
-class Terminal:
+class EditorTerminal:
     """A terminal in which an editor runs: keys are sent to it, and what it shows is looked at."""
 
     def __init__(self, words: Sequence[str | Path], folder: Path, programs: Path) -> None:
@@ -84,7 +84,7 @@ class Terminal:
         kept = [f"{name}={variables[name]}" for name in ("PDSUITE_PROGRAMS", "LC_ALL", "HOME", "PATH")]
         return ["-c", str(folder), "env", *kept, "TERM=tmux-256color", "COLORTERM=truecolor", *map(str, words)]
 
-    def __enter__(self) -> "Terminal":
+    def __enter__(self) -> "EditorTerminal":
         return self
 
     def __exit__(self, *error: object) -> None:
@@ -123,22 +123,22 @@ def prepared(folder: Path) -> Path:
     return script
 
 
-def neovim_screen(folder: Path, programs: Path) -> Terminal:
+def neovim_screen(folder: Path, programs: Path) -> EditorTerminal:
     """Neovim that shows why the script fails."""
     look = "set number background=dark signcolumn=no | highlight link NormalFloat Normal"
     frame = "lua vim.diagnostic.config({float = {border = 'rounded'}})"
-    terminal = Terminal(neovim("-c", look, "-c", frame, prepared(folder)), folder, programs)
+    terminal = EditorTerminal(neovim("-c", look, "-c", frame, prepared(folder)), folder, programs)
     terminal.wait("two.pkt", "fail seq")
     terminal.keys("]d")
     terminal.wait("actual packet")
     return terminal
 
 
-def emacs_screen(folder: Path, programs: Path) -> Terminal:
+def emacs_screen(folder: Path, programs: Path) -> EditorTerminal:
     """Emacs that shows why the script fails."""
     lisp = """(progn (setq native-comp-async-report-warnings-errors nil) (menu-bar-mode -1)
       (global-display-line-numbers-mode) (add-hook 'packetdrill-mode-hook #'eglot-ensure))"""
-    terminal = Terminal(emacs("-nw", "--eval", lisp, prepared(folder)), folder, programs)
+    terminal = EditorTerminal(emacs("-nw", "--eval", lisp, prepared(folder)), folder, programs)
     terminal.wait("two.pkt", "[eglot:", "Flymake[1")
     terminal.keys("M-x", "flymake-goto-next-error", "Enter")
     terminal.wait("actual packet")

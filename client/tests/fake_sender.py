@@ -16,7 +16,7 @@ CHANGE_FILE = os.path.join(os.path.dirname(os.path.realpath(sys.argv[0])), "chan
 CALLS = {b"socket": 3, b"bind": 0, b"listen": 0, b"accept": 4, b"fcntl": 0, b"close": 0, b"setsockopt": 0}
 
 
-class Sender:
+class FakeSender:
     """The sender: its numbers, its timer, and what it has sent and nobody has taken."""
 
     def __init__(self, change: str, is_set: bool) -> None:
@@ -88,7 +88,7 @@ class Sender:
 
 def run(text: bytes, change: str, is_set: bool) -> Iterator[tuple[int, str, str]]:
     """The events of a script's inputs: moments, lines and the states after them. An empty line ends it: a fault."""
-    sender = Sender(change, is_set)
+    sender = FakeSender(change, is_set)
     now = 0
     for number, line in enumerate(text.splitlines(), 1):
         time, _, event = line.partition(b" ")
@@ -111,7 +111,7 @@ def run(text: bytes, change: str, is_set: bool) -> Iterator[tuple[int, str, str]
         yield from taken(sender)
 
 
-def taken(sender: Sender) -> Iterator[tuple[int, str, str]]:
+def taken(sender: FakeSender) -> Iterator[tuple[int, str, str]]:
     """The packets that left."""
     for at, line in sender.sent:
         yield at, line, sender.facts(at)

@@ -81,13 +81,13 @@ def test_an_answer_begins_with_the_rows_of_the_one_before() -> None:
         rows_in(answer("s0 pass 8", "s1 pass 1"), before, [b"s1"], 2)
 
 
-class Program:
+class LongRowProgram:
     """Says a row as long as a row can be of each script that it got so far, where as much is requested."""
 
     def __init__(self) -> None:
         self.count = 0
 
-    def __enter__(self) -> "Program":
+    def __enter__(self) -> "LongRowProgram":
         return self
 
     def __exit__(self, *why: object) -> None:
@@ -103,7 +103,7 @@ class Program:
 
 
 def test_an_answer_may_have_the_rows_of_all_pieces_before() -> None:
-    program = Program()
+    program = LongRowProgram()
 
     def start(settings: Settings) -> Any:
         return program

@@ -12,7 +12,7 @@ from tests.editors import (
     EDITORS,
     FAILING,
     SCRIPT,
-    Terminal,
+    EditorTerminal,
     emacs,
     emacs_screen,
     environment,
@@ -103,7 +103,7 @@ def ends_passing(script: Path, programs: Path, call: Call) -> None:
 
 @pytest.mark.parametrize("screen", [neovim_screen, emacs_screen], ids=["neovim", "emacs"])
 def test_an_editor_shows_why_a_script_fails(
-    screen: Callable[[Path, Path], Terminal], recording_programs: Path, tmp_path: Path
+    screen: Callable[[Path, Path], EditorTerminal], recording_programs: Path, tmp_path: Path
 ) -> None:
     with screen(tmp_path, recording_programs) as terminal:
         assert "1001:1501(500) ack 1" in terminal.shown()

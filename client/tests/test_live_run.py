@@ -23,14 +23,14 @@ from tests.helpers import HANGS
 ONE = text_of(b"one\n")
 
 
-class Program:
+class PassingProgram:
     """Passes all scripts whose names it got, and keeps its queries."""
 
     def __init__(self, *words: object) -> None:
         self.queries: list[bytes] = []
         self.names: list[bytes] = []
 
-    def __enter__(self) -> "Program":
+    def __enter__(self) -> "PassingProgram":
         return self
 
     def __exit__(self, *why: object) -> None:
@@ -56,7 +56,7 @@ class Program:
 
 
 def started(settings: Settings) -> Any:
-    return Program()
+    return PassingProgram()
 
 
 def carried_out(run: LiveRun, *acts: Act) -> int:
@@ -107,7 +107,7 @@ def test_a_program_that_says_what_nobody_asked_is_at_an_end() -> None:
 
 def test_a_text_is_asked_with_the_octets_that_an_editor_has(monkeypatch: pytest.MonkeyPatch) -> None:
     """One half of a pair of UTF-16 stays what it is, so that no other text is judged in its place."""
-    program: Any = Program()
+    program: Any = PassingProgram()
     monkeypatch.setattr(queries, "Program", lambda words, stop: program)
     sender = LiveSender(stamped_program(Path(__file__)), None)
     with Stop() as stop:

@@ -19,7 +19,7 @@ NAMES = ("$\\frac{$", EVIL)
 
 @pytest.fixture
 def recorder(fake_program: Path, tmp_path: Path) -> Path:
-    """The programs that stand in for those that run and explain, and one that has recorded already."""
+    """The fake programs that run and explain, and one that has recorded already."""
     folder = tmp_path / "programs"
     folder.mkdir()
     for program in fake_program.iterdir():

@@ -40,7 +40,7 @@ old = pytest.mark.parametrize(("key", "value", "reason", "helps"), OLD, ids=IDS)
 
 @pytest.fixture(scope="module")
 def both(tmp_path_factory: pytest.TempPathFactory) -> Path:
-    """A folder with what stands in for both programs."""
+    """A folder with fakes of both programs."""
     folder = tmp_path_factory.mktemp("both")
     shutil.copy(HERE / "fake_pdregress.py", folder / "pdregress")
     shutil.copy(HERE / "fake_pdrecord.py", folder / "pdrecord")

@@ -21,7 +21,7 @@ class Oracle:
         return [Refusal(it, UNKNOWN_KEY) for it in claims if it.key in self.lacks]
 
 
-class Screen:
+class FakeScreen:
     """Keeps what is noted."""
 
     def __init__(self) -> None:
@@ -31,7 +31,7 @@ class Screen:
         self.noted.append(line)
 
 
-class Sender:
+class NamedSender:
     """A sender by its name."""
 
     def __init__(self, name: str) -> None:
@@ -42,14 +42,14 @@ class Sender:
 
 
 def side(name: str) -> Side:
-    sender: Any = Sender(name)
+    sender: Any = NamedSender(name)
     return side_of(sender, "", "--base-settings")
 
 
 def test_each_side_is_asked_without_the_keys_that_its_sender_lacks() -> None:
     """Those that are set for both, and those that inputs may set."""
     oracles: Any = (Oracle("early", "mss"), Oracle())
-    screen: Any = Screen()
+    screen: Any = FakeScreen()
     common = option_of("early = 2\nlate = 3")
     before, after = _side_oracles(oracles, (side("old"), side("new")), common, screen)
     assert sorted(before.side.lacks) == ["early", "mss"] and not after.side.lacks
@@ -62,7 +62,7 @@ def test_each_side_is_asked_without_the_keys_that_its_sender_lacks() -> None:
 
 def test_a_key_that_a_sender_has_by_its_old_name_has_its_value_there() -> None:
     oracles: Any = (Oracle("abc_limit", "recovery_algorithm", "slow_start_after_idle", "restart_after_idle"), Oracle())
-    screen: Any = Screen()
+    screen: Any = FakeScreen()
     common = option_of('abc_limit = 2\nrecovery_algorithm = "rfc9937"\nslow_start_after_idle = true')
     old, new = _side_oracles(oracles, (side("old"), side("new")), common, screen)
     given = settings_of(common.keys)

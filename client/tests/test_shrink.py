@@ -28,7 +28,7 @@ def inputs_of(*events: tuple[int, Packet | Call], is_exact: bool = False) -> Inp
     return Inputs((), tuple(Input(at, what) for at, what in events), is_exact)
 
 
-class Sender:
+class RecordingSender:
     """Is recorded the same on all inputs."""
 
     def recordings(self, inputs: Sequence[Inputs | ConfiguredScript]) -> list[Recording]:
@@ -53,7 +53,7 @@ class Finds:
 
 def least(inputs: Inputs, is_good: Callable[[Inputs], bool]) -> Inputs:
     """The least inputs that are good."""
-    return shrink(Find(inputs, ""), Finds(is_good), Sender(), 60).inputs
+    return shrink(Find(inputs, ""), Finds(is_good), RecordingSender(), 60).inputs
 
 
 def test_what_follows_an_event_that_goes_keeps_its_moment() -> None:
@@ -100,7 +100,7 @@ def test_a_whole_round_goes_with_the_numbers_that_it_moved() -> None:
         f"+0 {it}\n//= at 0.000000 ESTABLISHED una:{una} top:{top} cwnd:4000\n" for it, (una, top) in zip(acks, states)
     )
     test = Finds(lambda it: [str(one.what) for one in it.events] == [str(one) for one in acks[:2]])
-    found = shrink(Find(inputs_of(*((0, it) for it in acks)), recording), test, Sender(), 60)
+    found = shrink(Find(inputs_of(*((0, it) for it in acks)), recording), test, RecordingSender(), 60)
     assert [str(it.what) for it in found.inputs.events] == [str(it) for it in acks[:2]]
 
 

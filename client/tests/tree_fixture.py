@@ -47,7 +47,7 @@ def vouch(top: Path, programs: Iterable[str], environment: Mapping[str, str]) ->
 
 
 def fake_octets(sender: str = "pass 1") -> bytes:
-    """A program that stands in for pdregress, whose sender gives this row."""
+    """A fake of pdregress, whose sender gives this row."""
     return (HERE / "fake_pdregress.py").read_bytes().replace(b'"pass 1"', f'"{sender}"'.encode(), 1)
 
 

@@ -7,7 +7,7 @@ from dataclasses import dataclass, replace
 from typing import Generic, Optional, TypeVar, Union
 
 from harness.calls import NO_STATUS, CallSteps, ProgramCall, ProgramOutput
-from harness.tables import PROGRAM, RowError, Table, TableRow, reading
+from harness.tables import PROGRAM, RowError, Table, CaseRow, reading
 
 CLASSES = ("pass", "fail", "syntax", "unsupported", "limit", "pending")
 MAX_SCRIPTS = 500
@@ -30,7 +30,7 @@ class ProgramRun:
     file that is the input stays at its place, and of the text that refuses them the first line is compared.
     """
 
-    row: TableRow
+    row: CaseRow
     program: str
     arguments: tuple[bytes, ...]
     given: bytes
@@ -47,7 +47,7 @@ class ProgramRun:
 class ExpectedScript:
     """A script, the commands before it, and the wanted verdict or explanation."""
 
-    row: TableRow
+    row: CaseRow
     commands: str
     text: bytes
     wanted: str
@@ -61,7 +61,7 @@ class RowCase(Generic[T]):
     """
 
     name: str
-    row: TableRow
+    row: CaseRow
     checks: tuple[T, ...] = ()
     error: str = ""
     mark: str = ""
@@ -103,7 +103,7 @@ class TableKind(Generic[T]):
         ]
 
 
-def case_of(row: TableRow, read: Callable[[], Iterable[T]], name: str = "") -> RowCase[T]:
+def case_of(row: CaseRow, read: Callable[[], Iterable[T]], name: str = "") -> RowCase[T]:
     """The case of a row, which may have an error."""
     name = name or f"line-{row.line}"
     try:
@@ -128,7 +128,7 @@ def output_lines(output: ProgramOutput) -> Iterator[str]:
     yield "came to no end" if output.status == NO_STATUS else f"= {output.status}"
 
 
-def difference(row: TableRow, wanted: ProgramOutput, output: ProgramOutput) -> str:
+def difference(row: CaseRow, wanted: ProgramOutput, output: ProgramOutput) -> str:
     """A row, and how the output differs from what is wanted."""
     before, after = list(output_lines(wanted)), list(output_lines(output))
     return "\n".join([shown(str(row)), *difflib.unified_diff(before, after, "wanted", "output", n=1, lineterm="")])

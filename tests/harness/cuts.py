@@ -17,7 +17,7 @@ from harness.compare import (
     run_answers,
 )
 from harness.compare import script_answers, check_runs, check_scripts, verdict_of
-from harness.tables import PROGRAM, TableRow, Table, octets, parted
+from harness.tables import PROGRAM, CaseRow, Table, octets, parted
 
 # The first octets of an input; no script has them.
 INPUT = b"add "
@@ -30,7 +30,7 @@ class GrowingInput:
 
     octets: bytes = b""
 
-    def checks_of(self, row: TableRow) -> Iterator[CutCheck]:
+    def checks_of(self, row: CaseRow) -> Iterator[CutCheck]:
         """A row `ANSWER | PIECE`: the answer where the text ends at one of the octets of the piece."""
         answer, piece = parted(row.text, " | ", "a row has an answer and a |")
         for octet in octets(piece):
@@ -38,7 +38,7 @@ class GrowingInput:
             part = replace(row, part=f", at {len(self.octets)}")
             yield self.cut(part, answer)
 
-    def cut(self, row: TableRow, answer: str) -> CutCheck:
+    def cut(self, row: CaseRow, answer: str) -> CutCheck:
         """The check of the octets so far: an input, with a fault or the verdict of its only script `a`, or a script."""
         if not self.octets.startswith(INPUT[: len(self.octets)]):
             return ExpectedScript(row, "", self.octets, verdict_of(answer))

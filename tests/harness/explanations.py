@@ -18,7 +18,7 @@ from harness.compare import (
     shown,
     verdicts_in,
 )
-from harness.tables import PROGRAM, TableRow, Table, RowError, octets
+from harness.tables import PROGRAM, CaseRow, Table, RowError, octets
 
 EXPLAINING = (b"--explain", b"--json")
 NO_VERDICT = "nothing"
@@ -53,7 +53,7 @@ def explained_of(verdict: str, block: Mapping[str, object]) -> str:
     return f"{verdict} {block.get('rule')}{limit}: {block.get('rule_words')}"
 
 
-def explained_check(table: Table, row: TableRow, wanted: str) -> Iterator[ExpectedScript]:
+def explained_check(table: Table, row: CaseRow, wanted: str) -> Iterator[ExpectedScript]:
     if not row.text.startswith("<") or not wanted:
         raise RowError("a line begins with > and then with <")
     yield ExpectedScript(row, "", table.before.given + octets(row.text.partition(" ")[2]), wanted)
@@ -85,7 +85,7 @@ def explained_answers(scripts: Sequence[ExpectedScript]) -> CallSteps[list[Optio
     return [None if answers[script.row] == NO_VERDICT else answers[script.row] for script in scripts]
 
 
-def beginning_checks(row: TableRow) -> Iterator[ExpectedScript]:
+def beginning_checks(row: CaseRow) -> Iterator[ExpectedScript]:
     text = octets(row.text)
     for count in range(len(text)):
         part = replace(row, part=f", at {count}")

@@ -13,7 +13,7 @@ from harness.recordings import RECORDINGS
 from harness.refusals import REFUSALS
 from harness.scripts import PLACES, SCRIPTS
 from harness.stories import STORIES, TITLED_STORIES
-from harness.tables import DrawOptions, TableRow, Table, RowError, place_in_tree, read_tables
+from harness.tables import DrawOptions, CaseRow, Table, RowError, place_in_tree, read_tables
 
 KINDS: dict[str, TableKind[Any]] = {
     "scripts": SCRIPTS,
@@ -39,12 +39,12 @@ class CaseGroup:
     cases: list[RowCase[Any]]
 
 
-def error_group(name: str, row: TableRow, why: str) -> CaseGroup:
+def error_group(name: str, row: CaseRow, why: str) -> CaseGroup:
     """A group with a case for a text that can't be read."""
     return CaseGroup(name, STORIES, (), [RowCase("unread", row, error=why)])
 
 
-def mark_message(mark: TableRow) -> str:
+def mark_message(mark: CaseRow) -> str:
     """The message that a row is marked, and what to do about that."""
     return (
         f"{mark.file}:{mark.line}: this answer was taken from the program: work it out by hand, from docs/SENDER.md "
@@ -52,7 +52,7 @@ def mark_message(mark: TableRow) -> str:
     )
 
 
-def marked(cases: Sequence[RowCase[Any]], marks: Sequence[TableRow]) -> Iterator[RowCase[Any]]:
+def marked(cases: Sequence[RowCase[Any]], marks: Sequence[CaseRow]) -> Iterator[RowCase[Any]]:
     """The cases of a table, of which a marked one fails; so does a mark without a case after it."""
     messages: dict[int, str] = {}
     for mark in marks:
@@ -81,4 +81,4 @@ def groups_of(file: Path, draw_options: DrawOptions = DrawOptions()) -> Iterator
     try:
         yield from (group_of(replace(table, draw_options=draw_options)) for table in read_tables(file))
     except RowError as why:
-        yield error_group("file", TableRow(place_in_tree(file), 1, ""), str(why))
+        yield error_group("file", CaseRow(place_in_tree(file), 1, ""), str(why))

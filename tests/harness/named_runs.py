@@ -5,7 +5,7 @@ from collections.abc import Iterator
 from harness.calls import ProgramOutput
 from harness.compare import RowCase, ProgramRun
 from harness.stories import slug, stories, titled_stories
-from harness.tables import CASES, TOP, TableRow, RowError, read_tables
+from harness.tables import CASES, TOP, CaseRow, RowError, read_tables
 
 DESK = "test_desk"
 # The parts of test_desk after the stories: the argument of each, which has a line of the output.
@@ -16,7 +16,7 @@ def parts() -> Iterator[RowCase[ProgramRun]]:
     """Each further part of test_desk as a run without a story."""
     lines = (TOP / "crates" / DESK / "stdout").read_bytes().splitlines(keepends=True)[1:]
     for part, line in zip(PARTS, lines, strict=True):
-        row = TableRow(f"crates/{DESK}/stdout", 1, part)
+        row = CaseRow(f"crates/{DESK}/stdout", 1, part)
         yield RowCase(part, row, (ProgramRun(row, DESK, (part.encode(),), b"", ProgramOutput(line, b"", 0)),))
 
 

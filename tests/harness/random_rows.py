@@ -12,7 +12,7 @@ from harness.calls import CallSteps, ProgramOutput
 from harness.compare import RowCase, RowResult, TableKind, ProgramRun, case_of, check_runs
 from harness.recordings import RECORDS
 from harness.model_runs import drawn_transfers, check_transfers
-from harness.tables import TOP, TableRow, Table, RowError
+from harness.tables import TOP, CaseRow, Table, RowError
 
 ROW = re.compile(r"([1-9]\d*) ([a-z0-9 ]+) from (\d+)")
 # The recoveries of an algorithm, which the recorder plays.
@@ -65,7 +65,7 @@ DRAWS = {RECORDS: list(RECOVERIES), **{name: list(it) for name, it in PROGRAMS.i
 class Draw:
     """A draw of a row for a program: rows of one kind, from a seed."""
 
-    row: TableRow
+    row: CaseRow
     program: str
     kind: str
     amount: Amount
@@ -94,7 +94,7 @@ def joined(lines: Iterator[str] | Sequence[str]) -> bytes:
     return "".join(f"{line}\n" for line in lines).encode()
 
 
-def draw_of(table: Table, row: TableRow) -> Draw:
+def draw_of(table: Table, row: CaseRow) -> Draw:
     """The draw of a row, unless a run chooses otherwise."""
     found = ROW.fullmatch(row.text)
     if not found or found[2] not in DRAWS.get(table.program, ()):

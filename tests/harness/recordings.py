@@ -13,7 +13,7 @@ from harness.compare import RowCase, RowResult, TableKind, batches, input_of, ve
 from harness.compare import ExpectedScript
 from harness.random_scripts import RandomScript, random_scripts
 from harness.scripts import script_of, terms_of
-from harness.tables import PROGRAM, TableRow, Table, RowError, case_files, read_tables
+from harness.tables import PROGRAM, CaseRow, Table, RowError, case_files, read_tables
 
 TRACE = re.compile(rb"//= at (\d+\.\d{6}) [A-Z]")
 RECORDS = "pdrecord"
@@ -68,7 +68,7 @@ def table_scripts() -> Iterator[RandomScript]:
             yield RandomScript(f"{row.file}:{row.line}", settings_text(settings), head + text)
 
 
-def chosen_scripts(row: TableRow) -> list[RandomScript]:
+def chosen_scripts(row: CaseRow) -> list[RandomScript]:
     """The scripts that a row takes."""
     found = CHOICE.fullmatch(row.text)
     if not found:
@@ -93,7 +93,7 @@ def under_settings(script: RandomScript, text: bytes) -> ExpectedScript:
     """A text to run under the settings of a script."""
     settings = (line.replace(" = ", " ").replace('"', "") for line in script.settings.splitlines())
     commands = "".join(f"set {it}\n" for it in settings)
-    return ExpectedScript(TableRow(script.name, 0, ""), commands, text.removesuffix(b"\n"), "")
+    return ExpectedScript(CaseRow(script.name, 0, ""), commands, text.removesuffix(b"\n"), "")
 
 
 def verdicts(

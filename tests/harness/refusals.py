@@ -5,7 +5,7 @@ from dataclasses import replace
 
 from harness.calls import ProgramOutput
 from harness.compare import EMPTY_REPORT, RowCase, TableKind, ProgramRun, case_of, run_answers, check_runs
-from harness.tables import PROGRAM, TableRow, Table, RowError, octets, parted
+from harness.tables import PROGRAM, CaseRow, Table, RowError, octets, parted
 
 # The answer of a row to a setting that is accepted, and to a line that is no command, which ends the run.
 ACCEPTED = "ok"
@@ -13,7 +13,7 @@ NO_COMMAND = "15 BadCommand"
 SET = "set "
 
 
-def setting_checks(row: TableRow, answer: str, setting: str) -> Iterator[ProgramRun]:
+def setting_checks(row: CaseRow, answer: str, setting: str) -> Iterator[ProgramRun]:
     """A setting `KEY VALUE`, which is refused so or accepted: by a command, and by the option `--settings`."""
     key, value = parted(setting, " ", "a setting has a value")
     by_command = by_option = EMPTY_REPORT
@@ -24,7 +24,7 @@ def setting_checks(row: TableRow, answer: str, setting: str) -> Iterator[Program
     yield ProgramRun(row, PROGRAM, (b"--settings", f"{key} = {value}".encode()), b"", by_option)
 
 
-def refusal_checks(row: TableRow) -> Iterator[ProgramRun]:
+def refusal_checks(row: CaseRow) -> Iterator[ProgramRun]:
     """A row `ANSWER | $ ARGUMENTS` or `ANSWER | < LINE`: the answer to arguments, or to a line of the input."""
     answer, text = parted(row.text, " | ", "a row has an answer and a |")
     mark, _, rest = text.partition(" ")

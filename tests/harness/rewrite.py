@@ -6,7 +6,7 @@ from difflib import SequenceMatcher
 
 from harness.calls import ProgramOutput
 from harness.stories import RunStory
-from harness.tables import MARK, TableRow
+from harness.tables import MARK, CaseRow
 
 MARKED = f"{MARK} taken from the program: work it out by hand, and then take this line away"
 # New lines by the numbers of those that they replace.
@@ -29,14 +29,14 @@ def written(line: bytes) -> str:
     return text.replace("\\\\<", "\\\\\\x3c")
 
 
-def with_verdict(row: TableRow, verdict: str) -> Lines:
+def with_verdict(row: CaseRow, verdict: str) -> Lines:
     """A row `VERDICT: SCRIPT` or `VERDICT under TERM, ..: SCRIPT` with another verdict."""
     head, _, script = row.text.partition(":")
     _, under, terms = head.partition(" under ")
     return {row.line: [MARKED, f"{verdict}{under}{terms}:{script}"]}
 
 
-def with_explained(rows: Sequence[TableRow], changed: Mapping[int, str]) -> Lines:
+def with_explained(rows: Sequence[CaseRow], changed: Mapping[int, str]) -> Lines:
     """The rows of a table of explanations; those of some lines have another answer, which stands before them."""
     lines: Lines = {}
     wanted = ""
@@ -61,7 +61,7 @@ def with_explained(rows: Sequence[TableRow], changed: Mapping[int, str]) -> Line
 class StoryPiece:
     """A line of a story that stands for lines of an output, and these lines as they are now."""
 
-    row: TableRow
+    row: CaseRow
     mark: str
     before: list[bytes]
     now: list[bytes] = field(default_factory=list)

@@ -4,7 +4,7 @@ from collections.abc import Iterator
 from dataclasses import dataclass, replace
 
 from harness.compare import RowCase, TableKind, ExpectedScript, case_of, script_answers, check_scripts, verdict_of
-from harness.tables import TableRow, Table, RowError, octets, parted
+from harness.tables import CaseRow, Table, RowError, octets, parted
 
 PLAIN = frozenset(b"\t\r") | frozenset(range(0x20, 0x7F))
 
@@ -15,14 +15,14 @@ def terms_of(terms: str) -> tuple[list[str], list[str]]:
     return [it for it in each if not it.startswith("--")], [it for it in each if it.startswith("--")]
 
 
-def script_of(table: Table, row: TableRow) -> tuple[str, str, bytes]:
+def script_of(table: Table, row: CaseRow) -> tuple[str, str, bytes]:
     """The verdict, the terms and the octets of a row `VERDICT: SCRIPT` or `VERDICT under TERM, ..: SCRIPT`."""
     head, text = parted(row.text, ":", "a row has a colon after its verdict")
     verdict, _, terms = head.partition(" under ")
     return verdict_of(verdict), terms, table.before.given + octets(text.removeprefix(" "))
 
 
-def script_check(table: Table, row: TableRow) -> Iterator[ExpectedScript]:
+def script_check(table: Table, row: CaseRow) -> Iterator[ExpectedScript]:
     verdict, terms, text = script_of(table, row)
     settings, options = terms_of(terms)
     header = "".join(f"{option} " for option in options).encode()
@@ -39,7 +39,7 @@ def scripts(table: Table) -> Iterator[RowCase[ExpectedScript]]:
 class OpenOctet:
     """A text with an octet left open, the verdict with most octets there, and the exceptions."""
 
-    row: TableRow
+    row: CaseRow
     front: bytes
     back: bytes
     most: str
@@ -57,7 +57,7 @@ class OpenOctet:
         return ExpectedScript(replace(self.row, part=f", at {octet}"), "", text, wanted)
 
 
-def open_octet_of(lines: list[TableRow]) -> OpenOctet:
+def open_octet_of(lines: list[CaseRow]) -> OpenOctet:
     """The place of a line `= VERDICT: TEXT`, in which an `@` stands for the octet, and of those below it."""
     verdict, text = parted(lines[0].text[2:], ": ", "a place has a verdict and a text")
     front, back = parted(text, "@", "the text of a place has an @")
@@ -74,7 +74,7 @@ def open_octet_of(lines: list[TableRow]) -> OpenOctet:
     return place
 
 
-def octet_checks(lines: list[TableRow]) -> Iterator[ExpectedScript]:
+def octet_checks(lines: list[CaseRow]) -> Iterator[ExpectedScript]:
     if not lines[0].text.startswith("= "):
         raise RowError("a line of a place begins with = and then - or *")
     place = open_octet_of(lines)
@@ -84,7 +84,7 @@ def octet_checks(lines: list[TableRow]) -> Iterator[ExpectedScript]:
 def places(table: Table) -> Iterator[RowCase[ExpectedScript]]:
     """Each octet but the newline at a place. The verdict is another with the octets of `- VERDICT: OCTETS`, and with
     those that are neither blanks nor printable where there is a line `* VERDICT`."""
-    groups: list[list[TableRow]] = []
+    groups: list[list[CaseRow]] = []
     for row in table.rows:
         if row.text.startswith("= ") or not groups:
             groups.append([])

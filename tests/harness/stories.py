@@ -16,7 +16,7 @@ from harness.tables import (
     Opening,
     RowError,
     Table,
-    TableRow,
+    CaseRow,
     lines_of,
     octets,
     parted,
@@ -36,7 +36,7 @@ class RunStory:
 
     table: Table
     title: str = ""
-    first: TableRow | None = None
+    first: CaseRow | None = None
     arguments: list[bytes] = field(default_factory=list)
     given: bytes = b""
     output: bytes = b""
@@ -45,9 +45,9 @@ class RunStory:
     workers: list[str] = field(default_factory=list)
     is_short: bool = False
     is_whole: bool = False
-    rows: list[TableRow] = field(default_factory=list)
+    rows: list[CaseRow] = field(default_factory=list)
 
-    def read_row(self, row: TableRow) -> None:
+    def read_row(self, row: CaseRow) -> None:
         self.rows.append(row)
         mark, _, rest = row.text.partition(" ")
         match mark:
@@ -94,7 +94,7 @@ class RunStory:
             return add_command(name, self.opening(opening).given + octets(text))
         return lines_of(rest, mark == "<#")
 
-    def runs(self, row: TableRow) -> Iterator[tuple[str, ProgramRun]]:
+    def runs(self, row: CaseRow) -> Iterator[tuple[str, ProgramRun]]:
         """The run, and those with workers, each with its name."""
         wanted = ProgramOutput(self.output, self.errors, self.status)
         for name, more in [("", ()), *((f"-{it}", ("--workers", it)) for it in self.workers)]:
@@ -137,7 +137,7 @@ def stories(table: Table) -> Iterator[RowCase[ProgramRun]]:
     names: Counter[str] = Counter()
     for story in stories_in(table):
         assert story.first is not None
-        row = TableRow(story.first.file, story.first.line, story.title)
+        row = CaseRow(story.first.file, story.first.line, story.title)
         for name, run in story.runs(row):
             names[name] += 1
             more = f"-{names[name]}" if names[name] > 1 else ""
@@ -162,7 +162,7 @@ def stories_of(file: Path, program: str) -> Iterator[RowCase[ProgramRun]]:
         if number and rows:
             given = b"".join(it + b"\n" for it in (*texts, *rows))
             wanted = ProgramOutput(b"%d rows, 0 differ\n" % len((*texts, *rows)), b"", 0)
-            row = TableRow(place_in_tree(file), line, title.decode())
+            row = CaseRow(place_in_tree(file), line, title.decode())
             yield RowCase(slug(row.text), row, (ProgramRun(row, program, (b"stories",), given, wanted),))
         line += story.count(b"\n")
 

@@ -25,7 +25,7 @@ class RowError(Exception):
 
 
 @contextmanager
-def reading(row: "TableRow") -> Iterator[None]:
+def reading(row: "CaseRow") -> Iterator[None]:
     """Adds to an error the row that can't be read."""
     try:
         yield
@@ -34,7 +34,7 @@ def reading(row: "TableRow") -> Iterator[None]:
 
 
 @dataclass(frozen=True)
-class TableRow:
+class CaseRow:
     """A line of a file of rows, and of what it stands for the part that is meant: a length or an octet."""
 
     file: str
@@ -66,23 +66,23 @@ class DrawOptions:
 class Table:
     """A table: its heading, its name and kind, the program that it runs, and its lines, comments among them."""
 
-    heading: TableRow
+    heading: CaseRow
     name: str
     kind: str
     program: str = PROGRAM
     opening: str = ""
     before: Opening = Opening()
     openings: Mapping[str, Opening] = field(default_factory=dict)
-    lines: list[TableRow] = field(default_factory=list)
+    lines: list[CaseRow] = field(default_factory=list)
     draw_options: DrawOptions = DrawOptions()
 
     @property
-    def rows(self) -> list[TableRow]:
+    def rows(self) -> list[CaseRow]:
         """The lines that are no comments."""
         return [row for row in self.lines if not row.text.startswith("#")]
 
     @property
-    def marks(self) -> list[TableRow]:
+    def marks(self) -> list[CaseRow]:
         """The lines that mark the row after them."""
         return [row for row in self.lines if row.text.startswith(MARK)]
 
@@ -124,7 +124,7 @@ def parted(text: str, mark: str, why: str) -> tuple[str, str]:
     return front, back
 
 
-def heading_of(row: TableRow) -> Table:
+def heading_of(row: CaseRow) -> Table:
     """The table of a heading `[NAME] KIND`, perhaps with `of PROGRAM` and `after OPENING`, without its lines."""
     found = HEADING.fullmatch(row.text)
     if not found:
@@ -140,7 +140,7 @@ def tables_of(file: Path) -> list[Table]:
     """The tables of a file, as they are written."""
     tables: list[Table] = []
     for number, line in enumerate(file.read_bytes().decode().split("\n"), 1):
-        row = TableRow(place_in_tree(file), number, line)
+        row = CaseRow(place_in_tree(file), number, line)
         with reading(row):
             if line.startswith("["):
                 tables.append(heading_of(row))

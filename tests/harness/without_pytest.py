@@ -15,7 +15,7 @@ from harness.compare import RowResult  # noqa: E402
 from harness.kinds import CaseGroup, error_group, groups_of  # noqa: E402
 from harness.run_rows import Programs, Selection, check, check_in_step  # noqa: E402
 from harness.run_rows import heed_signals, programs_in, proved_programs  # noqa: E402
-from harness.tables import DrawOptions, TableRow, place_in_tree  # noqa: E402
+from harness.tables import DrawOptions, CaseRow, place_in_tree  # noqa: E402
 
 
 def files_in(path: Path) -> list[Path]:
@@ -29,7 +29,7 @@ def groups_in(path: Path, draw_options: DrawOptions) -> Iterator[CaseGroup]:
         if file.suffix == ".cases":
             yield from groups_of(file, draw_options)
         else:
-            row = TableRow(place_in_tree(file.absolute()), 1, "")
+            row = CaseRow(place_in_tree(file.absolute()), 1, "")
             yield error_group(file.name, row, "python3-pytest is missing")
 
 

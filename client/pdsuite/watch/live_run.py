@@ -12,7 +12,7 @@ from pdsuite.scripts.settings import Settings
 from pdsuite.watch.plan_changes import Act, AddScript, EditScript, RemoveScript, RunContents, SetKey
 
 T = TypeVar("T")
-# An act is recorded once, and the start and the end of each job that it leads to; beside workers a job may come twice.
+# An act is recorded once, and the start and the end of each job that it leads to; with workers a job may come twice.
 _PER_JOB = 4
 
 
