@@ -26,7 +26,7 @@ from one_build import apply_all, build, choose
 
 sys.path.insert(0, str(TOP / "client"))
 
-from pdsuite.compare.affected import names_changed  # noqa: E402
+from pdsuite.compare.affected import changed_names  # noqa: E402
 from pdsuite.compare.senders import Sender  # noqa: E402
 from pdsuite.programs.verdict import Verdict  # noqa: E402
 from pdsuite.search.candidates import Candidates  # noqa: E402
@@ -69,7 +69,7 @@ class SearchBench:
         after = self._oracle(number, folder / "after")
         is_seen = any(it.verdict is not Verdict.PASS for it in after.rows(self.scripts))
         tree = copied(folder / "tree", mutant)
-        emphasis = emphasis_of(names_changed(self.base, tree), frozenset())
+        emphasis = emphasis_of(changed_names(self.base, tree), frozenset())
         begun = initial_inputs(list(self.scripts), before, frozenset())
         drawing = Candidates(self.options.seed, sizes(), emphasis, begun)
         seconds = 0.0 if self.options.as_found else SECONDS

@@ -27,9 +27,9 @@ TOP = rt_try.TOP
 sys.path.insert(0, str(TOP / "client"))
 
 from pdsuite.run.batches import Script  # noqa: E402
-from pdsuite.run.collect import found_of, scripts_of  # noqa: E402
-from pdsuite.scripts.config import SuiteConfig, option_of  # noqa: E402
-from pdsuite.scripts.settings import settings_text  # noqa: E402
+from pdsuite.run.collect import find_selected_scripts, make_scripts  # noqa: E402
+from pdsuite.scripts.config import SuiteConfig, layer_of_option  # noqa: E402
+from pdsuite.scripts.settings import settings_as_toml  # noqa: E402
 from pdsuite.signals import Stop  # noqa: E402
 
 TOLERANCE = 0.004
@@ -163,9 +163,11 @@ def main() -> int:
     parser.add_argument("--program", metavar="FILE", type=Path, help="a built pdrecord")
     parser.add_argument("paths", metavar="PATH", type=Path, nargs="*", default=[TOP / "examples/suite"])
     options = parser.parse_args()
-    suite = SuiteConfig(option_of(""))
+    suite = SuiteConfig(layer_of_option(""))
     with Stop() as stop:
-        scripts = [it for it in scripts_of(found_of(options.paths, [], suite, stop), suite) if not it.fault]
+        scripts = [
+            it for it in make_scripts(find_selected_scripts(options.paths, [], suite, stop), suite) if not it.fault
+        ]
     chance = random.Random(options.seed)
     cases = [spoil(scripts, chance) for _ in range(options.count)]
     judged = [judge(it, answer) for it, answer in zip(cases, answers_of(cases, options.program))]
@@ -206,7 +208,7 @@ def unproved_answers(cases: Sequence[Spoiled]) -> list[rt_try.TryResult]:
 
 
 def case_of(it: Spoiled) -> rt_try.TryCase:
-    text = settings_text(it.script.settings)
+    text = settings_as_toml(it.script.settings)
     arguments = (b"--settings", text.encode()) if text else ()
     return rt_try.TryCase(arguments, "".join(f"{line}\n" for line in it.new).encode())
 

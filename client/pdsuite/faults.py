@@ -13,6 +13,6 @@ class CutShortError(Fault):
     """Something that ends a run early; what is settled until then is shown."""
 
 
-def why(error: OSError | ValueError) -> str:
+def error_reason(error: OSError | ValueError) -> str:
     """What the system says of a call that it refused, or Python of one that it can't make, as with a NUL in a path."""
     return (isinstance(error, OSError) and error.strerror) or str(error)

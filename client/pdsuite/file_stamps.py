@@ -51,12 +51,12 @@ def read_stamped(path: str | Path, read: Callable[[], T]) -> StampedValue[T]:
     return StampedValue(value, stamp, stamp != stamp_of(path), is_young, 0 <= age < _FRESH)
 
 
-def is_as_read(it: StampedValue[T], path: str | Path) -> bool:
+def is_unchanged_since_read(it: StampedValue[T], path: str | Path) -> bool:
     """Whether the file is surely as it was when it was read."""
     return not it.is_torn and not it.is_young and it.stamp == stamp_of(path)
 
 
-def is_sure(stamp: Stamp, moment: int) -> bool:
+def shows_any_later_write(stamp: Stamp, moment: int) -> bool:
     """Whether a file that had this stamp at a moment, in nanoseconds, has another one after each later writing.
 
     A writing within the same tick of the clock may leave all times as they were.
@@ -67,6 +67,6 @@ def is_sure(stamp: Stamp, moment: int) -> bool:
     return changed < moment - (_COARSE if changed % _SECOND == 0 else _YOUNG)
 
 
-def have_stamps(stamps: Mapping[str, Stamp]) -> bool:
+def are_stamps_current(stamps: Mapping[str, Stamp]) -> bool:
     """Whether all files have these stamps, by their paths."""
     return all(stamp_of(path) == stamp for path, stamp in stamps.items())

@@ -7,26 +7,26 @@ import stat
 from collections.abc import Iterable
 from pathlib import Path
 
-from pdsuite.faults import Fault, why
-from pdsuite.output.octets import shown_path
+from pdsuite.faults import Fault, error_reason
+from pdsuite.output.octets import printable_path
 
 
-def write(path: Path, octets: bytes, keeps_rights: bool = False) -> None:
+def write_file_atomically(path: Path, octets: bytes, keeps_rights: bool = False) -> None:
     """Writes a file beside its place and renames it; a device or a pipe is written itself.
 
     It has the rights that the mask leaves, or those of the file in whose place it comes.
     """
     try:
         target = Path(os.path.realpath(path))
-        if is_special(path):
+        if is_special_file(path):
             path.write_bytes(octets)
         else:
-            _write_beside(target, octets, target.stat().st_mode if keeps_rights and target.exists() else None)
+            _write_and_rename(target, octets, target.stat().st_mode if keeps_rights and target.exists() else None)
     except OSError as error:
-        raise Fault(f"{shown_path(path)}: {why(error)}") from error
+        raise Fault(f"{printable_path(path)}: {error_reason(error)}") from error
 
 
-def is_special(path: Path) -> bool:
+def is_special_file(path: Path) -> bool:
     """Whether a device or a pipe is there, or anything else that isn't put in another one's place."""
     return path.exists() and not path.is_file()
 
@@ -36,25 +36,25 @@ def check_writable(path: Path) -> None:
     try:
         above = Path(os.path.realpath(path)).parent
         if path.is_dir():
-            raise Fault(f"{shown_path(path)}: is a folder")
-        if not is_special(path) and not above.is_dir():
-            raise Fault(f"{shown_path(path)}: the folder above it isn't there")
-        if not (os.access(path, os.W_OK) if is_special(path) else os.access(above, os.W_OK | os.X_OK)):
-            raise Fault(f"{shown_path(path)}: {os.strerror(errno.EACCES)}")
+            raise Fault(f"{printable_path(path)}: is a folder")
+        if not is_special_file(path) and not above.is_dir():
+            raise Fault(f"{printable_path(path)}: the folder above it isn't there")
+        if not (os.access(path, os.W_OK) if is_special_file(path) else os.access(above, os.W_OK | os.X_OK)):
+            raise Fault(f"{printable_path(path)}: {os.strerror(errno.EACCES)}")
     except (OSError, ValueError) as error:
-        raise Fault(f"{shown_path(path)}: {why(error)}") from error
+        raise Fault(f"{printable_path(path)}: {error_reason(error)}") from error
 
 
-def append(path: Path, octets: bytes) -> None:
+def append_to_file(path: Path, octets: bytes) -> None:
     """Writes at the end of a file, whatever others have written there."""
     try:
         with path.open("ab") as file:
             file.write(octets)
     except OSError as error:
-        raise Fault(f"{shown_path(path)}: {why(error)}") from error
+        raise Fault(f"{printable_path(path)}: {error_reason(error)}") from error
 
 
-def _write_beside(target: Path, octets: bytes, mode: int | None) -> None:
+def _write_and_rename(target: Path, octets: bytes, mode: int | None) -> None:
     beside = target.with_name(f".{target.name[:200]}.{os.getpid()}")
     descriptor = os.open(beside, os.O_WRONLY | os.O_CREAT | os.O_EXCL, 0o666)
     try:
@@ -68,25 +68,25 @@ def _write_beside(target: Path, octets: bytes, mode: int | None) -> None:
         raise
 
 
-def new_folder(path: Path) -> Path:
+def require_new_or_empty_folder(path: Path) -> Path:
     """Where a folder is to be written that is new or empty, and not the one that this process is in."""
     target = Path(os.path.realpath(path))
     try:
         if os.path.lexists(target):
             if not target.is_dir():
-                raise Fault(f"{shown_path(path)}: isn't a folder")
+                raise Fault(f"{printable_path(path)}: isn't a folder")
             if any(target.iterdir()):
-                raise Fault(f"{shown_path(path)}: isn't empty")
+                raise Fault(f"{printable_path(path)}: isn't empty")
             if target.samefile(os.curdir):
-                raise Fault(f"{shown_path(path)}: is the folder that you are in")
+                raise Fault(f"{printable_path(path)}: is the folder that you are in")
         elif not target.parent.is_dir():
-            raise Fault(f"{shown_path(path)}: the folder above it isn't there")
+            raise Fault(f"{printable_path(path)}: the folder above it isn't there")
     except OSError as error:
-        raise Fault(f"{shown_path(path)}: {why(error)}") from error
+        raise Fault(f"{printable_path(path)}: {error_reason(error)}") from error
     return target
 
 
-def write_folder(target: Path, files: Iterable[tuple[str, bytes]]) -> None:
+def write_folder_atomically(target: Path, files: Iterable[tuple[str, bytes]]) -> None:
     """Writes files, by their paths from the folder, into one beside its place, and renames that."""
     beside = target.with_name(f".{target.name[:200]}.{os.getpid()}")
     try:
@@ -101,4 +101,4 @@ def write_folder(target: Path, files: Iterable[tuple[str, bytes]]) -> None:
             shutil.rmtree(beside, ignore_errors=True)
             raise
     except OSError as error:
-        raise Fault(f"{shown_path(target)}: {why(error)}") from error
+        raise Fault(f"{printable_path(target)}: {error_reason(error)}") from error

@@ -11,17 +11,23 @@ import click
 
 from pdsuite.commands.list import list_scripts
 from pdsuite.commands.options import MOST_RUNS, MOST_SECONDS, PathParam, ReasonParam
-from pdsuite.commands.options import choice_options, free_choice_options, html_option, no_color_option, part_options
+from pdsuite.commands.options import (
+    html_option,
+    no_color_option,
+    optional_script_options,
+    script_options,
+    selection_options,
+)
 from pdsuite.commands.options import plot_options, search_options, strict_option, workers_option
-from pdsuite.commands.renamed import with_new_name
+from pdsuite.commands.renamed import with_new_option_name
 from pdsuite.commands.report_files import FileParam, FormatOption, ReportCommand
-from pdsuite.commands.run import RunOptions, run
-from pdsuite.commands.version import version
-from pdsuite.faults import Fault, FileFault, why
-from pdsuite.output.octets import shown, shown_text
-from pdsuite.output.screen import OutputError, Screen, print_error, wants_color
-from pdsuite.output.styled_text import unstyled
-from pdsuite.packages import need
+from pdsuite.commands.run import RunOptions, run_scripts
+from pdsuite.commands.version import version_lines
+from pdsuite.faults import Fault, FileFault, error_reason
+from pdsuite.output.octets import printable_octets, printable_text
+from pdsuite.output.screen import OutputError, Screen, is_color_allowed, print_error
+from pdsuite.output.styled_text import unstyled_text
+from pdsuite.packages import require_module
 from pdsuite.scripts.shards import Shard
 from pdsuite.signals import StoppedError
 
@@ -32,11 +38,11 @@ if TYPE_CHECKING:
 FAULT = 2
 
 
-def _print_version(context: click.Context, option: click.Parameter, on: bool) -> None:
+def _print_version_and_exit(context: click.Context, option: click.Parameter, on: bool) -> None:
     if on and not context.resilient_parsing:
         with Screen(False, progress=False) as screen:
-            for line in version():
-                screen.show(unstyled(f"{line}\n"))
+            for line in version_lines():
+                screen.show(unstyled_text(f"{line}\n"))
         context.exit()
 
 
@@ -46,7 +52,7 @@ def _print_version(context: click.Context, option: click.Parameter, on: bool) ->
     is_flag=True,
     is_eager=True,
     expose_value=False,
-    callback=_print_version,
+    callback=_print_version_and_exit,
     help="Show the commit and the programs' SHA-256.",
 )
 def pdsuite() -> None:
@@ -54,8 +60,8 @@ def pdsuite() -> None:
 
 
 @pdsuite.command(name="run", cls=ReportCommand)
-@choice_options
-@part_options
+@script_options
+@selection_options
 @click.option("--new-only", is_flag=True, help="Show only rows that the last run of these paths didn't have.")
 @strict_option
 @workers_option
@@ -86,13 +92,13 @@ def run_command(no_color: bool, **words: Any) -> int:
         raise click.UsageError("--html draws what ran on this machine, and --scheduler runs scripts elsewhere")
     if options.new_only and options.form in ("tap", "json"):
         raise click.UsageError("--new-only leaves rows out, and --tap and --json have all")
-    _refuse_plots(options.html, options.plot, options.plots)
-    with Screen(wants_color() and not no_color, progress=options.form is None) as screen:
-        return run(options, screen)
+    _refuse_plots_without_html(options.html, options.plot, options.plots)
+    with Screen(is_color_allowed() and not no_color, progress=options.form is None) as screen:
+        return run_scripts(options, screen)
 
 
 @pdsuite.command(name="watch")
-@choice_options
+@script_options
 @strict_option
 @workers_option
 @html_option
@@ -102,24 +108,24 @@ def run_command(no_color: bool, **words: Any) -> int:
 def watch_command(no_color: bool, **words: Any) -> int:
     """Watches files and folders, and shows at once what each change did."""
     # Only who watches pays for what reports changes.
-    from pdsuite.commands.watch import WatchOptions, watch
+    from pdsuite.commands.watch import WatchOptions, watch_scripts
 
     options = WatchOptions(**words)
-    _refuse_plots(options.html, options.plot, options.plots)
+    _refuse_plots_without_html(options.html, options.plot, options.plots)
     gc.enable()  # this may go on for days
-    with Screen(wants_color() and not no_color, progress=False) as screen:
-        return watch(options, screen)
+    with Screen(is_color_allowed() and not no_color, progress=False) as screen:
+        return watch_scripts(options, screen)
 
 
-def _refuse_plots(html: Path | None, plot: str | None, plots: int | None) -> None:
+def _refuse_plots_without_html(html: Path | None, plot: str | None, plots: int | None) -> None:
     """Refuses words that say which diagrams are drawn, where no page is asked for."""
     if html is None and (plot is not None or plots is not None):
         raise click.UsageError("--plot and --plots draw into the page of --html FOLDER")
 
 
 @pdsuite.command(name="list")
-@choice_options
-@part_options
+@script_options
+@selection_options
 def list_command(
     paths: tuple[Path, ...],
     only: tuple[str, ...],
@@ -129,12 +135,12 @@ def list_command(
     last_failed: bool,
 ) -> int:
     """Lists the scripts with their settings, and runs nothing."""
-    with Screen(wants_color() and not no_color, progress=False) as screen:
+    with Screen(is_color_allowed() and not no_color, progress=False) as screen:
         return list_scripts(paths, only, shard, last_failed, settings, screen)
 
 
 @pdsuite.command(name="expect")
-@choice_options
+@script_options
 @workers_option
 @click.option("--reason", metavar="TEXT", type=ReasonParam(), help="Why those that don't pass are known.")
 @click.option("--prune", is_flag=True, help="Take away all tables of scripts that aren't there.")
@@ -144,15 +150,15 @@ def expect_command(no_color: bool, **words: Any) -> int:
     The rows that they have now are expected from then on, with --reason. What is expected of scripts that pass is taken
     away, and so is the table of a script that isn't there where it says nothing else. All else in the files stays.
     """
-    need("tomlkit")
-    from pdsuite.commands.expect import ExpectOptions, expect
+    require_module("tomlkit")
+    from pdsuite.commands.expect import ExpectOptions, write_expectations
 
-    with Screen(wants_color() and not no_color, progress=True) as screen:
-        return expect(ExpectOptions(**words), screen)
+    with Screen(is_color_allowed() and not no_color, progress=True) as screen:
+        return write_expectations(ExpectOptions(**words), screen)
 
 
 @pdsuite.command(name="record")
-@choice_options
+@script_options
 @workers_option
 @click.option("--write", "writes", is_flag=True, help="Write the files, and show no diff.")
 @click.option("--whole", is_flag=True, help="Record scripts whole, and not by the least change.")
@@ -164,10 +170,10 @@ def record_command(no_color: bool, **words: Any) -> int:
     to. PATH is - for standard input; with --write its recording goes to standard output.
     """
     # Only who records pays for what compares texts.
-    from pdsuite.commands.record import RecordOptions, record
+    from pdsuite.commands.record import RecordOptions, record_scripts
 
-    with Screen(wants_color() and not no_color, progress=True) as screen:
-        return record(RecordOptions(**words), screen)
+    with Screen(is_color_allowed() and not no_color, progress=True) as screen:
+        return record_scripts(RecordOptions(**words), screen)
 
 
 @pdsuite.command(name="diff")
@@ -182,14 +188,14 @@ def diff_command(old: Path, new: tuple[Path, ...], no_color: bool) -> int:
     left.
     """
     # Only who compares pays for what reads reports.
-    from pdsuite.commands.diff import diff
+    from pdsuite.commands.diff import diff_reports
 
-    with Screen(wants_color() and not no_color, progress=False) as screen:
-        return diff(old, new, screen)
+    with Screen(is_color_allowed() and not no_color, progress=False) as screen:
+        return diff_reports(old, new, screen)
 
 
 @pdsuite.command(name="compare")
-@free_choice_options
+@optional_script_options
 @click.option("--base", metavar="SENDER", help="The sender before: a folder of programs, a tree or a commit.")
 @click.option("--with", "other", metavar="SENDER", help="The sender after, if not the tree as it stands.")
 @click.option("--base-settings", default="", metavar="TEXT", help="Settings of the sender before, before all others.")
@@ -224,13 +230,13 @@ def compare_command(no_color: bool, search: int | None, seed: int | None, save: 
     # Only who compares senders pays for what runs two.
     from pdsuite.commands.compare import CompareOptions, compare_senders
 
-    options = CompareOptions(**words, search=_searching(search, seed, save))
-    _refuse_search(options)
-    with Screen(wants_color() and not no_color, progress=False) as screen:
+    options = CompareOptions(**words, search=_make_search_options(search, seed, save))
+    _refuse_conflicting_compare_options(options)
+    with Screen(is_color_allowed() and not no_color, progress=False) as screen:
         return compare_senders(options, screen)
 
 
-def _searching(seconds: int | None, seed: int | None, save: Path | None) -> "SearchOptions | None":
+def _make_search_options(seconds: int | None, seed: int | None, save: Path | None) -> "SearchOptions | None":
     """The options of a search, if one is requested."""
     if seconds is None:
         if seed is not None or save is not None:
@@ -242,7 +248,7 @@ def _searching(seconds: int | None, seed: int | None, save: Path | None) -> "Sea
     return SearchOptions(seconds, seed, save)
 
 
-def _refuse_search(options: "CompareOptions") -> None:
+def _refuse_conflicting_compare_options(options: "CompareOptions") -> None:
     """Refuses words that go with scripts where none are meant, and the other way round."""
     if options.search is None and not options.paths:
         raise click.UsageError("Missing argument 'PATHS...', or --search")
@@ -285,12 +291,12 @@ def measure_command(no_color: bool, **words: Any) -> int:
     file. Both senders are programs, which answer each segment; equal seeds lose equal packets. Without --base the
     sender before is the one that ./prove has proved last in this tree.
     """
-    need("numpy")
-    from pdsuite.commands.measure import MeasureOptions, measure
+    require_module("numpy")
+    from pdsuite.commands.measure import MeasureOptions, measure_senders
 
     gc.enable()  # transfers are many values
-    with Screen(wants_color() and not no_color, progress=True) as screen:
-        return measure(MeasureOptions(**words), screen)
+    with Screen(is_color_allowed() and not no_color, progress=True) as screen:
+        return measure_senders(MeasureOptions(**words), screen)
 
 
 @pdsuite.command(name="search")
@@ -316,7 +322,7 @@ def search_command(
     from pdsuite.commands.search import SearchOptions, search_state
 
     gc.enable()  # a search makes many values
-    with Screen(wants_color() and not no_color, progress=False) as screen:
+    with Screen(is_color_allowed() and not no_color, progress=False) as screen:
         return search_state(pattern, sender, SearchOptions(seconds, seed, save), screen)
 
 
@@ -326,9 +332,9 @@ def search_command(
 def lsp_command(settings: str, stdio: bool) -> int:
     """Serves an editor on standard input and output, by the Language Server Protocol."""
     # Only an editor pays for what serves it.
-    from pdsuite.commands.lsp import lsp
+    from pdsuite.commands.lsp import serve_editor
 
-    return lsp(settings)
+    return serve_editor(settings)
 
 
 @pdsuite.command(name="import")
@@ -342,7 +348,7 @@ def import_command(source: Path, target: Path, keep_packets: bool, is_json: bool
     # Only who imports pays for what reads the kernel's scripts.
     from pdsuite.commands.import_ import import_scripts
 
-    with Screen(wants_color() and not no_color, progress=False) as screen:
+    with Screen(is_color_allowed() and not no_color, progress=False) as screen:
         return import_scripts(source, target, keep_packets, is_json, screen)
 
 
@@ -359,8 +365,8 @@ def main() -> int:
         status = pdsuite.main(prog_name="pdsuite", standalone_mode=False)
         return status if isinstance(status, int) else 0
     except click.ClickException as error:
-        error = with_new_name(error)
-        error.message = shown_text(error.message)
+        error = with_new_option_name(error)
+        error.message = printable_text(error.message)
         error.show()
     except StoppedError as stopped:
         return stopped.status
@@ -369,17 +375,17 @@ def main() -> int:
     except Fault as fault:
         print_error(f"pdsuite: {fault}")
     except OutputError as unwritten:
-        _leave_output()
+        _redirect_output_to_null()
         if not unwritten.is_reader_gone:
             print_error(f"pdsuite: standard output: {unwritten}")
     except OSError as error:
-        _leave_output()
-        place = f"{shown(os.fsencode(error.filename))}: " if error.filename else ""
-        print_error(f"pdsuite: {place}{why(error)}")
+        _redirect_output_to_null()
+        place = f"{printable_octets(os.fsencode(error.filename))}: " if error.filename else ""
+        print_error(f"pdsuite: {place}{error_reason(error)}")
     return FAULT
 
 
-def _leave_output() -> None:
+def _redirect_output_to_null() -> None:
     """Lets no end of the process try once more to write what standard output didn't take."""
     null = os.open(os.devnull, os.O_WRONLY)
     os.dup2(null, sys.stdout.fileno())

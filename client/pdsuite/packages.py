@@ -5,13 +5,13 @@ from importlib.util import find_spec
 from pdsuite.faults import Fault
 
 
-def need(module: str) -> None:
+def require_module(module: str) -> None:
     """Raises a fault that names the package of a module, where that isn't installed."""
-    if reason := missing(module):
+    if reason := missing_module_message(module):
         raise Fault(reason)
 
 
-def missing(module: str) -> str:
+def missing_module_message(module: str) -> str:
     """The words that name the package of a module, where that isn't installed."""
     if find_spec(module) is not None:
         return ""

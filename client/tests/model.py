@@ -8,7 +8,7 @@ from pdsuite.programs.program import ProgramEndedError
 from pdsuite.programs.verdict import Row, Verdict
 from pdsuite.run.outcomes import Outcome
 from pdsuite.scripts.defaults import DEFAULTS
-from pdsuite.scripts.settings import Settings, set_words
+from pdsuite.scripts.settings import Settings, set_command_words
 from pdsuite.watch.plan_changes import WantedScript
 
 MOST = 1_024
@@ -16,7 +16,7 @@ MOST = 1_024
 
 def settings_words(settings: Settings) -> dict[str, str]:
     """Each setting as a word."""
-    return dict(set_words(key, value) for key, value in {**DEFAULTS, **dict(settings)}.items())
+    return dict(set_command_words(key, value) for key, value in {**DEFAULTS, **dict(settings)}.items())
 
 
 def row_of(text: bytes, settings: dict[str, str]) -> Row:
@@ -73,14 +73,14 @@ class Model:
         lines = (b"job %d %s steps %d\n" % (number, name, len(self.texts[name])) for number, name in jobs)
         return answer, b"".join(lines)
 
-    def check(self) -> None:
+    def require_idle(self) -> None:
         """It never ends by itself."""
 
     def fileno(self) -> int:
         """Nothing can be read of it."""
         raise AssertionError("nobody waits for it")
 
-    def close(self) -> None:
+    def kill_and_close(self) -> None:
         """Notes that it was ended."""
         self.is_closed = True
 

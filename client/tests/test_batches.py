@@ -6,14 +6,21 @@ from typing import Any
 import pytest
 
 from pdsuite.programs.program import ProgramEndedError
-from pdsuite.programs.protocol import UnexpectedAnswerError, add, before_total, name_of, refusal_in, rows_in
-from pdsuite.programs.protocol import set_and_show
+from pdsuite.programs.protocol import (
+    UnexpectedAnswerError,
+    add_command,
+    parse_new_rows,
+    refusal_name,
+    rows_before_total,
+    script_name,
+)
+from pdsuite.programs.protocol import set_and_show_commands
 from pdsuite.programs.verdict import Row, Verdict
-from pdsuite.run.batches import BATCH_SIZE, Script, batches_of, cut
+from pdsuite.run.batches import BATCH_SIZE, Script, group_into_batches, split_by_size
 from pdsuite.run.outcomes import Outcome, PassWarning, Totals
 from pdsuite.run.run_batches import SettledPiece, run_batch
 from pdsuite.scripts.settings import Settings
-from pdsuite.scripts.text import text_of
+from pdsuite.scripts.text import make_text
 
 FASTER: Settings = (("mss", 1000),)
 
@@ -24,8 +31,8 @@ def scripts(count: int, settings: Settings = (), first: int = 0) -> list[Script]
 
 
 def test_parts_are_full_but_for_the_last() -> None:
-    assert cut(range(7), 3) == [(0, 1, 2), (3, 4, 5), (6,)]
-    assert cut("", 3) == []
+    assert split_by_size(range(7), 3) == [(0, 1, 2), (3, 4, 5), (6,)]
+    assert split_by_size("", 3) == []
 
 
 @pytest.mark.parametrize(
@@ -33,27 +40,27 @@ def test_parts_are_full_but_for_the_last() -> None:
     [(1, [[1]]), (64, [[64]]), (65, [[64, 1]]), (1_024, [[64] * 16]), (1_025, [[64] * 16, [1]])],
 )
 def test_runs_hold_1024_scripts_in_pieces_of_64(count: int, sizes: list[list[int]]) -> None:
-    assert [[len(piece) for piece in run.pieces] for run in batches_of(scripts(count))] == sizes
+    assert [[len(piece) for piece in run.pieces] for run in group_into_batches(scripts(count))] == sizes
 
 
 def test_scripts_with_equal_settings_are_one_run() -> None:
     mixed = [*scripts(2), *scripts(1, FASTER, 2), *scripts(1, (), 3)]
-    runs = batches_of(mixed)
+    runs = group_into_batches(mixed)
     assert [run.settings for run in runs] == [(), FASTER]
     assert [[script.index for script in run.pieces[0]] for run in runs] == [[0, 1, 3], [2]]
 
 
 def test_names_differ_and_are_no_words_of_commands() -> None:
-    names = [name_of(number).decode() for number in range(1_024)]
+    names = [script_name(number).decode() for number in range(1_024)]
     assert len(set(names)) == 1_024
     assert all(name.isalnum() and name.isascii() and len(name) <= 64 for name in names)
     assert not {"add", "edit", "remove", "set", "show", "settle", "total", "refused"} & set(names)
 
 
 def test_commands_are_written_as_the_program_reads_them() -> None:
-    assert add(b"s0", text_of(b"a\nb")) == b"add s0 2\na\nb\n"
-    assert add(b"s1", text_of(b"")) == b"add s1 0\n"
-    assert set_and_show("mss", "10") == b"set mss 10\nshow\n"
+    assert add_command(b"s0", make_text(b"a\nb")) == b"add s0 2\na\nb\n"
+    assert add_command(b"s1", make_text(b"")) == b"add s1 0\n"
+    assert set_and_show_commands("mss", "10") == b"set mss 10\nshow\n"
 
 
 def answer(*rows: str) -> bytes:
@@ -64,7 +71,7 @@ def answer(*rows: str) -> bytes:
 
 def test_rows_are_read_with_their_words() -> None:
     answered = answer("s0 pass 9", "s1 fail 9 seq", "s2 syntax 1", "s3 unsupported 2", "s4 limit 3")
-    assert rows_in(answered, b"", [name_of(it) for it in range(5)], 5) == [
+    assert parse_new_rows(answered, b"", [script_name(it) for it in range(5)], 5) == [
         Row(Verdict.PASS, 9),
         Row(Verdict.FAIL, 9, "seq"),
         Row(Verdict.SYNTAX, 1),
@@ -74,11 +81,11 @@ def test_rows_are_read_with_their_words() -> None:
 
 
 def test_an_answer_begins_with_the_rows_of_the_one_before() -> None:
-    before = before_total(answer("s0 pass 9"))
+    before = rows_before_total(answer("s0 pass 9"))
     assert before == b"s0 pass 9\n"
-    assert rows_in(answer("s0 pass 9", "s1 pass 1"), before, [b"s1"], 2) == [Row(Verdict.PASS, 1)]
+    assert parse_new_rows(answer("s0 pass 9", "s1 pass 1"), before, [b"s1"], 2) == [Row(Verdict.PASS, 1)]
     with pytest.raises(UnexpectedAnswerError, match="s0 pass 8"):
-        rows_in(answer("s0 pass 8", "s1 pass 1"), before, [b"s1"], 2)
+        parse_new_rows(answer("s0 pass 8", "s1 pass 1"), before, [b"s1"], 2)
 
 
 class LongRowProgram:
@@ -93,7 +100,9 @@ class LongRowProgram:
     def __exit__(self, *why: object) -> None:
         ...
 
-    def querying(self, commands: bytes, longest: int, most_errors: int) -> Generator[None, None, tuple[bytes, bytes]]:
+    def query_steps(
+        self, commands: bytes, longest: int, most_errors: int
+    ) -> Generator[None, None, tuple[bytes, bytes]]:
         yield from ()  # it never waits
         self.count += commands.count(b"add ")
         answered = answer(*(f"s{number} fail 999999 {'a' * 200}" for number in range(self.count)))
@@ -108,8 +117,8 @@ def test_an_answer_may_have_the_rows_of_all_pieces_before() -> None:
     def start(settings: Settings) -> Any:
         return program
 
-    (run,) = batches_of(scripts(BATCH_SIZE))
-    steps = list(run_batch(run, start, lambda script: text_of(b"a\n")))
+    (run,) = group_into_batches(scripts(BATCH_SIZE))
+    steps = list(run_batch(run, start, lambda script: make_text(b"a\n")))
     assert all(isinstance(it, SettledPiece) for it in steps) and len(steps) == len(run.pieces) > 1
 
 
@@ -135,7 +144,7 @@ def test_an_answer_may_have_the_rows_of_all_pieces_before() -> None:
 )
 def test_any_other_answer_is_not_taken(answered: bytes) -> None:
     with pytest.raises(UnexpectedAnswerError) as unexpected:
-        rows_in(answered, b"", [b"s0", b"s1"], 2)
+        parse_new_rows(answered, b"", [b"s0", b"s1"], 2)
     assert str(unexpected.value).isprintable()
 
 
@@ -149,13 +158,13 @@ def test_any_other_answer_is_not_taken(answered: bytes) -> None:
 )
 def test_of_a_line_that_is_not_due_at_most_80_octets_are_shown(line: bytes, message: str) -> None:
     with pytest.raises(UnexpectedAnswerError) as unexpected:
-        rows_in(line + b"\n" + answer("s0 pass 1"), b"", [b"s0"], 1)
+        parse_new_rows(line + b"\n" + answer("s0 pass 1"), b"", [b"s0"], 1)
     assert str(unexpected.value) == message
 
 
 def test_refusals_are_named_by_their_word() -> None:
-    assert refusal_in(b"refused 4 BadValue\n" + answer()) == "BadValue"
-    assert refusal_in(answer()) is None
+    assert refusal_name(b"refused 4 BadValue\n" + answer()) == "BadValue"
+    assert refusal_name(answer()) is None
 
 
 @pytest.mark.parametrize(
@@ -172,7 +181,7 @@ def test_refusals_are_named_by_their_word() -> None:
     ],
 )
 def test_the_status_tells_whether_all_passed(verdicts: list[Verdict], status: int) -> None:
-    assert Totals.of(outcome(it) for it in verdicts).status() == status
+    assert Totals.of_outcomes(outcome(it) for it in verdicts).exit_status() == status
 
 
 def outcome(verdict: Verdict, number: int = 1, is_strict: bool = False) -> Outcome:
@@ -180,7 +189,7 @@ def outcome(verdict: Verdict, number: int = 1, is_strict: bool = False) -> Outco
 
 
 def test_totals_are_printed_in_the_words_of_the_program() -> None:
-    assert str(Totals.of(outcome(it) for it in (Verdict.PASS, Verdict.FAIL, Verdict.PASS))) == (
+    assert str(Totals.of_outcomes(outcome(it) for it in (Verdict.PASS, Verdict.FAIL, Verdict.PASS))) == (
         "total 3 pass 2 fail 1 syntax 0 unsupported 0 limit 0 error 0 not run 0"
     )
 
@@ -192,8 +201,16 @@ def test_a_script_without_an_event_is_a_warning_that_counts_where_it_is_strict()
         (),
         (),
     )
-    assert (empty.passes, strict.passes, outcome(Verdict.PASS, 1, True).passes) == (True, False, True)
-    counted = Totals.of([empty, strict, outcome(Verdict.PASS)])
+    assert (empty.lets_run_pass, strict.lets_run_pass, outcome(Verdict.PASS, 1, True).lets_run_pass) == (
+        True,
+        False,
+        True,
+    )
+    counted = Totals.of_outcomes([empty, strict, outcome(Verdict.PASS)])
     assert str(counted).endswith("total 3 pass 3 fail 0 syntax 0 unsupported 0 limit 0 error 0 not run 0 warnings 2")
-    assert [Totals.of(it).status() for it in ([empty], [strict], [strict, outcome(Verdict.ERROR)])] == [0, 1, 2]
-    assert (counted.passing, counted.warnings) == (2, 2)
+    assert [Totals.of_outcomes(it).exit_status() for it in ([empty], [strict], [strict, outcome(Verdict.ERROR)])] == [
+        0,
+        1,
+        2,
+    ]
+    assert (counted.passing_count, counted.warnings) == (2, 2)

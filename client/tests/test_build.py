@@ -8,11 +8,11 @@ from pathlib import Path
 
 import pytest
 
-from pdsuite.compare.built_senders import with_programs
+from pdsuite.compare.built_senders import build_missing_programs
 from pdsuite.compare.senders import Sender
 from pdsuite.output.screen import Screen
 from pdsuite.programs import build
-from pdsuite.programs.build import Build, BuildError, NoKeptBuildError, built_folder, kept_build
+from pdsuite.programs.build import Build, BuildError, NoKeptBuildError, build_if_needed, find_kept_build
 from pdsuite.programs.verdict import Verdict
 from pdsuite.search.oracle import ConfiguredScript, ProgramOracle
 from pdsuite.signals import Stop, StoppedError
@@ -134,7 +134,7 @@ def test_where_an_optimised_program_stops_the_plain_one_says_why(tree: Tree, mon
     (tree.bin / "pdregress").write_text(STOPS)
     monkeypatch.setenv("FAKE_PROGRAMS", str(tree.bin))
     with Stop(()) as stop, Screen(False, False) as screen:
-        (sender,) = with_programs([Sender("it", None, tree.top)], "optimised", stop, screen)
+        (sender,) = build_missing_programs([Sender("it", None, tree.top)], "optimised", stop, screen)
         assert (str(sender), sender.is_proved) == ("it, unproved", False)
         (row,) = ProgramOracle(sender, stop).rows([ConfiguredScript((), b"x\n")])
     assert (row.verdict, row.word) == (Verdict.ERROR, "pdregress: unproved: Faulted: kind=overflow")
@@ -146,7 +146,7 @@ def test_many_scripts_are_run_by_an_optimised_build_where_one_is_kept(
     (tree.bin / "pdregress").write_text("#!/bin/sh\necho $BUILT >$NOTES/built\nexit 2\n")
     monkeypatch.setenv("FAKE_PROGRAMS", str(tree.bin))
     with Stop(()) as stop:
-        for folder in (built_folder(tree.top, "optimised", stop), built_folder(tree.top, "plain", stop)):
+        for folder in (build_if_needed(tree.top, "optimised", stop), build_if_needed(tree.top, "plain", stop)):
             assert folder.is_dir()
     write(tree.suite / "many", **{f"s{number}": ROW for number in range(1_998)})
     call(tree, "run", "suite")
@@ -187,9 +187,13 @@ def test_what_does_not_compile_is_told_with_its_place(tree: Tree) -> None:
 def test_phases_are_heard_through_a_descriptor(tree: Tree) -> None:
     phases = []
     with Stop(()) as stop:
-        assert kept_build(tree.top) is None
-        folder = built_folder(tree.top, "plain", stop, lambda phase, seconds: phases.append((phase, seconds >= 0)))
-    assert folder == kept_build(tree.top) and {it.name for it in folder.iterdir()} == {"pdregress", "pdrecord", "sum"}
+        assert find_kept_build(tree.top) is None
+        folder = build_if_needed(tree.top, "plain", stop, lambda phase, seconds: phases.append((phase, seconds >= 0)))
+    assert folder == find_kept_build(tree.top) and {it.name for it in folder.iterdir()} == {
+        "pdregress",
+        "pdrecord",
+        "sum",
+    }
     assert list(dict.fromkeys(phases))[-1] == ("linking", True)
 
 
@@ -198,7 +202,7 @@ def test_a_build_that_is_ended_leaves_nothing(tree: Tree) -> None:
     with Build(tree.top, "any") as begun:
         wait_for(tree.notes / "reading")
         assert select.select([begun], [], [], 10)[0]
-        begun.read()
+        begun.read_progress()
         assert (begun.phase, begun.is_over) == ("reading", False)
         reader = int((tree.notes / "reading").read_text())
     assert not is_alive(reader)
@@ -209,12 +213,12 @@ def test_what_comes_of_a_build_that_does_not_come_to_an_end(tree: Tree) -> None:
     with Stop(()) as stop:
         (tree.top / "tools/combined.rattle").write_text("wrong\n")
         with pytest.raises(BuildError, match="NotCompiled: the program doesn't compile"):
-            built_folder(tree.top, "any", stop)
+            build_if_needed(tree.top, "any", stop)
         (tree.notes.parent / "kit/KIT-ID").write_text("another\n")
         with pytest.raises(NoKeptBuildError, match="is of another kit than rattle-kit-13f"):
-            built_folder(tree.top, "any", stop)
+            build_if_needed(tree.top, "any", stop)
     (tree.notes.parent / "kit/KIT-ID").unlink()
-    assert kept_build(tree.top) is None
+    assert find_kept_build(tree.top) is None
 
 
 def test_a_signal_ends_a_build(tree: Tree) -> None:
@@ -222,5 +226,5 @@ def test_a_signal_ends_a_build(tree: Tree) -> None:
     with Stop((signal.SIGUSR1,)) as stop:
         os.kill(os.getpid(), signal.SIGUSR1)
         with pytest.raises(StoppedError):
-            built_folder(tree.top, "any", stop)
+            build_if_needed(tree.top, "any", stop)
     assert not list((tree.notes / "cache/pdregress/builds").glob("*.part"))

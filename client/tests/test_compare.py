@@ -384,11 +384,11 @@ def test_a_signal_while_both_programs_are_built_ends_all(tree: Tree, words: list
 def test_a_build_that_is_kept_serves_however_it_was_made(monkeypatch: pytest.MonkeyPatch) -> None:
     ways = []
 
-    def with_programs(senders: object, way: str, *more: object) -> None:
+    def stop_building(senders: object, way: str, *more: object) -> None:
         ways.append(way)
         raise StoppedError(signal.SIGINT)
 
-    monkeypatch.setattr(comparing, "with_programs", with_programs)
+    monkeypatch.setattr(comparing, "build_missing_programs", stop_building)
     paths = [TOP / "examples/suite/close"]
     options = comparing.CompareOptions(paths, [], "", "", "", str(TOP), str(TOP), False, False, None)
     with Screen(False, False) as screen:

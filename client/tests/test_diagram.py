@@ -14,7 +14,7 @@ from pdsuite.diagram.timeline import timeline_of
 from pdsuite.diagram.timeline_parts import Arrival, ExpectedSegment, Flag, Note, SackBlock, Segment, SegmentKind, Stair
 from pdsuite.diagram.timeline_parts import Timeline
 from pdsuite.page.diagram_choice import DiagramChoice, Plot, plots_of
-from pdsuite.programs.trace import events_in
+from pdsuite.programs.trace import traced_events_in
 from pdsuite.programs.verdict import Row, Verdict
 from pdsuite.run.outcomes import Outcome
 
@@ -23,7 +23,7 @@ RECORDINGS = Path(__file__).with_name("recordings")
 
 def strokes(name: str) -> Timeline:
     """The strokes of a recording."""
-    found = timeline_of(events_in((RECORDINGS / f"{name}.txt").read_text()))
+    found = timeline_of(traced_events_in((RECORDINGS / f"{name}.txt").read_text()))
     assert found is not None
     return found
 
@@ -130,7 +130,7 @@ RESET = """+0.5 < S 0:0(0) win 100 <mss 1000>
 
 def test_a_reset_ends_the_stairs_and_times_count_from_the_start_of_the_run() -> None:
     found = timeline_of(
-        events_in("+0 socket(..., SOCK_STREAM, 6) = 3\n//= at 0.000000 CLOSED connection:none\n" + RESET)
+        traced_events_in("+0 socket(..., SOCK_STREAM, 6) = 3\n//= at 0.000000 CLOSED connection:none\n" + RESET)
     )
     assert found is not None
     assert (found.begin, found.end) == (500_000, 1_600_000)
@@ -161,7 +161,7 @@ FINS = f"""+0.5 < S 0:0(0) win 100 <mss 1000>
 
 
 def test_a_fin_or_rst_that_is_dropped_is_marked_where_acknowledged_octets_end() -> None:
-    found = timeline_of(events_in(FINS))
+    found = timeline_of(traced_events_in(FINS))
     assert found is not None
     assert found.arrivals == (
         Arrival(500_000, 0, Flag.SYN),
@@ -176,7 +176,7 @@ def test_a_fin_or_rst_that_is_dropped_is_marked_where_acknowledged_octets_end() 
 
 
 def test_what_is_dropped_is_drawn_just_above_the_stairs_and_raises_nothing() -> None:
-    found = timeline_of(events_in(FINS))
+    found = timeline_of(traced_events_in(FINS))
     assert found is not None
     picture = figure_of(found, WIDE)
     axes = picture.axes[0]
@@ -201,7 +201,7 @@ def test_what_is_dropped_is_drawn_just_above_the_stairs_and_raises_nothing() -> 
     "recording", ["", "0 close(3) = 0\n//= at 0.000000 CLOSED connection:none\n", RESET[:-30], "?"]
 )
 def test_without_packets_or_states_there_are_no_strokes(recording: str) -> None:
-    assert timeline_of(events_in(recording)) is None
+    assert timeline_of(traced_events_in(recording)) is None
 
 
 def script_of(name: str) -> str:
@@ -222,7 +222,7 @@ def test_the_failing_packet_is_an_outline_and_what_was_sent_is_filled_and_what_c
     failing = failing_line_of(script, 16, WRONG)
     assert failing is not None
     assert (failing.inputs, failing.packets, failing.moment) == (9, 6, 310_000)
-    found = timeline_of(events_in((RECORDINGS / "fails.txt").read_text()), failing)
+    found = timeline_of(traced_events_in((RECORDINGS / "fails.txt").read_text()), failing)
     assert found is not None and found.failure is not None and found.has_later
     assert found.failure.expected == ExpectedSegment(310_000, 310_000, 1, 1001)
     assert found.failure.actual == Segment(310_000, 5001, 6001, SegmentKind.NEW)
@@ -240,7 +240,7 @@ def test_a_missing_packet_has_an_outline_alone_and_its_moments() -> None:
     assert (failing.inputs, failing.packets, failing.moment, failing.actual) == (1, 0, 300_000, None)
     assert (failing.expected.first, failing.expected.last) == (100_000, 300_000)
     recording = RESET.replace("+0.5 <", "+0 <").replace("at 0.500000", "at 0.000000")
-    found = timeline_of(events_in(recording), failing)
+    found = timeline_of(traced_events_in(recording), failing)
     assert found is not None and found.failure is not None
     assert (found.failure.at, found.failure.expected, found.failure.actual) == (
         300_000,

@@ -2,12 +2,18 @@
 
 from pathlib import Path
 
-from pdsuite.compare.comparison import ComparedScript, ComparisonKind, SenderResults, compare, counts_of
-from pdsuite.compare.divergence import PlayedEvent, divergence_of, played_events
+from pdsuite.compare.comparison import (
+    ComparedScript,
+    ComparisonKind,
+    SenderResults,
+    compare_results,
+    counts_by_folder_and_total,
+)
+from pdsuite.compare.divergence import PlayedEvent, first_divergence, played_events
 from pdsuite.programs.batch_protocol import Answer
-from pdsuite.programs.recorder import Recording, recording_cases, recording_of
+from pdsuite.programs.recorder import Recording, recording_cases, recording_from_answer
 from pdsuite.programs.verdict import Row, Verdict
-from pdsuite.reports.comparison import lines_of
+from pdsuite.reports.comparison import compared_script_lines
 from pdsuite.run.outcomes import Outcome
 
 HEAD = "// what it shows\n+0 write(4, ..., 3000) = 3000\n//= at 0.200000 ESTABLISHED cwnd:4000 DupAcks:2\n"
@@ -26,7 +32,7 @@ def test_the_events_of_a_recording_have_their_moments_and_states() -> None:
 
 
 def test_recordings_part_at_the_first_packet_that_differs() -> None:
-    parting = divergence_of(HEAD + FIRST + SECOND, HEAD + SECOND + FIRST)
+    parting = first_divergence(HEAD + FIRST + SECOND, HEAD + SECOND + FIRST)
     assert parting is not None and parting.before is not None and parting.after is not None
     assert str(parting.before) == "+0 > . 1:1001(1000) ack 1 // 0.200000"
     assert str(parting.after) == "+0 > . 1001:2001(1000) ack 1 // 0.200000"
@@ -34,25 +40,25 @@ def test_recordings_part_at_the_first_packet_that_differs() -> None:
 
 
 def test_recordings_part_where_a_packet_leaves_later() -> None:
-    parting = divergence_of(HEAD + SECOND, HEAD + LATE)
+    parting = first_divergence(HEAD + SECOND, HEAD + LATE)
     assert parting is not None and parting.after is not None and parting.after.moment == "0.300000"
 
 
 def test_recordings_part_where_one_ends() -> None:
-    parting = divergence_of(HEAD + FIRST, HEAD)
+    parting = first_divergence(HEAD + FIRST, HEAD)
     assert parting is not None and parting.before is not None and parting.after is None
 
 
 def test_the_states_before_may_differ_and_a_state_alone_parts_nothing() -> None:
     other = HEAD.replace("cwnd:4000", "cwnd:2000")
-    assert divergence_of(HEAD + FIRST, other + FIRST) is None
-    parting = divergence_of(HEAD + FIRST, other)
+    assert first_divergence(HEAD + FIRST, other + FIRST) is None
+    parting = first_divergence(HEAD + FIRST, other)
     assert parting is not None
     assert (parting.state_before, parting.state_after) == (
         "ESTABLISHED cwnd:4000 DupAcks:2",
         "ESTABLISHED cwnd:2000 DupAcks:2",
     )
-    assert divergence_of(HEAD.replace("what it shows", "x") + FIRST, HEAD + FIRST) is None
+    assert first_divergence(HEAD.replace("what it shows", "x") + FIRST, HEAD + FIRST) is None
 
 
 def outcome(path: str, row: Row) -> Outcome:
@@ -63,7 +69,7 @@ def outcome(path: str, row: Row) -> Outcome:
 
 def compared_by(before: Row, after: Row, one: Recording, other: Recording) -> ComparedScript:
     """A script under two senders."""
-    (it,) = compare(
+    (it,) = compare_results(
         SenderResults({4: outcome("a.pkt", before)}, {}, {4: one}),
         SenderResults({4: outcome("a.pkt", after)}, {}, {4: other}),
     )
@@ -73,7 +79,7 @@ def compared_by(before: Row, after: Row, one: Recording, other: Recording) -> Co
 def test_a_script_turns_whose_row_is_another() -> None:
     it = compared_by(PASS, FAIL, Recording(HEAD + FIRST), Recording(HEAD + SECOND))
     assert it.kind is ComparisonKind.TURNED and it.differs
-    assert lines_of(it) == [
+    assert compared_script_lines(it) == [
         "before: pass 3",
         "after: line 7: fail seq: other octets",
         "  state: x",
@@ -87,13 +93,16 @@ def test_a_script_turns_whose_row_is_another() -> None:
 def test_a_script_whose_row_stays_may_be_played_otherwise() -> None:
     it = compared_by(PASS, PASS, Recording(HEAD + FIRST), Recording(HEAD))
     assert it.kind is ComparisonKind.OTHERWISE and it.differs
-    assert lines_of(it)[1:3] == ["  before: +0 > . 1:1001(1000) ack 1 // 0.200000", "  after:  nothing more"]
+    assert compared_script_lines(it)[1:3] == [
+        "  before: +0 > . 1:1001(1000) ack 1 // 0.200000",
+        "  after:  nothing more",
+    ]
 
 
 def test_a_script_that_only_one_sender_records_is_played_otherwise() -> None:
     it = compared_by(PASS, PASS, Recording(HEAD), Recording("", "pdrecord: 3 TooMany"))
     assert it.kind is ComparisonKind.OTHERWISE
-    assert lines_of(it) == ["before: recorded", "after: not recorded: pdrecord: 3 TooMany"]
+    assert compared_script_lines(it) == ["before: recorded", "after: not recorded: pdrecord: 3 TooMany"]
 
 
 def test_a_script_that_stays_is_as_before_or_not_compared() -> None:
@@ -104,8 +113,8 @@ def test_a_script_that_stays_is_as_before_or_not_compared() -> None:
 def test_each_folder_is_counted_and_all_last() -> None:
     before = SenderResults({0: outcome("a.pkt", PASS), 1: outcome("b/c.pkt", PASS), 2: outcome("b/d.pkt", PASS)})
     after = SenderResults({0: outcome("a.pkt", PASS), 1: outcome("b/c.pkt", FAIL), 2: outcome("b/d.pkt", PASS)})
-    *folders, total = counts_of(compare(before, after))
-    assert [f"{it.name}: {it.words}" for it in folders] == [
+    *folders, total = counts_by_folder_and_total(compare_results(before, after))
+    assert [f"{it.name}: {it.counts_in_words}" for it in folders] == [
         ".: 1 script, 0 turned, 0 played otherwise, 0 as before, 1 not compared",
         "b: 2 scripts, 1 turned, 0 played otherwise, 0 as before, 1 not compared",
     ]
@@ -123,6 +132,6 @@ def test_each_script_is_recorded_under_its_settings_by_one_build() -> None:
 
 
 def test_a_start_of_pdrecord_is_a_recording_or_says_why_not() -> None:
-    assert recording_of(Answer(b"+0 a\n", b"")) == Recording("+0 a\n")
-    assert recording_of(Answer(b"", b"pdrecord: 3 X\n  more\n")) == Recording("", "pdrecord: 3 X")
-    assert recording_of(Answer(b"", b"", "TooSlow: it took long")) == Recording("", "TooSlow: it took long")
+    assert recording_from_answer(Answer(b"+0 a\n", b"")) == Recording("+0 a\n")
+    assert recording_from_answer(Answer(b"", b"pdrecord: 3 X\n  more\n")) == Recording("", "pdrecord: 3 X")
+    assert recording_from_answer(Answer(b"", b"", "TooSlow: it took long")) == Recording("", "TooSlow: it took long")

@@ -12,8 +12,8 @@ from junitparser import Error, Failure, JUnitXml, Skipped
 from pdsuite.faults import Fault
 from pdsuite.programs.verdict import Row, Verdict
 from pdsuite.run.outcomes import CountedAs, Outcome, Totals
-from pdsuite.scripts.config import layer_of
-from pdsuite.scripts.expectation import Expectation, is_row
+from pdsuite.scripts.config import parse_layer
+from pdsuite.scripts.expectation import Expectation, can_begin_failing_row
 from tests.helpers import BLOCK_LINES, FAILS, PACKET, PASSES, Call, write
 from tests.test_reports import NAMES, parse_tap
 from tests.watch_process import Watching
@@ -33,8 +33,8 @@ FITS: list[tuple[Row, list[str], list[str]]] = [
 
 @pytest.mark.parametrize(("row", "fitting", "others"), FITS, ids=[str(it[0]) for it in FITS])
 def test_the_first_words_of_a_row_fit_it(row: Row, fitting: list[str], others: list[str]) -> None:
-    assert all(is_row(words) for words in [*fitting, *others])
-    assert [words for words in [*fitting, *others] if Expectation(words, "x").fits(row.whole)] == fitting
+    assert all(can_begin_failing_row(words) for words in [*fitting, *others])
+    assert [words for words in [*fitting, *others] if Expectation(words, "x").fits_row(row.whole_text)] == fitting
 
 
 NO_ROWS = [
@@ -54,7 +54,7 @@ MORE = ["syntax 1 seq", "pending", "Fail", " fail", "fail ", "fail 12\n", "error
 
 @pytest.mark.parametrize("words", [*NO_ROWS, *MORE])
 def test_all_else_is_no_row_that_can_be_expected(words: str) -> None:
-    assert not is_row(words)
+    assert not can_begin_failing_row(words)
 
 
 TAKES = 'it takes a row that doesn\'t pass, as "fail 12 seq", or its first words'
@@ -76,12 +76,12 @@ WRONG = [
 @pytest.mark.parametrize(("text", "line", "why"), WRONG, ids=range(len(WRONG)))
 def test_what_is_no_row_with_a_reason_is_a_fault_of_the_file(text: str, line: str, why: str) -> None:
     with pytest.raises(Fault) as fault:
-        layer_of("in/pdsuite.toml", text.encode())
+        parse_layer("in/pdsuite.toml", text.encode())
     assert str(fault.value) == f"in/pdsuite.toml{line}: {why}"
 
 
 def test_an_expectation_is_no_setting() -> None:
-    layer = layer_of("pdsuite.toml", b'["a.pkt"]\nexpect = "fail"\nmss = 1\nreason = "so"\n["b.pkt"]\nmss = 2\n')
+    layer = parse_layer("pdsuite.toml", b'["a.pkt"]\nexpect = "fail"\nmss = 1\nreason = "so"\n["b.pkt"]\nmss = 2\n')
     assert layer.expected == {"a.pkt": Expectation("fail", "so")}
     assert layer.tables == {"a.pkt": {"mss": 1}, "b.pkt": {"mss": 2}}
 
@@ -106,19 +106,23 @@ TALLIES = [
 @pytest.mark.parametrize(("row", "words", "tally", "passes"), TALLIES, ids=range(len(TALLIES)))
 def test_how_a_script_is_counted(row: Row, words: str | None, tally: Verdict | CountedAs, passes: bool) -> None:
     it = outcome(row, words)
-    assert (it.counted_as, it.passes) == (tally, passes)
+    assert (it.counted_as, it.lets_run_pass) == (tally, passes)
 
 
 def test_known_rows_are_counted_apart_and_make_no_run_fail() -> None:
     known, passing = outcome(SEQ, "fail"), outcome(Row(Verdict.PASS, 1))
     other, mended = outcome(SEQ, "syntax"), outcome(Row(Verdict.PASS, 1), "fail")
     zeros = "syntax 0 unsupported 0 limit 0 error 0 not run 0"
-    totals = Totals.of([known, known, passing, outcome(SEQ)])
-    assert (str(totals), totals.status()) == (f"total 4 pass 1 fail 1 {zeros} known 2", 1)
-    assert [Totals.of(it).status() for it in ([known, passing], [known, other], [known, mended])] == [0, 1, 1]
-    assert str(Totals.of([known, other, mended])) == f"total 3 pass 0 fail 0 {zeros} known 1 unexpected 2"
-    assert Totals.of([known, other]).brief() == "total 2 known 1 unexpected 1"
-    assert str(Totals.of([passing])) == f"total 1 pass 1 fail 0 {zeros}"
+    totals = Totals.of_outcomes([known, known, passing, outcome(SEQ)])
+    assert (str(totals), totals.exit_status()) == (f"total 4 pass 1 fail 1 {zeros} known 2", 1)
+    assert [Totals.of_outcomes(it).exit_status() for it in ([known, passing], [known, other], [known, mended])] == [
+        0,
+        1,
+        1,
+    ]
+    assert str(Totals.of_outcomes([known, other, mended])) == f"total 3 pass 0 fail 0 {zeros} known 1 unexpected 2"
+    assert Totals.of_outcomes([known, other]).nonzero_counts() == "total 2 known 1 unexpected 1"
+    assert str(Totals.of_outcomes([passing])) == f"total 1 pass 1 fail 0 {zeros}"
 
 
 # A script's first line, the row that is expected, and what is printed of it with -v.

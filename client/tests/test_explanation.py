@@ -11,7 +11,7 @@ import pytest
 
 from pdsuite.programs.verdict import Row, Verdict
 from pdsuite.run.explanation import explanation_of
-from pdsuite.scripts.text import text_of
+from pdsuite.scripts.text import make_text
 from tests.helpers import TOP, Call, write
 from tests.schemas import held, schema_of, validator
 
@@ -28,7 +28,7 @@ PACKETS = {"script_packet": r"+0 > P. 1:501(500) ack 1 win 9 <mss 1000,\x0a    n
 
 def explained(row: Row, cause: Mapping[str, object], text: bytes = SCRIPT) -> Any:
     """The explanation of a row."""
-    return explanation_of(row, {"name": "s7", "line": row.number, **cause}, text_of(text))
+    return explanation_of(row, {"name": "s7", "line": row.number, **cause}, make_text(text))
 
 
 def place(line: int, column: int, end_line: int, end_column: int, field: str = "") -> dict[str, object]:

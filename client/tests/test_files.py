@@ -16,7 +16,7 @@ def test_a_file_is_written_beside_and_renamed(tmp_path: Path) -> None:
     path = tmp_path / "out.xml"
     path.write_bytes(b"old")
     number = path.stat().st_ino
-    files.write(path, b"new")
+    files.write_file_atomically(path, b"new")
     assert path.read_bytes() == b"new"
     assert path.stat().st_ino != number
     assert os.listdir(tmp_path) == ["out.xml"]
@@ -24,14 +24,14 @@ def test_a_file_is_written_beside_and_renamed(tmp_path: Path) -> None:
 
 def test_a_link_stays_a_link(tmp_path: Path) -> None:
     (tmp_path / "link").symlink_to("out.xml")
-    files.write(tmp_path / "link", b"new")
+    files.write_file_atomically(tmp_path / "link", b"new")
     assert (tmp_path / "out.xml").read_bytes() == b"new"
     assert (tmp_path / "link").is_symlink()
 
 
 def test_a_file_has_the_rights_that_the_mask_leaves(tmp_path: Path) -> None:
     mask = os.umask(0o027)
-    files.write(tmp_path / "out.xml", b"new")
+    files.write_file_atomically(tmp_path / "out.xml", b"new")
     os.umask(mask)
     assert (tmp_path / "out.xml").stat().st_mode & 0o777 == 0o640
 
@@ -51,7 +51,7 @@ def test_what_cannot_be_written_is_a_line_with_its_path(
     write(tmp_path / "suite", a=PASSES)
     monkeypatch.chdir(tmp_path)
     with pytest.raises(Fault) as fault:
-        files.write(Path(path), b"new")
+        files.write_file_atomically(Path(path), b"new")
     assert str(fault.value) == reason
 
 
@@ -83,7 +83,7 @@ def test_a_write_that_fails_leaves_nothing_beside(tmp_path: Path, monkeypatch: p
     resource.setrlimit(resource.RLIMIT_FSIZE, (1_000, before[1]))
     try:
         with pytest.raises(Fault, match="out.xml: File too large"):
-            files.write(path, b"x" * 10_000)
+            files.write_file_atomically(path, b"x" * 10_000)
     finally:
         resource.setrlimit(resource.RLIMIT_FSIZE, before)
     assert path.read_bytes() == b"old"
@@ -119,7 +119,7 @@ def test_a_folder_that_cannot_be_written_whole_is_not_there(tmp_path: Path) -> N
     resource.setrlimit(resource.RLIMIT_FSIZE, (1_000, before[1]))
     try:
         with pytest.raises(Fault, match="new: File too large"):
-            files.write_folder(tmp_path / "new", [("a.pkt", b"x"), ("b/c.pkt", b"x" * 10_000)])
+            files.write_folder_atomically(tmp_path / "new", [("a.pkt", b"x"), ("b/c.pkt", b"x" * 10_000)])
     finally:
         resource.setrlimit(resource.RLIMIT_FSIZE, before)
     assert os.listdir(tmp_path) == []

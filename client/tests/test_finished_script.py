@@ -66,7 +66,7 @@ def test_a_script_waits_for_no_more_than_it_expects_and_ends_with_the_line_that_
 def test_the_comment_names_the_line_where_it_stands() -> None:
     found = find("late", Input(0, call("write", 4, "...", 1_000)), Input(9_000_000, TICK))
     done = finished_script(found, Toy(), Toy("late"))
-    headed = with_head(done, lambda row: ["one", f"fails {row and row.whole}"], Toy("late"))
+    headed = with_head(done, lambda row: ["one", f"fails {row and row.whole_text}"], Toy("late"))
     assert done.row is not None and done.row.number is not None and headed.row is not None
     assert headed.script.octets.decode().startswith(f"// one\n// fails fail {headed.row.number} seq\n")
     assert headed.row.number == done.row.number + 2 == headed.lines

@@ -6,10 +6,16 @@ from dataclasses import replace
 import pytest
 
 from pdsuite.compare.comparison import ComparedScript, ComparisonKind
-from pdsuite.compare.groups import first_difference, groups_of
-from pdsuite.compare.quantities import Quantities, Quantity, changes_of, quantities_of, total_of
+from pdsuite.compare.groups import first_difference, group_by_first_difference
+from pdsuite.compare.quantities import (
+    Quantities,
+    Quantity,
+    quantities_of_recording,
+    sorted_quantity_changes,
+    total_quantities,
+)
 from pdsuite.programs.verdict import Row, Verdict
-from pdsuite.reports.comparison import ComparisonReport, as_json, plain
+from pdsuite.reports.comparison import ComparisonReport, comparison_json, plain_comparison
 from pdsuite.reports.comparison_markdown import as_markdown
 from pdsuite.reports.quantities import quantity_lines
 from pdsuite.run.outcomes import Outcome
@@ -67,20 +73,23 @@ def report_of(is_every: bool = False) -> ComparisonReport:
 
 
 def test_the_largest_group_comes_first_with_one_script_whole_and_the_others_by_their_comments() -> None:
-    assert [[it.path for it in group.scripts] for group in groups_of(MANY)] == [["b.pkt", "c.pkt"], ["a.pkt"]]
-    heads = [line for line in plain(report_of()).plain.splitlines() if not line.startswith(" ")]
+    assert [[it.path for it in group.scripts] for group in group_by_first_difference(MANY)] == [
+        ["b.pkt", "c.pkt"],
+        ["a.pkt"],
+    ]
+    heads = [line for line in plain_comparison(report_of()).plain.splitlines() if not line.startswith(" ")]
     assert heads[:4] == [
         "2 scripts differ first in cwnd, at the ACK that establishes:",
         "b.pkt: turned",
         "c.pkt: turned: RFC 1, section 3: c.",
         "a.pkt: turned",
     ]
-    whole = plain(report_of(is_every=True)).plain.splitlines()
+    whole = plain_comparison(report_of(is_every=True)).plain.splitlines()
     assert whole.count("  before: pass 3") == 3 and "c.pkt: turned" in whole
 
 
 def test_as_json_the_groups_name_their_scripts() -> None:
-    found = held("compare", as_json(report_of(), ("x", "y")).plain)
+    found = held("compare", comparison_json(report_of(), ("x", "y")).plain)
     assert [(it["kind"], it["field"], [each["path"] for each in it["scripts"]]) for it in found["groups"]] == [
         ("turned", "cwnd", ["b.pkt", "c.pkt"]),
         ("turned", "seq", ["a.pkt"]),
@@ -110,12 +119,12 @@ def test_quantities_are_counted_from_a_trace() -> None:
     last = LAST.format(2001, "1.300000", 2001) + LAST.format(2001, "1.400000", 2001)
     text = SYN + syn_ack + ACK.format(4000) + sent(1) + sent(1001) + again + last
     # The SYN/ACK, two segments, and the first again.
-    assert quantities_of(text) == Quantities(4, 1_000, 1, 1_300_000)
+    assert quantities_of_recording(text) == Quantities(4, 1_000, 1, 1_300_000)
     ack_alone = "+0 > . 2001:2001(0) ack 1\n//= at 1.400000 ESTABLISHED una:2001 sent_by:line9\n"
-    assert quantities_of(text + ack_alone) == quantities_of(text)
+    assert quantities_of_recording(text + ack_alone) == quantities_of_recording(text)
     # A FIN is an octet, and a part sent again counts as far as it was sent.
     fin = "+0 > F. 1501:2501(1000) ack 1\n//= at 1.400000 FIN-WAIT-1 una:2001 sent_by:line9\n"
-    assert quantities_of(text + fin) == Quantities(5, 1_500, 1, 1_300_000)
+    assert quantities_of_recording(text + fin) == Quantities(5, 1_500, 1, 1_300_000)
 
 
 def test_the_largest_changes_come_first_by_the_quantity_that_is_asked_for() -> None:
@@ -126,9 +135,9 @@ def test_the_largest_changes_come_first_by_the_quantity_that_is_asked_for() -> N
         replace(script("two.pkt", late, soon), index=2),
         replace(script("same.pkt", late, late), index=3),
     ]
-    assert [it.path for it in changes_of(scripts, Quantity.TIME)] == ["two.pkt", "one.pkt"]
-    assert [it.path for it in changes_of(scripts, Quantity.AGAIN)] == ["one.pkt", "two.pkt"]
-    assert total_of(scripts).after == Quantities(5, 1_000, 0, 200_000 + 300_000 + 9_300_000)
+    assert [it.path for it in sorted_quantity_changes(scripts, Quantity.TIME)] == ["two.pkt", "one.pkt"]
+    assert [it.path for it in sorted_quantity_changes(scripts, Quantity.AGAIN)] == ["one.pkt", "two.pkt"]
+    assert total_quantities(scripts).after == Quantities(5, 1_000, 0, 200_000 + 300_000 + 9_300_000)
     assert list(quantity_lines(scripts, Quantity.TIME, False))[1:] == [
         "  two.pkt: last octet acknowledged at 9.300000 to 0.300000",
         "  one.pkt: segments 1 to 3, octets sent again 0 to 1,000",

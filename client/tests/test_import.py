@@ -44,7 +44,7 @@ def test_what_cannot_be_looked_at_is_told_and_not_imported(
 ) -> None:
     write(tmp_path / "net", a=OPEN.encode(), b=OPEN.encode())
     found = [ScriptFile(str(tmp_path / f"net/{it}.pkt"), str(tmp_path / "net"), f"{it}.pkt", why) for it, why in FOUND]
-    monkeypatch.setattr(import_, "find", lambda paths, only, stop: found)
+    monkeypatch.setattr(import_, "find_scripts", lambda paths, only, stop: found)
     with Screen(False, progress=False) as screen:
         assert import_.import_scripts(tmp_path / "net", tmp_path / "new", False, False, screen) == 2
     assert f"{tmp_path}/net/a.pkt: error: Permission denied\n" in capsys.readouterr().out

@@ -9,7 +9,7 @@ from pdsuite.packetdrill.alignment import Fields, aligned
 from pdsuite.packetdrill.columns import Mark
 from pdsuite.programs.recorder import Recording
 from pdsuite.programs.verdict import Row, Verdict
-from pdsuite.reports.diff_text import diff_by_keys, diff_text
+from pdsuite.reports.diff_text import diff_by_keys, line_diff_lines
 from pdsuite.run.line_diff import LineDiff, line_diff
 from tests.helpers import OPENED, Call, write
 
@@ -33,7 +33,7 @@ def met(script: str, row: Row, *recorded: tuple[str, str], block_lines: tuple[st
 
 def shown(differences: LineDiff) -> list[str]:
     """The lines after the opening."""
-    return list(diff_text(differences))[8:]
+    return list(line_diff_lines(differences))[8:]
 
 
 def test_all_that_is_met_as_it_is_written_is_one_line_each() -> None:
@@ -162,7 +162,7 @@ def test_the_last_tolerance_of_a_header_counts() -> None:
 
 def test_what_is_not_recorded_says_why() -> None:
     found = line_diff(Row(Verdict.FAIL, 1, "result"), (), OPENED.decode(), Recording("", "a.pkt:9: it ends"), ())
-    assert list(diff_text(found)) == ["line by line: not known, since it isn't recorded: a.pkt:9: it ends"]
+    assert list(line_diff_lines(found)) == ["line by line: not known, since it isn't recorded: a.pkt:9: it ends"]
     assert diff_by_keys(found) == "a.pkt:9: it ends"
 
 

@@ -10,17 +10,17 @@ from pdsuite.lsp import queries
 from pdsuite.programs import program as programs
 from pdsuite.programs.lookup import stamped_program
 from pdsuite.programs.program import Program as StartedProgram, ProgramEndedError
-from pdsuite.programs.protocol import SETTLE, add, name_of
+from pdsuite.programs.protocol import SETTLE, add_command, script_name
 from pdsuite.programs.verdict import Row, Verdict
 from pdsuite.scripts.settings import Settings
-from pdsuite.scripts.text import text_of
+from pdsuite.scripts.text import make_text
 from pdsuite.signals import Stop
 from pdsuite.watch.live_run import LiveRun
 from pdsuite.watch.plan_changes import Act, AddScript, RemoveScript, RunContents, SetKey
 from pdsuite.watch.sender import LiveSender
 from tests.helpers import HANGS
 
-ONE = text_of(b"one\n")
+ONE = make_text(b"one\n")
 
 
 class PassingProgram:
@@ -102,7 +102,7 @@ def test_a_program_that_says_what_nobody_asked_is_at_an_end() -> None:
         assert program.query(b"settle\n", 1_000) == f"{total}\n".encode()
         with pytest.raises(ProgramEndedError, match="sh answered more than was asked"):
             while select.select([program.fileno()], [], [], HANGS)[0]:
-                program.check()
+                program.require_idle()
 
 
 def test_a_text_is_asked_with_the_octets_that_an_editor_has(monkeypatch: pytest.MonkeyPatch) -> None:
@@ -113,5 +113,5 @@ def test_a_text_is_asked_with_the_octets_that_an_editor_has(monkeypatch: pytest.
     with Stop() as stop:
         found = queries.ProgramQueries(sender, stop, lambda line: None).rows(["a\ud800", "\n" * 5_000, "b"], ())
     assert found == [Row(Verdict.PASS, 1), None, Row(Verdict.PASS, 1)]
-    texts = text_of(b"a\xed\xa0\x80\n"), text_of(b"b\n")
-    assert program.queries == [add(name_of(0), texts[0]) + add(name_of(2), texts[1]) + SETTLE]
+    texts = make_text(b"a\xed\xa0\x80\n"), make_text(b"b\n")
+    assert program.queries == [add_command(script_name(0), texts[0]) + add_command(script_name(2), texts[1]) + SETTLE]

@@ -7,7 +7,7 @@ import pytest
 from pdsuite.programs.program import Program, ProgramEndedError
 from pdsuite.programs.verdict import Verdict
 from pdsuite.scripts.settings import Settings
-from pdsuite.scripts.text import text_of
+from pdsuite.scripts.text import make_text
 from pdsuite.watch.live_pool import LivePool
 from pdsuite.watch.plan_changes import WantedScript
 from tests.model import Model
@@ -44,7 +44,7 @@ def fleet(starts: Starts) -> LivePool:
 def wanted(number: int, settings: Settings = ()) -> dict[str, WantedScript]:
     """Ten scripts, the first of which is another one for each number."""
     texts = {f"{name}.pkt": f"{name}\n" for name in "abcdefghij"} | {"a.pkt": f"{number}\nx\n"}
-    return {path: WantedScript(settings, text_of(text.encode())) for path, text in texts.items()}
+    return {path: WantedScript(settings, make_text(text.encode())) for path, text in texts.items()}
 
 
 def test_a_run_says_the_steps_of_its_last_change_alone(fleet: LivePool) -> None:

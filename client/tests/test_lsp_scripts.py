@@ -14,7 +14,7 @@ from pdsuite.lsp.positions import Lines
 from pdsuite.packetdrill.layout import layout_of
 from pdsuite.packetdrill.recorded import last_input_before, match_events, recorded_in, tolerance_of, without_trace
 from pdsuite.programs.verdict import Row, Verdict
-from pdsuite.run.locate_row import unshown
+from pdsuite.run.locate_row import character_at_shown_column
 from pdsuite.run.outcomes import Outcome
 from pdsuite.scripts.expectation import Expectation
 
@@ -273,8 +273,8 @@ def test_an_edit_makes_the_other_text(old: str, new: str) -> None:
 
 
 def test_a_shown_column_is_a_character() -> None:
-    assert unshown("\udcff\ud800x", 16) == 2
-    assert [unshown("\tab\u00e4c", it) for it in (0, 4, 5, 6, 14, 99)] == [0, 1, 2, 3, 4, 5]
+    assert character_at_shown_column("\udcff\ud800x", 16) == 2
+    assert [character_at_shown_column("\tab\u00e4c", it) for it in (0, 4, 5, 6, 14, 99)] == [0, 1, 2, 3, 4, 5]
 
 
 def test_a_diagnostic_says_what_sent_a_packet_and_what_was_dropped() -> None:

@@ -9,9 +9,9 @@ from random import Random
 
 import pytest
 
-from pdsuite.commands.measure import MeasureOptions, measure
+from pdsuite.commands.measure import MeasureOptions, measure_senders
 from pdsuite.compare.senders import Sender
-from pdsuite.compare.sides import Side, side_of
+from pdsuite.compare.sides import Side, make_side
 from pdsuite.measure.measurement import MeasureResult, MeasuredCase, Measurement, Pair, TransferCase, cases_of
 from pdsuite.measure.measurement import settings_for
 from pdsuite.measure.paths import NetworkPath, paths_of
@@ -155,7 +155,7 @@ def test_a_narrow_terminal_has_the_numbers_of_a_figure_below_it() -> None:
 
 def side_of_programs(folder: Path) -> Side:
     programs = {it: folder / it for it in ("pdregress", "pdrecord")}
-    return side_of(Sender("a sender", programs, None), "", "--base-settings")
+    return make_side(Sender("a sender", programs, None), "", "--base-settings")
 
 
 def test_a_signal_leaves_what_both_sides_have_played(programs: Path) -> None:
@@ -166,7 +166,7 @@ def test_a_signal_leaves_what_both_sides_have_played(programs: Path) -> None:
         def advance(done: int, count: int) -> None:
             assert count == 800
             if done >= 64:
-                stop._note(signal.SIGINT, None)
+                stop._note_first_signal(signal.SIGINT, None)
 
         found = measuring.run(stop, advance)
     (case,) = found.cases
@@ -176,7 +176,7 @@ def test_a_signal_leaves_what_both_sides_have_played(programs: Path) -> None:
 
 def test_segments_are_as_large_as_those_of_a_path_unless_the_mss_is_set() -> None:
     sender, large = Sender("a sender", None), replace(PATH, mss=8_960)
-    side, own = (side_of(sender, it, "--base-settings") for it in ("", "mss = 500"))
+    side, own = (make_side(sender, it, "--base-settings") for it in ("", "mss = 500"))
     assert settings_for(side, (), large) == (("mss", 8_960),)
     assert settings_for(side, (("mss", 1_000),), large) == (("mss", 1_000),)
     assert settings_for(own, (("mss", 1_000),), large) == (("mss", 500),)
@@ -254,7 +254,7 @@ def test_what_was_played_until_a_signal_is_kept_too(
     recording_programs: Path, tmp_path: Path, monkeypatch: pytest.MonkeyPatch
 ) -> None:
     def cut(measuring: Measurement, stop: Stop, advance: Callable[[int, int], None]) -> MeasureResult:
-        stop._note(signal.SIGINT, None)
+        stop._note_first_signal(signal.SIGINT, None)
         with Stop(()) as unheeded:
             return replace(run(measuring, unheeded, advance), status=130)
 
@@ -265,7 +265,7 @@ def test_what_was_played_until_a_signal_is_kept_too(
     places = {"paths": tmp_path / "paths.toml", "html": tmp_path / "page", "save": tmp_path / "kept"}
     options = MeasureOptions("", "", "", folder, folder, only=["lossy"], runs=2, seed=1, is_json=False, **places)
     with Screen(False, False) as screen:
-        assert measure(options, screen) == 130
+        assert measure_senders(options, screen) == 130
     assert "until a signal came" in (tmp_path / "page/index.html").read_text()
     assert len(list((tmp_path / "kept").rglob("*.pkt"))) == 4
 

@@ -13,8 +13,8 @@ from pdsuite.measure.paths import HEADER, NetworkPath, paths_of
 from pdsuite.measure.transfer import Delivery, Departure, Transfer, play
 from pdsuite.measure.transfer_batch import TransferOutcome, UnfinishedTransferError, play_transfers
 from pdsuite.packetdrill.items import Packet
-from pdsuite.programs.recorder import TRACE, record_all
-from pdsuite.programs.trace import events_in
+from pdsuite.programs.recorder import TRACE, record_texts
+from pdsuite.programs.trace import traced_events_in
 from pdsuite.scripts.settings import Settings
 from pdsuite.signals import Stop
 
@@ -186,7 +186,7 @@ def test_over_each_path_that_comes_along_so_too(programs: Path) -> None:
 
 def sent(recording: str) -> list[Departure]:
     """The segments with octets of a recording."""
-    packets = [(it.moment, it.what) for it in events_in(recording) if isinstance(it.what, Packet)]
+    packets = [(it.moment, it.what) for it in traced_events_in(recording) if isinstance(it.what, Packet)]
     return [Departure(at, it.start, it.end) for at, it in packets if not it.is_inbound and it.start < it.end]
 
 
@@ -194,7 +194,7 @@ def test_pdrecord_gives_the_same_packets(recording_programs: Path) -> None:
     found = [delivered(recording_programs, path, [20_000], seeds=["7"])[0] for path in ODD]
     with Stop(()) as stop:
         scripts = [it.script() for it in found]
-        recordings = list(record_all(recording_programs / "pdrecord", scripts, (), stop, (TRACE,)))
+        recordings = list(record_texts(recording_programs / "pdrecord", scripts, (), stop, (TRACE,)))
     for it, recording in zip(found, recordings):
         assert sent(recording.text) == [replace(one, is_by_timer=False) for one in it.departures], recording.fault
 

@@ -13,11 +13,11 @@ from pdsuite.page.links import FOLDER, file_of, is_file
 from pdsuite.page.page_updates import PageUpdates
 from pdsuite.page.render import script_page
 from pdsuite.page.view_model import NamedFact, PageEntry, RefusedText, ScriptView, script_view, table_row
-from pdsuite.programs.protocol import Cause, UnexpectedAnswerError, causes_in
+from pdsuite.programs.protocol import Cause, UnexpectedAnswerError, parse_causes
 from pdsuite.programs.verdict import Row, Verdict
 from pdsuite.run.line_diff import DiffLine, LineDiff
 from pdsuite.run.outcomes import Outcome
-from pdsuite.scripts.text import text_of
+from pdsuite.scripts.text import make_text
 from pdsuite.signals import Stop
 from tests.helpers import FAILS, PASSES, Call, write
 from tests.watch_process import Watching
@@ -80,8 +80,8 @@ def test_packets_stand_in_columns_and_what_differs_is_marked(
 def sheet(verdict: Verdict, text: bytes, cause: Cause, number: int = 1, word: str = "") -> ScriptView:
     """The page of a script."""
     row = Row(verdict, number, word)
-    named = text_of(text).line(number) if row.line else None
-    return script_view(PageEntry(Outcome("a.pkt", (), row, named), text_of(text)), cause, undrawn(row))
+    named = make_text(text).line(number) if row.line else None
+    return script_view(PageEntry(Outcome("a.pkt", (), row, named), make_text(text)), cause, undrawn(row))
 
 
 def test_what_the_program_tells_of_a_missing_packet() -> None:
@@ -176,7 +176,7 @@ def test_the_table_names_the_rule_and_the_reason_of_an_error() -> None:
 
 def test_settings_stand_on_the_page() -> None:
     entry = PageEntry(
-        Outcome("a", (("initial_window", "rfc6928"), ("sack", False)), Row(Verdict.PASS, 0)), text_of(b"")
+        Outcome("a", (("initial_window", "rfc6928"), ("sack", False)), Row(Verdict.PASS, 0)), make_text(b"")
     )
     assert script_view(entry, None, undrawn(entry.outcome.row)).settings == (
         NamedFact("initial_window", '"rfc6928"'),
@@ -189,12 +189,12 @@ def test_settings_stand_on_the_page() -> None:
 )
 def test_what_is_no_object_of_a_script_is_not_taken(message: bytes) -> None:
     with pytest.raises(UnexpectedAnswerError):
-        causes_in(b"[1]\njob 1 s1 steps 2\n" + message)
+        parse_causes(b"[1]\njob 1 s1 steps 2\n" + message)
 
 
 def test_what_is_no_object_tells_something_else() -> None:
     message = b'job 1 s1 steps 2\n{"name": "s1", "line": 2}\n[1]\n\xff'
-    assert causes_in(message) == {(b"s1", 2): {"name": "s1", "line": 2}}
+    assert parse_causes(message) == {(b"s1", 2): {"name": "s1", "line": 2}}
 
 
 PATHS = [

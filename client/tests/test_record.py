@@ -8,7 +8,7 @@ from pathlib import Path
 
 import pytest
 
-from pdsuite.scripts.file_diff import as_written, hunks_of
+from pdsuite.scripts.file_diff import match_line_ends, unified_hunks
 from tests.helpers import HANGS, TOP, Call, Called, ends, wait_for, write
 
 FAKE_PDRECORD = Path(__file__).with_name("fake_pdrecord.py")
@@ -190,7 +190,7 @@ def test_standard_input_is_recorded_with_the_settings_of_the_folder(recorders: P
     ],
 )
 def test_a_recording_has_the_ends_of_lines_of_its_file(old: bytes, recording: bytes, new: bytes) -> None:
-    assert as_written(old, recording) == new
+    assert match_line_ends(old, recording) == new
 
 
 def test_hunks_are_those_that_diff_writes(tmp_path: Path) -> None:
@@ -201,7 +201,7 @@ def test_hunks_are_those_that_diff_writes(tmp_path: Path) -> None:
             (tmp_path / "new").write_bytes(new)
             printed = subprocess.run(["diff", "-u", "old", "new"], cwd=tmp_path, capture_output=True).stdout
             wanted = printed.decode("utf-8", "backslashreplace").splitlines()[2:]
-            assert list(hunks_of(old, new)) == wanted, (old, new)
+            assert list(unified_hunks(old, new)) == wanted, (old, new)
 
 
 def test_the_suite_of_examples_stays_green(recording_programs: Path, tmp_path: Path) -> None:

@@ -8,7 +8,7 @@ from pathlib import Path
 
 import pytest
 
-from pdsuite.commands.report_files import parted
+from pdsuite.commands.report_files import split_off_report_files
 from tests.helpers import PACKET, TOP, Call, ends, wait_for, write
 from tests.schemas import held
 
@@ -51,7 +51,7 @@ def suite(tmp_path: Path) -> Path:
 def test_a_file_comes_after_an_equals_sign_or_ends_as_its_form(
     words: list[str], rest: list[str], json: list[str], tap: list[str]
 ) -> None:
-    assert parted(words, {"--only"}) == (rest, {"--json": json, "--tap": tap})
+    assert split_off_report_files(words, {"--only"}) == (rest, {"--json": json, "--tap": tap})
 
 
 def test_files_come_beside_the_report_for_people(fake_program: Path, suite: Path, tmp_path: Path, call: Call) -> None:

@@ -4,9 +4,9 @@ import subprocess
 import sys
 from pathlib import Path
 
-from pdsuite.programs.batch_protocol import Answer, Case, answers_in, input_of
-from pdsuite.programs.protocol import add, name_of, set_key
-from pdsuite.scripts.text import text_of
+from pdsuite.programs.batch_protocol import Answer, Case, batch_input, parse_batch_answers
+from pdsuite.programs.protocol import add_command, script_name, set_command
+from pdsuite.scripts.text import make_text
 from tests.helpers import TOP
 
 SECONDS = 1_200
@@ -16,22 +16,22 @@ SYN_ACK = b"+0 > S. 0:0(0) ack 1 win 65535 <mss %d>\n"
 
 
 def test_each_start_of_both_programs_has_its_own_words_input_and_answer(tmp_path: Path) -> None:
-    wrong = text_of(LISTENS + SYN + SYN_ACK % 1_000)
+    wrong = make_text(LISTENS + SYN + SYN_ACK % 1_000)
     cases = [
         Case(("pdrecord", "--settings", "mss = 1200\nsack = false"), LISTENS + SYN),
-        Case(("pdregress", "--explain"), set_key("mss", "1200") + add(name_of(0), wrong)),
+        Case(("pdregress", "--explain"), set_command("mss", "1200") + add_command(script_name(0), wrong)),
         Case(("pdrecord", "--no-such-word"), b""),
         Case(("pdrecord",), LISTENS + SYN),
     ]
     starts, answers = tmp_path / "starts", tmp_path / "answers"
     starts.mkdir()
     answers.mkdir()
-    (starts / "a").write_bytes(input_of(cases))
+    (starts / "a").write_bytes(batch_input(cases))
     words: list[str | Path] = [sys.executable, "-B", TOP / "tools/run_batch.py", starts, answers]
     done = subprocess.run(words, stdin=subprocess.DEVNULL, capture_output=True, timeout=SECONDS)
     assert (done.returncode, done.stdout, done.stderr) == (0, b"", b"")
     output, errors, status = ((answers / f"a.{end}").read_bytes() for end in ("output", "errors", "status"))
-    recorded, reported, refused, other = answers_in(output, errors, status.decode(), len(cases))
+    recorded, reported, refused, other = parse_batch_answers(output, errors, status.decode(), len(cases))
     assert recorded == Answer(LISTENS + SYN + SYN_ACK % 1_200, b"")
     assert reported.output.startswith(b"s0 fail 5 options\ntotal 1 pass 0 fail 1 ")
     assert reported.errors.startswith(b"s0:5: fail options: the packet has other options\n")

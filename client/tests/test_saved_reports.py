@@ -7,8 +7,8 @@ import pytest
 
 from pdsuite.faults import Fault
 from pdsuite.programs.verdict import Row, Verdict
-from pdsuite.reports.as_json import JsonFormatter, script_text
-from pdsuite.reports.saved_reports import SavedReport, SavedRow, joined, read_report, reports_in
+from pdsuite.reports.as_json import JsonFormatter, script_json
+from pdsuite.reports.saved_reports import SavedReport, SavedRow, join_reports, parse_reports, read_reports_as_one
 from pdsuite.run.outcomes import Outcome, Totals
 from pdsuite.scripts.settings import Settings
 from pdsuite.scripts.shards import Shard
@@ -30,21 +30,21 @@ def written(outcomes: list[Outcome], shard: Shard | None = None) -> bytes:
     """A report as `pdsuite run --json` prints it."""
     form = JsonFormatter(shard)
     entries = [form.entry(number, it) for number, it in enumerate(outcomes, 1)]
-    parts = [form.head(len(outcomes)), *entries, form.foot(Totals.of(outcomes), 1.5)]
+    parts = [form.opening(len(outcomes)), *entries, form.summary(Totals.of_outcomes(outcomes), 1.5)]
     return "".join(it.plain for it in parts).encode()
 
 
 @pytest.mark.parametrize("row", ROWS, ids=str)
 def test_a_row_is_read_as_it_was_written(row: Row) -> None:
     outcome = Outcome("a.pkt", (("mss", 1000),), row, b"a line", "what it is", ("below",))
-    (report,) = reports_in("here", written([outcome]))
+    (report,) = parse_reports("here", written([outcome]))
     assert report == SavedReport("here", {"a.pkt": SavedRow(row)})
 
 
 def test_paths_are_as_people_see_them() -> None:
     octets = [b"a.pkt", b"a b/c.pkt", b"q\"uo'te.pkt", b"a\nb.pkt", b"\xff.pkt", b"a\\b.pkt", "grün.pkt".encode()]
     outcomes = [Outcome(it.decode("utf-8", "surrogateescape"), (), ROWS[0]) for it in octets]
-    assert list(reports_in("here", written(outcomes))[0].rows) == NAMES
+    assert list(parse_reports("here", written(outcomes))[0].rows) == NAMES
 
 
 SETTINGS: list[Settings] = [(), (("mss", 1000),), (("initial_window", "rfc6928"), ("sack", False))]
@@ -53,13 +53,13 @@ SETTINGS: list[Settings] = [(), (("mss", 1000),), (("initial_window", "rfc6928")
 @pytest.mark.parametrize("settings", SETTINGS, ids=str)
 @pytest.mark.parametrize("path", NAMES)
 def test_the_line_of_a_pass_is_the_one_of_its_values(settings: Settings, path: str) -> None:
-    line = script_text(Outcome("other.pkt", settings, Row(Verdict.PASS, 9)), path)
+    line = script_json(Outcome("other.pkt", settings, Row(Verdict.PASS, 9)), path)
     values = {"path": path, "verdict": "pass", "events": 9, "below": [], "settings": dict(settings)}
     assert line == json.dumps(values, ensure_ascii=False)
 
 
 def test_a_report_says_which_shard_it_is_of() -> None:
-    (report,) = reports_in("here", written([], Shard(2, 3)))
+    (report,) = parse_reports("here", written([], Shard(2, 3)))
     assert report == SavedReport("here", {}, frozenset((Shard(2, 3),)))
 
 
@@ -69,7 +69,7 @@ def test_a_report_of_an_older_pdsuite_is_read() -> None:
         b' another result", "below": ["call: x"], "settings": {}}\n], "total": {"scripts": 1, "pass": 0, "fail": 1,'
         b' "syntax": 0, "unsupported": 0, "limit": 0, "error": 0, "not run": 0}, "seconds": 0.05}\n'
     )
-    assert reports_in("here", old)[0].rows == {"a.pkt": SavedRow(Row(Verdict.FAIL, 2, "result"))}
+    assert parse_reports("here", old)[0].rows == {"a.pkt": SavedRow(Row(Verdict.FAIL, 2, "result"))}
 
 
 def a_script(**other: object) -> str:
@@ -118,7 +118,7 @@ OTHER: list[tuple[str | bytes, str]] = [
 @pytest.mark.parametrize(("text", "reason"), OTHER, ids=range(len(OTHER)))
 def test_all_else_is_refused_with_its_place(text: str | bytes, reason: str) -> None:
     with pytest.raises(Fault) as fault:
-        reports_in("here", text if isinstance(text, bytes) else text.encode("utf-8", "surrogatepass"))
+        parse_reports("here", text if isinstance(text, bytes) else text.encode("utf-8", "surrogatepass"))
     assert str(fault.value) == reason
 
 
@@ -128,15 +128,15 @@ def report(place: str, *paths: str, shard: Shard | None = None) -> SavedReport:
 
 def test_the_reports_of_shards_are_one() -> None:
     one, two = report("1", "a", "c", shard=Shard(1, 2)), report("2", "b", shard=Shard(2, 2))
-    whole = joined("new", [two, one])
+    whole = join_reports("new", [two, one])
     assert set(whole.rows) == {"a", "b", "c"}
-    assert (whole.place, sorted(whole.shards), whole.missing_shard()) == ("new", [Shard(1, 2), Shard(2, 2)], None)
+    assert (whole.place, sorted(whole.shards), whole.first_missing_shard()) == ("new", [Shard(1, 2), Shard(2, 2)], None)
 
 
 def test_the_first_shard_that_is_missing_is_named() -> None:
-    part = joined("new", [report("1", shard=Shard(number, 999_999_999)) for number in (1, 2, 4)])
-    assert part.missing_shard() == Shard(3, 999_999_999)
-    assert report("1", "a").missing_shard() is None
+    part = join_reports("new", [report("1", shard=Shard(number, 999_999_999)) for number in (1, 2, 4)])
+    assert part.first_missing_shard() == Shard(3, 999_999_999)
+    assert report("1", "a").first_missing_shard() is None
 
 
 APART = [
@@ -153,7 +153,7 @@ APART = [
 @pytest.mark.parametrize(("reports", "reason"), APART, ids=range(len(APART)))
 def test_reports_that_are_no_one_run_are_refused(reports: list[SavedReport], reason: str) -> None:
     with pytest.raises(Fault) as fault:
-        joined("new", reports)
+        join_reports("new", reports)
     assert str(fault.value) == reason
 
 
@@ -166,15 +166,15 @@ def test_a_file_holds_several_reports_and_a_folder_several_files(tmp_path: Path)
     (tmp_path / "in/two.json").write_bytes(written(outcomes("a")) + written(outcomes("b")))
     (tmp_path / "in/er/one.json").write_bytes(b"\n" + written(outcomes("c")))
     (tmp_path / "in/other.xml").write_bytes(b"<testsuites/>")
-    whole = read_report([tmp_path / "in"])
+    whole = read_reports_as_one([tmp_path / "in"])
     assert (set(whole.rows), whole.place) == ({"a", "b", "c"}, f"{tmp_path}/in")
 
 
 def test_a_folder_without_a_report_is_refused(tmp_path: Path) -> None:
     with pytest.raises(Fault, match=r"holds no file \*\.json$"):
-        read_report([tmp_path])
+        read_reports_as_one([tmp_path])
 
 
 def test_a_file_that_is_not_there_is_refused(tmp_path: Path) -> None:
     with pytest.raises(Fault, match=r"/none\.json: No such file or directory$"):
-        read_report([tmp_path / "none.json"])
+        read_reports_as_one([tmp_path / "none.json"])

@@ -5,7 +5,7 @@ from pathlib import Path
 
 import pytest
 
-from pdsuite.scripts.discover import find
+from pdsuite.scripts.discover import find_scripts
 from pdsuite.signals import Stop
 
 
@@ -13,7 +13,7 @@ def found(top: Path, *paths: str, only: tuple[str, ...] = ()) -> list[tuple[str,
     """What is found, with its fault, by paths from a folder."""
     with pytest.MonkeyPatch.context() as patch, Stop() as stop:
         patch.chdir(top)
-        return [(it.path, it.fault) for it in find(map(Path, paths), only, stop)]
+        return [(it.path, it.fault) for it in find_scripts(map(Path, paths), only, stop)]
 
 
 def names(top: Path, *paths: str, only: tuple[str, ...] = ()) -> list[str]:

@@ -4,11 +4,11 @@ from dataclasses import replace
 from typing import Any
 
 from pdsuite.commands.search import _side_oracles
-from pdsuite.compare.sides import Side, side_of
+from pdsuite.compare.sides import Side, make_side
 from pdsuite.programs.refusals import Refusal
-from pdsuite.scripts.config import Claim, option_of
+from pdsuite.scripts.config import Claim, layer_of_option
 from pdsuite.scripts.renamed import UNKNOWN_KEY
-from pdsuite.scripts.settings import settings_of
+from pdsuite.scripts.settings import sorted_settings
 
 
 class Oracle:
@@ -27,7 +27,7 @@ class FakeScreen:
     def __init__(self) -> None:
         self.noted: list[str] = []
 
-    def note(self, line: str) -> None:
+    def print_note(self, line: str) -> None:
         self.noted.append(line)
 
 
@@ -43,17 +43,20 @@ class NamedSender:
 
 def side(name: str) -> Side:
     sender: Any = NamedSender(name)
-    return side_of(sender, "", "--base-settings")
+    return make_side(sender, "", "--base-settings")
 
 
 def test_each_side_is_asked_without_the_keys_that_its_sender_lacks() -> None:
     """Those that are set for both, and those that inputs may set."""
     oracles: Any = (Oracle("early", "mss"), Oracle())
     screen: Any = FakeScreen()
-    common = option_of("early = 2\nlate = 3")
+    common = layer_of_option("early = 2\nlate = 3")
     before, after = _side_oracles(oracles, (side("old"), side("new")), common, screen)
     assert sorted(before.side.lacks) == ["early", "mss"] and not after.side.lacks
-    assert (before.side.settings((("early", 2), ("late", 3))), after.side.settings((("early", 2),))) == (
+    assert (
+        before.side.effective_settings((("early", 2), ("late", 3))),
+        after.side.effective_settings((("early", 2),)),
+    ) == (
         (("late", 3),),
         (("early", 2),),
     )
@@ -63,11 +66,11 @@ def test_each_side_is_asked_without_the_keys_that_its_sender_lacks() -> None:
 def test_a_key_that_a_sender_has_by_its_old_name_has_its_value_there() -> None:
     oracles: Any = (Oracle("abc_limit", "recovery_algorithm", "slow_start_after_idle", "restart_after_idle"), Oracle())
     screen: Any = FakeScreen()
-    common = option_of('abc_limit = 2\nrecovery_algorithm = "rfc9937"\nslow_start_after_idle = true')
+    common = layer_of_option('abc_limit = 2\nrecovery_algorithm = "rfc9937"\nslow_start_after_idle = true')
     old, new = _side_oracles(oracles, (side("old"), side("new")), common, screen)
-    given = settings_of(common.keys)
-    assert old.side.settings(given) == (("byte_counting", 2), ("recovery_rate", "prr"))
-    assert new.side.settings(given) == given and not new.side.renamed
+    given = sorted_settings(common.keys)
+    assert old.side.effective_settings(given) == (("byte_counting", 2), ("recovery_rate", "prr"))
+    assert new.side.effective_settings(given) == given and not new.side.renamed
     words = '"pipe" for "rfc6675", with "prr" for "rfc9937"'
     assert screen.noted == [
         "pdsuite: old: the setting abc_limit is byte_counting there",
@@ -77,6 +80,6 @@ def test_a_key_that_a_sender_has_by_its_old_name_has_its_value_there() -> None:
 
 
 def test_what_its_own_option_sets_comes_before_a_key_by_its_old_name() -> None:
-    layer = option_of("byte_counting = 3", "--base-settings")
+    layer = layer_of_option("byte_counting = 3", "--base-settings")
     renamed = replace(side("old"), option=layer, renamed=frozenset(["abc_limit"]))
-    assert renamed.settings((("abc_limit", 2),)) == (("byte_counting", 3),)
+    assert renamed.effective_settings((("abc_limit", 2),)) == (("byte_counting", 3),)

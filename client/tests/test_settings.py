@@ -8,9 +8,9 @@ from pathlib import Path
 import pytest
 
 from pdsuite.faults import Fault
-from pdsuite.scripts.config import Claim, SuiteConfig, layer_of, option_of
-from pdsuite.scripts.discover import find
-from pdsuite.scripts.settings import Settings, Value, set_words, settings_text
+from pdsuite.scripts.config import Claim, SuiteConfig, layer_of_option, parse_layer
+from pdsuite.scripts.discover import find_scripts
+from pdsuite.scripts.settings import Settings, Value, set_command_words, settings_as_toml
 from pdsuite.signals import Stop
 
 VALUES: list[tuple[Value, str]] = [
@@ -36,26 +36,26 @@ VALUES: list[tuple[Value, str]] = [
 
 @pytest.mark.parametrize(("value", "word"), VALUES)
 def test_a_value_is_one_word_or_one_that_no_key_takes(value: Value, word: str) -> None:
-    assert set_words("mss", value) == ("mss", word)
+    assert set_command_words("mss", value) == ("mss", word)
 
 
 @pytest.mark.parametrize("key", ["", "a b", "a\nb", "ü", "x" * 65])
 def test_a_key_that_is_no_word_becomes_one_that_is_no_key(key: str) -> None:
-    assert set_words(key, 1) == ("?", "1")
+    assert set_command_words(key, 1) == ("?", "1")
 
 
 def test_a_settings_text_is_toml() -> None:
     settings = (("initial_window", "rfc6928"), ("mss", 1000), ("sack", False))
-    assert settings_text(settings) == 'initial_window = "rfc6928"\nmss = 1000\nsack = false'
-    assert settings_text(()) == ""
+    assert settings_as_toml(settings) == 'initial_window = "rfc6928"\nmss = 1000\nsack = false'
+    assert settings_as_toml(()) == ""
 
 
 def suite_of(top: Path, paths: list[Path], option: str = "") -> dict[str, Settings]:
     """The settings of each script."""
-    suite = SuiteConfig(option_of(option))
+    suite = SuiteConfig(layer_of_option(option))
     with Stop() as stop:
-        found = find(paths, (), stop)
-    return {os.path.relpath(it.path, top): suite.settings(it) for it in found}
+        found = find_scripts(paths, (), stop)
+    return {os.path.relpath(it.path, top): suite.settings_of_script(it) for it in found}
 
 
 def make_suite(top: Path) -> None:
@@ -129,18 +129,18 @@ BROKEN = [
 @pytest.mark.parametrize(("octets", "reason"), BROKEN, ids=range(len(BROKEN)))
 def test_a_file_that_is_no_toml_is_a_fault_with_its_path(octets: bytes, reason: str) -> None:
     with pytest.raises(Fault) as fault:
-        layer_of("a/pdsuite.toml", octets)
+        parse_layer("a/pdsuite.toml", octets)
     assert str(fault.value).startswith(reason)
     assert str(fault.value).isprintable()
 
 
 def test_a_table_in_tables_of_any_depth_costs_nothing() -> None:
-    deep = layer_of("pdsuite.toml", b"[" + b".".join([b"a"] * 300) + b".pkt]")
+    deep = parse_layer("pdsuite.toml", b"[" + b".".join([b"a"] * 300) + b".pkt]")
     assert list(deep.keys) == ["a"] and not deep.tables
 
 
 def test_what_is_no_name_of_a_script_stays_a_key() -> None:
-    layer = layer_of("pdsuite.toml", b'pkt = {}\n[a]\nb = 1\n[c."d.pkt"]\n["e.pkt".pkt]\n["f.pkt"]\nmss = 9\n')
+    layer = parse_layer("pdsuite.toml", b'pkt = {}\n[a]\nb = 1\n[c."d.pkt"]\n["e.pkt".pkt]\n["f.pkt"]\nmss = 9\n')
     assert list(layer.keys) == ["pkt", "a", "c"]
     assert layer.tables == {"e.pkt": {"pkt": {}}, "f.pkt": {"mss": 9}}
 
@@ -171,34 +171,34 @@ REFUSED: list[tuple[str, Value, str, str]] = [
 
 @pytest.mark.parametrize(("key", "reason", "line"), HELPS, ids=[it[0] for it in HELPS])
 def test_a_refused_key_tells_what_it_takes_or_which_key_is_near(key: str, reason: str, line: str) -> None:
-    assert Claim("a/pdsuite.toml", "", key, 1).refused(reason) == f"a/pdsuite.toml: {line}"
+    assert Claim("a/pdsuite.toml", "", key, 1).refusal_line(reason) == f"a/pdsuite.toml: {line}"
 
 
 @pytest.mark.parametrize(("key", "value", "reason", "help_"), REFUSED, ids=[f"{it[0]} {it[1]}" for it in REFUSED])
 def test_a_refused_value_tells_what_would_be_taken(key: str, value: Value, reason: str, help_: str) -> None:
-    line = Claim("p", "", key, value).refused(reason)
+    line = Claim("p", "", key, value).refusal_line(reason)
     assert line == f"p: {key}: {reason}: {help_}"
 
 
 def test_what_helps_stands_after_the_table_and_is_of_its_place() -> None:
-    named = Claim("p", "a.pkt", "mss", 1).refused("BadValue")
+    named = Claim("p", "a.pkt", "mss", 1).refusal_line("BadValue")
     assert named == 'p: mss: BadValue (["a.pkt"]): it takes 64 to 65,495 octets'
-    assert Claim("p", "a.pkt", "roots", 1).refused("UnknownKey") == 'p: roots: UnknownKey (["a.pkt"])'
-    assert Claim("p", "a.pkt", "strick", 1).refused("UnknownKey").endswith(": the nearest is strict")
-    assert Claim("--settings", "", "root", 1).refused("UnknownKey") == "--settings: root: UnknownKey"
+    assert Claim("p", "a.pkt", "roots", 1).refusal_line("UnknownKey") == 'p: roots: UnknownKey (["a.pkt"])'
+    assert Claim("p", "a.pkt", "strick", 1).refusal_line("UnknownKey").endswith(": the nearest is strict")
+    assert Claim("--settings", "", "root", 1).refusal_line("UnknownKey") == "--settings: root: UnknownKey"
 
 
 def test_the_nearest_says_which_scripts_are_strict(tmp_path: Path) -> None:
     make_suite(tmp_path)
     (tmp_path / "pdsuite.toml").write_text('root = true\nstrict = true\n["top.pkt"]\nstrict = false\n')
     (tmp_path / "a/b/pdsuite.toml").write_text("strict = false\nmss = 9\n")
-    suite = SuiteConfig(option_of(""))
+    suite = SuiteConfig(layer_of_option(""))
     with Stop() as stop:
-        found = find([tmp_path], (), stop)
-    strict = {os.path.relpath(it.path, tmp_path): suite.is_strict(it) for it in found}
+        found = find_scripts([tmp_path], (), stop)
+    strict = {os.path.relpath(it.path, tmp_path): suite.is_script_strict(it) for it in found}
     assert strict == {"top.pkt": False, "a/one.pkt": True, "a/two.pkt": True, "a/b/one.pkt": False}
-    assert all("strict" not in dict(suite.settings(it)) for it in found)
-    assert all(it.key != "strict" for it in suite.claims())
+    assert all("strict" not in dict(suite.settings_of_script(it)) for it in found)
+    assert all(it.key != "strict" for it in suite.all_claims())
 
 
 def test_a_file_that_cannot_be_read_is_a_fault(tmp_path: Path) -> None:

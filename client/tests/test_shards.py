@@ -7,29 +7,29 @@ from pathlib import Path
 
 import pytest
 
-from pdsuite.scripts.discover import find
-from pdsuite.scripts.shards import Shard, members, parts, shard_of
+from pdsuite.scripts.discover import find_scripts
+from pdsuite.scripts.shards import Shard, parse_shard, scripts_of_shard, split_by_octets
 from pdsuite.signals import Stop
 from tests.helpers import Call, write
 
 
 def test_the_greatest_come_first_each_into_the_part_with_the_fewest_octets() -> None:
     octets = {"a": 10, "b": 60, "c": 30, "d": 50, "e": 40}
-    assert parts(octets, 2) == [["b", "c", "a"], ["d", "e"]]
-    assert parts(octets, 3) == [["b"], ["d", "a"], ["e", "c"]]
+    assert split_by_octets(octets, 2) == [["b", "c", "a"], ["d", "e"]]
+    assert split_by_octets(octets, 3) == [["b"], ["d", "a"], ["e", "c"]]
 
 
 def test_equal_ones_are_taken_in_the_order_of_their_octets() -> None:
-    assert parts({"ü": 1, "z": 1, "a": 1, "B": 1}, 2) == [["B", "z"], ["a", "ü"]]
+    assert split_by_octets({"ü": 1, "z": 1, "a": 1, "B": 1}, 2) == [["B", "z"], ["a", "ü"]]
 
 
 def test_scripts_without_octets_are_shared_by_their_number() -> None:
-    assert parts(dict.fromkeys("abcdef", 0), 3) == [["a", "d"], ["b", "e"], ["c", "f"]]
+    assert split_by_octets(dict.fromkeys("abcdef", 0), 3) == [["a", "d"], ["b", "e"], ["c", "f"]]
 
 
 def test_there_are_no_more_parts_than_names() -> None:
-    assert parts({"a": 1, "b": 2}, 999_999_999) == [["b"], ["a"]]
-    assert parts({}, 3) == []
+    assert split_by_octets({"a": 1, "b": 2}, 999_999_999) == [["b"], ["a"]]
+    assert split_by_octets({}, 3) == []
 
 
 def random_suite(chance: random.Random) -> Mapping[str, int]:
@@ -43,19 +43,19 @@ def test_each_name_is_in_one_part_and_no_part_has_a_script_more_than_another(see
     chance = random.Random(seed)
     octets = random_suite(chance)
     count = chance.randrange(1, 12)
-    each = parts(octets, count)
+    each = split_by_octets(octets, count)
     assert sorted(name for part in each for name in part) == sorted(octets)
     loads = [sum(octets[name] for name in part) for part in each]
     assert max(loads) - min(loads) <= max(octets.values())
     shuffled = list(octets)
     chance.shuffle(shuffled)
-    assert parts({name: octets[name] for name in shuffled}, count) == each
+    assert split_by_octets({name: octets[name] for name in shuffled}, count) == each
 
 
 @pytest.mark.parametrize("words", ["1/1", "1/3", "3/3", "7/999999999", "01/02"])
 def test_a_shard_is_two_numbers(words: str) -> None:
     first, last = map(int, words.split("/"))
-    assert shard_of(words) == Shard(first, last)
+    assert parse_shard(words) == Shard(first, last)
 
 
 WRONG = [
@@ -79,15 +79,15 @@ WRONG = [
 
 @pytest.mark.parametrize("words", WRONG, ids=range(len(WRONG)))
 def test_all_else_is_none(words: str) -> None:
-    assert shard_of(words) is None
+    assert parse_shard(words) is None
 
 
 def shards_of(folder: Path, *paths: str, count: int) -> list[list[str]]:
     """What each shard has, from a folder."""
     with pytest.MonkeyPatch.context() as patch, Stop() as stop:
         patch.chdir(folder)
-        found = find(map(Path, paths), (), stop)
-        return [[it.path for it in members(found, Shard(number, count))] for number in range(1, count + 1)]
+        found = find_scripts(map(Path, paths), (), stop)
+        return [[it.path for it in scripts_of_shard(found, Shard(number, count))] for number in range(1, count + 1)]
 
 
 def make_suite(top: Path) -> None:

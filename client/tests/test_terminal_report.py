@@ -19,7 +19,7 @@ from pdsuite.compare.comparison import ComparedScript, ComparisonKind
 from pdsuite.compare.divergence import Divergence, PlayedEvent
 from pdsuite.programs.verdict import Row, Verdict
 from pdsuite.run.outcomes import Outcome
-from pdsuite.scripts.text import text_of
+from pdsuite.scripts.text import make_text
 from pdsuite.watch.folder_moves import moves_of
 from pdsuite.watch.plan_changes import WantedScript
 from pdsuite.watch.terminal_report import TerminalReport
@@ -43,12 +43,12 @@ def report(row: Row, *paths: str) -> Report:
 
 
 def texts(**texts: bytes) -> Mapping[str, WantedScript]:
-    return {path.replace("__", "/"): WantedScript((), text_of(text)) for path, text in texts.items()}
+    return {path.replace("__", "/"): WantedScript((), make_text(text)) for path, text in texts.items()}
 
 
 def texts_of(outcomes: Report) -> Mapping[str, WantedScript]:
     """A text for each script that only its name decides."""
-    return {path: WantedScript((), text_of(path.split("/")[-1].encode())) for path in outcomes}
+    return {path: WantedScript((), make_text(path.split("/")[-1].encode())) for path in outcomes}
 
 
 def live(width: int = 80) -> TerminalReport:

@@ -5,9 +5,9 @@ import re
 
 import pytest
 
-from pdsuite.scripts.defaults import DEFAULTS, KEYS, can_be_set, changed_keys
+from pdsuite.scripts.defaults import DEFAULTS, KEYS, can_switch_settings, changed_settings
 from pdsuite.scripts.settings import Value
-from pdsuite.scripts.text import Text, text_of
+from pdsuite.scripts.text import Text, make_text
 from pdsuite.scripts.text_edit import Edit, edit_between
 from tests.helpers import TOP
 
@@ -34,7 +34,7 @@ from tests.helpers import TOP
     ids=range(11),
 )
 def test_what_lies_between_equal_first_and_last_lines_is_replaced(old: bytes, new: bytes, edit: Edit) -> None:
-    assert edit_between(text_of(old), text_of(new)) == edit
+    assert edit_between(make_text(old), make_text(new)) == edit
 
 
 def test_the_edit_of_two_texts_makes_one_of_the_other_and_touches_no_equal_line() -> None:
@@ -64,7 +64,9 @@ def test_the_defaults_are_those_of_the_page_on_settings() -> None:
 def test_what_keys_take_is_what_the_page_on_settings_says() -> None:
     pattern = r"^\| `([a-z_]+)` \| ([a-z]*) *\| ([^|]*) \|"
     rows = re.findall(pattern, (TOP / "docs/SETTINGS.md").read_text(), re.M)
-    assert {key: _range(unit, words) for key, unit, words in rows} == {key: it.takes for key, it in KEYS.items()}
+    assert {key: _range(unit, words) for key, unit, words in rows} == {
+        key: it.accepted_values for key, it in KEYS.items()
+    }
 
 
 def _range(unit: str, words: str) -> str:
@@ -83,11 +85,15 @@ def _value(word: str) -> Value:
 def test_a_key_that_goes_has_its_default_and_one_that_stays_is_not_set() -> None:
     old = (("mss", 1_000), ("nagle", False), ("sack", True))
     new = (("initial_window", "rfc5681"), ("min_rto_us", 5_000), ("nagle", False))
-    assert list(changed_keys(old, new)) == [("min_rto_us", 5_000), ("mss", 1_460)]
+    assert list(changed_settings(old, new)) == [("min_rto_us", 5_000), ("mss", 1_460)]
 
 
 def test_a_key_without_a_known_default_can_be_set_but_not_taken_back() -> None:
     later = (("later", 1),)
-    assert list(changed_keys((), later)) == [("later", 1)]
-    assert can_be_set((), later) and can_be_set(later, (("later", 2),)) and can_be_set((("mss", 9),), later)
-    assert not can_be_set(later, ())
+    assert list(changed_settings((), later)) == [("later", 1)]
+    assert (
+        can_switch_settings((), later)
+        and can_switch_settings(later, (("later", 2),))
+        and can_switch_settings((("mss", 9),), later)
+    )
+    assert not can_switch_settings(later, ())

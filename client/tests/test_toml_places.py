@@ -2,7 +2,7 @@
 
 import pytest
 
-from pdsuite.scripts.toml_places import places_in
+from pdsuite.scripts.toml_places import find_toml_places
 
 TEXT = '''# mss = 1
 root = true
@@ -41,11 +41,15 @@ PLACES = [
 
 @pytest.mark.parametrize(("table", "key", "line"), PLACES, ids=[f"{it[0]} {it[1]}" for it in PLACES])
 def test_the_line_of_a_key(table: str, key: str, line: int | None) -> None:
-    places = places_in("t/pdsuite.toml", TEXT)
-    assert places.line(table, key) == line
-    assert places.at(table, key) == ("t/pdsuite.toml" if line is None else f"t/pdsuite.toml:{line}")
+    places = find_toml_places("t/pdsuite.toml", TEXT)
+    assert places.line_of(table, key) == line
+    assert places.file_and_line(table, key) == ("t/pdsuite.toml" if line is None else f"t/pdsuite.toml:{line}")
 
 
 def test_a_table_in_a_line_is_where_its_name_stands() -> None:
-    places = places_in("p", '"a.pkt" = {mss = 1}\n"b.pkt".mss = 2\n[[c]]\n')
-    assert (places.at("a.pkt", "mss"), places.at("b.pkt", "mss"), places.at("", "c")) == ("p:1", "p:2", "p:3")
+    places = find_toml_places("p", '"a.pkt" = {mss = 1}\n"b.pkt".mss = 2\n[[c]]\n')
+    assert (
+        places.file_and_line("a.pkt", "mss"),
+        places.file_and_line("b.pkt", "mss"),
+        places.file_and_line("", "c"),
+    ) == ("p:1", "p:2", "p:3")

@@ -6,9 +6,9 @@ import tomllib
 import pytest
 
 from pdsuite.faults import Fault
-from pdsuite.scripts.config import layer_of
+from pdsuite.scripts.config import parse_layer
 from pdsuite.scripts.expectation import Expectation
-from pdsuite.scripts.toml_text import edited
+from pdsuite.scripts.toml_text import edit_expectations
 
 SEQ = Expectation("fail 12 seq", 'the peer\'s "window"')
 WRITTEN = 'expect = "fail 12 seq"\nreason = "the peer\'s \\"window\\""\n'
@@ -37,12 +37,12 @@ reason = "x"
 
 
 def test_a_new_table_comes_last() -> None:
-    assert edited("here", FILE, {"d.pkt": SEQ}) == f'{FILE}\n["d.pkt"]\n{WRITTEN}'
+    assert edit_expectations("here", FILE, {"d.pkt": SEQ}) == f'{FILE}\n["d.pkt"]\n{WRITTEN}'
 
 
 def test_a_row_comes_after_the_last_key_of_its_table() -> None:
     new = FILE.replace("mss = 1200 # as there\n", f"mss = 1200 # as there\n{WRITTEN}")
-    assert edited("here", FILE, {"a.pkt": SEQ}) == new
+    assert edit_expectations("here", FILE, {"a.pkt": SEQ}) == new
 
 
 def test_a_row_takes_the_place_of_another_and_leaves_its_comment() -> None:
@@ -50,26 +50,26 @@ def test_a_row_takes_the_place_of_another_and_leaves_its_comment() -> None:
         'expect = "fail 3"    # flaky\nreason = "old"\n',
         'expect = "fail 12 seq"    # flaky\nreason = "the peer\'s \\"window\\""\n',
     )
-    assert edited("here", FILE, {"b.pkt": SEQ}) == new
+    assert edit_expectations("here", FILE, {"b.pkt": SEQ}) == new
 
 
 def test_a_row_goes_and_the_settings_of_its_table_stay() -> None:
     new = FILE.replace('expect = "fail 3"    # flaky\nreason = "old"\n', "")
-    assert edited("here", FILE, {"b.pkt": None}) == new
+    assert edit_expectations("here", FILE, {"b.pkt": None}) == new
 
 
 def test_a_table_that_says_nothing_more_goes_and_leaves_its_comments() -> None:
     new = FILE.replace('["c.pkt"]\n# Only this.\nexpect = "fail 4"\nreason = "x"\n', "# Only this.\n")
-    assert edited("here", FILE, {"c.pkt": None}) == new
+    assert edit_expectations("here", FILE, {"c.pkt": None}) == new
 
 
 def test_what_was_not_there_is_not_taken_away() -> None:
-    assert edited("here", FILE, {"a.pkt": None, "d.pkt": None}) == FILE
+    assert edit_expectations("here", FILE, {"a.pkt": None, "d.pkt": None}) == FILE
 
 
 def test_all_at_once() -> None:
-    new = edited("here", FILE, {"a.pkt": SEQ, "b.pkt": None, "c.pkt": None, "d.pkt": SEQ, "e.pkt": SEQ})
-    layer = layer_of("here", new.encode())
+    new = edit_expectations("here", FILE, {"a.pkt": SEQ, "b.pkt": None, "c.pkt": None, "d.pkt": SEQ, "e.pkt": SEQ})
+    layer = parse_layer("here", new.encode())
     assert layer.expected == dict.fromkeys(("a.pkt", "d.pkt", "e.pkt"), Expectation(SEQ.row, SEQ.reason))
     assert layer.tables == {"a.pkt": {"mss": 1200}, "b.pkt": {"sack": False}, "d.pkt": {}, "e.pkt": {}}
     assert (layer.is_root, layer.keys) == (True, {"mss": 1000})
@@ -93,7 +93,7 @@ TEXTS = [
 
 @pytest.mark.parametrize(("text", "new"), TEXTS, ids=range(len(TEXTS)))
 def test_a_row_is_written_into_a_text_of_any_layout(text: str, new: str) -> None:
-    assert edited("here", text, {"a.pkt": SEQ}) == new
+    assert edit_expectations("here", text, {"a.pkt": SEQ}) == new
 
 
 GOING = [
@@ -107,12 +107,12 @@ GOING = [
 
 @pytest.mark.parametrize(("text", "new"), GOING, ids=range(len(GOING)))
 def test_a_row_is_taken_away_whatever_the_layout(text: str, new: str) -> None:
-    assert edited("here", text, {"a.pkt": None}) == new
+    assert edit_expectations("here", text, {"a.pkt": None}) == new
 
 
 def test_a_table_on_one_line_is_edited_there() -> None:
-    new = edited("here", '"a.pkt" = { mss = 5 } # so\n', {"a.pkt": SEQ})
-    assert layer_of("here", new.encode()).expected == {"a.pkt": SEQ}
+    new = edit_expectations("here", '"a.pkt" = { mss = 5 } # so\n', {"a.pkt": SEQ})
+    assert parse_layer("here", new.encode()).expected == {"a.pkt": SEQ}
     assert new.startswith('"a.pkt" = { mss = 5, expect') and new.endswith("} # so\n") and new.count("\n") == 1
 
 
@@ -121,7 +121,7 @@ def test_a_table_on_one_line_is_edited_there() -> None:
 )
 def test_a_table_that_cannot_be_edited_is_told(text: str) -> None:
     with pytest.raises(Fault) as fault:
-        edited("here", text, {"a.pkt": SEQ})
+        edit_expectations("here", text, {"a.pkt": SEQ})
     assert str(fault.value) == 'here: what it says of ["a.pkt"] can\'t be edited: do it by hand'
 
 
@@ -140,9 +140,9 @@ NAMES = [
 
 
 def test_names_of_any_characters_are_keys() -> None:
-    text = edited("here", "", dict.fromkeys(NAMES, SEQ))
-    assert layer_of("here", text.encode()).expected == dict.fromkeys(NAMES, SEQ)
-    assert edited("here", text, dict.fromkeys(NAMES)) == ""
+    text = edit_expectations("here", "", dict.fromkeys(NAMES, SEQ))
+    assert parse_layer("here", text.encode()).expected == dict.fromkeys(NAMES, SEQ)
+    assert edit_expectations("here", text, dict.fromkeys(NAMES)) == ""
 
 
 def random_text(chance: random.Random) -> str:
@@ -163,8 +163,8 @@ def test_of_random_files_nothing_is_lost(seed: int) -> None:
     chance = random.Random(seed)
     text = random_text(chance)
     edits = {f"{it}.pkt": chance.choice((SEQ, None)) for it in chance.sample("abcdefghij", chance.randrange(10))}
-    new = edited("here", text, edits)
-    before, after = layer_of("here", text.encode()), layer_of("here", new.encode())
+    new = edit_expectations("here", text, edits)
+    before, after = parse_layer("here", text.encode()), parse_layer("here", new.encode())
     expected: dict[str, Expectation | None] = {**before.expected, **edits}
     assert after.expected == {name: it for name, it in expected.items() if it is not None}
     assert {name: it for name, it in after.tables.items() if it} == {
@@ -176,4 +176,4 @@ def test_of_random_files_nothing_is_lost(seed: int) -> None:
             assert new.count(line) == text.count(line)
     names = [name for name in tomllib.loads(text) if name in after.tables]
     assert [name for name in after.tables if name in names] == names
-    assert edited("here", new, edits) == new
+    assert edit_expectations("here", new, edits) == new

@@ -8,15 +8,23 @@ from xml.etree import ElementTree
 
 import pytest
 
-from pdsuite.programs.batch_protocol import Answer, Case, answer_of, answers_in, batches_of, input_of, parts_in
+from pdsuite.programs.batch_protocol import (
+    Answer,
+    Case,
+    answer_from_status,
+    batch_input,
+    parse_batch_answers,
+    split_into_batches,
+    take_length_prefixed,
+)
 from pdsuite.programs.program import ProgramEndedError
 from pdsuite.programs.protocol import UnexpectedAnswerError
-from pdsuite.programs.refusals import distinct_pairs, refused_at_once
+from pdsuite.programs.refusals import distinct_key_values, refusals_in_answer
 from pdsuite.programs.verdict import Row, Verdict
 from pdsuite.run.batches import Script
-from pdsuite.run.unproved_run import StartBatch, explained_rows, read_answers, start_batches
+from pdsuite.run.unproved_run import StartBatch, explained_rows, read_answers, split_into_start_batches
 from pdsuite.scripts.config import Claim
-from pdsuite.scripts.text import Text, text_of
+from pdsuite.scripts.text import Text, make_text
 from tests.helpers import TOP, ends, is_alive, wait_for, write
 from tests.tree_fixture import Tree
 
@@ -32,32 +40,32 @@ def tree(tmp_path: Path) -> Tree:
 
 def loaded(*texts: bytes) -> list[tuple[Script, Text | str]]:
     """Scripts with these texts."""
-    return [(Script(index, f"{index}.pkt", ()), text_of(text)) for index, text in enumerate(texts)]
+    return [(Script(index, f"{index}.pkt", ()), make_text(text)) for index, text in enumerate(texts)]
 
 
 def batch(*texts: bytes) -> StartBatch:
     """The one batch of scripts with these texts."""
-    (only,) = start_batches(loaded(*texts))
+    (only,) = split_into_start_batches(loaded(*texts))
     return only
 
 
 def test_settings_are_commands_before_the_scripts() -> None:
     script = Script(0, "a.pkt", (("mss", 1000), ("nagle", False), ("initial_window", "rfc6928")))
-    (only,) = start_batches([(script, text_of(b"one\ntwo\n"))])
-    assert only.given() == b"set mss 1000\nset nagle false\nset initial_window rfc6928\nadd s0 2\none\ntwo\n"
+    (only,) = split_into_start_batches([(script, make_text(b"one\ntwo\n"))])
+    assert only.input_commands() == b"set mss 1000\nset nagle false\nset initial_window rfc6928\nadd s0 2\none\ntwo\n"
 
 
 def test_a_script_that_cannot_be_read_is_in_no_batch() -> None:
     scripts: list[tuple[Script, Text | str]] = [(Script(0, "a.pkt", ()), "Is a directory"), *loaded(b"x\n")]
-    assert [[script.path for script, _ in it.scripts] for it in start_batches(scripts)] == [["0.pkt"]]
-    assert start_batches(scripts[:1]) == []
+    assert [[script.path for script, _ in it.scripts] for it in split_into_start_batches(scripts)] == [["0.pkt"]]
+    assert split_into_start_batches(scripts[:1]) == []
 
 
 def test_scripts_of_which_much_may_be_told_are_in_several_batches() -> None:
     # 4,096 and 61,440 octets are expected of each: eight have just the room of a start.
     long = b"x" * 61_439 + b"\n"
-    assert [len(it.scripts) for it in start_batches(loaded(*[long] * 17))] == [8, 8, 1]
-    assert [len(it.scripts) for it in start_batches(loaded(*[b"x\n"] * 64))] == [64]
+    assert [len(it.scripts) for it in split_into_start_batches(loaded(*[long] * 17))] == [8, 8, 1]
+    assert [len(it.scripts) for it in split_into_start_batches(loaded(*[b"x\n"] * 64))] == [64]
 
 
 def test_rows_and_what_is_told_come_to_their_scripts() -> None:
@@ -90,35 +98,37 @@ def test_a_batch_without_an_answer_is_kept_with_the_reason() -> None:
 
 def test_each_setting_is_asked_once_and_each_claim_of_a_refused_one_is_told() -> None:
     claims = [Claim(place, "", key, value) for place, key, value in (("a", "mss", 0), ("b", "mss", 0), ("b", "x", 1))]
-    assert distinct_pairs(claims) == [("mss", "0"), ("x", "1")]
+    assert distinct_key_values(claims) == [("mss", "0"), ("x", "1")]
     answer = b"refused 4 BadValue\n" + TOTAL % 0 + TOTAL % 0 + TOTAL % 0
-    lines = [it.line for it in refused_at_once(claims, answer)]
+    lines = [it.refusal_line for it in refusals_in_answer(claims, answer)]
     assert [line.split(": ")[:3] for line in lines] == [["a", "mss", "BadValue"], ["b", "mss", "BadValue"]]
     with pytest.raises(ProgramEndedError):
-        refused_at_once(claims, answer + TOTAL % 0)
+        refusals_in_answer(claims, answer + TOTAL % 0)
 
 
 def test_a_start_that_ends_by_a_fault_has_no_answer() -> None:
-    assert answer_of(b"rows", b"told", "1") == Answer(b"rows", b"told")
-    assert answer_of(b"rows", b"x\npdregress: 19 OutOfMemory\n", "2") == Answer(b"", b"", "pdregress: 19 OutOfMemory")
+    assert answer_from_status(b"rows", b"told", "1") == Answer(b"rows", b"told")
+    assert answer_from_status(b"rows", b"x\npdregress: 19 OutOfMemory\n", "2") == Answer(
+        b"", b"", "pdregress: 19 OutOfMemory"
+    )
     refused = b"error: unexpected argument '-x' found\n\nFor more information, try '--help'.\n"
-    assert answer_of(b"", refused, "2") == Answer(b"", b"", "error: unexpected argument '-x' found")
-    assert answer_of(b"", b"", "2") == Answer(b"", b"", "ended with status 2")
-    assert answer_of(b"rows", b"told", "TooSlow: it took long") == Answer(b"", b"", "TooSlow: it took long")
+    assert answer_from_status(b"", refused, "2") == Answer(b"", b"", "error: unexpected argument '-x' found")
+    assert answer_from_status(b"", b"", "2") == Answer(b"", b"", "ended with status 2")
+    assert answer_from_status(b"rows", b"told", "TooSlow: it took long") == Answer(b"", b"", "TooSlow: it took long")
 
 
 def test_starts_share_a_run_as_far_as_its_room_goes_but_for_those_that_are_to_be_alone() -> None:
     small, large, alone = Case(("a",), b"x"), Case(("b",), b"y", 500_000), Case(("c",), b"z", is_alone=True)
     cases = [small, small, large, alone, small, large, large]
-    assert list(batches_of(cases)) == [[small, small, large], [alone], [small, large], [large]]
-    assert list(batches_of([])) == []
+    assert list(split_into_batches(cases)) == [[small, small, large], [alone], [small, large], [large]]
+    assert list(split_into_batches([])) == []
 
 
 def test_a_run_gets_the_words_and_inputs_of_its_starts_and_answers_each() -> None:
     cases = [Case(("pdrecord", "--settings", "a = 1\nb = 2"), b"one\n"), Case(("pdregress",), b"")]
-    assert input_of(cases) == b"31\npdrecord\0--settings\0a = 1\nb = 24\none\n9\npdregress0\n"
+    assert batch_input(cases) == b"31\npdrecord\0--settings\0a = 1\nb = 24\none\n9\npdregress0\n"
     output = b"2\n+0" b"0\n" b"2\n0\n" b"0\n" b"9\na: 19 Out" b"2\n2\n"
-    assert answers_in(output, b"", "0", 2) == [Answer(b"+0", b""), Answer(b"", b"", "a: 19 Out")]
+    assert parse_batch_answers(output, b"", "0", 2) == [Answer(b"+0", b""), Answer(b"", b"", "a: 19 Out")]
 
 
 @pytest.mark.parametrize(
@@ -126,15 +136,15 @@ def test_a_run_gets_the_words_and_inputs_of_its_starts_and_answers_each() -> Non
     [(b"", "Faulted: a failed unwrap", "Faulted: a failed unwrap"), (b"2\n+0", "0", "ended with status 0")],
 )
 def test_a_run_without_an_answer_has_none_for_its_starts(output: bytes, status: str, why: str) -> None:
-    assert answers_in(output, b"", status, 1) == [Answer(b"", b"", why)]
-    assert answers_in(output, b"", status, 2) == [Answer(b"", b"", why, True)] * 2
+    assert parse_batch_answers(output, b"", status, 1) == [Answer(b"", b"", why)]
+    assert parse_batch_answers(output, b"", status, 2) == [Answer(b"", b"", why, True)] * 2
 
 
 def test_parts_are_taken_once_they_are_whole() -> None:
     octets = bytearray(b"2\nab3\nx")
-    assert (list(parts_in(octets)), octets) == ([b"ab"], b"3\nx")
+    assert (list(take_length_prefixed(octets)), octets) == ([b"ab"], b"3\nx")
     octets += b"yz0\n1"
-    assert (list(parts_in(octets)), octets) == ([b"xyz", b""], b"1")
+    assert (list(take_length_prefixed(octets)), octets) == ([b"xyz", b""], b"1")
 
 
 def test_what_is_built_stands_on_the_libraries_of_both_programs() -> None:

@@ -11,11 +11,11 @@ import pytest
 
 from pdsuite.file_stamps import StampedValue
 from pdsuite.scripts.discover import ScriptFile
-from pdsuite.scripts.text import Text, text_of
+from pdsuite.scripts.text import Text, make_text
 from pdsuite.watch.watched_files import GRACE, Update, WatchedFile, WatchedFiles, is_other, update_of, watched_file
 from pdsuite.watch.watched_files import watched_files
 
-ONE, TWO = text_of(b"one\n"), text_of(b"two\n")
+ONE, TWO = make_text(b"one\n"), make_text(b"two\n")
 
 
 def file_of(path: str, text: Text | str, torn: bool = False, inode: int | None = None) -> WatchedFile:

@@ -5,15 +5,15 @@ from dataclasses import dataclass, field
 from pathlib import Path
 from typing import cast
 
-from pdsuite.output.octets import shown_path
+from pdsuite.output.octets import printable_path
 from pdsuite.output.screen import Screen
 from pdsuite.output.styled_text import StyledText
 from pdsuite.programs.program import Program
 from pdsuite.run.batches import Script
-from pdsuite.run.run_batches import load
-from pdsuite.scripts.config import Claim, SuiteConfig, option_of
-from pdsuite.scripts.discover import find
-from pdsuite.scripts.settings import Settings, set_words
+from pdsuite.run.run_batches import load_script_text
+from pdsuite.scripts.config import Claim, SuiteConfig, layer_of_option
+from pdsuite.scripts.discover import find_scripts
+from pdsuite.scripts.settings import Settings, set_command_words
 from pdsuite.scripts.text import Text
 from pdsuite.signals import Stop
 from pdsuite.watch.change_report import ChangeReport
@@ -37,16 +37,16 @@ class Paper:
     def show(self, text: StyledText) -> None:
         self.parts.append(text.plain)
 
-    def note(self, line: str) -> None:
+    def print_note(self, line: str) -> None:
         self.notes.append(line)
 
-    def bottom(self, line: str) -> None:
+    def keep_bottom_line(self, line: str) -> None:
         """Nobody looks."""
 
 
 def refused(claims: Iterable[Claim]) -> list[str]:
     """What a program says of settings, as far as these tests have any."""
-    return [it.refused("BadValue") for it in claims if set_words(it.key, it.value)[1] == "7"]
+    return [it.refusal_line("BadValue") for it in claims if set_command_words(it.key, it.value)[1] == "7"]
 
 
 @dataclass
@@ -62,11 +62,11 @@ class WatchFixture:
     now: float = 1_000.0
 
     def __post_init__(self) -> None:
-        self.settings_files = SettingsFiles(option_of(""), refused, self.paper.note)
+        self.settings_files = SettingsFiles(layer_of_option(""), refused, self.paper.print_note)
         self.folders = Folders(
-            WatchChoice([self.top], ()), self.settings_files, self.watcher, self.stop, self.paper.note
+            WatchChoice([self.top], ()), self.settings_files, self.watcher, self.stop, self.paper.print_note
         )
-        self.fleet = LivePool(self._start, self.paper.note, lambda doing: None)
+        self.fleet = LivePool(self._start, self.paper.print_note, lambda doing: None)
         self.view = View(cast(Screen, self.paper), FakeExplainer(), True, ChangeReport())
 
     def _start(self, settings: Settings) -> Program:
@@ -91,12 +91,12 @@ class WatchFixture:
     def truth(self) -> dict[str, str]:
         """The rows that a run of the folder as it is would show."""
         rows = {}
-        suite = SuiteConfig(option_of(""))
-        for found in find([self.top], (), self.stop):
-            text = load(Script(0, found.path, (), found.fault))
-            place = shown_path(found.path)
+        suite = SuiteConfig(layer_of_option(""))
+        for found in find_scripts([self.top], (), self.stop):
+            text = load_script_text(Script(0, found.path, (), found.fault))
+            place = printable_path(found.path)
             if isinstance(text, Text):
-                settings = suite.settings(found)
+                settings = suite.settings_of_script(found)
                 row = row_of(text.octets, settings_words(settings))
                 row_text = f"{place}:{row.line}: {row}: {meaning_of(text.octets, settings)}"
                 rows[place] = f"{place}: {row}" if row.line is None else row_text

@@ -11,8 +11,8 @@ from typing import Any
 from kernel.script import TimedEvent
 from pdsuite.faults import Fault
 from pdsuite.packetdrill.items import Packet
-from pdsuite.scripts.config import OPTION, Claim, old_names
-from pdsuite.scripts.toml_places import TomlPlaces, places_in
+from pdsuite.scripts.config import OPTION, Claim, old_name_refusals
+from pdsuite.scripts.toml_places import TomlPlaces, find_toml_places
 
 NO_MSS = 536
 
@@ -75,13 +75,13 @@ def settings_of(path: Path, text: str, option: str = "") -> KernelSettings:
 
 def refuse_old_names(claims: Iterable[Claim]) -> None:
     """Raises a fault where a key or a word has another name now."""
-    for line in old_names(claims):
+    for line in old_name_refusals(claims):
         raise Fault(line)
 
 
 def claims_in(places: TomlPlaces, table: Mapping[str, Any], name: str = "") -> Iterator[Claim]:
     """The keys of a table with their places."""
-    return (Claim(places.at(name, key), name, key, value) for key, value in table.items())
+    return (Claim(places.file_and_line(name, key), name, key, value) for key, value in table.items())
 
 
 def comments_in(text: str) -> Iterator[tuple[int, str, Any]]:
@@ -112,7 +112,7 @@ def tables_of(path: Path) -> Iterator[dict[str, Any]]:
         if not file.is_file():
             continue
         text = file.read_text()
-        whole, places = tomllib.loads(text), places_in(str(file), text)
+        whole, places = tomllib.loads(text), find_toml_places(str(file), text)
         if folder == path.parent and isinstance(whole.get(path.name), dict):
             refuse_old_names(claims_in(places, whole[path.name], path.name))
             yield whole[path.name]

@@ -4,7 +4,7 @@ A command's module has its options as a frozen dataclass (`RunOptions`, `Compare
 names of click's options, and one function that does the command and answers the exit status. `main` has the options'
 texts.
 
-    main --RunOptions--> run.run --> collect, batches, a Mapper --> Report, files, page --> exit status
+    main --RunOptions--> run.run_scripts --> collect, batches, a Mapper --> Report, files, page --> exit status
 
 - `options` has what several commands take, `report_files` the flags that may have a file, `renamed` the old names.
 - The statuses are 0 where all is well, 1 where a script fails or something differs, 2 where something couldn't be

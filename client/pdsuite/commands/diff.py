@@ -6,36 +6,36 @@ from collections.abc import Iterable, Sequence
 from pathlib import Path
 
 from pdsuite.faults import Fault
-from pdsuite.output.octets import shown_path
+from pdsuite.output.octets import printable_path
 from pdsuite.output.screen import Screen
-from pdsuite.output.styled_text import StyledText, unstyled
-from pdsuite.reports.report_cache import newest
+from pdsuite.output.styled_text import StyledText, unstyled_text
+from pdsuite.reports.report_cache import newest_report_covering
 from pdsuite.reports.row_changes import RowChange, RowChangeKind, row_changes
-from pdsuite.reports.saved_reports import SavedReport, read_report
+from pdsuite.reports.saved_reports import SavedReport, read_reports_as_one
 
 _STYLES = {RowChangeKind.AGAIN: "green", RowChangeKind.NEW: "", RowChangeKind.GONE: "dim", RowChangeKind.NOT_RUN: "dim"}
 _WORSE = "bold red"
 
 
-def diff(old: Path, new: Sequence[Path], screen: Screen) -> int:
+def diff_reports(old: Path, new: Sequence[Path], screen: Screen) -> int:
     """Shows what turned, and answers the exit status: 1 where something got worse."""
-    before = read_report([old])
+    before = read_reports_as_one([old])
     if new:
-        now = read_report(new)
+        now = read_reports_as_one(new)
     else:
-        before, now = _beside_the_last(before)
-    _refuse(before, now)
+        before, now = _with_last_report(before)
+    _refuse_incomparable(before, now)
     turned = row_changes(before.rows, now.rows)
     same = len({**before.rows, **now.rows}) - len(turned)
-    screen.show(_text(turned, same))
+    screen.show(_changes_text(turned, same))
     return 1 if any(it.is_worse for it in turned) else 0
 
 
-def _beside_the_last(before: SavedReport) -> tuple[SavedReport, SavedReport]:
+def _with_last_report(before: SavedReport) -> tuple[SavedReport, SavedReport]:
     """A report, and the last one that was kept of its scripts, with paths from the working folder in both."""
-    here = shown_path(os.getcwd()).rstrip("/") + "/"
+    here = printable_path(os.getcwd()).rstrip("/") + "/"
     whole = {os.path.normpath(os.path.join(here, path)): it for path, it in before.rows.items()}
-    now = newest(whole)
+    now = newest_report_covering(whole)
     if now is None:
         raise Fault(f"{before.place}: no run has left a report of all these scripts: run them, or name a second report")
     return (
@@ -44,34 +44,34 @@ def _beside_the_last(before: SavedReport) -> tuple[SavedReport, SavedReport]:
     )
 
 
-def _refuse(before: SavedReport, now: SavedReport) -> None:
+def _refuse_incomparable(before: SavedReport, now: SavedReport) -> None:
     """Raises a fault where two reports can't be compared."""
     if before.shards != now.shards:
         for report in (before, now):
-            if (shard := report.missing_shard()) is not None:
+            if (shard := report.first_missing_shard()) is not None:
                 raise Fault(f"{report.place}: the report of shard {shard} is missing")
     if (before.rows or now.rows) and before.rows.keys().isdisjoint(now.rows):
         raise Fault(f"{before.place} and {now.place} have no script in common: paths count as they stand there")
 
 
-def _text(turned: Iterable[RowChange], same: int) -> StyledText:
+def _changes_text(turned: Iterable[RowChange], same: int) -> StyledText:
     text = StyledText()
     counts: Counter[RowChangeKind] = Counter()
     for it in turned:
         counts[it.kind] += 1
-        text.append_text(_line(it))
+        text.append_text(_change_line(it))
     each = " ".join(f"{kind} {counts[kind]}" for kind in RowChangeKind)
     return text.append(f"total {counts.total() + same} {each} as before {same}\n")
 
 
-def _line(it: RowChange) -> StyledText:
+def _change_line(it: RowChange) -> StyledText:
     """The line of a script: how it turned, its row, and the one that it had before."""
     row = None if it.now is None else it.now.row
     place = it.path if row is None or row.line is None else f"{it.path}:{row.line}"
     style = _WORSE if it.is_worse else _STYLES.get(it.kind, "")
-    line = unstyled(f"{place}: ").append(it.kind, style)
+    line = unstyled_text(f"{place}: ").append(it.kind, style)
     if row is not None and it.kind is not RowChangeKind.NOT_RUN:
         line.append(f": {'known: ' if it.now is not None and it.now.is_known else ''}{row}")
     if it.before is not None and it.kind is not RowChangeKind.NEW:
-        line.append(f", was {it.before.row.whole}")
+        line.append(f", was {it.before.row.whole_text}")
     return line.append("\n")

@@ -4,28 +4,28 @@ from collections.abc import Iterable, Iterator, Sequence
 from dataclasses import dataclass
 from pathlib import Path
 
-from pdsuite.commands.options import threads_of
+from pdsuite.commands.options import thread_count
 from pdsuite.faults import Fault
-from pdsuite.files import write
+from pdsuite.files import write_file_atomically
 from pdsuite.imports.tables import is_key
-from pdsuite.output.octets import shown_path, shown_text
+from pdsuite.output.octets import printable_path, printable_text
 from pdsuite.output.screen import Screen, print_error
-from pdsuite.output.styled_text import unstyled
+from pdsuite.output.styled_text import unstyled_text
 from pdsuite.programs.locate import REGRESS
-from pdsuite.programs.lookup import SenderGuard, own_lookup
+from pdsuite.programs.lookup import SenderGuard, client_programs_lookup
 from pdsuite.programs.program import Program
-from pdsuite.programs.refusals import refusals
-from pdsuite.programs.unproved_programs import program_of
+from pdsuite.programs.refusals import refusal_lines
+from pdsuite.programs.unproved_programs import proved_or_built_program
 from pdsuite.programs.verdict import Verdict
-from pdsuite.run.batches import Script, batches_of
-from pdsuite.run.collect import found_of, scripts_of
+from pdsuite.run.batches import Script, group_into_batches
+from pdsuite.run.collect import find_selected_scripts, make_scripts
 from pdsuite.run.outcomes import Outcome
-from pdsuite.run.run_batches import SettledPiece, Start, run_batch, start_with
-from pdsuite.scripts.config import CONFIG_FILE, LONGEST, SuiteConfig, option_of, place_of, read_octets
+from pdsuite.run.run_batches import SettledPiece, Start, run_batch, starter_without_explanations
+from pdsuite.scripts.config import CONFIG_FILE, LONGEST, SuiteConfig, layer_of_option, read_config_octets, shown_place
 from pdsuite.scripts.discover import SUFFIX, ScriptFile
 from pdsuite.scripts.expectation import Expectation
-from pdsuite.scripts.toml_text import TableEdit, TableEdits, TableRemoval, edited
-from pdsuite.scripts.unused_tables import files_in, lost_in, unused_tables
+from pdsuite.scripts.toml_text import TableEdit, TableEdits, TableRemoval, edit_expectations
+from pdsuite.scripts.unused_tables import layers_under_paths, unused_table_lines, unused_table_names
 from pdsuite.signals import Stop, StoppedError
 
 _FAULT = 2
@@ -53,98 +53,105 @@ class ExpectationChange:
     message: str
 
 
-def expect(options: ExpectOptions, screen: Screen) -> int:
+def write_expectations(options: ExpectOptions, screen: Screen) -> int:
     """Runs the scripts, writes what is expected of them, and answers the exit status."""
     with Stop() as stop:
-        suite = SuiteConfig(option_of(options.settings))
+        suite = SuiteConfig(layer_of_option(options.settings))
         try:
-            found = found_of(options.paths, options.only, suite, stop)
-            scripts = scripts_of(found, suite)
-            steady = SenderGuard(own_lookup(REGRESS))
-            program = program_of(REGRESS, stop, screen)
-            refused = refusals(suite.claims(), lambda: Program([program], stop))
-            lost = list(lost_tables(suite, options.paths, options.prune))
-            if lines := [*_unused(suite, options.paths, lost), *refused]:
+            found = find_selected_scripts(options.paths, options.only, suite, stop)
+            scripts = make_scripts(found, suite)
+            steady = SenderGuard(client_programs_lookup(REGRESS))
+            program = proved_or_built_program(REGRESS, stop, screen)
+            refused = refusal_lines(suite.all_claims(), lambda: Program([program], stop))
+            lost = list(tables_to_remove(suite, options.paths, options.prune))
+            if lines := [*_remaining_unused_lines(suite, options.paths, lost), *refused]:
                 for line in lines:
                     print_error(line)
                 return _FAULT
-            outcomes = _outcomes(scripts, start_with(program, threads_of(options.workers), 1, stop), screen)
-            steady.need_same("nothing is written")
+            outcomes = _run_scripts(
+                scripts, starter_without_explanations(program, thread_count(options.workers), 1, stop), screen
+            )
+            steady.require_unchanged("nothing is written")
         except StoppedError as stopped:
             return stopped.status
         finally:
-            screen.clear()
-    return _change(list(zip(found, outcomes)), lost, options.reason, screen)
+            screen.clear_live_lines()
+    return _write_changes(list(zip(found, outcomes)), lost, options.reason, screen)
 
 
-def _outcomes(scripts: Sequence[Script], start: Start, screen: Screen) -> list[Outcome]:
+def _run_scripts(scripts: Sequence[Script], start: Start, screen: Screen) -> list[Outcome]:
     """What came of the scripts, in their order."""
     outcomes: dict[int, Outcome] = {}
-    for run in batches_of(scripts):
+    for run in group_into_batches(scripts):
         for step in run_batch(run, start):
             if not isinstance(step, SettledPiece):
-                screen.note(str(step))
+                screen.print_note(str(step))
                 continue
             outcomes.update((script.index, outcome) for script, outcome in step.outcomes)
-            screen.advance(len(outcomes), len(scripts))
+            screen.show_progress(len(outcomes), len(scripts))
     return [outcomes[it.index] for it in scripts]
 
 
-def lost_tables(suite: SuiteConfig, paths: Sequence[Path], every: bool) -> Iterator[ExpectationChange]:
+def tables_to_remove(suite: SuiteConfig, paths: Sequence[Path], every: bool) -> Iterator[ExpectationChange]:
     """The tables of scripts that aren't there which go: those that say nothing but what is expected, or all."""
-    for folder, layer in files_in(suite, paths):
-        for name in lost_in(layer, folder):
+    for folder, layer in layers_under_paths(suite, paths):
+        for name in unused_table_names(layer, folder):
             if every or (name in layer.expected and not layer.tables[name] and name not in layer.strict):
-                message = f'{layer.places.at(name)}: ["{shown_text(name)}"]: no script has this name, so its table goes'
+                place = f'{layer.places.file_and_line(name)}: ["{printable_text(name)}"]'
+                message = f"{place}: no script has this name, so its table goes"
                 yield ExpectationChange(folder, name, TableRemoval.TAKEN, message)
 
 
-def _unused(suite: SuiteConfig, paths: Sequence[Path], lost: Sequence[ExpectationChange]) -> list[str]:
+def _remaining_unused_lines(suite: SuiteConfig, paths: Sequence[Path], lost: Sequence[ExpectationChange]) -> list[str]:
     """The lines of tables whose scripts aren't there and which don't go."""
-    each = files_in(suite, paths)
-    going = {folder: {it.name for it in lost if it.folder == folder} for folder, _ in suite.files()}
-    return [line for folder, layer in each for line in unused_tables(layer, folder, going[folder])]
+    each = layers_under_paths(suite, paths)
+    going = {folder: {it.name for it in lost if it.folder == folder} for folder, _ in suite.layers_by_folder()}
+    return [line for folder, layer in each for line in unused_table_lines(layer, folder, going[folder])]
 
 
-def _change(
+def _write_changes(
     settled: Sequence[tuple[ScriptFile, Outcome]], lost: Sequence[ExpectationChange], reason: str | None, screen: Screen
 ) -> int:
     """Writes what is expected from now on, and says what changed."""
-    changes = [*lost, *changes_of(settled, reason or "")]
+    changes = [*lost, *expectation_changes(settled, reason or "")]
     written = sum(isinstance(it.expected, Expectation) for it in changes)
     if written and reason is None:
-        raise Fault(f"{_counted(written)}, and no --reason says why: nothing is written")
-    for path, octets in list(_files(changes)):
-        write(path, octets, keeps_rights=True)
-    left = [f"{shown_path(outcome.path)}: {why}" for found, outcome in settled if (why := _unwritable(found, outcome))]
+        raise Fault(f"{_failing_count_in_words(written)}, and no --reason says why: nothing is written")
+    for path, octets in list(_edited_files(changes)):
+        write_file_atomically(path, octets, keeps_rights=True)
+    left = [
+        f"{printable_path(outcome.path)}: {why}"
+        for found, outcome in settled
+        if (why := _why_unwritable(found, outcome))
+    ]
     for line in left:
         print_error(line)
     lines = [
         *(it.message for it in changes),
         f"total {len(settled)} written {written} taken away {len(changes) - written}",
     ]
-    screen.show(unstyled("".join(f"{line}\n" for line in lines)))
+    screen.show(unstyled_text("".join(f"{line}\n" for line in lines)))
     return _FAULT if left else 0
 
 
-def changes_of(settled: Iterable[tuple[ScriptFile, Outcome]], reason: str) -> Iterator[ExpectationChange]:
+def expectation_changes(settled: Iterable[tuple[ScriptFile, Outcome]], reason: str) -> Iterator[ExpectationChange]:
     """What changes: a row is expected that isn't yet, or none any more of a script that passes."""
     for found, outcome in settled:
-        path, row = shown_path(outcome.path), outcome.row.whole
+        path, row = printable_path(outcome.path), outcome.row.whole_text
         if outcome.row.verdict is Verdict.PASS:
             if outcome.expected is not None:
                 yield ExpectationChange(
                     found.folder, found.name, None, f'{path}: passes, so "{outcome.expected.row}" is expected no more'
                 )
-        elif not outcome.is_known and not _unwritable(found, outcome):
+        elif not outcome.is_known_failure and not _why_unwritable(found, outcome):
             yield ExpectationChange(
                 found.folder, found.name, Expectation(row, reason), f'{path}: "{row}" is expected from now on'
             )
 
 
-def _unwritable(found: ScriptFile, outcome: Outcome) -> str:
+def _why_unwritable(found: ScriptFile, outcome: Outcome) -> str:
     """Why no row is expected of a script that isn't known not to pass, where that is so."""
-    if outcome.row.verdict is Verdict.PASS or outcome.is_known:
+    if outcome.row.verdict is Verdict.PASS or outcome.is_known_failure:
         return ""
     if outcome.row.verdict is Verdict.ERROR:
         return str(outcome.row)
@@ -153,19 +160,19 @@ def _unwritable(found: ScriptFile, outcome: Outcome) -> str:
     return "" if is_key(found.name) else f"its name isn't UTF-8, so no {CONFIG_FILE} has a table for it"
 
 
-def _files(changes: Iterable[ExpectationChange]) -> Iterator[tuple[Path, bytes]]:
+def _edited_files(changes: Iterable[ExpectationChange]) -> Iterator[tuple[Path, bytes]]:
     """The files that are to be written."""
     folders: dict[str, dict[str, TableEdit]] = {}
     for it in changes:
         folders.setdefault(it.folder, {})[it.name] = it.expected
     for folder, edits in folders.items():
-        yield _file(Path(folder, CONFIG_FILE), edits)
+        yield _edited_file(Path(folder, CONFIG_FILE), edits)
 
 
-def _file(path: Path, edits: TableEdits) -> tuple[Path, bytes]:
-    place = place_of(path)
+def _edited_file(path: Path, edits: TableEdits) -> tuple[Path, bytes]:
+    place = shown_place(path)
     try:
-        octets = edited(place, (read_octets(path) or b"").decode(), edits).encode()
+        octets = edit_expectations(place, (read_config_octets(path) or b"").decode(), edits).encode()
     except ValueError as error:  # somebody has written it since it was read
         raise Fault(f"{place}: no TOML any more: nothing is written") from error
     if len(octets) > LONGEST:
@@ -173,5 +180,5 @@ def _file(path: Path, edits: TableEdits) -> tuple[Path, bytes]:
     return path, octets
 
 
-def _counted(scripts: int) -> str:
+def _failing_count_in_words(scripts: int) -> str:
     return "1 script doesn't pass" if scripts == 1 else f"{scripts:,} scripts don't pass"

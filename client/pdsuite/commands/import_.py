@@ -6,20 +6,20 @@ from pathlib import Path
 
 
 from pdsuite.faults import Fault, FileFault
-from pdsuite.files import new_folder, write_folder
+from pdsuite.files import require_new_or_empty_folder, write_folder_atomically
 from pdsuite.imports.as_json import as_json
 from pdsuite.imports.conversion import ImportSource, Imported, NotImported, convert
 from pdsuite.imports.findings import Reason
 from pdsuite.imports.listing import Listed, lines_of, status, summary
 from pdsuite.imports.tables import is_key, tables_of
-from pdsuite.output.octets import shown_path
+from pdsuite.output.octets import printable_path
 from pdsuite.output.screen import Screen
-from pdsuite.output.styled_text import unstyled
-from pdsuite.scripts.config import SuiteConfig, old_names, option_of
-from pdsuite.scripts.discover import SUFFIX, ScriptFile, find
-from pdsuite.scripts.settings import set_words
-from pdsuite.scripts.text import LONGEST_FILE, UnfitTextError, read_file, text_of
-from pdsuite.scripts.unused_tables import unused_in
+from pdsuite.output.styled_text import unstyled_text
+from pdsuite.scripts.config import SuiteConfig, layer_of_option, old_name_refusals
+from pdsuite.scripts.discover import SUFFIX, ScriptFile, find_scripts
+from pdsuite.scripts.settings import set_command_words
+from pdsuite.scripts.text import LONGEST_FILE, UnfitTextError, make_text, read_regular_file
+from pdsuite.scripts.unused_tables import unused_table_lines_under
 from pdsuite.signals import Stop
 
 _NO_WORD = "?"
@@ -31,75 +31,75 @@ def import_scripts(source: Path, target: Path, keep_packets: bool, is_json: bool
         is_script = source.suffix == SUFFIX and source.is_file()
         if not source.is_dir() and not is_script:
             what = f"neither a folder nor a file *{SUFFIX}" if os.path.lexists(source) else "No such file or directory"
-            raise Fault(f"{shown_path(source)}: {what}")
-        place = new_folder(target)
+            raise Fault(f"{printable_path(source)}: {what}")
+        place = require_new_or_empty_folder(target)
         if place.is_relative_to(os.path.realpath(source)):
-            raise Fault(f"{shown_path(target)}: lies in the folder that is imported")
-        suite = SuiteConfig(option_of(""))
-        found = find([source], (), stop)
+            raise Fault(f"{printable_path(target)}: lies in the folder that is imported")
+        suite = SuiteConfig(layer_of_option(""))
+        found = find_scripts([source], (), stop)
         if not found:
             raise Fault("no script found")
-        scripts = list(_imported(found, suite, keep_packets, stop))
-        _refuse(suite, source)
+        scripts = list(_import_each(found, suite, keep_packets, stop))
+        _refuse_bad_settings(suite, source)
         if any(isinstance(it.came, Imported) for it in scripts):
-            write_folder(place, _files(source.parent if is_script else source, scripts, stop))
-    screen.show(unstyled(as_json(scripts) if is_json else _text_of(scripts)))
+            write_folder_atomically(place, _files_to_write(source.parent if is_script else source, scripts, stop))
+    screen.show(unstyled_text(as_json(scripts) if is_json else _listing_text(scripts)))
     return status(scripts)
 
 
-def _text_of(scripts: Sequence[Listed]) -> str:
+def _listing_text(scripts: Sequence[Listed]) -> str:
     """What people see."""
     lines = [line for it in scripts for line in lines_of(it)]
     return "".join(f"{line}\n" for line in [*lines, *summary(scripts)])
 
 
-def _imported(found: Sequence[ScriptFile], suite: SuiteConfig, keep_packets: bool, stop: Stop) -> Iterator[Listed]:
+def _import_each(found: Sequence[ScriptFile], suite: SuiteConfig, keep_packets: bool, stop: Stop) -> Iterator[Listed]:
     for it in found:
-        stop.check()
-        yield Listed(it.path, it.fault or _import(it, suite, keep_packets))
+        stop.raise_if_stopped()
+        yield Listed(it.path, it.fault or _import_script(it, suite, keep_packets))
 
 
-def _import(found: ScriptFile, suite: SuiteConfig, keep_packets: bool) -> Imported | NotImported | str:
+def _import_script(found: ScriptFile, suite: SuiteConfig, keep_packets: bool) -> Imported | NotImported | str:
     """What comes of a script; or why it can't be read."""
     try:
-        octets = read_file(found.path, LONGEST_FILE + 1)
+        octets = read_regular_file(found.path, LONGEST_FILE + 1)
     except UnfitTextError as unfit:
         return str(unfit)
-    own = dict(suite.settings(found)) if suite.has_file(found) else None
+    own = dict(suite.settings_of_script(found)) if suite.has_config_file(found) else None
     try:
-        text_of(octets)
+        make_text(octets)
     except UnfitTextError as unfit:
         return NotImported((Reason(1, str(unfit)),))
-    source = ImportSource(_text(octets), own, lambda path: _load(found.path, path))
+    source = ImportSource(_decode_losslessly(octets), own, lambda path: _load_setup_file(found.path, path))
     came = convert(source, keep_packets)
     if isinstance(came, Imported) and came.settings and not is_key(os.path.basename(found.path)):
         return NotImported((Reason(1, "a name that isn't UTF-8, which no pdsuite.toml can have"),))
     return came
 
 
-def _load(script: str, path: str) -> str:
+def _load_setup_file(script: str, path: str) -> str:
     """A file with commands of set-up, by its path from the folder of a script."""
-    return _text(read_file(os.path.join(os.path.dirname(script), path), LONGEST_FILE))
+    return _decode_losslessly(read_regular_file(os.path.join(os.path.dirname(script), path), LONGEST_FILE))
 
 
-def _text(octets: bytes) -> str:
+def _decode_losslessly(octets: bytes) -> str:
     """Octets as a text that says them all."""
     return octets.decode("utf-8", "surrogateescape")
 
 
-def _refuse(suite: SuiteConfig, source: Path) -> None:
+def _refuse_bad_settings(suite: SuiteConfig, source: Path) -> None:
     """Refuses settings of a pdsuite.toml that no run could be given, or no script has."""
-    for line in [*unused_in(suite, [source]), *old_names(suite.claims())]:
+    for line in [*unused_table_lines_under(suite, [source]), *old_name_refusals(suite.all_claims())]:
         raise FileFault(line)
-    for claim in suite.claims():
-        if _NO_WORD in set_words(claim.key, claim.value):
-            raise FileFault(claim.refused("BadValue"))
+    for claim in suite.all_claims():
+        if _NO_WORD in set_command_words(claim.key, claim.value):
+            raise FileFault(claim.refusal_line("BadValue"))
 
 
-def _files(source: Path, scripts: Sequence[Listed], stop: Stop) -> Iterator[tuple[str, bytes]]:
+def _files_to_write(source: Path, scripts: Sequence[Listed], stop: Stop) -> Iterator[tuple[str, bytes]]:
     """The files of the imported scripts, by their paths from the folder, and then their settings."""
     imported = {os.path.relpath(it.path, source): it.came for it in scripts if isinstance(it.came, Imported)}
     for path, script in imported.items():
-        stop.check()
+        stop.raise_if_stopped()
         yield path, script.text.encode("utf-8", "surrogateescape")
     yield from tables_of({path: (it.settings, it.shared) for path, it in imported.items()})

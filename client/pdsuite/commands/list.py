@@ -4,16 +4,16 @@ from collections.abc import Sequence
 from pathlib import Path
 
 
-from pdsuite.output.octets import shown_path, shown_text
+from pdsuite.output.octets import printable_path, printable_text
 from pdsuite.output.screen import Screen, print_error
-from pdsuite.output.styled_text import unstyled
-from pdsuite.reports.last_run import failed_last
+from pdsuite.output.styled_text import unstyled_text
+from pdsuite.reports.last_run import scripts_failed_last
 from pdsuite.run.batches import Script
-from pdsuite.run.collect import Selection, found_of, scripts_of
-from pdsuite.scripts.config import SuiteConfig, old_names, option_of
-from pdsuite.scripts.settings import Settings, shown_value
+from pdsuite.run.collect import Selection, find_selected_scripts, make_scripts
+from pdsuite.scripts.config import SuiteConfig, layer_of_option, old_name_refusals
+from pdsuite.scripts.settings import Settings, value_as_toml
 from pdsuite.scripts.shards import Shard
-from pdsuite.scripts.unused_tables import unused_in
+from pdsuite.scripts.unused_tables import unused_table_lines_under
 from pdsuite.signals import Stop
 
 
@@ -27,26 +27,26 @@ def list_scripts(
 ) -> int:
     """Lists the scripts, and answers the exit status."""
     with Stop() as stop:
-        part = Selection(shard, failed_last(paths) if last_failed else None)
-        suite = SuiteConfig(option_of(settings))
-        scripts = scripts_of(found_of(paths, only, suite, stop, part), suite)
-        if lines := [*unused_in(suite, paths), *old_names(suite.claims())]:
+        part = Selection(shard, scripts_failed_last(paths) if last_failed else None)
+        suite = SuiteConfig(layer_of_option(settings))
+        scripts = make_scripts(find_selected_scripts(paths, only, suite, stop, part), suite)
+        if lines := [*unused_table_lines_under(suite, paths), *old_name_refusals(suite.all_claims())]:
             for line in lines:
                 print_error(line)
             return 2
         if not scripts:
-            screen.note(f"pdsuite: {part.nothing()}")
-        screen.show(unstyled("".join(f"{_line(script)}\n" for script in scripts)))
+            screen.print_note(f"pdsuite: {part.empty_message()}")
+        screen.show(unstyled_text("".join(f"{_script_line(script)}\n" for script in scripts)))
     return 2 if any(script.fault for script in scripts) else 0
 
 
-def _line(script: Script) -> str:
-    path = shown_path(script.path)
+def _script_line(script: Script) -> str:
+    path = printable_path(script.path)
     if script.fault:
         return f"{path}: error: {script.fault}"
-    return f"{path}: {_shown(script.settings)}" if script.settings else path
+    return f"{path}: {_settings_in_words(script.settings)}" if script.settings else path
 
 
-def _shown(settings: Settings) -> str:
-    text = ", ".join(f"{key} = {shown_value(value)}" for key, value in settings)
-    return shown_text(text)
+def _settings_in_words(settings: Settings) -> str:
+    text = ", ".join(f"{key} = {value_as_toml(value)}" for key, value in settings)
+    return printable_text(text)

@@ -1,11 +1,11 @@
 """`pdsuite lsp`: a language server on standard input and output."""
 
-from pdsuite.packages import need
+from pdsuite.packages import require_module
 
 
-def lsp(settings: str) -> int:
+def serve_editor(settings: str) -> int:
     """Serves a client until it ends the server, and answers the exit status."""
-    need("pylsp_jsonrpc")
+    require_module("pylsp_jsonrpc")
     # Only who has it serve pays for what reads messages.
     from pdsuite.lsp.main_loop import serve
 

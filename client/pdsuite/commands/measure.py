@@ -6,9 +6,9 @@ from dataclasses import dataclass, replace
 from pathlib import Path
 from tempfile import TemporaryDirectory
 
-from pdsuite.compare.built_senders import with_programs
-from pdsuite.compare.senders import current_sender, last_proved, sender_of
-from pdsuite.compare.sides import Side, SideSettingsError, refuse_common, report_lacks, side_of
+from pdsuite.compare.built_senders import build_missing_programs
+from pdsuite.compare.senders import current_sender, last_proved_sender, resolve_sender
+from pdsuite.compare.sides import Side, SideSettingsError, make_side, refuse_commonly_lacked_keys, report_lacking_keys
 from pdsuite.faults import Fault
 from pdsuite.measure.measurement import MeasureResult, Measurement, cases_of, program_of
 from pdsuite.measure.page import MeasurePage
@@ -16,14 +16,14 @@ from pdsuite.measure.paths import paths_of
 from pdsuite.measure.report import MeasureReport, as_json, plain, totals_of
 from pdsuite.measure.statistics import tables_of
 from pdsuite.measure.transfer_folder import TransferFolder
-from pdsuite.output.fitting import columns_of
+from pdsuite.output.fitting import usable_columns
 from pdsuite.output.screen import Screen, print_error
 from pdsuite.programs.locate import REGRESS
 from pdsuite.programs.lookup import SenderGuard
 from pdsuite.programs.program import Program
-from pdsuite.programs.refusals import refused_of
-from pdsuite.scripts.config import BASE_OPTION, WITH_OPTION, Claim, Layer, claims_of, option_of
-from pdsuite.scripts.settings import Settings, settings_of
+from pdsuite.programs.refusals import find_refusals
+from pdsuite.scripts.config import BASE_OPTION, WITH_OPTION, Claim, Layer, claims_of_layers, layer_of_option
+from pdsuite.scripts.settings import Settings, sorted_settings
 from pdsuite.signals import Stop, StoppedError
 
 _FAULT = 2
@@ -48,31 +48,31 @@ class MeasureOptions:
     save: Path | None = None
 
 
-def measure(options: MeasureOptions, screen: Screen) -> int:
+def measure_senders(options: MeasureOptions, screen: Screen) -> int:
     """Measures two senders, and answers the exit status: 2 where transfers came to no end."""
     begin = time.monotonic()
     cases = cases_of(paths_of(options.paths, options.only), options.runs)
     try:
         with Stop() as stop, TemporaryDirectory(prefix="pdsuite-") as room:
-            named = _sides(options, Path(room))
-            screen.note(f"pdsuite: before: {named[0].sender}; after: {named[1].sender}")
-            steady = SenderGuard(*(it.sender.look for it in named))
-            sides = _with_programs(named, option_of(options.settings), stop, screen)
-            common = settings_of(option_of(options.settings).keys)
+            named = _make_sides(options, Path(room))
+            screen.print_note(f"pdsuite: before: {named[0].sender}; after: {named[1].sender}")
+            steady = SenderGuard(*(it.sender.program_lookup for it in named))
+            sides = _with_built_programs(named, layer_of_option(options.settings), stop, screen)
+            common = sorted_settings(layer_of_option(options.settings).keys)
             keeping = _MeasureOutputs(options, sides, common)
             measuring = Measurement(cases, sides, common, options.seed)
-            measured = measuring.run(stop, lambda done, count: screen.advance(done, count, "transfers"))
-            screen.clear()
-            steady.need_same(_AGAIN)
-            report = _report_of(measured, named, options.seed, time.monotonic() - begin)
-            columns = None if screen.width is None else columns_of(screen.width)
+            measured = measuring.run(stop, lambda done, count: screen.show_progress(done, count, "transfers"))
+            screen.clear_live_lines()
+            steady.require_unchanged(_AGAIN)
+            report = _make_report(measured, named, options.seed, time.monotonic() - begin)
+            columns = None if screen.width is None else usable_columns(screen.width)
             screen.show(as_json(report) if options.is_json else plain(report, columns))
             if measured.status is not None:
                 # The signal was heeded; the next one ends the process at once.
                 with Stop(()) as unheeded:
-                    keeping.write(report, unheeded)
+                    keeping.write_page_and_scripts(report, unheeded)
                 return measured.status
-            keeping.write(report, stop)
+            keeping.write_page_and_scripts(report, stop)
             return _FAULT if any(it.unfinished for it in measured.cases) else 0
     except SideSettingsError as refused:
         for line in refused.lines:
@@ -82,32 +82,32 @@ def measure(options: MeasureOptions, screen: Screen) -> int:
         return stopped.status
 
 
-def _sides(options: MeasureOptions, room: Path) -> tuple[Side, Side]:
+def _make_sides(options: MeasureOptions, room: Path) -> tuple[Side, Side]:
     """The sender before the change, and the one after it; what is checked out goes into a folder."""
-    before = last_proved() if options.base is None else sender_of(options.base, "--base", room / "before")
-    after = current_sender() if options.other is None else sender_of(options.other, "--with", room / "after")
-    return side_of(before, options.base_settings, BASE_OPTION), side_of(after, options.with_settings, WITH_OPTION)
+    before = last_proved_sender() if options.base is None else resolve_sender(options.base, "--base", room / "before")
+    after = current_sender() if options.other is None else resolve_sender(options.other, "--with", room / "after")
+    return make_side(before, options.base_settings, BASE_OPTION), make_side(after, options.with_settings, WITH_OPTION)
 
 
-def _with_programs(named: tuple[Side, Side], common: Layer, stop: Stop, screen: Screen) -> tuple[Side, Side]:
+def _with_built_programs(named: tuple[Side, Side], common: Layer, stop: Stop, screen: Screen) -> tuple[Side, Side]:
     """The sides with programs, without keys that these lack."""
-    built = with_programs([it.sender for it in named], "optimised", stop, screen)
+    built = build_missing_programs([it.sender for it in named], "optimised", stop, screen)
     if lacking := [it for it in built if not it.has_programs]:
         raise Fault(f"{lacking[0]}: no program of it can be built and kept here, and measuring needs one")
-    claims = list(claims_of([common]))
-    sides = [_accepted(replace(side, sender=it), claims, stop) for side, it in zip(named, built)]
-    refuse_common(sides, claims)
-    report_lacks(sides, screen.note)
+    claims = list(claims_of_layers([common]))
+    sides = [_adapt_to_sender(replace(side, sender=it), claims, stop) for side, it in zip(named, built)]
+    refuse_commonly_lacked_keys(sides, claims)
+    report_lacking_keys(sides, screen.print_note)
     return sides[0], sides[1]
 
 
-def _accepted(side: Side, claims: Sequence[Claim], stop: Stop) -> Side:
+def _adapt_to_sender(side: Side, claims: Sequence[Claim], stop: Stop) -> Side:
     """A side without the keys that its sender lacks."""
     program = program_of(side, REGRESS)
-    return side.accepted(claims, lambda each: refused_of(each, lambda: Program([program], stop)))
+    return side.adapt_to_sender(claims, lambda each: find_refusals(each, lambda: Program([program], stop)))
 
 
-def _report_of(measured: MeasureResult, sides: tuple[Side, Side], seed: int, seconds: float) -> MeasureReport:
+def _make_report(measured: MeasureResult, sides: tuple[Side, Side], seed: int, seconds: float) -> MeasureReport:
     """The report of what was measured."""
     return MeasureReport(
         tables_of(measured.cases),
@@ -129,7 +129,7 @@ class _MeasureOutputs:
         self._page = None if options.html is None else MeasurePage(options.html, sides, common)
         self._kept = None if options.save is None else TransferFolder(options.save, sides)
 
-    def write(self, report: MeasureReport, stop: Stop) -> None:
+    def write_page_and_scripts(self, report: MeasureReport, stop: Stop) -> None:
         if self._kept is not None:
             self._kept.write([it.measured for it in report.tables], self._common, stop)
         if self._page is not None:

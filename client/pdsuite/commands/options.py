@@ -7,9 +7,9 @@ from typing import TypeVar
 
 import click
 
-from pdsuite.output.octets import shown_text
+from pdsuite.output.octets import printable_text
 from pdsuite.page.diagram_choice import MOST
-from pdsuite.scripts.shards import Shard, shard_of
+from pdsuite.scripts.shards import Shard, parse_shard
 
 MOST_WORKERS = 64
 MOST_SECONDS = 86_400
@@ -33,9 +33,9 @@ class ShardParam(click.ParamType):
     name = "shard"
 
     def convert(self, value: str | Shard, param: click.Parameter | None, ctx: click.Context | None) -> Shard:
-        shard = value if isinstance(value, Shard) else shard_of(value)
+        shard = value if isinstance(value, Shard) else parse_shard(value)
         if shard is None:
-            self.fail(f"{shown_text(str(value))} is no K/N, with K from 1 to N.", param, ctx)
+            self.fail(f"{printable_text(str(value))} is no K/N, with K from 1 to N.", param, ctx)
         return shard
 
 
@@ -55,17 +55,17 @@ class ReasonParam(click.ParamType):
 no_color_option = click.option("--no-color", is_flag=True, help="No colours on a terminal.")
 
 
-def choice_options(command: CommandFunction) -> CommandFunction:
+def script_options(command: CommandFunction) -> CommandFunction:
     """The words that say which scripts are meant, and with which settings."""
-    return _choice(command, is_required=True)
+    return _add_script_options(command, is_required=True)
 
 
-def free_choice_options(command: CommandFunction) -> CommandFunction:
+def optional_script_options(command: CommandFunction) -> CommandFunction:
     """The same words, where no script may be meant."""
-    return _choice(command, is_required=False)
+    return _add_script_options(command, is_required=False)
 
 
-def _choice(command: CommandFunction, is_required: bool) -> CommandFunction:
+def _add_script_options(command: CommandFunction, is_required: bool) -> CommandFunction:
     for option in (
         no_color_option,
         click.option("--settings", default="", metavar="TEXT", help="Settings before all others."),
@@ -90,7 +90,7 @@ def search_options(command: CommandFunction) -> CommandFunction:
     return command
 
 
-def part_options(command: CommandFunction) -> CommandFunction:
+def selection_options(command: CommandFunction) -> CommandFunction:
     """The words that choose among the scripts that are found."""
     for option in (
         click.option("--last-failed", is_flag=True, help="Only what didn't pass in the last run of these paths."),
@@ -126,6 +126,6 @@ def plot_options(command: CommandFunction) -> CommandFunction:
     return command
 
 
-def threads_of(workers: int | None) -> int:
+def thread_count(workers: int | None) -> int:
     """As many threads as are asked for, or one a processor."""
     return min(len(os.sched_getaffinity(0)), MOST_WORKERS) if workers is None else workers

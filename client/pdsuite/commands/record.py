@@ -6,31 +6,31 @@ from collections.abc import Iterable, Iterator, Sequence
 from dataclasses import dataclass
 from pathlib import Path
 
-from pdsuite.commands.options import threads_of
+from pdsuite.commands.options import thread_count
 from pdsuite.faults import Fault
-from pdsuite.files import write
-from pdsuite.output.octets import shown_path, shown_text
+from pdsuite.files import write_file_atomically
+from pdsuite.output.octets import printable_path, printable_text
 from pdsuite.output.screen import Screen, print_error
-from pdsuite.output.styled_text import StyledText, unstyled
-from pdsuite.programs.locate import RECORD, REGRESS, locate
-from pdsuite.programs.lookup import SenderGuard, own_lookup
+from pdsuite.output.styled_text import StyledText, unstyled_text
+from pdsuite.programs.locate import RECORD, REGRESS, locate_program
+from pdsuite.programs.lookup import SenderGuard, client_programs_lookup
 from pdsuite.programs.program import Program
 from pdsuite.programs.protocol import Cause
-from pdsuite.programs.recorder import DROP_MISSING, MINIMAL, Recording, record_all
-from pdsuite.programs.refusals import refusals
-from pdsuite.programs.unproved_programs import program_of
+from pdsuite.programs.recorder import DROP_MISSING, MINIMAL, Recording, record_texts
+from pdsuite.programs.refusals import refusal_lines
+from pdsuite.programs.unproved_programs import proved_or_built_program
 from pdsuite.programs.verdict import Verdict
-from pdsuite.run.batches import Script, batches_of
-from pdsuite.run.collect import INPUT, found_of, input_of, scripts_of
+from pdsuite.run.batches import Script, group_into_batches
+from pdsuite.run.collect import INPUT, find_selected_scripts, make_scripts, standard_input_script
 from pdsuite.run.explainer import EXPLAIN_OPTIONS
 from pdsuite.run.local_mapper import local_mapper
 from pdsuite.run.outcomes import Outcome
 from pdsuite.run.run_batches import SettledPiece
-from pdsuite.scripts.config import SuiteConfig, option_of
-from pdsuite.scripts.file_diff import FileDiff, as_written, hunks_of
+from pdsuite.scripts.config import SuiteConfig, layer_of_option
+from pdsuite.scripts.file_diff import FileDiff, match_line_ends, unified_hunks
 from pdsuite.scripts.settings import Settings
-from pdsuite.scripts.text import LONGEST_FILE, Text, UnfitTextError, read_file, text_of
-from pdsuite.scripts.unused_tables import unused_in
+from pdsuite.scripts.text import LONGEST_FILE, Text, UnfitTextError, make_text, read_regular_file
+from pdsuite.scripts.unused_tables import unused_table_lines_under
 from pdsuite.signals import Stop, StoppedError
 
 _FAULT = 2
@@ -72,59 +72,59 @@ class RecordedScript:
     fault: str = ""
 
     @property
-    def is_changed(self) -> bool:
+    def would_change_file(self) -> bool:
         """Whether the file would hold something else."""
         return not self.fault and self.diff.old != self.diff.new
 
 
-def record(options: RecordOptions, screen: Screen) -> int:
+def record_scripts(options: RecordOptions, screen: Screen) -> int:
     """Records scripts, shows or writes what changes, and answers the exit status."""
     with Stop() as stop:
-        suite = SuiteConfig(option_of(options.settings))
+        suite = SuiteConfig(layer_of_option(options.settings))
         scripts: list[Script] = []
         try:
-            scripts = _scripts(options, suite, stop)
-            steady = SenderGuard(own_lookup(REGRESS, RECORD))
-            program = program_of(REGRESS, stop, screen)
-            refused = refusals(suite.claims(), lambda: Program([program], stop))
-            if lines := [*unused_in(suite, options.paths), *refused]:
+            scripts = _find_scripts(options, suite, stop)
+            steady = SenderGuard(client_programs_lookup(REGRESS, RECORD))
+            program = proved_or_built_program(REGRESS, stop, screen)
+            refused = refusal_lines(suite.all_claims(), lambda: Program([program], stop))
+            if lines := [*unused_table_lines_under(suite, options.paths), *refused]:
                 for line in lines:
                     print_error(line)
                 return _FAULT
-            recorder = locate(RECORD)
-            texts = {it.index: _text(it) for it in scripts}
-            modes = _modes(scripts, texts, program, options, screen, stop)
-            each = _recorded(scripts, texts, modes, recorder, screen, stop)
-            steady.need_same("nothing is written" if options.writes else "record again")
+            recorder = locate_program(RECORD)
+            texts = {it.index: _octets_or_fault(it) for it in scripts}
+            modes = _choose_modes(scripts, texts, program, options, screen, stop)
+            each = _record_by_modes(scripts, texts, modes, recorder, screen, stop)
+            steady.require_unchanged("nothing is written" if options.writes else "record again")
         except StoppedError as stopped:
             if options.writes:
-                print_error(_cut(0, len(scripts)))
+                print_error(_interrupted_line(0, len(scripts)))
             return stopped.status
         finally:
-            screen.clear()
-        return _end(each, options.writes, screen, stop)
+            screen.clear_live_lines()
+        return _show_or_write_changes(each, options.writes, screen, stop)
 
 
-def _scripts(options: RecordOptions, suite: SuiteConfig, stop: Stop) -> list[Script]:
+def _find_scripts(options: RecordOptions, suite: SuiteConfig, stop: Stop) -> list[Script]:
     """The scripts that are meant: standard input, or those that are found."""
-    if (script := input_of(options.paths, suite)) is not None:
+    if (script := standard_input_script(options.paths, suite)) is not None:
         return [script]
-    return scripts_of(found_of(options.paths, options.only, suite, stop), suite)
+    return make_scripts(find_selected_scripts(options.paths, options.only, suite, stop), suite)
 
 
-def _text(script: Script) -> bytes | str:
+def _octets_or_fault(script: Script) -> bytes | str:
     """The octets of a script's file, or why it can't be recorded."""
     if script.fault:
         return script.fault
     try:
-        held = read_file(script.path, LONGEST_FILE + 1) if script.held is None else script.held
-        text_of(held)
+        held = read_regular_file(script.path, LONGEST_FILE + 1) if script.held is None else script.held
+        make_text(held)
     except UnfitTextError as unfit:
         return str(unfit)
     return held
 
 
-def _modes(
+def _choose_modes(
     scripts: Sequence[Script],
     texts: dict[int, bytes | str],
     program: Path,
@@ -135,29 +135,31 @@ def _modes(
     """How each script is recorded, by its place."""
     modes: dict[int, RecordMode] = {}
 
-    def load(script: Script) -> Text | str:
+    def held_text(script: Script) -> Text | str:
         held = texts[script.index]
-        return held if isinstance(held, str) else text_of(held)
+        return held if isinstance(held, str) else make_text(held)
 
-    for step in local_mapper(program, EXPLAIN_OPTIONS, threads_of(options.workers), stop, load)(batches_of(scripts)):
+    for step in local_mapper(program, EXPLAIN_OPTIONS, thread_count(options.workers), stop, held_text)(
+        group_into_batches(scripts)
+    ):
         if not isinstance(step, SettledPiece):
-            screen.note(str(step))
+            screen.print_note(str(step))
             continue
         modes |= {
-            it.index: mode_of(it, outcome, step.causes.get(it.index), options.program_options)
+            it.index: record_mode_of(it, outcome, step.causes.get(it.index), options.program_options)
             for it, outcome in step.outcomes
         }
-        screen.advance(len(modes), len(scripts), "scripts run")
+        screen.show_progress(len(modes), len(scripts), "scripts run")
     return modes
 
 
-def mode_of(script: Script, outcome: Outcome, leaving: Cause | None, requested: Sequence[str]) -> RecordMode:
+def record_mode_of(script: Script, outcome: Outcome, leaving: Cause | None, requested: Sequence[str]) -> RecordMode:
     """How a script is recorded that came to this, and leaves this where it passes.
 
     One of inputs alone is recorded whole. One that passes stays as it is, unless it is strict and leaves packets, and
     so does one that is known not to pass.
     """
-    if outcome.is_known:
+    if outcome.is_known_failure:
         return None
     if outcome.row.verdict is not Verdict.PASS:
         return requested
@@ -168,7 +170,7 @@ def mode_of(script: Script, outcome: Outcome, leaving: Cause | None, requested: 
     return requested if script.is_strict else None
 
 
-def _recorded(
+def _record_by_modes(
     scripts: Sequence[Script],
     texts: dict[int, bytes | str],
     modes: dict[int, RecordMode],
@@ -188,52 +190,52 @@ def _recorded(
         else:
             groups.setdefault((script.settings, mode), []).append((script, held))
     for (settings, mode), group in groups.items():
-        made = record_all(recorder, [text for _, text in group], settings, stop, mode)
+        made = record_texts(recorder, [text for _, text in group], settings, stop, mode)
         for (script, text), it in zip(group, made):
-            each[script.index] = _rewritten(script, text, it)
-            screen.advance(len(each), len(scripts), "scripts recorded")
+            each[script.index] = _apply_recording(script, text, it)
+            screen.show_progress(len(each), len(scripts), "scripts recorded")
     return [each[it.index] for it in scripts]
 
 
-def _rewritten(script: Script, text: bytes, it: Recording) -> RecordedScript:
+def _apply_recording(script: Script, text: bytes, it: Recording) -> RecordedScript:
     if it.fault:
         return RecordedScript(script, FileDiff(script.path, text, text), it.fault)
     recording = it.text.encode("utf-8", "surrogateescape")
-    return RecordedScript(script, FileDiff(script.path, text, as_written(text, recording)))
+    return RecordedScript(script, FileDiff(script.path, text, match_line_ends(text, recording)))
 
 
-def _cut(written: int, count: int) -> str:
+def _interrupted_line(written: int, count: int) -> str:
     """The line that says what was written before a signal came."""
     return f"pdsuite: ended by a signal: {written:,} of {count:,} scripts were written"
 
 
-def _end(each: Sequence[RecordedScript], writes: bool, screen: Screen, stop: Stop) -> int:
+def _show_or_write_changes(each: Sequence[RecordedScript], writes: bool, screen: Screen, stop: Stop) -> int:
     """Shows or writes what changes, and says what isn't recorded."""
-    changed = [it for it in each if it.is_changed]
+    changed = [it for it in each if it.would_change_file]
     is_input = [it.script.path for it in each] == [str(INPUT)]
     if is_input and writes:
-        _write_output(each[0])
+        _write_to_standard_output(each[0])
     else:
         for number, it in enumerate(changed):
             if writes:
                 try:
-                    stop.check()
+                    stop.raise_if_stopped()
                 except StoppedError as stopped:
-                    print_error(_cut(number, len(changed)))
+                    print_error(_interrupted_line(number, len(changed)))
                     return stopped.status
-                write(Path(it.script.path), it.diff.new, keeps_rights=True)
+                write_file_atomically(Path(it.script.path), it.diff.new, keeps_rights=True)
             else:
-                screen.show(diff_of(it.diff))
-        screen.show(unstyled("".join(f"{line}\n" for line in totals_of(each))))
+                screen.show(unified_diff_text(it.diff))
+        screen.show(unstyled_text("".join(f"{line}\n" for line in total_lines(each))))
     for it in each:
         if it.fault:
-            print_error(f"{shown_path(it.script.path)}: isn't recorded: {it.fault}")
+            print_error(f"{printable_path(it.script.path)}: isn't recorded: {it.fault}")
     if any(it.fault for it in each):
         return _FAULT
     return 1 if changed and not writes else 0
 
 
-def _write_output(it: RecordedScript) -> None:
+def _write_to_standard_output(it: RecordedScript) -> None:
     """Writes the recording of standard input on standard output."""
     if not it.fault:
         sys.stdout.flush()
@@ -241,36 +243,36 @@ def _write_output(it: RecordedScript) -> None:
         sys.stdout.buffer.flush()
 
 
-def diff_of(it: FileDiff) -> StyledText:
+def unified_diff_text(it: FileDiff) -> StyledText:
     """A unified diff of what a script's file holds and would hold."""
-    path = shown_path(it.path)
+    path = printable_path(it.path)
     text = StyledText().append(f"--- {path}\n", "bold").append(f"+++ {path}\n", "bold")
-    for line in hunks_of(it.old, it.new):
-        text.append(f"{_safe(line)}\n", _STYLES.get(line[:1], ""))
+    for line in unified_hunks(it.old, it.new):
+        text.append(f"{_printable_line(line)}\n", _STYLES.get(line[:1], ""))
     return text
 
 
-def _safe(line: str) -> str:
+def _printable_line(line: str) -> str:
     """A line as it is, or as people see it where a character doesn't print; a tab does."""
-    return line if line.replace("\t", " ").isprintable() else shown_text(line)
+    return line if line.replace("\t", " ").isprintable() else printable_text(line)
 
 
-def totals_of(each: Sequence[RecordedScript]) -> Iterator[str]:
+def total_lines(each: Sequence[RecordedScript]) -> Iterator[str]:
     """A line for each folder with a script that changes, and one for all."""
     folders: dict[str, list[RecordedScript]] = {}
     for it in each:
         folders.setdefault(os.path.dirname(it.script.path) or os.curdir, []).append(it)
     if len(folders) > 1:
         for folder, below in folders.items():
-            if any(it.is_changed for it in below):
-                yield f"{shown_path(folder)}: {_counted(below)}"
-    yield f"total {_counted(each)}"
+            if any(it.would_change_file for it in below):
+                yield f"{printable_path(folder)}: {_counts_in_words(below)}"
+    yield f"total {_counts_in_words(each)}"
 
 
-def _counted(each: Iterable[RecordedScript]) -> str:
+def _counts_in_words(each: Iterable[RecordedScript]) -> str:
     scripts = list(each)
-    changed = [it for it in scripts if it.is_changed]
-    counts = [it.diff.counts for it in changed]
+    changed = [it for it in scripts if it.would_change_file]
+    counts = [it.diff.added_and_removed_counts for it in changed]
     more, less = sum(it for it, _ in counts), sum(it for _, it in counts)
     lost = sum(bool(it.fault) for it in scripts)
     return f"{len(scripts)} changed {len(changed)} lines +{more} -{less} not recorded {lost}"

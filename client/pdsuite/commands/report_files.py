@@ -10,10 +10,10 @@ import click
 
 from pdsuite.commands.options import PathParam
 from pdsuite.faults import Fault
-from pdsuite.files import check_writable, is_special, write
-from pdsuite.output.octets import shown_path
+from pdsuite.files import check_writable, is_special_file, write_file_atomically
+from pdsuite.output.octets import printable_path
 from pdsuite.reports.as_json import JsonFormatter
-from pdsuite.reports.formatter import Formatter, whole
+from pdsuite.reports.formatter import Formatter, format_report
 from pdsuite.reports.tap import TapFormatter
 from pdsuite.run.outcomes import Outcome, Totals
 from pdsuite.scripts.config import CONFIG_FILE as SETTINGS
@@ -52,33 +52,35 @@ class ReportCommand(click.Command):
     def parse_args(self, ctx: click.Context, args: list[str]) -> list[str]:
         options = [it for it in self.params if isinstance(it, click.Option)]
         taking = {name for it in options if not it.is_flag for name in it.opts}
-        words, files = parted(args, taking)
-        if len(printed := _printed(words, taking)) > 1 and not ctx.resilient_parsing:
+        words, files = split_off_report_files(args, taking)
+        if len(printed := _printing_flags(words, taking)) > 1 and not ctx.resilient_parsing:
             raise click.UsageError(f"{' and '.join(printed)} print a report each: one alone, or --json=FILE", ctx)
         left = super().parse_args(ctx, words)
         for option in options:
             for name in _SUFFIXES.keys() & set(option.opts):
-                ctx.params[name.lstrip("-")] = None if ctx.resilient_parsing else _file_of(option, files[name], ctx)
+                ctx.params[name.lstrip("-")] = (
+                    None if ctx.resilient_parsing else _file_of_flag(option, files[name], ctx)
+                )
         return left
 
 
-def _printed(words: Sequence[str], taking: Collection[str]) -> list[str]:
+def _printing_flags(words: Sequence[str], taking: Collection[str]) -> list[str]:
     """The flags among words that say how the report is printed, each once; the word after an option is none."""
     before = words[: words.index(_END)] if _END in words else words
     flags = [it for it, last in zip(before, ("", *before)) if it in _FORMS and last not in taking]
     return list(dict.fromkeys(flags))
 
 
-def _file_of(option: click.Option, named: Sequence[str], ctx: click.Context) -> Path | None:
+def _file_of_flag(option: click.Option, named: Sequence[str], ctx: click.Context) -> Path | None:
     """The file that a flag has, if it has one."""
     paths = list(dict.fromkeys(FileParam().convert(it, option, ctx) for it in named))
     if len(paths) > 1:
-        first, second, *_ = map(shown_path, paths)
+        first, second, *_ = map(printable_path, paths)
         raise click.UsageError(f"{option.opts[0]} names two files: {first} and {second}", ctx)
     return paths[0] if paths else None
 
 
-def parted(words: Sequence[str], taking: Collection[str]) -> tuple[list[str], Mapping[str, list[str]]]:
+def split_off_report_files(words: Sequence[str], taking: Collection[str]) -> tuple[list[str], Mapping[str, list[str]]]:
     """The words without those that name files of reports, and these by their flags.
 
     The word after an option that takes one is no flag.
@@ -97,7 +99,7 @@ def parted(words: Sequence[str], taking: Collection[str]) -> tuple[list[str], Ma
         elif flag not in _SUFFIXES:
             rest.append(word)
         else:
-            if not equals and left and _is_file(left[0], _SUFFIXES[flag]):
+            if not equals and left and _is_file_of_flag(left[0], _SUFFIXES[flag]):
                 equals, file = "=", left.pop(0)
             if equals and file != _OUTPUT:
                 files[flag].append(file)
@@ -106,7 +108,7 @@ def parted(words: Sequence[str], taking: Collection[str]) -> tuple[list[str], Ma
     return rest, files
 
 
-def _is_file(word: str, suffix: str) -> bool:
+def _is_file_of_flag(word: str, suffix: str) -> bool:
     """Whether the word after a flag is its file."""
     return word == _OUTPUT or (word.endswith(suffix) and not word.startswith("-"))
 
@@ -120,61 +122,65 @@ class ReportFiles:
     tap: Path | None
 
     @property
-    def named(self) -> list[tuple[str, Path]]:
+    def requested_files(self) -> list[tuple[str, Path]]:
         """The files, each after its word."""
         files = ((_JUNIT, self.junit), (_JSON, self.json), (_TAP, self.tap))
         return [(word, path) for word, path in files if path is not None]
 
-    def check(self, scripts: Iterable[str]) -> None:
+    def check_places(self, scripts: Iterable[str]) -> None:
         """Raises a fault where a report can't be written, or would take the place of another one or of a script."""
         words: dict[Path, str] = {}
-        for word, path in self.named:
+        for word, path in self.requested_files:
             try:
                 check_writable(path)
             except Fault as fault:
                 raise Fault(f"{word}: {fault}") from fault
-            if is_special(path):
+            if is_special_file(path):
                 continue
             place = Path(os.path.realpath(path))
             if place in words:
-                raise Fault(f"{word}: {shown_path(path)}: {words[place]} is written there")
+                raise Fault(f"{word}: {printable_path(path)}: {words[place]} is written there")
             words[place] = word
             if place.suffix == SUFFIX or place.name == SETTINGS:
-                raise Fault(f"{word}: {shown_path(path)}: has the name of a script or of settings")
-        _check_others([it for it in self.named if it[1].is_file()], scripts)
+                raise Fault(f"{word}: {printable_path(path)}: has the name of a script or of settings")
+        _refuse_overwriting([it for it in self.requested_files if it[1].is_file()], scripts)
 
-    def write(self, outcomes: Sequence[Outcome], totals: Totals, seconds: float, shard: Shard | None) -> list[Fault]:
+    def write_reports(
+        self, outcomes: Sequence[Outcome], totals: Totals, seconds: float, shard: Shard | None
+    ) -> list[Fault]:
         """Writes the reports, and answers why some couldn't be written."""
         faults: list[Fault] = []
-        for word, path in self.named:
+        for word, path in self.requested_files:
             try:
-                write(path, _octets(word, outcomes, totals, seconds, shard))
+                write_file_atomically(path, _report_octets(word, outcomes, totals, seconds, shard))
             except Fault as fault:
                 faults.append(fault)
         return faults
 
 
-def _octets(word: str, outcomes: Sequence[Outcome], totals: Totals, seconds: float, shard: Shard | None) -> bytes:
+def _report_octets(
+    word: str, outcomes: Sequence[Outcome], totals: Totals, seconds: float, shard: Shard | None
+) -> bytes:
     if word == _JUNIT:
         # Only who requests this file pays for what writes it.
-        from pdsuite.reports.junit import junit
+        from pdsuite.reports.junit import junit_xml
 
-        return junit(outcomes, seconds, totals.is_unproved)
+        return junit_xml(outcomes, seconds, totals.is_unproved)
     forms: dict[str, Formatter] = {_JSON: JsonFormatter(shard), _TAP: TapFormatter()}
-    return whole(forms[word], outcomes, totals, seconds).encode()
+    return format_report(forms[word], outcomes, totals, seconds).encode()
 
 
-def _check_others(files: Iterable[tuple[str, Path]], scripts: Iterable[str]) -> None:
+def _refuse_overwriting(files: Iterable[tuple[str, Path]], scripts: Iterable[str]) -> None:
     """Refuses to put a report in the place of a script, or of the file that standard output goes to."""
-    known = {_identity(path): f"{word}: {shown_path(path)}" for word, path in files}
-    if known and (found := known.get(_identity(sys.stdout.fileno()))) is not None:
+    known = {_file_identity(path): f"{word}: {printable_path(path)}" for word, path in files}
+    if known and (found := known.get(_file_identity(sys.stdout.fileno()))) is not None:
         raise Fault(f"{found}: standard output goes there")
     for script in scripts if known else ():
-        if (found := known.get(_identity(script))) is not None:
+        if (found := known.get(_file_identity(script))) is not None:
             raise Fault(f"{found}: is one of the scripts")
 
 
-def _identity(path: str | Path | int) -> tuple[int, int] | None:
+def _file_identity(path: str | Path | int) -> tuple[int, int] | None:
     """What distinguishes a file that is there, or is open, from all others; None where none is."""
     try:
         found = os.stat(path)

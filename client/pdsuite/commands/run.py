@@ -9,37 +9,37 @@ from functools import partial
 from pathlib import Path
 from typing import TYPE_CHECKING
 
-from pdsuite.commands.options import threads_of
+from pdsuite.commands.options import thread_count
 from pdsuite.commands.report_files import ReportFiles
 from pdsuite.faults import CutShortError, Fault
-from pdsuite.files import append
+from pdsuite.files import append_to_file
 from pdsuite.output.screen import Screen, print_error
-from pdsuite.packages import need
+from pdsuite.packages import require_module
 from pdsuite.page.diagram_choice import diagram_choice
-from pdsuite.programs.locate import BATCH_TOOL, RECORD, REGRESS, TOP, UnprovedError, digest, locate
-from pdsuite.programs.lookup import CHANGED, ProgramLookup, SenderGuard, own_lookup
+from pdsuite.programs.locate import BATCH_TOOL, RECORD, REGRESS, TOP, UnprovedError, locate_program, sha256_of
+from pdsuite.programs.lookup import CHANGED, ProgramLookup, SenderGuard, client_programs_lookup
 from pdsuite.programs.program import Program
 from pdsuite.programs.protocol import Cause
-from pdsuite.programs.refusals import refusals
+from pdsuite.programs.refusals import refusal_lines
 from pdsuite.reports.as_json import JsonFormatter
 from pdsuite.reports.fitting_formatter import FittingFormatter
 from pdsuite.reports.formatter import Formatter
-from pdsuite.reports.github import SUMMARY, GithubFormatter, summary_of
-from pdsuite.reports.last_run import failed_last, leave, only_new
+from pdsuite.reports.github import SUMMARY, GithubFormatter, step_summary
+from pdsuite.reports.last_run import leave_report, scripts_failed_last, with_new_rows_only
 from pdsuite.reports.plain import PlainFormatter
 from pdsuite.reports.report import Report
 from pdsuite.reports.tap import TapFormatter
 from pdsuite.run.assertion_check import AssertionCheck
-from pdsuite.run.batches import Script, batches_of
-from pdsuite.run.collect import INPUT, Selection, found_of, input_of, scripts_of
+from pdsuite.run.batches import Script, group_into_batches
+from pdsuite.run.collect import INPUT, Selection, find_selected_scripts, make_scripts, standard_input_script
 from pdsuite.run.explainer import EXPLAIN_OPTIONS
-from pdsuite.run.import_check import lacking_steps
+from pdsuite.run.import_check import with_dropped_features
 from pdsuite.run.local_mapper import local_mapper
 from pdsuite.run.run_batches import Mapper, SettledPiece, Step
-from pdsuite.scripts.config import SuiteConfig, option_of
+from pdsuite.scripts.config import SuiteConfig, layer_of_option
 from pdsuite.scripts.shards import Shard
 from pdsuite.scripts.text import Text
-from pdsuite.scripts.unused_tables import unused_in
+from pdsuite.scripts.unused_tables import unused_table_lines_under
 from pdsuite.signals import Stop, StoppedError
 
 if TYPE_CHECKING:
@@ -77,81 +77,84 @@ class RunOptions:
     plots: int | None
 
     @property
-    def is_part(self) -> bool:
+    def may_leave_out_scripts(self) -> bool:
         """Whether scripts of the paths may be left out."""
         return bool(self.only) or self.shard is not None or self.last_failed
 
     @property
-    def programs(self) -> Sequence[str]:
+    def needed_programs(self) -> Sequence[str]:
         """The programs that it starts."""
         return (REGRESS, RECORD) if self.full_diff or self.html is not None else (REGRESS,)
 
     @property
-    def files(self) -> ReportFiles:
+    def report_files(self) -> ReportFiles:
         """The files that reports are written to, too."""
         return ReportFiles(self.junit, self.json, self.tap)
 
     @property
-    def by_keys(self) -> bool:
+    def has_json_report(self) -> bool:
         """Whether a report has what is known of scripts by keys."""
         return self.form == "json" or self.json is not None
 
     @property
-    def summary(self) -> Path | None:
+    def github_summary_file(self) -> Path | None:
         """The file for a summary that GitHub names, where its annotations are requested."""
         name = os.environ.get(SUMMARY)
         return Path(name) if self.form == "github" and name else None
 
 
-def run(options: RunOptions, screen: Screen) -> int:
+def run_scripts(options: RunOptions, screen: Screen) -> int:
     """Runs the scripts, and answers the exit status."""
     begin = time.monotonic()
-    form = _form(options)
+    form = _make_formatter(options)
     with Stop() as stop:
-        suite = SuiteConfig(option_of(options.settings))
-        part = Selection(options.shard, failed_last(options.paths) if options.last_failed else None)
+        suite = SuiteConfig(layer_of_option(options.settings))
+        part = Selection(options.shard, scripts_failed_last(options.paths) if options.last_failed else None)
         try:
-            scripts = _scripts(options, suite, part, stop)
+            scripts = _find_scripts(options, suite, part, stop)
             if not scripts:
-                screen.note(f"pdsuite: {part.nothing()}")
-            options.files.check(it.path for it in scripts)
+                screen.print_note(f"pdsuite: {part.empty_message()}")
+            options.report_files.check_places(it.path for it in scripts)
             if options.new_only:
-                form = only_new(
-                    form, PlainFormatter(True) if isinstance(form, PlainFormatter) else form, options.paths, screen.note
+                form = with_new_rows_only(
+                    form,
+                    PlainFormatter(True) if isinstance(form, PlainFormatter) else form,
+                    options.paths,
+                    screen.print_note,
                 )
-            look = own_lookup(*options.programs)
+            look = client_programs_lookup(*options.needed_programs)
             steady = SenderGuard(look)
-            program, page = _proved(options, look), None
+            program, page = _find_proved_program(options, look), None
             if is_unproved := program is None:
                 # What can be refused is refused before anything is built.
-                if lines := unused_in(suite, options.paths):
-                    return _refuse(lines)
-                page = _page_updates(options, screen, is_unproved)
-                program = _built(len(scripts), stop, screen)
+                if lines := unused_table_lines_under(suite, options.paths):
+                    return _print_refusals(lines)
+                page = _make_page_updates(options, screen, is_unproved)
+                program = _use_built_program(len(scripts), stop, screen)
             if program is None and options.scheduler is not None:
-                look.need(REGRESS)  # workers run programs that stand somewhere
+                look.require_program(REGRESS)  # workers run programs that stand somewhere
             if program is None:
                 return _run_unproved(suite, scripts, options, form, screen, begin, stop, steady, page)
-            refused = refusals(suite.claims(), partial(Program, [program], stop))
-            if lines := [*unused_in(suite, options.paths), *refused]:
-                return _refuse(lines)
-            page = page or _page_updates(options, screen, is_unproved)
-            with _mapper(options, program, stop, screen.note) as mapper:
-                return _run(mapper, scripts, options, form, screen, begin, stop, steady, page, is_unproved)
+            refused = refusal_lines(suite.all_claims(), partial(Program, [program], stop))
+            if lines := [*unused_table_lines_under(suite, options.paths), *refused]:
+                return _print_refusals(lines)
+            page = page or _make_page_updates(options, screen, is_unproved)
+            with _make_mapper(options, program, stop, screen.print_note) as mapper:
+                return _run_and_report(mapper, scripts, options, form, screen, begin, stop, steady, page, is_unproved)
         except StoppedError as stopped:
             return stopped.status
 
 
-def _scripts(options: RunOptions, suite: SuiteConfig, part: Selection, stop: Stop) -> list[Script]:
+def _find_scripts(options: RunOptions, suite: SuiteConfig, part: Selection, stop: Stop) -> list[Script]:
     """The scripts that are meant: standard input, or those that are found."""
-    if (script := input_of(options.paths, suite, options.strict)) is not None:
-        if options.is_part:
+    if (script := standard_input_script(options.paths, suite, options.strict)) is not None:
+        if options.may_leave_out_scripts:
             raise Fault("-: standard input is no part of a suite")
         return [script]
-    return scripts_of(found_of(options.paths, options.only, suite, stop, part), suite, options.strict)
+    return make_scripts(find_selected_scripts(options.paths, options.only, suite, stop, part), suite, options.strict)
 
 
-def _form(options: RunOptions) -> Formatter:
+def _make_formatter(options: RunOptions) -> Formatter:
     match options.form:
         case "tap":
             return TapFormatter()
@@ -162,28 +165,28 @@ def _form(options: RunOptions) -> Formatter:
     return PlainFormatter(options.verbose)
 
 
-def _refuse(lines: Iterable[str]) -> int:
+def _print_refusals(lines: Iterable[str]) -> int:
     for line in lines:
         print_error(line)
     return 2
 
 
-def _proved(options: RunOptions, look: ProgramLookup) -> Path | None:
+def _find_proved_program(options: RunOptions, look: ProgramLookup) -> Path | None:
     """The proved program, or none where the sender may run without proofs."""
     try:
-        return look.need(REGRESS).path
+        return look.require_program(REGRESS).path
     except UnprovedError:
         if options.proved or not BATCH_TOOL.is_file():
             raise
     return None
 
 
-def _built(count: int, stop: Stop, screen: Screen) -> Path | None:
+def _use_built_program(count: int, stop: Stop, screen: Screen) -> Path | None:
     """The program of a build of the sender as it stands for so many scripts, or none where no build can be kept."""
     # Only who has no proved program pays for what does without them.
-    from pdsuite.programs.unproved_programs import take_build
+    from pdsuite.programs.unproved_programs import use_build
 
-    return locate(REGRESS) if take_build("any" if count > _MANY else "plain", stop, screen) else None
+    return locate_program(REGRESS) if use_build("any" if count > _MANY else "plain", stop, screen) else None
 
 
 def _run_unproved(
@@ -198,26 +201,26 @@ def _run_unproved(
     page: "PageUpdates | None",
 ) -> int:
     """Runs the scripts by `rt try` on the sender as it stands, reports what came of them, and answers the status."""
-    from pdsuite.run.unproved_run import plan_of, run_unproved
+    from pdsuite.run.unproved_run import make_plan, run_plan
 
-    plan = plan_of(batches_of(scripts), suite.claims(), EXPLAIN_OPTIONS, options.full_diff)
-    tried = run_unproved(plan, TOP, stop, screen.note)
+    plan = make_plan(group_into_batches(scripts), suite.all_claims(), EXPLAIN_OPTIONS, options.full_diff)
+    tried = run_plan(plan, TOP, stop, screen.print_note)
     if tried.refused:
-        return _refuse([it.line for it in tried.refused])
-    return _run(tried.steps, scripts, options, form, screen, begin, stop, steady, page, True, tried)
+        return _print_refusals([it.refusal_line for it in tried.refused])
+    return _run_and_report(tried.settled_steps, scripts, options, form, screen, begin, stop, steady, page, True, tried)
 
 
-def _page_updates(options: RunOptions, screen: Screen, is_unproved: bool) -> "PageUpdates | None":
+def _make_page_updates(options: RunOptions, screen: Screen, is_unproved: bool) -> "PageUpdates | None":
     """The page, if one is requested."""
     if options.html is None:
         return None
     # Only who requests a page pays for what draws it.
     from pdsuite.page.page_updates import PageUpdates
 
-    return PageUpdates(options.html, diagram_choice(options.plot, options.plots), screen.note, is_unproved)
+    return PageUpdates(options.html, diagram_choice(options.plot, options.plots), screen.print_note, is_unproved)
 
 
-def _kept(steps: Iterable[Step], texts: dict[int, Text], causes: dict[int, Cause]) -> Iterator[Step]:
+def _keep_texts_and_causes(steps: Iterable[Step], texts: dict[int, Text], causes: dict[int, Cause]) -> Iterator[Step]:
     """The steps, whose texts are kept, and what is reported by keys of scripts that don't pass."""
     for step in steps:
         if isinstance(step, SettledPiece):
@@ -227,20 +230,20 @@ def _kept(steps: Iterable[Step], texts: dict[int, Text], causes: dict[int, Cause
         yield step
 
 
-def _mapper(
+def _make_mapper(
     options: RunOptions, program: Path, stop: Stop, note: Callable[[str], None]
 ) -> AbstractContextManager[Mapper]:
     """The cluster that was requested, else the processors of this machine."""
     if options.scheduler is None:
-        return nullcontext(local_mapper(program, EXPLAIN_OPTIONS, threads_of(options.workers), stop))
+        return nullcontext(local_mapper(program, EXPLAIN_OPTIONS, thread_count(options.workers), stop))
     # Only who has a cluster needs what speaks with it.
-    need("distributed")
-    from pdsuite.run.cluster import cluster
+    require_module("distributed")
+    from pdsuite.run.cluster import cluster_mapper
 
-    return cluster(options.scheduler, (str(program), digest(program)), stop, note)
+    return cluster_mapper(options.scheduler, (str(program), sha256_of(program)), stop, note)
 
 
-def _run(
+def _run_and_report(
     mapper: Mapper,
     scripts: Sequence[Script],
     options: RunOptions,
@@ -258,92 +261,99 @@ def _run(
     report = Report(
         scripts, FittingFormatter(form, lambda: screen.width) if options.form is None else form, screen, is_unproved
     )
-    checking = AssertionCheck(stop, screen.note)
+    checking = AssertionCheck(stop, screen.print_note)
     texts: dict[int, Text] = {}
     causes: dict[int, Cause] = {}
     ended: StoppedError | CutShortError | None = None
     try:
-        report.open()
-        with closing(mapper(batches_of(scripts))) as steps:
-            kept_steps = steps if page is None else _kept(steps, texts, causes)
-            kept_steps = lacking_steps(kept_steps)
-            explained_steps = _whole(kept_steps) if options.by_keys else kept_steps
+        report.show_opening()
+        with closing(mapper(group_into_batches(scripts))) as steps:
+            kept_steps = steps if page is None else _keep_texts_and_causes(steps, texts, causes)
+            kept_steps = with_dropped_features(kept_steps)
+            explained_steps = _with_whole_explanations(kept_steps) if options.has_json_report else kept_steps
             if options.full_diff:
-                explained_steps = _differing(explained_steps, tried, stop, screen.note)
-            ended = _take(explained_steps, report, checking, screen, options.fail_fast)
+                explained_steps = _with_line_diffs(explained_steps, tried, stop, screen.print_note)
+            ended = _report_steps(explained_steps, report, checking, screen, options.fail_fast)
         if has_changed := steady.has_changed():
-            screen.note(f"pdsuite: {CHANGED}: run the scripts again")
-        totals = report.close(time.monotonic() - begin)
+            screen.print_note(f"pdsuite: {CHANGED}: run the scripts again")
+        totals = report.show_rest_and_totals(time.monotonic() - begin)
         if ended is None:
-            for line in checking.lines():
+            for line in checking.report_lines():
                 print_error(line)
     finally:
         # Also where nothing can be shown any more.
         if INPUT not in options.paths:
-            leave(options.paths, [*report.outcomes, *report.left()], options.is_part, screen.note)
-        faults = _write_files(options, report, time.monotonic() - begin)
+            leave_report(
+                options.paths,
+                [*report.outcomes, *report.unshown_outcomes()],
+                options.may_leave_out_scripts,
+                screen.print_note,
+            )
+        faults = _write_report_files(options, report, time.monotonic() - begin)
         if page is not None and ended is None:
-            ended = _draw(page, report, texts, causes, screen, stop)
+            ended = _draw_page(page, report, texts, causes, screen, stop)
     if isinstance(ended, CutShortError):
         raise ended
     if faults or has_changed:
         return 2
     if ended is not None:
         return ended.status
-    return 2 if page is not None and page.has_failed else totals.status()
+    return 2 if page is not None and page.has_failed else totals.exit_status()
 
 
-def _whole(steps: Iterable[Step]) -> Iterator[Step]:
+def _with_whole_explanations(steps: Iterable[Step]) -> Iterator[Step]:
     """The steps with whole explanations."""
     # Only who requests them pays for what reads scripts.
-    from pdsuite.run.explanation import whole_steps
+    from pdsuite.run.explanation import with_whole_explanations
 
-    return whole_steps(steps)
+    return with_whole_explanations(steps)
 
 
-def _differing(
+def _with_line_diffs(
     steps: Iterable[Step], tried: "UnprovedResults | None", stop: Stop, note: Callable[[str], None]
 ) -> Iterator[Step]:
     """The steps with what each line of a script that fails was met by."""
     # Only who requests it pays for what records scripts and reads them.
     from pdsuite.programs.recorder import Recorder
-    from pdsuite.run.full_diff import differing_steps
+    from pdsuite.run.full_diff import with_line_diffs
 
     if tried is not None:
         recordings = tried.recordings
-        return differing_steps(steps, lambda script, _: recordings[script.index])
+        return with_line_diffs(steps, lambda script, _: recordings[script.index])
     recorder = Recorder(stop, note)
-    return differing_steps(steps, lambda script, text: recorder.record(script.path, text.octets, script.settings))
+    return with_line_diffs(
+        steps, lambda script, text: recorder.record_script(script.path, text.octets, script.settings)
+    )
 
 
-def _take(
+def _report_steps(
     steps: Iterable[Step], report: Report, checking: AssertionCheck, screen: Screen, fail_fast: bool
 ) -> StoppedError | CutShortError | None:
     """Reports each step, up to the last one or the one where it is to end; what ended it early, if anything did."""
     try:
         for step in steps:
             if not isinstance(step, SettledPiece):
-                screen.note(str(step))
+                screen.print_note(str(step))
                 continue
-            report.take(step.outcomes)
-            checking.take(step)
-            if fail_fast and not all(outcome.passes for _, outcome in step.outcomes):
+            report.take_outcomes(step.outcomes)
+            checking.keep_asserting_scripts(step)
+            if fail_fast and not all(outcome.lets_run_pass for _, outcome in step.outcomes):
                 break
     except (StoppedError, CutShortError) as ended:
         return ended
     return None
 
 
-def _write_files(options: RunOptions, report: Report, seconds: float) -> list[Fault]:
+def _write_report_files(options: RunOptions, report: Report, seconds: float) -> list[Fault]:
     """Writes the files that are requested beside the report, and says why of each that can't be written."""
-    if not options.files.named and options.summary is None:
+    if not options.report_files.requested_files and options.github_summary_file is None:
         return []
-    outcomes = [*report.outcomes, *report.left()]
-    totals = report.totals(outcomes)
-    faults = options.files.write(outcomes, totals, seconds, options.shard)
-    if options.summary is not None:
+    outcomes = [*report.outcomes, *report.unshown_outcomes()]
+    totals = report.totals_of(outcomes)
+    faults = options.report_files.write_reports(outcomes, totals, seconds, options.shard)
+    if options.github_summary_file is not None:
         try:
-            append(options.summary, summary_of(outcomes, totals).encode())
+            append_to_file(options.github_summary_file, step_summary(outcomes, totals).encode())
         except Fault as fault:
             faults.append(fault)
     for it in faults:
@@ -351,7 +361,7 @@ def _write_files(options: RunOptions, report: Report, seconds: float) -> list[Fa
     return faults
 
 
-def _draw(
+def _draw_page(
     page: "PageUpdates",
     report: Report,
     texts: Mapping[int, Text],
@@ -362,14 +372,14 @@ def _draw(
     """Has the page drawn; the signal that ended it, if one did."""
     from pdsuite.page.view_model import PageEntry
 
-    outcomes = [*report.outcomes, *report.left()]
+    outcomes = [*report.outcomes, *report.unshown_outcomes()]
     entries = [PageEntry(it, texts.get(index), cause=causes.get(index)) for index, it in enumerate(outcomes)]
     try:
         with page:
             page.follow(entries)
-            page.finish(stop, lambda done, count: screen.advance(done, count, "pages drawn"))
+            page.finish(stop, lambda done, count: screen.show_progress(done, count, "pages drawn"))
     except StoppedError as stopped:
         return stopped
     finally:
-        screen.clear()
+        screen.clear_live_lines()
     return None

@@ -8,18 +8,18 @@ from pathlib import Path
 from tempfile import TemporaryDirectory
 from typing import TYPE_CHECKING
 
-from pdsuite.commands.options import threads_of
-from pdsuite.compare.senders import sender_of
+from pdsuite.commands.options import thread_count
+from pdsuite.compare.senders import resolve_sender
 from pdsuite.faults import Fault
-from pdsuite.output.octets import shown_text
+from pdsuite.output.octets import printable_text
 from pdsuite.output.screen import Screen, print_error
 from pdsuite.page.diagram_choice import diagram_choice
-from pdsuite.programs.build import built_folder, kept_build
+from pdsuite.programs.build import build_if_needed, find_kept_build
 from pdsuite.programs.locate import RECORD, REGRESS
-from pdsuite.programs.lookup import buildable, own_lookup
-from pdsuite.programs.unproved_programs import first_line, progress
+from pdsuite.programs.lookup import buildable_tree, client_programs_lookup
+from pdsuite.programs.unproved_programs import build_progress_printer, unproved_notice
 from pdsuite.run.collect import INPUT
-from pdsuite.scripts.config import option_of
+from pdsuite.scripts.config import layer_of_option
 from pdsuite.signals import Stop, StoppedError
 from pdsuite.watch.change_report import ChangeReport
 from pdsuite.watch.folders import WatchChoice
@@ -50,22 +50,24 @@ class WatchOptions:
     base: str | None
 
 
-def watch(options: WatchOptions, screen: Screen) -> int:
+def watch_scripts(options: WatchOptions, screen: Screen) -> int:
     """Watches until a signal comes, and answers the exit status of the last report."""
     if INPUT in options.paths:
         raise Fault(f"{INPUT}: standard input is read once, and nothing of it is watched")
-    option = option_of(options.settings)
+    option = layer_of_option(options.settings)
     choice = WatchChoice(options.paths, options.only, options.strict)
     with Stop() as stop, ExitStack() as held:
-        view = View(screen, None, options.verbose, _change_report(options, screen), options.html is not None)
+        view = View(screen, None, options.verbose, _make_change_report(options, screen), options.html is not None)
         try:
-            tree = buildable()
-            follower = held.enter_context(SenderFollower(own_lookup(REGRESS, RECORD), (REGRESS,), tree))
+            tree = buildable_tree()
+            follower = held.enter_context(SenderFollower(client_programs_lookup(REGRESS, RECORD), (REGRESS,), tree))
             follower.look(0.0)
             if follower.sender is None:
-                _print_unproved(follower, tree, screen)
-            page = held.enter_context(_page_updates(options, screen))
-            base = _base(options, Path(held.enter_context(TemporaryDirectory(prefix="pdsuite-"))), screen, stop)
+                _print_unproved_notice(follower, tree, screen)
+            page = held.enter_context(_make_page_updates(options, screen))
+            base = _make_base_sender(
+                options, Path(held.enter_context(TemporaryDirectory(prefix="pdsuite-"))), screen, stop
+            )
             watched = WatchedSuite(choice, option, base)
             Session(watched, view, screen, follower, page, stop, held).follow()
         except SessionSettingsError as refused:
@@ -77,28 +79,30 @@ def watch(options: WatchOptions, screen: Screen) -> int:
     return 2
 
 
-def _print_unproved(follower: SenderFollower, tree: Path | None, screen: Screen) -> None:
+def _print_unproved_notice(follower: SenderFollower, tree: Path | None, screen: Screen) -> None:
     """Says that the sender isn't proved; a fault where none can be built."""
     if tree is None:
         raise Fault(follower.reason)
-    screen.note(f"pdsuite: {first_line(kept_build(tree, WAY) is not None)}")
+    screen.print_note(f"pdsuite: {unproved_notice(find_kept_build(tree, WAY) is not None)}")
 
 
-def _base(options: WatchOptions, room: Path, screen: Screen, stop: Stop) -> BaseSender | None:
+def _make_base_sender(options: WatchOptions, room: Path, screen: Screen, stop: Stop) -> BaseSender | None:
     """The sender against which turned scripts are compared, built now where that has to be."""
     if options.base is None:
         return None
-    sender = sender_of(options.base, "--base", room / "base")
+    sender = resolve_sender(options.base, "--base", room / "base")
     if sender.programs is None:
-        folder = kept_build(sender.top, WAY) or built_folder(sender.top, WAY, stop, progress(screen, f" {sender.name}"))
+        folder = find_kept_build(sender.build_tree, WAY) or build_if_needed(
+            sender.build_tree, WAY, stop, build_progress_printer(screen, f" {sender.name}")
+        )
         programs = (folder / REGRESS, folder / RECORD)
-        return BaseSender(programs, threads_of(options.workers), stop, screen.note)
+        return BaseSender(programs, thread_count(options.workers), stop, screen.print_note)
     return BaseSender(
-        (sender.programs[REGRESS], sender.programs.get(RECORD)), threads_of(options.workers), stop, screen.note
+        (sender.programs[REGRESS], sender.programs.get(RECORD)), thread_count(options.workers), stop, screen.print_note
     )
 
 
-def _change_report(options: WatchOptions, screen: Screen) -> ChangeReport:
+def _make_change_report(options: WatchOptions, screen: Screen) -> ChangeReport:
     """How changes are reported: on a terminal a few of them."""
     if screen.width is None:
         return ChangeReport()
@@ -110,13 +114,13 @@ def _change_report(options: WatchOptions, screen: Screen) -> ChangeReport:
     words += ["--settings", options.settings] if options.settings else []
     paths = list(map(str, options.paths))
     end = ["--"] if any(it.startswith("-") for it in paths) else []
-    return TerminalReport(lambda: screen.width or _WIDTH, shown_text(shlex.join([*words, *end, *paths])))
+    return TerminalReport(lambda: screen.width or _WIDTH, printable_text(shlex.join([*words, *end, *paths])))
 
 
-def _page_updates(options: WatchOptions, screen: Screen) -> "AbstractContextManager[PageUpdates | None]":
+def _make_page_updates(options: WatchOptions, screen: Screen) -> "AbstractContextManager[PageUpdates | None]":
     """The page, if one is requested."""
     if options.html is None:
         return nullcontext()
     from pdsuite.page.page_updates import PageUpdates
 
-    return PageUpdates(options.html, diagram_choice(options.plot, options.plots), screen.note)
+    return PageUpdates(options.html, diagram_choice(options.plot, options.plots), screen.print_note)

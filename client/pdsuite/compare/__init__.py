@@ -1,14 +1,15 @@
 """Comparing: what two senders do with the same scripts, and where they are.
 
 A `Sender` is a folder of programs, a tree or a commit (`senders`); a `Side` is a sender with the settings of its own
-option and the keys that it lacks. `run_both` runs and records the same scripts on both, and `compare` pairs the
-results: each `ComparedScript` has its `ComparisonKind`, and a `Divergence`, the first event in which both recordings
-differ.
+option and the keys that it lacks. `run_both_senders` runs and records the same scripts on both, and
+`compare_results` pairs the results: each `ComparedScript` has its `ComparisonKind`, and a `Divergence`, the first event
+in which both recordings differ.
 
-    words --> Sender, Sender --> Side, Side --run_both--> SenderResults, SenderResults --compare--> ComparedScript ..
-                                                                                          |
-                      groups_of: by the first field or state that differs <---------------+
-                      affected_by: rows of tests/cases and paragraphs of the tree's pages
+    words --> Sender, Sender --> Side, Side --run_both_senders--> SenderResults, SenderResults
+    SenderResults, SenderResults --compare_results--> ComparedScript ..
+                                                           |
+    group_by_first_difference: a field or a state <--------+
+    find_affected: rows of tests/cases and paragraphs of the tree's pages
 
 - Both sides get the same scripts and the same settings but for their own options. A key that one sender lacks counts
   as its default there, and that is noted once; a key that both lack is refused.

@@ -12,11 +12,11 @@ from typing import Any
 
 from pdsuite.compare.senders import Sender
 from pdsuite.faults import Fault
-from pdsuite.output.octets import shown, shown_path
-from pdsuite.programs.batch_protocol import Answer, Case, ProcessOutput, part, parts_in
+from pdsuite.output.octets import printable_octets, printable_path
+from pdsuite.programs.batch_protocol import Answer, Case, ProcessOutput, take_length_prefixed, with_length_line
 from pdsuite.programs.locate import RECORD, REGRESS, TOP
 from pdsuite.programs.program import Program, ProgramEndedError
-from pdsuite.programs.unproved_batch import ProgramCases, run_cases
+from pdsuite.programs.unproved_batch import ProgramCases, build_and_run_cases
 from pdsuite.signals import Stop
 
 # In a tree that has tests: what says how these are run, and which of them say otherwise.
@@ -58,7 +58,7 @@ class Affected:
     paragraphs: tuple[Paragraph, ...] | None
 
     @property
-    def is_any(self) -> bool:
+    def has_affected_or_unheard_rows(self) -> bool:
         return bool(self.rows or self.unheard)
 
 
@@ -69,32 +69,32 @@ class RowStarts:
     tree: Path
     starts: Sequence[tuple[str, Case]]
 
-    def of(self, program: str) -> tuple[Case, ...]:
+    def cases_of_program(self, program: str) -> tuple[Case, ...]:
         """The starts of a program."""
         return tuple(case for name, case in self.starts if name == program)
 
     def program_cases(self, tree: Path) -> list[ProgramCases]:
         """The same, of a tree that has to be built."""
-        return [ProgramCases(tree, it, (), self.of(it)) for it in (REGRESS, RECORD)]
+        return [ProgramCases(tree, it, (), self.cases_of_program(it)) for it in (REGRESS, RECORD)]
 
 
-def row_starts_of(sender: Sender, room: Path) -> RowStarts:
+def load_row_starts(sender: Sender, room: Path) -> RowStarts:
     """The rows of a sender's tree as starts of programs."""
-    tree = sender.sources(room)
+    tree = sender.source_tree(room)
     if tree is None or not (tree / _TOOL).is_file() or not (tree / _ROWS).is_dir():
         raise Fault(f"--affected: {sender} is no tree with {_ROWS} and {_TOOL}")
-    return RowStarts(tree, list(_starts(_output_of(tree, "starts"))))
+    return RowStarts(tree, list(_parse_starts(_run_affected_tool(tree, "starts"))))
 
 
-def _starts(output: bytes) -> Iterator[tuple[str, Case]]:
+def _parse_starts(output: bytes) -> Iterator[tuple[str, Case]]:
     """The starts: words, an input, and how much is printed at most."""
-    each = parts_in(bytearray(output))
+    each = take_length_prefixed(bytearray(output))
     for joined, given, room in zip(each, each, each):
         program, *words = joined.decode().split("\0")
         yield program, Case(tuple(words), given, int(room))
 
 
-def _output_of(tree: Path, *words: str | Path) -> bytes:
+def _run_affected_tool(tree: Path, *words: str | Path) -> bytes:
     """What a tree's tool says."""
     done = subprocess.run(
         [sys.executable, "-B", tree / _TOOL, *words],
@@ -104,36 +104,36 @@ def _output_of(tree: Path, *words: str | Path) -> bytes:
     )
     if done.returncode:
         lines = done.stderr.splitlines() or [b"it ended with status %d" % done.returncode]
-        raise Fault(f"{shown_path(tree / _TOOL)}: {shown(lines[-1])}")
+        raise Fault(f"{printable_path(tree / _TOOL)}: {printable_octets(lines[-1])}")
     return done.stdout
 
 
-def names_changed(before: Path | None, after: Path | None) -> list[dict[str, Any]]:
+def changed_names(before: Path | None, after: Path | None) -> list[dict[str, Any]]:
     """What changed between the sources of two senders, with the names in it; nothing where one isn't known."""
     if before is None or after is None or not (TOP / _TOOL).is_file():
         return []
-    changed: list[dict[str, Any]] = json.loads(_output_of(TOP, "changed", "--before", before, "--after", after))
+    changed: list[dict[str, Any]] = json.loads(_run_affected_tool(TOP, "changed", "--before", before, "--after", after))
     return changed
 
 
-def program_outputs(programs: dict[str, Path], row_starts: RowStarts, stop: Stop) -> list[ProcessOutput]:
+def run_starts_on_programs(programs: dict[str, Path], row_starts: RowStarts, stop: Stop) -> list[ProcessOutput]:
     """What proved programs say, several at a time."""
 
-    def answer_of(each: tuple[str, Case]) -> ProcessOutput:
+    def run_start(each: tuple[str, Case]) -> ProcessOutput:
         name, case = each
         try:
             with Program([programs[name], *case.words], stop) as program:
-                return program.run(case.given, _LONGEST)
+                return program.run_on_input(case.given, _LONGEST)
         except ProgramEndedError:
             return ProcessOutput()
 
     # One that isn't there has printed nothing.
     there = [each if each[0] in programs else None for each in row_starts.starts]
     with ThreadPoolExecutor(len(os.sched_getaffinity(0))) as pool:
-        return list(pool.map(lambda each: answer_of(each) if each else ProcessOutput(), there))
+        return list(pool.map(lambda each: run_start(each) if each else ProcessOutput(), there))
 
 
-def build_outputs(
+def collect_build_outputs(
     row_starts: RowStarts, answers: Sequence[Sequence[Answer]], tree: Path, stop: Stop, note: Callable[[str], None]
 ) -> list[ProcessOutput]:
     """What a tree's programs say, which were built for it. Those that another one may have ended are started alone."""
@@ -141,19 +141,19 @@ def build_outputs(
     lost = [[place for place, it in enumerate(each) if it.is_shared] for each in answered]
     if count := sum(map(len, lost)):
         note(f"pdsuite: {count:,} starts on rows are tried again, each by itself")
-        cases = [row_starts.of(it) for it in (REGRESS, RECORD)]
+        cases = [row_starts.cases_of_program(it) for it in (REGRESS, RECORD)]
         alone = [
             ProgramCases(tree, name, (), tuple(replace(mine[place], is_alone=True) for place in places))
             for name, mine, places in zip((REGRESS, RECORD), cases, lost)
         ]
-        for each, places, again in zip(answered, lost, run_cases(alone, stop)):
+        for each, places, again in zip(answered, lost, build_and_run_cases(alone, stop)):
             for place, it in zip(places, again):
                 each[place] = it
     by_name = {name: iter(each) for name, each in zip((REGRESS, RECORD), answered)}
     return [next(by_name[name]).raw for name, _ in row_starts.starts]
 
 
-def affected_by(
+def find_affected(
     row_starts: RowStarts, outputs: Sequence[Sequence[ProcessOutput]], before: Path | None, room: Path
 ) -> Affected:
     """What is affected, by the outputs of both senders, and by the sources of the one before, if these are known."""
@@ -161,17 +161,17 @@ def affected_by(
     with file.open("wb") as answers:
         for each in zip(*outputs):
             for it in each:
-                answers.writelines(map(part, (it.output, it.errors, it.status.encode())))
+                answers.writelines(map(with_length_line, (it.output, it.errors, it.status.encode())))
     words: list[str | Path] = [] if before is None else ["--before", before]
-    found = json.loads(_output_of(row_starts.tree, "list", *words, file))
+    found = json.loads(_run_affected_tool(row_starts.tree, "list", *words, file))
     paragraphs = found["sections"]
     return Affected(
         tuple(AffectedRow(**it) for it in found["rows"]),
         found["unheard"],
-        None if paragraphs is None else tuple(map(_paragraph, paragraphs)),
+        None if paragraphs is None else tuple(map(_paragraph_from_json, paragraphs)),
     )
 
 
-def _paragraph(it: dict[str, Any]) -> Paragraph:
+def _paragraph_from_json(it: dict[str, Any]) -> Paragraph:
     texts = {key: tuple(value) if isinstance(value, list) else value for key, value in it.items()}
     return Paragraph(**texts)

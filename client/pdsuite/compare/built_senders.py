@@ -7,54 +7,54 @@ from pathlib import Path
 
 from pdsuite.compare.senders import Sender
 from pdsuite.output.screen import Screen
-from pdsuite.programs.build import BuildError, BuildMode, NoKeptBuildError, built_folder, kept_build
+from pdsuite.programs.build import BuildError, BuildMode, NoKeptBuildError, build_if_needed, find_kept_build
 from pdsuite.programs.locate import RECORD, REGRESS
-from pdsuite.programs.unproved_programs import progress
+from pdsuite.programs.unproved_programs import build_progress_printer
 from pdsuite.signals import Stop
 
 
-def with_programs(senders: Sequence[Sender], way: BuildMode, stop: Stop, screen: Screen) -> list[Sender]:
+def build_missing_programs(senders: Sequence[Sender], way: BuildMode, stop: Stop, screen: Screen) -> list[Sender]:
     """The senders, each with programs; where none can be built and kept, one stays a tree."""
-    trees = list(dict.fromkeys(it.top for it in senders if not it.has_programs))
+    trees = list(dict.fromkeys(it.build_tree for it in senders if not it.has_programs))
     with ThreadPoolExecutor() as pool:
-        folders = dict(zip(trees, pool.map(lambda tree: kept_build(tree, way), trees)))
+        folders = dict(zip(trees, pool.map(lambda tree: find_kept_build(tree, way), trees)))
     if lacking := [it for it, folder in folders.items() if folder is None]:
         what = "the sender" if len(lacking) == 1 else "both senders"
-        screen.note(f"pdsuite: building {what} first")
-        folders |= _built_side_by_side(lacking, way, stop, screen)
-    return [it if it.has_programs else _with(it, folders[it.top]) for it in senders]
+        screen.print_note(f"pdsuite: building {what} first")
+        folders |= _build_side_by_side(lacking, way, stop, screen)
+    return [it if it.has_programs else _with_build_folder(it, folders[it.build_tree]) for it in senders]
 
 
-def _built_side_by_side(trees: Sequence[Path], way: BuildMode, stop: Stop, screen: Screen) -> dict[Path, Path | None]:
+def _build_side_by_side(trees: Sequence[Path], way: BuildMode, stop: Stop, screen: Screen) -> dict[Path, Path | None]:
     """The folders of both programs of each tree."""
     # Of several the line at the bottom of a terminal says how far the one is that spoke last.
-    show_progress = progress(screen, "" if len(trees) == 1 else " one of both")
+    show_progress = build_progress_printer(screen, "" if len(trees) == 1 else " one of both")
     try:
         with ThreadPoolExecutor(len(trees)) as pool:
-            return dict(zip(trees, pool.map(lambda tree: _built(tree, way, stop, show_progress), trees)))
+            return dict(zip(trees, pool.map(lambda tree: _build_or_none(tree, way, stop, show_progress), trees)))
     finally:
-        screen.clear()
+        screen.clear_live_lines()
 
 
-def _built(tree: Path, way: BuildMode, stop: Stop, show_progress: Callable[[str, float], None]) -> Path | None:
+def _build_or_none(tree: Path, way: BuildMode, stop: Stop, show_progress: Callable[[str, float], None]) -> Path | None:
     try:
-        return built_folder(tree, way, stop, show_progress)
+        return build_if_needed(tree, way, stop, show_progress)
     except NoKeptBuildError:
         return None
 
 
-def plain_of(sender: Sender, stop: Stop) -> Sender | None:
+def as_plain_build(sender: Sender, stop: Stop) -> Sender | None:
     """The same sender as a plain build, which says where it stops, if it is an optimised one that can be built so."""
     programs = sender.programs or {}
     if not sender.is_build or programs[REGRESS].parent.name != "optimised":
         return None
     try:
-        return _with(sender, built_folder(sender.top, "plain", stop))
+        return _with_build_folder(sender, build_if_needed(sender.build_tree, "plain", stop))
     except (NoKeptBuildError, BuildError):
         return None
 
 
-def _with(sender: Sender, folder: Path | None) -> Sender:
+def _with_build_folder(sender: Sender, folder: Path | None) -> Sender:
     if folder is None:
         return sender
     return replace(sender, programs={name: folder / name for name in (REGRESS, RECORD)}, is_build=True)

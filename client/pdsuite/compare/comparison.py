@@ -6,8 +6,8 @@ from collections.abc import Iterable, Iterator, Mapping, Sequence
 from dataclasses import dataclass, field
 from enum import StrEnum
 
-from pdsuite.compare.divergence import Divergence, divergence_of
-from pdsuite.output.octets import shown
+from pdsuite.compare.divergence import Divergence, first_divergence
+from pdsuite.output.octets import printable_octets
 from pdsuite.programs.batch_protocol import ProcessOutput
 from pdsuite.programs.protocol import Cause
 from pdsuite.programs.recorder import Recording
@@ -60,29 +60,31 @@ class ComparedScript:
         return self.kind in (ComparisonKind.TURNED, ComparisonKind.OTHERWISE)
 
 
-def compare(before: SenderResults, after: SenderResults) -> list[ComparedScript]:
+def compare_results(before: SenderResults, after: SenderResults) -> list[ComparedScript]:
     """The scripts in the order of their places."""
-    return [_compared(index, before, after) for index in sorted(after.outcomes)]
+    return [_compare_script(index, before, after) for index in sorted(after.outcomes)]
 
 
-def _compared(index: int, before: SenderResults, after: SenderResults) -> ComparedScript:
+def _compare_script(index: int, before: SenderResults, after: SenderResults) -> ComparedScript:
     old, new = before.outcomes[index], after.outcomes[index]
     one, other = (it.recordings.get(index, _NO_RECORDING) for it in (before, after))
     why = (one.fault if not one.text else "", other.fault if not other.text else "")
-    parting = divergence_of(one.text, other.text) if one.text and other.text else None
+    parting = first_divergence(one.text, other.text) if one.text and other.text else None
     if old.row != new.row:
         kind = ComparisonKind.TURNED
     elif parting is not None or bool(one.text) != bool(other.text):
         kind = ComparisonKind.OTHERWISE
     else:
         kind = ComparisonKind.SAME if one.text else ComparisonKind.UNKNOWN
-    return ComparedScript(index, kind, old, new, parting, why, (one.text, other.text), _comment(after.texts.get(index)))
+    return ComparedScript(
+        index, kind, old, new, parting, why, (one.text, other.text), _first_comment(after.texts.get(index))
+    )
 
 
-def _comment(text: Text | None) -> str:
+def _first_comment(text: Text | None) -> str:
     """The first line of a text, if that is a comment."""
     line = b"" if text is None else text.octets.partition(b"\n")[0].strip()
-    return shown(line.removeprefix(_COMMENT).strip()) if line.startswith(_COMMENT) else ""
+    return printable_octets(line.removeprefix(_COMMENT).strip()) if line.startswith(_COMMENT) else ""
 
 
 _COMMENT = b"//"
@@ -98,32 +100,32 @@ class KindCounts:
 
     def __str__(self) -> str:
         """The counts as the last line of a report has them."""
-        return " ".join([str(self._scripts), *(f"{it} {self.counts[it]}" for it in self._kinds)])
+        return " ".join([str(self._script_count), *(f"{it} {self.counts[it]}" for it in self._listed_kinds)])
 
     @property
-    def words(self) -> str:
+    def counts_in_words(self) -> str:
         """The counts in words."""
-        scripts = f"{self._scripts} {'script' if self._scripts == 1 else 'scripts'}"
-        return ", ".join([scripts, *(f"{self.counts[it]} {it}" for it in self._kinds)])
+        scripts = f"{self._script_count} {'script' if self._script_count == 1 else 'scripts'}"
+        return ", ".join([scripts, *(f"{self.counts[it]} {it}" for it in self._listed_kinds)])
 
     @property
-    def _scripts(self) -> int:
+    def _script_count(self) -> int:
         return sum(self.counts.values())
 
     @property
-    def _kinds(self) -> list[ComparisonKind]:
+    def _listed_kinds(self) -> list[ComparisonKind]:
         return [it for it in ComparisonKind if it is not ComparisonKind.UNKNOWN or self.counts[it]]
 
 
-def counts_of(compared: Sequence[ComparedScript]) -> Iterator[KindCounts]:
+def counts_by_folder_and_total(compared: Sequence[ComparedScript]) -> Iterator[KindCounts]:
     """The count of each folder in the order of paths, and that of all last."""
     folders: dict[str, list[ComparisonKind]] = {}
     for it in compared:
         folders.setdefault(os.path.dirname(it.path), []).append(it.kind)
     for name, kinds in folders.items():
-        yield KindCounts(name or os.curdir, _counted(kinds))
-    yield KindCounts("total", _counted(it.kind for it in compared))
+        yield KindCounts(name or os.curdir, _count_kinds(kinds))
+    yield KindCounts("total", _count_kinds(it.kind for it in compared))
 
 
-def _counted(kinds: Iterable[ComparisonKind]) -> Mapping[ComparisonKind, int]:
+def _count_kinds(kinds: Iterable[ComparisonKind]) -> Mapping[ComparisonKind, int]:
     return Counter(kinds)

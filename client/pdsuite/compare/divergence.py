@@ -44,7 +44,7 @@ def played_events(recording: str) -> Iterator[PlayedEvent]:
             lines.append(line)
 
 
-def divergence_of(before: str, after: str) -> Divergence | None:
+def first_divergence(before: str, after: str) -> Divergence | None:
     """Where two recordings part, if they do: by an event or its moment. A state alone makes no difference."""
     states = ("", "")
     if before == after:

@@ -28,7 +28,7 @@ class Group:
         return f"{self.field}, at {self.event}" if self.event else self.field
 
 
-def groups_of(scripts: Sequence[ComparedScript]) -> list[Group]:
+def group_by_first_difference(scripts: Sequence[ComparedScript]) -> list[Group]:
     """The groups of scripts that differ, the largest first, and then in the order of their first scripts."""
     found: dict[tuple[str, str], list[ComparedScript]] = {}
     for it in scripts:
@@ -44,27 +44,27 @@ def first_difference(before: str, after: str) -> tuple[str, str]:
     previous: PlayedEvent | None = None
     for one, other in zip_longest(played_events(before), played_events(after)):
         if one is None or other is None:
-            return _LESS, _kind(one or other, previous)
+            return _LESS, _event_kind(one or other, previous)
         if (one.line, one.moment) != (other.line, other.moment):
-            return _field(one, other), _kind(one, previous)
+            return _first_differing_field(one, other), _event_kind(one, previous)
         if one.state != other.state:
-            return _fact(one.state, other.state), _kind(one, previous)
+            return _first_differing_fact(one.state, other.state), _event_kind(one, previous)
         previous = one
     return _UNKNOWN, ""
 
 
-def _fact(one: str, other: str) -> str:
+def _first_differing_fact(one: str, other: str) -> str:
     """The first fact in which two states differ."""
-    facts, others = _facts(one), _facts(other)
+    facts, others = _facts_of_state(one), _facts_of_state(other)
     return next(name for name in {**facts, **others} if facts.get(name) != others.get(name))
 
 
-def _facts(state: str) -> Mapping[str, str]:
+def _facts_of_state(state: str) -> Mapping[str, str]:
     name, *facts = state.split(" ")
     return {"state": name} | dict(it.split(":", 1) for it in facts)
 
 
-def _field(one: PlayedEvent, other: PlayedEvent) -> str:
+def _first_differing_field(one: PlayedEvent, other: PlayedEvent) -> str:
     """The first field in which two events differ."""
     if _is_call(one) and _is_call(other):
         return _CALL
@@ -80,7 +80,7 @@ def _is_call(it: PlayedEvent) -> bool:
     return it.line.split(" ", 2)[1:2] not in ([">"], ["<"])
 
 
-def _kind(it: PlayedEvent | None, previous: PlayedEvent | None) -> str:
+def _event_kind(it: PlayedEvent | None, previous: PlayedEvent | None) -> str:
     """What kind of event it is, after the one before it."""
     if it is None:
         return ""
@@ -90,10 +90,10 @@ def _kind(it: PlayedEvent | None, previous: PlayedEvent | None) -> str:
         return "a packet that leaves"
     if words[1:2] != ["<"]:
         return f"a call of {words[1].partition('(')[0]}" if len(words) > 1 else "a call"
-    return _arrival(words[2], "sack " in it.line, state)
+    return _arriving_packet_kind(words[2], "sack " in it.line, state)
 
 
-def _arrival(flags: str, has_blocks: bool, state: str) -> str:
+def _arriving_packet_kind(flags: str, has_blocks: bool, state: str) -> str:
     if "S" in flags:
         return "the SYN"
     if "R" in flags:

@@ -37,12 +37,12 @@ class Quantities:
     def __add__(self, other: "Quantities") -> "Quantities":
         return Quantities(*(one + more for one, more in zip(astuple(self), astuple(other))))
 
-    def named(self) -> Mapping[str, int]:
+    def quantities_by_name(self) -> Mapping[str, int]:
         """The quantities by their names."""
         return {it.name: getattr(self, it.name) for it in fields(self)}
 
 
-def quantities_of(recording: str) -> Quantities:
+def quantities_of_recording(recording: str) -> Quantities:
     """The quantities of a recording with its trace."""
     segments = again = expiries = acknowledged = una = top = 0
     for event in _EVENT.finditer(recording):
@@ -66,26 +66,28 @@ class QuantityChange:
     before: Quantities
     after: Quantities
 
-    def by(self, quantity: Quantity) -> int:
+    def absolute_change(self, quantity: Quantity) -> int:
         """How much a quantity changed."""
-        return abs(self.after.named()[quantity] - self.before.named()[quantity])
+        return abs(self.after.quantities_by_name()[quantity] - self.before.quantities_by_name()[quantity])
 
 
-def changes_of(compared: Iterable[ComparedScript], quantity: Quantity) -> list[QuantityChange]:
+def sorted_quantity_changes(compared: Iterable[ComparedScript], quantity: Quantity) -> list[QuantityChange]:
     """The scripts whose quantities changed, the largest change of one of them first."""
-    found = [it for it in _all(compared) if it.before != it.after]
-    return sorted(found, key=lambda it: (-it.by(quantity), *(-it.by(other) for other in Quantity)))
+    found = [it for it in _quantities_of_recorded(compared) if it.before != it.after]
+    return sorted(
+        found, key=lambda it: (-it.absolute_change(quantity), *(-it.absolute_change(other) for other in Quantity))
+    )
 
 
-def total_of(compared: Sequence[ComparedScript]) -> QuantityChange:
+def total_quantities(compared: Sequence[ComparedScript]) -> QuantityChange:
     """The sums over all scripts that both senders record."""
-    both = list(_all(compared))
+    both = list(_quantities_of_recorded(compared))
     before, after = (sum((getattr(it, side) for it in both), Quantities()) for side in ("before", "after"))
     return QuantityChange("", before, after)
 
 
-def _all(compared: Iterable[ComparedScript]) -> Iterator[QuantityChange]:
+def _quantities_of_recorded(compared: Iterable[ComparedScript]) -> Iterator[QuantityChange]:
     for it in compared:
         before, after = it.recordings
         if before and after:
-            yield QuantityChange(it.path, quantities_of(before), quantities_of(after))
+            yield QuantityChange(it.path, quantities_of_recording(before), quantities_of_recording(after))

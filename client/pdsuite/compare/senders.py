@@ -8,11 +8,11 @@ from contextlib import suppress
 from dataclasses import dataclass
 from pathlib import Path
 
-from pdsuite.faults import Fault, why
-from pdsuite.output.octets import shown, shown_path, shown_text
+from pdsuite.faults import Fault, error_reason
+from pdsuite.output.octets import printable_octets, printable_path, printable_text
 from pdsuite.programs.locate import BATCH_TOOL, PACKAGE_VERSION, PROGRAMS_VARIABLE, RECORD, REGRESS, TOP
-from pdsuite.programs.locate import UnprovedError, commit, launched_from, locate, proved_program
-from pdsuite.programs.lookup import ProgramLookup, programs_lookup, tree_lookup
+from pdsuite.programs.locate import UnprovedError, client_commit, find_proved_program, locate_program, tree_of_launchers
+from pdsuite.programs.lookup import ProgramLookup, lookup_by_paths, proved_programs_lookup
 
 _KEPT = TOP / "tools/last_proved.py"
 _COMMIT = "commit"
@@ -46,28 +46,32 @@ class Sender:
         return self.programs is not None
 
     @property
-    def records(self) -> bool:
+    def can_record(self) -> bool:
         """Whether it can record."""
         return self.programs is None or RECORD in self.programs
 
     @property
-    def look(self) -> ProgramLookup:
+    def program_lookup(self) -> ProgramLookup:
         """A look at its programs, or at the tree that it is built from."""
         if self.programs is not None:
-            return programs_lookup(self.programs) if self.tree is None else tree_lookup(self.tree, *self.programs)
-        return tree_lookup(self.top, REGRESS)
+            return (
+                lookup_by_paths(self.programs)
+                if self.tree is None
+                else proved_programs_lookup(self.tree, *self.programs)
+            )
+        return proved_programs_lookup(self.build_tree, REGRESS)
 
-    def sources(self, place: Path) -> Path | None:
+    def source_tree(self, place: Path) -> Path | None:
         """The tree of its sources, if it is known; that of a commit is put into a new folder."""
         if self.tree is None and self.commit:
             with suppress(Fault):
                 place.mkdir()
-                _checked_out(self.commit, _COMMIT, place)
+                _check_out_commit(self.commit, _COMMIT, place)
                 return place
         return self.tree
 
     @property
-    def top(self) -> Path:
+    def build_tree(self) -> Path:
         """The tree that it is built from."""
         assert self.tree is not None
         return self.tree
@@ -76,84 +80,86 @@ class Sender:
         return self.name if self.is_proved else f"{self.name}, unproved"
 
 
-def sender_of(word: str, option: str, place: Path) -> Sender:
+def resolve_sender(word: str, option: str, place: Path) -> Sender:
     """The sender that a word names: a folder of programs, a tree, or a commit, whose tree is put into a new folder."""
     folder = Path(word)
-    if tree := launched_from(folder):
-        return _of_tree(tree, shown_path(folder))
+    if tree := tree_of_launchers(folder):
+        return _sender_of_tree(tree, printable_path(folder))
     if (folder / REGRESS).is_file():
-        return Sender(shown_path(folder), _programs_in(folder, option), None)
+        return Sender(printable_path(folder), _find_programs(folder, option), None)
     if folder.is_dir():
-        raise Fault(f"{option}: {shown_path(folder)}: no folder of programs: it has no {REGRESS}")
+        raise Fault(f"{option}: {printable_path(folder)}: no folder of programs: it has no {REGRESS}")
     if not BATCH_TOOL.is_file():
-        raise Fault(f"{option}: {shown_text(word)}: no folder, and here is no tree with commits")
+        raise Fault(f"{option}: {printable_text(word)}: no folder, and here is no tree with commits")
     place.mkdir()
-    return Sender(_checked_out(word, option, place), None, place)
+    return Sender(_check_out_commit(word, option, place), None, place)
 
 
 def current_sender() -> Sender:
     """The tree as it stands, or the programs of a package or of PDSUITE_PROGRAMS."""
-    if (folder := os.environ.get(PROGRAMS_VARIABLE)) and (tree := launched_from(Path(folder))):
-        return _of_tree(tree, shown_path(Path(folder)))
+    if (folder := os.environ.get(PROGRAMS_VARIABLE)) and (tree := tree_of_launchers(Path(folder))):
+        return _sender_of_tree(tree, printable_path(Path(folder)))
     try:
-        programs = {name: locate(name) for name in (REGRESS, RECORD)}
+        programs = {name: locate_program(name) for name in (REGRESS, RECORD)}
     except UnprovedError:
         if not BATCH_TOOL.is_file():
             raise
-        return Sender(f"the tree as it stands, {commit()}", None)
+        return Sender(f"the tree as it stands, {client_commit()}", None)
     is_elsewhere = PACKAGE_VERSION.exists() or os.environ.get(PROGRAMS_VARIABLE)
-    return Sender(f"the proved programs, {commit()}", programs, None if is_elsewhere else TOP)
+    return Sender(f"the proved programs, {client_commit()}", programs, None if is_elsewhere else TOP)
 
 
-def _of_tree(tree: Path, name: str) -> Sender:
+def _sender_of_tree(tree: Path, name: str) -> Sender:
     """A tree's sender: its programs if both are proved."""
     try:
-        return Sender(name, {it: proved_program(it, tree) for it in (REGRESS, RECORD)}, tree)
+        return Sender(name, {it: find_proved_program(it, tree) for it in (REGRESS, RECORD)}, tree)
     except UnprovedError:
         return Sender(name, None, tree)
 
 
-def last_proved() -> Sender:
+def last_proved_sender() -> Sender:
     """The sender that was last proved in this tree, whose programs ./prove has kept."""
     if PACKAGE_VERSION.exists() or not _KEPT.is_file():
         raise Fault("here nothing is proved: name another sender by --base")
     done = subprocess.run([sys.executable, "-B", _KEPT], stdin=subprocess.DEVNULL, capture_output=True)
     if done.returncode:
-        raise Fault(f"{shown(done.stderr.strip())}: name a sender by --base, or run ./prove")
+        raise Fault(f"{printable_octets(done.stderr.strip())}: name a sender by --base, or run ./prove")
     folder = Path(os.fsdecode(done.stdout.removesuffix(b"\n")))
     try:
-        name = shown((folder / _COMMIT).read_bytes().strip())
+        name = printable_octets((folder / _COMMIT).read_bytes().strip())
     except OSError as error:
-        raise Fault(f"{shown_path(folder / _COMMIT)}: {why(error)}") from error
-    return Sender(f"the last proved programs, {name}", _programs_in(folder, "./prove"), None, name.removesuffix(_DIRTY))
+        raise Fault(f"{printable_path(folder / _COMMIT)}: {error_reason(error)}") from error
+    return Sender(
+        f"the last proved programs, {name}", _find_programs(folder, "./prove"), None, name.removesuffix(_DIRTY)
+    )
 
 
-def _programs_in(folder: Path, option: str) -> dict[str, Path]:
+def _find_programs(folder: Path, option: str) -> dict[str, Path]:
     """The programs of a folder; pdrecord may be missing."""
     programs = {name: (folder / name).absolute() for name in (REGRESS, RECORD)}
     there = {name: it for name, it in programs.items() if it.is_file() and os.access(it, os.X_OK)}
     if REGRESS not in there:
-        raise Fault(f"{option}: {shown_path(folder)} has no program {REGRESS}")
+        raise Fault(f"{option}: {printable_path(folder)} has no program {REGRESS}")
     return there
 
 
-def _checked_out(word: str, option: str, place: Path) -> str:
+def _check_out_commit(word: str, option: str, place: Path) -> str:
     """The name of a commit, whose crates are put into a folder."""
-    commit = _git("rev-parse", "--verify", "--quiet", "--end-of-options", f"{word}^{{commit}}")
+    commit = _git_output("rev-parse", "--verify", "--quiet", "--end-of-options", f"{word}^{{commit}}")
     if commit is None:
-        raise Fault(f"{option}: {shown_text(word)}: neither a folder of programs nor a commit")
+        raise Fault(f"{option}: {printable_text(word)}: neither a folder of programs nor a commit")
     number = commit.strip().decode()
-    there = _git("ls-tree", "--name-only", number) or b""
+    there = _git_output("ls-tree", "--name-only", number) or b""
     parts = [it for it in _PARTS if it.encode() in there.split(b"\n")]
     archive = place / "archive.tar"
-    if _git("archive", "--format=tar", f"--output={archive}", number, "--", *parts) is None:
-        raise Fault(f"{option}: {shown_text(word)}: git can't archive this commit")
-    _unpack(archive, place)
+    if _git_output("archive", "--format=tar", f"--output={archive}", number, "--", *parts) is None:
+        raise Fault(f"{option}: {printable_text(word)}: git can't archive this commit")
+    _unpack_archive(archive, place)
     archive.unlink()
     return f"commit {number[:12]}"
 
 
-def _unpack(archive: Path, place: Path) -> None:
+def _unpack_archive(archive: Path, place: Path) -> None:
     """Puts the files of an archive into a folder."""
     # This program takes a fifth of the time of Python's module, which serves where it isn't there.
     try:
@@ -166,10 +172,10 @@ def _unpack(archive: Path, place: Path) -> None:
             file.extractall(place)
 
 
-def _git(*words: str) -> bytes | None:
+def _git_output(*words: str) -> bytes | None:
     """What git prints in this tree, if it does what is requested."""
     try:
         done = subprocess.run(["git", "-C", TOP, *words], stdin=subprocess.DEVNULL, capture_output=True)
     except OSError as error:
-        raise Fault(f"git: {why(error)}") from error
+        raise Fault(f"git: {error_reason(error)}") from error
     return done.stdout if done.returncode == 0 else None

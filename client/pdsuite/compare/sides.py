@@ -6,9 +6,9 @@ from dataclasses import dataclass, replace
 from pdsuite.compare.senders import Sender
 from pdsuite.programs.refusals import Refusal
 from pdsuite.run.batches import Script
-from pdsuite.scripts.config import Claim, Layer, claims_of, option_of
-from pdsuite.scripts.renamed import KEYS, OLD_KEYS, UNKNOWN_KEY, old_setting, old_word
-from pdsuite.scripts.settings import Settings, Value, settings_of, settings_text
+from pdsuite.scripts.config import Claim, Layer, claims_of_layers, layer_of_option
+from pdsuite.scripts.renamed import KEYS, OLD_KEYS, UNKNOWN_KEY, old_name_in_words, old_word
+from pdsuite.scripts.settings import Settings, Value, settings_as_toml, sorted_settings
 
 
 class SideSettingsError(Exception):
@@ -16,7 +16,7 @@ class SideSettingsError(Exception):
 
     def __init__(self, sender: Sender, refused: Iterable[Refusal]) -> None:
         super().__init__()
-        self.lines = [f"{it.line} (by {sender})" for it in refused]
+        self.lines = [f"{it.refusal_line} (by {sender})" for it in refused]
 
 
 @dataclass(frozen=True)
@@ -29,34 +29,36 @@ class Side:
     renamed: frozenset[str] = frozenset()  # keys that have their old names here
 
     @property
-    def own(self) -> Settings:
+    def own_settings(self) -> Settings:
         """What its own option sets."""
-        return settings_of(self.option.keys)
+        return sorted_settings(self.option.keys)
 
-    def claims(self, common: Iterable[Claim]) -> list[Claim]:
+    def claims_for_sender(self, common: Iterable[Claim]) -> list[Claim]:
         """The claims for the sender: those that hold for both sides, but for what it lacks, and its own."""
         known = [it for it in common if it.key not in self.lacks]
-        named = [replace(it, key=self._name(it.key), value=self._word(it.key, it.value)) for it in known]
-        return [*named, *claims_of([self.option])]
+        named = [
+            replace(it, key=self._key_name_here(it.key), value=self._value_word_here(it.key, it.value)) for it in known
+        ]
+        return [*named, *claims_of_layers([self.option])]
 
-    def settings(self, given: Settings) -> Settings:
+    def effective_settings(self, given: Settings) -> Settings:
         """The settings that hold here, where these are given."""
         here = {key: value for key, value in given if key not in self.lacks}
-        named = {self._name(key): self._word(key, value) for key, value in here.items()}
-        return settings_of({**named, **self.option.keys})
+        named = {self._key_name_here(key): self._value_word_here(key, value) for key, value in here.items()}
+        return sorted_settings({**named, **self.option.keys})
 
-    def scripts(self, scripts: Iterable[Script]) -> list[Script]:
+    def with_effective_settings(self, scripts: Iterable[Script]) -> list[Script]:
         """Scripts under the settings that hold here."""
-        return [it if it.fault else replace(it, settings=self.settings(it.settings)) for it in scripts]
+        return [it if it.fault else replace(it, settings=self.effective_settings(it.settings)) for it in scripts]
 
-    def accepted(self, common: Sequence[Claim], query: Callable[[list[Claim]], list[Refusal]]) -> "Side":
+    def adapt_to_sender(self, common: Sequence[Claim], query: Callable[[list[Claim]], list[Refusal]]) -> "Side":
         """The side as its sender takes it, which is queried until it refuses nothing, by the old names of keys too."""
         side = self
-        while refused := query(side.claims(common)):
-            side = side.without(refused, may_retry=True)
+        while refused := query(side.claims_for_sender(common)):
+            side = side.without_lacking_keys(refused, may_retry=True)
         return side
 
-    def without(self, refused: Sequence[Refusal], may_retry: bool = False) -> "Side":
+    def without_lacking_keys(self, refused: Sequence[Refusal], may_retry: bool = False) -> "Side":
         """The side without keys that its sender is found to lack; a fault where it refuses more than such a key.
 
         Who queries again gets a key by its old name, if it has one, before it counts as lacking.
@@ -68,33 +70,33 @@ class Side:
         old = {it for it in keys - self.renamed if may_retry and it in OLD_KEYS}
         return replace(self, lacks=self.lacks | (keys - old), renamed=(self.renamed - keys) | old)
 
-    def _name(self, key: str) -> str:
+    def _key_name_here(self, key: str) -> str:
         """The name of a key here."""
         return OLD_KEYS[key] if key in self.renamed else key
 
-    def _word(self, key: str, value: Value) -> Value:
+    def _value_word_here(self, key: str, value: Value) -> Value:
         """The word for a value of a key here."""
         return old_word(key, value) if key in self.renamed else value
 
 
-def side_of(sender: Sender, text: str, option: str) -> Side:
+def make_side(sender: Sender, text: str, option: str) -> Side:
     """A side whose sender is called by the settings of its own option, too, which has this name and text."""
-    layer = option_of(text, option)
-    own = settings_text(settings_of(layer.keys)).replace("\n", ", ")
+    layer = layer_of_option(text, option)
+    own = settings_as_toml(sorted_settings(layer.keys)).replace("\n", ", ")
     return Side(replace(sender, name=f"{sender.name} with {own}") if own else sender, layer)
 
 
-def refuse_common(sides: Sequence[Side], claims: Iterable[Claim]) -> None:
+def refuse_commonly_lacked_keys(sides: Sequence[Side], claims: Iterable[Claim]) -> None:
     """Raises a fault where a claim of both sides is of a key that both lack."""
     lacked = frozenset.intersection(*(it.lacks for it in sides))
     if wrong := [Refusal(it, UNKNOWN_KEY) for it in claims if it.key in lacked]:
         raise SideSettingsError(sides[0].sender, wrong)
 
 
-def report_lacks(sides: Sequence[Side], note: Callable[[str], None]) -> None:
+def report_lacking_keys(sides: Sequence[Side], note: Callable[[str], None]) -> None:
     """Says once of each key that a sender has by its old name, and of each that it lacks, where it has no effect."""
     for side in sides:
         for key in sorted(side.renamed):
-            note(f"pdsuite: {side.sender}: the setting {key} is {old_setting(key)} there")
+            note(f"pdsuite: {side.sender}: the setting {key} is {old_name_in_words(key)} there")
         for key in sorted(side.lacks):
             note(f"pdsuite: {side.sender}: there is no setting {key}, which counts as its default")

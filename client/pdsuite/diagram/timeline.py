@@ -43,12 +43,12 @@ def timeline_of(events: Sequence[TracedEvent], failing: FailingLine | None = Non
         segments=tuple(_segments(moments, failing)),
         arrivals=tuple(_arrivals(moments)),
         blocks=tuple(_blocks(moments)),
-        acknowledged=_stairs(moments, lambda it: it.number("una")),
+        acknowledged=_stairs(moments, lambda it: it.numeric_fact("una")),
         edge=_stairs(moments, _edge),
-        cwnd=_stairs(moments, lambda it: it.number("cwnd")),
+        cwnd=_stairs(moments, lambda it: it.numeric_fact("cwnd")),
         ssthresh=_stairs(moments, _threshold),
         flight_size=_stairs(moments, _flight_size),
-        pipe=_stairs(moments, lambda it: it.number("pipe")),
+        pipe=_stairs(moments, lambda it: it.numeric_fact("pipe")),
         spans=tuple(_spans(moments)),
         notes=_notes(moments),
         failure=failure,
@@ -117,8 +117,8 @@ def _arrivals(moments: Sequence[_Moment]) -> Iterator[Arrival]:
 
 def _octet(packet: Packet, before: TracedEvent | None, after: TracedEvent) -> int:
     """What a segment acknowledges, where that was sent and wasn't acknowledged before."""
-    numbers = after if before is None or before.number("una") is None else before
-    una, top = numbers.number("una") or 0, numbers.number("top") or 0
+    numbers = after if before is None or before.numeric_fact("una") is None else before
+    una, top = numbers.numeric_fact("una") or 0, numbers.numeric_fact("top") or 0
     return packet.ack if packet.ack is not None and una <= packet.ack <= top else una
 
 
@@ -137,8 +137,12 @@ def _is_duplicate(packet: Packet, before: TracedEvent | None, after: TracedEvent
     """Whether an ACK acknowledges nothing new while octets are outstanding, with the same window (RFC 5681)."""
     if before is None or packet.flags != ".":
         return False
-    is_outstanding = (before.number("FlightSize") or 0) > 0
-    return is_outstanding and packet.ack == before.number("una") and before.number("rwnd") == after.number("rwnd")
+    is_outstanding = (before.numeric_fact("FlightSize") or 0) > 0
+    return (
+        is_outstanding
+        and packet.ack == before.numeric_fact("una")
+        and before.numeric_fact("rwnd") == after.numeric_fact("rwnd")
+    )
 
 
 def _blocks(moments: Sequence[_Moment]) -> Iterator[SackBlock]:
@@ -171,18 +175,18 @@ def _stairs(moments: Sequence[_Moment], value_of: Callable[[TracedEvent], int | 
 
 def _edge(event: TracedEvent) -> int | None:
     """The number after the last octet that the peer's window lets leave."""
-    una, window = event.number("una"), event.number("rwnd")
+    una, window = event.numeric_fact("una"), event.numeric_fact("rwnd")
     return None if una is None or window is None else una + window
 
 
 def _threshold(event: TracedEvent) -> int | None:
-    value = event.number("ssthresh")
+    value = event.numeric_fact("ssthresh")
     return None if value is None or value >= _NO_THRESHOLD else value
 
 
 def _flight_size(event: TracedEvent) -> int | None:
     """Once the connection is established, and where no pipe counts in its place."""
-    return event.number("FlightSize") if "cwnd" in event.facts and "pipe" not in event.facts else None
+    return event.numeric_fact("FlightSize") if "cwnd" in event.facts and "pipe" not in event.facts else None
 
 
 # ---- what has a name

@@ -7,7 +7,7 @@ from collections.abc import Iterable, Iterator, Sequence
 from pdsuite.imports.conversion import Imported, NotImported
 from pdsuite.imports.findings import Heading
 from pdsuite.imports.listing import Listed, alone_in
-from pdsuite.output.octets import shown_path, shown_text
+from pdsuite.output.octets import printable_path, printable_text
 
 # Of the object, as docs/import.schema.json has it.
 VERSION = 2
@@ -36,15 +36,15 @@ def as_json(scripts: Sequence[Listed]) -> str:
 
 
 def _script(listed: Listed) -> dict[str, object]:
-    path = shown_path(listed.path)
+    path = printable_path(listed.path)
     match listed.came:
         case str(reason):
-            return {"path": path, "came": "error", "reason": shown_text(reason)}
+            return {"path": path, "came": "error", "reason": printable_text(reason)}
         case Imported(changed=changed, settings=settings):
             return {"path": path, "came": "imported", "changed": changed, "settings": dict(settings)}
         case NotImported(reasons):
             reason_objects = [
-                {"line": it.line, "words": shown_text(it.words), "what": shown_text(it.what)} for it in reasons
+                {"line": it.line, "words": printable_text(it.words), "what": printable_text(it.what)} for it in reasons
             ]
             return {"path": path, "came": "not imported", "reasons": reason_objects}
 
@@ -53,7 +53,7 @@ def _reasons(left: Sequence[NotImported]) -> Iterator[dict[str, object]]:
     """Each reason: how many scripts have it, and how many no other."""
     alone = Counter(alone_in(left))
     for words, count in _counted(reason.words for it in left for reason in it.reasons):
-        yield {"words": shown_text(words), "scripts": count, "alone": alone[words]}
+        yield {"words": printable_text(words), "scripts": count, "alone": alone[words]}
 
 
 def _findings(imported: Sequence[Imported]) -> Iterator[dict[str, object]]:
@@ -61,7 +61,7 @@ def _findings(imported: Sequence[Imported]) -> Iterator[dict[str, object]]:
     for heading in Heading:
         words = (it.words for script in imported for it in script.findings if it.heading is heading)
         for word, count in _counted(words):
-            yield {"heading": heading.value, "words": shown_text(word), "count": count}
+            yield {"heading": heading.value, "words": printable_text(word), "count": count}
 
 
 def _counted(words: Iterable[str]) -> list[tuple[str, int]]:

@@ -7,7 +7,7 @@ from dataclasses import dataclass
 from pdsuite.imports.assertions import Assertion, assertion_in
 from pdsuite.imports.packets import LEAST_SMSS, smss_of
 from pdsuite.packetdrill.reader import read
-from pdsuite.programs.trace import TracedEvent, events_in
+from pdsuite.programs.trace import TracedEvent, traced_events_in
 
 _LINE = re.compile(r"^.*$", re.MULTILINE)
 
@@ -84,7 +84,7 @@ def _beside(line: int, assertion: Assertion, state: CheckedState, smss: int) -> 
 
 def _inputs(recording: str) -> Iterator[_Input]:
     """The inputs of a recording, with the state after each."""
-    events = events_in(recording)
+    events = traced_events_in(recording)
     lossy = list(_losses(events))
     acts = [number for number, it in enumerate(events) if it.is_input]
     for number, after in zip(acts, [*acts[1:], len(events)]):
@@ -98,12 +98,12 @@ def _losses(events: Sequence[TracedEvent]) -> Iterator[bool]:
     lost: int | None = None
     moment = 0
     for event in events:
-        top = event.number("top")
+        top = event.numeric_fact("top")
         if event.is_input:
             moment = event.moment
         elif event.moment != moment and "cwnd" in event.facts:
             lost = top
-        una = event.number("una")
+        una = event.numeric_fact("una")
         if lost is not None and (una is None or una >= lost):
             lost = None
         yield lost is not None

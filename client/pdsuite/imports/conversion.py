@@ -17,8 +17,8 @@ from pdsuite.packetdrill.items import Call, Code, Command, HeaderOption, Item, P
 from pdsuite.packetdrill.reader import Reading, read
 from pdsuite.packetdrill.tokens import line_of
 from pdsuite.scripts.defaults import DEFAULTS
-from pdsuite.scripts.settings import Settings, Value, settings_of
-from pdsuite.scripts.text import LINES, UnfitTextError, text_of
+from pdsuite.scripts.settings import Settings, Value, sorted_settings
+from pdsuite.scripts.text import LINES, UnfitTextError, make_text
 
 MOST_EVENTS = 4_096
 # Why the commands of an imported script's set-up are comments.
@@ -81,7 +81,7 @@ def convert(source: ImportSource, keep_packets: bool) -> Imported | NotImported:
     findings = tuple(finding for _, them in rewrites for finding in them)
     changed = sum(any(it.heading is Heading.CHANGED for it in them) for _, them in rewrites)
     shared = joined(it.shared for it in looked.values())
-    settings = settings_of(setup.settings if source.own is not None else _limited(setup.settings, items, smss))
+    settings = sorted_settings(setup.settings if source.own is not None else _limited(setup.settings, items, smss))
     return _within_limits(text) or Imported(text, settings, findings, changed, source.own is not None, shared)
 
 
@@ -166,7 +166,7 @@ def _within_limits(text: str) -> NotImported | None:
     """Why the text of an import is no script's, if it isn't."""
     octets = text.encode("utf-8", "surrogateescape")
     try:
-        text_of(octets)
+        make_text(octets)
     except UnfitTextError as unfit:
         return NotImported((Reason(min(octets.count(b"\n"), LINES), str(unfit)),))
     events = sum(it.time is not None for it in read(text).items)

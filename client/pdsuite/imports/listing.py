@@ -6,8 +6,8 @@ from dataclasses import dataclass
 
 from pdsuite.imports.conversion import Imported, NotImported
 from pdsuite.imports.findings import Finding, Heading, Reason
-from pdsuite.output.octets import shown_path, shown_text
-from pdsuite.scripts.settings import shown_value
+from pdsuite.output.octets import printable_path, printable_text
+from pdsuite.scripts.settings import value_as_toml
 
 _MOST = 120
 _FLOOR = "  of a kernel, min_rto_us: RFC 6298 puts this floor under the whole RTO, Linux under 4 RTTVAR alone"
@@ -23,7 +23,7 @@ class Listed:
 
 def lines_of(listed: Listed) -> Iterator[str]:
     """The line of a script, and what stands below it."""
-    path = shown_path(listed.path)
+    path = printable_path(listed.path)
     match listed.came:
         case str(reason):
             yield f"{path}: error: {reason}"
@@ -45,7 +45,7 @@ def summary(scripts: Sequence[Listed]) -> Iterator[str]:
     yield from _table("not imported for this alone, scripts", alone_in(left))
     for heading in Heading:
         yield from _table(heading.value, _words(findings, heading))
-    settings = (f"{key} = {shown_value(value)}" for script in imported for key, value in script.settings)
+    settings = (f"{key} = {value_as_toml(value)}" for script in imported for key, value in script.settings)
     yield from _table("settings, scripts", settings)
     if not all(it.is_own for it in imported):
         yield _FLOOR
@@ -75,7 +75,7 @@ def _reason(reason: Reason) -> str:
 
 
 def _shown(text: str) -> str:
-    return shown_text(text, _MOST)
+    return printable_text(text, _MOST)
 
 
 def _table(heading: str, words: Iterable[str]) -> Iterator[str]:

@@ -74,7 +74,7 @@ def _option(item: Item, option: HeaderOption, is_header: bool) -> Iterator[Reaso
         yield Reason(item.line, "MTU", what)
     elif option.name == MSS:
         if _mss(option.value) is None:
-            yield Reason(item.line, f"no value of {MSS}, which takes {KEYS[MSS].takes}", what)
+            yield Reason(item.line, f"no value of {MSS}, which takes {KEYS[MSS].accepted_values}", what)
     elif option.name == "ip_version" and not is_place(option):
         yield Reason(item.line, "IPv6", what)
     elif not is_place(option) and not (option.name == TOLERANCE and _tolerance(option.value) is not None):

@@ -259,7 +259,7 @@ def _scaled(value: str, factor: int) -> int | None:
 
 def _ranged(key: str, number: int | None, what: str, line: int) -> Setting | Reason:
     if number is None or number not in _RANGES[key]:
-        return Reason(line, f"no value of {key}, which takes {KEYS[key].takes}", what)
+        return Reason(line, f"no value of {key}, which takes {KEYS[key].accepted_values}", what)
     return key, number
 
 

@@ -7,7 +7,7 @@ from collections.abc import Iterator, Mapping, Sequence
 
 from pdsuite.imports.setup import SetupWords, joined
 from pdsuite.scripts.config import CONFIG_FILE
-from pdsuite.scripts.settings import Settings, settings_text
+from pdsuite.scripts.settings import Settings, settings_as_toml
 
 _HEAD = "# The settings of the scripts in this folder, as pdsuite import read them.\n"
 _ROOT = "root = true\n"
@@ -57,4 +57,4 @@ def table(name: str, settings: Settings) -> str:
     """The table of a script with these settings."""
     # What JSON escapes TOML escapes alike, but for one octet.
     key = json.dumps(name, ensure_ascii=False).replace("\x7f", "\\u007f")
-    return f"\n[{key}]\n{settings_text(settings)}\n"
+    return f"\n[{key}]\n{settings_as_toml(settings)}\n"

@@ -8,7 +8,7 @@ from pdsuite.lsp.documents import text_edit
 from pdsuite.lsp.json_values import Json
 from pdsuite.lsp.positions import Lines
 from pdsuite.scripts.defaults import KEYS, Number
-from pdsuite.scripts.settings import shown_value
+from pdsuite.scripts.settings import value_as_toml
 
 _KEYWORD, _VALUE, _SNIPPET, _FUNCTION, _PROPERTY = 14, 12, 15, 3, 10
 _PLAIN, _TABSTOPS = 1, 2
@@ -117,6 +117,6 @@ def _put(put: str, takes_snippets: bool, newline: str) -> str:
 def keys_proposed() -> Iterator[Proposal]:
     """The settings, each with its default."""
     for key, it in KEYS.items():
-        value = shown_value(it.default)
-        detail = it.takes if isinstance(it, Number) else f"one of {it.takes}"
+        value = value_as_toml(it.default)
+        detail = it.accepted_values if isinstance(it, Number) else f"one of {it.accepted_values}"
         yield Proposal(key, _PROPERTY, f"{key} = ${{1:{value}}}", detail)

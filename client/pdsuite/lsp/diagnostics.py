@@ -9,10 +9,10 @@ from pdsuite.lsp.positions import Lines
 from pdsuite.packetdrill.layout import Event, Layout
 from pdsuite.packetdrill.lines import Extent
 from pdsuite.packetdrill.recorded import last_input_before
-from pdsuite.programs.cause_text import WORDS, dropped_segments, unmatched, value_of, with_sender
+from pdsuite.programs.cause_text import WORDS, dropped_segments, packet_with_sender, unmatched_packets, value_in_words
 from pdsuite.programs.protocol import Cause
 from pdsuite.programs.verdict import Verdict
-from pdsuite.reports.outcome_text import row_text, warnings
+from pdsuite.reports.outcome_text import row_text, warning_texts
 from pdsuite.run.locate_row import locate_row
 from pdsuite.run.outcomes import Outcome
 
@@ -71,20 +71,20 @@ def diagnostics_of(outcome: Outcome, cause: Cause | None, layout: Layout, lines:
     row = outcome.row
     if row.verdict is Verdict.NOT_RUN:
         return
-    if row.verdict is not Verdict.PASS or outcome.is_unexpected:
+    if row.verdict is not Verdict.PASS or outcome.has_unexpected_row:
         yield Diagnostic(
             locate_row(row, cause, layout, lines).extent,
             _severity(outcome),
             row.word or row.verdict.value,
             _message(outcome, cause),
         )
-    for words in warnings(outcome):
+    for words in warning_texts(outcome):
         yield Diagnostic(lines.whole_line(0), ERROR if outcome.is_strict else WARNING, "warning", words)
 
 
 def with_related(diagnostic: Diagnostic, layout: Layout, cause: Cause) -> Diagnostic:
     """The diagnostic with the packets that stay unmatched, each at the event after which it left."""
-    found = [(_sending(it, layout), packet) for packet, it in unmatched(cause)]
+    found = [(_sending(it, layout), packet) for packet, it in unmatched_packets(cause)]
     related = [Related(event.extent, f"untaken packet: {packet}") for event, packet in found if event is not None]
     return replace(diagnostic, related=tuple(related))
 
@@ -100,7 +100,7 @@ def _sending(origin: object, layout: Layout) -> Event | None:
 
 
 def _severity(outcome: Outcome) -> int:
-    return HINT if outcome.is_known else _SEVERITY.get(outcome.row.verdict, ERROR)
+    return HINT if outcome.is_known_failure else _SEVERITY.get(outcome.row.verdict, ERROR)
 
 
 def _message(outcome: Outcome, cause: Cause | None) -> str:
@@ -125,10 +125,10 @@ def _facts(cause: Mapping[str, object]) -> Iterator[str]:
     for key, words in {**WORDS, **_MORE}.items():
         if key in cause and key not in _LEFT_OUT:
             value = _shown(key, cause[key])
-            yield f"{words}: {with_sender(value, cause.get('sent_by')) if key == 'actual_packet' else value}"
+            yield f"{words}: {packet_with_sender(value, cause.get('sent_by')) if key == 'actual_packet' else value}"
     for it in dropped_segments(cause):
         yield f"dropped: {it}"
-    count = len(list(unmatched(cause)))
+    count = len(list(unmatched_packets(cause)))
     more = cause.get("more_untaken_packets")
     count += more if isinstance(more, int) else 0
     if count:
@@ -138,4 +138,4 @@ def _facts(cause: Mapping[str, object]) -> Iterator[str]:
 def _shown(key: str, value: object) -> str:
     if isinstance(value, list):
         return ", ".join(map(str, value))
-    return _HIDDEN.sub(" ", value_of(key, value))
+    return _HIDDEN.sub(" ", value_in_words(key, value))

@@ -4,7 +4,7 @@ import hashlib
 import os
 
 from pdsuite.lsp.workspace import Result
-from pdsuite.packages import missing
+from pdsuite.packages import missing_module_message
 from pdsuite.page.diagram_choice import Plot
 from pdsuite.page.draw_process import FAULT
 from pdsuite.page.folder import prepare
@@ -28,7 +28,7 @@ class DiagramPage:
         folder = cache_folder() / _FOLDER / hashlib.sha256(os.fsencode(path)).hexdigest()[:_DIGITS]
         prepare(folder)
         self.page = folder / FOLDER / file_of(path)
-        self.fault = missing("matplotlib")
+        self.fault = missing_module_message("matplotlib")
         entry = PageEntry(result.outcome, result.text, Plot.NONE if self.fault else Plot.FILES, result.cause)
         regress, record = sender.paths
         rows = (table_row(result.outcome),)
@@ -41,11 +41,11 @@ class DiagramPage:
 
     def has_ended(self) -> bool:
         """Whether the page is drawn, or can't be."""
-        for line in self._worker.read():
+        for line in self._worker.read_lines():
             if line.startswith(FAULT):
                 self.fault = line.removeprefix(FAULT)
         if self._worker.has_ended:
-            status = self._worker.close()
+            status = self._worker.close_and_get_status()
             if status and not self.fault:
                 self.fault = f"what draws the page ended with status {status}"
         return self._worker.has_ended
@@ -53,4 +53,4 @@ class DiagramPage:
     def close(self) -> None:
         """Ends the process."""
         if not self._worker.has_ended:
-            self._worker.close()
+            self._worker.close_and_get_status()

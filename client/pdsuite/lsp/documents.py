@@ -7,7 +7,7 @@ from urllib.parse import quote, unquote_to_bytes, urlsplit
 
 from pdsuite.lsp.json_values import Json, MalformedMessageError, member, number_in, optional, text_in
 from pdsuite.lsp.positions import Lines, Position
-from pdsuite.scripts.text import Text, UnfitTextError, text_of
+from pdsuite.scripts.text import Text, UnfitTextError, make_text
 
 _FILE = "file"
 _SAFE = "/-._~!$&'()*+,;=:@"
@@ -33,7 +33,7 @@ class Document:
     def script(self) -> Text | str:
         """The text as a script, or why it can't be run."""
         try:
-            return text_of(self.octets)
+            return make_text(self.octets)
         except UnfitTextError as unfit:
             return str(unfit)
 

@@ -22,7 +22,7 @@ from pdsuite.packetdrill.lines import Extent
 from pdsuite.packetdrill.recorded import MatchedEvent, RecordedEvent, match_events, recorded_in, tolerance_of
 from pdsuite.programs.protocol import Cause
 from pdsuite.programs.verdict import Row, Verdict
-from pdsuite.run.line_diff import passed_before, tolerance
+from pdsuite.run.line_diff import count_passed_events, tolerance_us_of
 from pdsuite.run.locate_row import failing_event
 from pdsuite.watch.plan_changes import WantedScript
 from pdsuite.watch.sender import LiveSender
@@ -95,7 +95,7 @@ class LanguageFeatures:
         played = self._played(document, result)
         layout = self.layout(document)
         passed = _passed(layout, result.outcome.row, result.cause)
-        allowed = tolerance_of(layout.items, tolerance(result.outcome.settings))
+        allowed = tolerance_of(layout.items, tolerance_us_of(result.outcome.settings))
         return list(match_events(played.events, played.recorded, passed, allowed)), played.text
 
     def _played(self, document: Document, result: Result) -> _Played:
@@ -185,7 +185,7 @@ def lenses(uri: str, result: Result | None, mark: str) -> list[Json]:
 def _verdict(result: Result, mark: str) -> str:
     """The row, at once whose it is, since a narrow window has no room for more, and how much ran for it."""
     row = result.outcome.row
-    words = row.whole
+    words = row.whole_text
     if row.verdict is Verdict.PASS:
         words = ", but ".join([f"pass: {_counted(row.number, 'event')}", *result.outcome.warnings])
     if result.steps is None:
@@ -199,7 +199,7 @@ def _counted(number: int, noun: str) -> str:
 
 def _passed(layout: Layout, row: Row, cause: Cause | None) -> int:
     """How many events passed, as far as the row says."""
-    return len(layout.events) if row.verdict is Verdict.PASS else passed_before(layout, row, cause)
+    return len(layout.events) if row.verdict is Verdict.PASS else count_passed_events(layout, row, cause)
 
 
 def _recordable(layout: Layout, result: Result) -> Iterator[str]:

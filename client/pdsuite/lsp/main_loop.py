@@ -18,8 +18,8 @@ from pdsuite.lsp.server import FAILED, Server, home_of
 from pdsuite.lsp.transport import Transport
 from pdsuite.lsp.workspace import Workspace
 from pdsuite.programs.locate import RECORD, REGRESS
-from pdsuite.programs.lookup import SenderChangedError, buildable, own_lookup
-from pdsuite.scripts.config import claims_of, option_of
+from pdsuite.programs.lookup import SenderChangedError, buildable_tree, client_programs_lookup
+from pdsuite.scripts.config import claims_of_layers, layer_of_option
 from pdsuite.signals import Stop, StoppedError
 from pdsuite.watch.folders import Folders, WatchChoice
 from pdsuite.watch.live_pool import LivePool
@@ -49,7 +49,7 @@ class EventLoop:
         self._held = ExitStack()
         self._watcher: Watcher | None = None
         self._server = Server(self._run)
-        self._follower = SenderFollower(own_lookup(REGRESS, RECORD), (REGRESS, RECORD), buildable())
+        self._follower = SenderFollower(client_programs_lookup(REGRESS, RECORD), (REGRESS, RECORD), buildable_tree())
         self._sources = Watcher()
         self._proof = RefusedProof(self._follower.tree)
         self._looked_at = -inf
@@ -71,7 +71,7 @@ class EventLoop:
                     self._looked_at = -inf
                     continue  # the next look says what stands
                 self._wait(transport)
-                self._stop.check()
+                self._stop.raise_if_stopped()
         finally:
             for drawn in self._server.pages.values():
                 drawn.close()
@@ -166,8 +166,8 @@ class EventLoop:
         if (sender := self._follower.sender) is None:
             raise Fault(self._why_none())
         queries = ProgramQueries(sender, self._stop, server.log)
-        option = option_of(self._settings)
-        if lines := queries.refused(list(claims_of([option]))):
+        option = layer_of_option(self._settings)
+        if lines := queries.refused(list(claims_of_layers([option]))):
             raise Fault("; ".join(lines))
         self._watcher = self._held.enter_context(_Unwatched() if server.client.watches else Watcher())
         settings = OpenSettings(option, lambda claims: queries.refused(list(claims)))

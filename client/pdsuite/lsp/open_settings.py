@@ -4,7 +4,7 @@ import re
 from collections.abc import Callable, Iterable, Mapping, Set
 from pathlib import Path
 
-from pdsuite.scripts.config import LONGEST, Claim, Layer, place_of
+from pdsuite.scripts.config import LONGEST, Claim, Layer, shown_place
 from pdsuite.watch.settings_files import SettingsFiles
 
 
@@ -56,7 +56,7 @@ class OpenSettings(SettingsFiles):
         text = self._texts.get(path)
         if text is None:
             return super()._octets(path)
-        return text if len(text) <= LONGEST else f"{place_of(path)}: more than {LONGEST:,} octets"
+        return text if len(text) <= LONGEST else f"{shown_place(path)}: more than {LONGEST:,} octets"
 
     def _checked(self, path: Path, octets: bytes | str | None) -> Layer | None:
         self._faults.pop(path, None)
@@ -72,4 +72,4 @@ class OpenSettings(SettingsFiles):
 
 def _place(path: Path) -> "re.Pattern[str]":
     """What a line begins with that is about a file: its place, with a line of it or without."""
-    return re.compile(rf"{re.escape(place_of(path))}(?::\d+)?: ")
+    return re.compile(rf"{re.escape(shown_place(path))}(?::\d+)?: ")

@@ -13,7 +13,7 @@ from pdsuite.lsp.workspace import Result, settings_path
 from pdsuite.packetdrill.layout import layout_of
 from pdsuite.packetdrill.lines import Extent
 from pdsuite.scripts.config import LONGEST
-from pdsuite.scripts.text import UnfitTextError, read_file
+from pdsuite.scripts.text import UnfitTextError, read_regular_file
 
 _METHOD = "textDocument/publishDiagnostics"
 # The tag of what is shown dimmed.
@@ -135,7 +135,7 @@ def _uri(path: str) -> str:
 
 def _read(path: Path) -> str:
     try:
-        return read_file(path, LONGEST).decode("utf-8", "replace")
+        return read_regular_file(path, LONGEST).decode("utf-8", "replace")
     except UnfitTextError:
         return ""
 

@@ -6,15 +6,15 @@ from pdsuite.lsp.completion import PROBE
 from pdsuite.programs.locate import REGRESS
 from pdsuite.programs.program import Program, ProgramEndedError
 from pdsuite.programs.protocol import LONGEST_CAUSE, LONGEST_LINE, SETTLE, Cause, UnexpectedAnswerError
-from pdsuite.programs.protocol import add, causes_in, name_of, rows_in
+from pdsuite.programs.protocol import add_command, parse_causes, parse_new_rows, script_name
 from pdsuite.programs.recorder import MINIMAL, Recorder, Recording
-from pdsuite.programs.refusals import refusals
+from pdsuite.programs.refusals import refusal_lines
 from pdsuite.programs.verdict import Row
 from pdsuite.run.batches import BATCH_SIZE
 from pdsuite.run.explainer import EXPLAIN, JSON, LEFTOVERS
 from pdsuite.scripts.config import Claim
-from pdsuite.scripts.settings import Settings, settings_text
-from pdsuite.scripts.text import Text, UnfitTextError, text_of
+from pdsuite.scripts.settings import Settings, settings_as_toml
+from pdsuite.scripts.text import Text, UnfitTextError, make_text
 from pdsuite.signals import Stop
 from pdsuite.watch.sender import LiveSender
 
@@ -41,7 +41,7 @@ class ProgramQueries:
 
     def refused(self, claims: Sequence[Claim]) -> list[str]:
         """The lines of the settings that are refused."""
-        return refusals(claims, lambda: Program([self._regress], self.stop))
+        return refusal_lines(claims, lambda: Program([self._regress], self.stop))
 
     def recording(self, text: str, settings: Settings) -> Recording:
         """The recording of a script with its trace; that of the same script is kept for a while."""
@@ -51,25 +51,25 @@ class ProgramQueries:
             while len(self._recordings) >= _KEPT:
                 del self._recordings[next(iter(self._recordings))]
             self.sender.check()
-            self._recordings[key] = self._recorder.record("the script", octets, settings)
+            self._recordings[key] = self._recorder.record_script("the script", octets, settings)
         return self._recordings[key]
 
     def mended(self, text: str, settings: Settings) -> str:
         """A script with the least change with which it passes; empty where there is none."""
         self.sender.check()
-        return self._recorder.record("the script", text.encode("utf-8", "surrogatepass"), settings, MINIMAL).text
+        return self._recorder.record_script("the script", text.encode("utf-8", "surrogatepass"), settings, MINIMAL).text
 
     def rows(self, texts: Sequence[str], settings: Settings) -> list[Row | None]:
         """The rows of these texts; None of one that can't be a script."""
         fit = [_text(it) for it in texts]
-        names = [name_of(number) for number, it in enumerate(fit) if it is not None]
-        commands = b"".join(add(name_of(number), it) for number, it in enumerate(fit) if it is not None)
+        names = [script_name(number) for number, it in enumerate(fit) if it is not None]
+        commands = b"".join(add_command(script_name(number), it) for number, it in enumerate(fit) if it is not None)
         if not names:
             return [None for _ in texts]
         with self._started(settings, "--cache", "1") as program:
             answer = program.query(commands + SETTLE, LONGEST_LINE * (len(names) + 2))
         try:
-            rows = iter(rows_in(answer, b"", names, len(names)))
+            rows = iter(parse_new_rows(answer, b"", names, len(names)))
         except UnexpectedAnswerError as unexpected:
             raise ProgramEndedError(f"{REGRESS}: {unexpected}") from unexpected
         return [None if it is None else next(rows) for it in fit]
@@ -80,16 +80,16 @@ class ProgramQueries:
         if text is None:
             return []
         with self._started(settings, EXPLAIN, JSON, "--cache", "1") as program:
-            errors = program.finish(add(name_of(0), text), 2 * LONGEST_CAUSE)
+            errors = program.finish_and_read_errors(add_command(script_name(0), text), 2 * LONGEST_CAUSE)
         try:
-            cause = next(iter(causes_in(errors).values()), None)
+            cause = next(iter(parse_causes(errors).values()), None)
         except UnexpectedAnswerError as unexpected:
             raise ProgramEndedError(f"{REGRESS}: {unexpected}") from unexpected
         return _words(cause, before)
 
     def _started(self, settings: Settings, *words: str) -> Program:
         self.sender.check()
-        text = settings_text(settings)
+        text = settings_as_toml(settings)
         return Program([self._regress, *words, *(["--settings", text] if text else [])], self.stop)
 
 
@@ -109,6 +109,6 @@ def _shown_length(text: str) -> int:
 
 def _text(text: str) -> Text | None:
     try:
-        return text_of(text.encode("utf-8", "surrogatepass"))
+        return make_text(text.encode("utf-8", "surrogatepass"))
     except UnfitTextError:
         return None

@@ -6,8 +6,8 @@ from pathlib import PurePath
 from pdsuite.compare.comparison import ComparedScript
 from pdsuite.lsp.json_values import Json
 from pdsuite.lsp.source_diagnostics import SourceDiagnostics
-from pdsuite.output.octets import shown_path
-from pdsuite.reports.comparison import lines_of
+from pdsuite.output.octets import printable_path
+from pdsuite.reports.comparison import compared_script_lines
 from pdsuite.run.outcomes import UNPROVED
 from pdsuite.watch.change_report import BEFORE
 from pdsuite.watch.sender import SenderFollower
@@ -73,11 +73,13 @@ class SenderStatus:
         """Shows which scripts another sender turned: their names at once, and in the log all of it."""
         if not scripts:
             return
-        names = ", ".join(shown_path(PurePath(it.path).name) for it in scripts[:_MOST])
+        names = ", ".join(printable_path(PurePath(it.path).name) for it in scripts[:_MOST])
         more = f" and {len(scripts) - _MOST} more" if len(scripts) > _MOST else ""
         self._show(_INFO, f"the sender turned {names}{more}")
         for it in scripts:
-            words = "\n".join([f"{shown_path(it.path)}: {it.kind}", *(f"  {line}" for line in lines_of(it))])
+            words = "\n".join(
+                [f"{printable_path(it.path)}: {it.kind}", *(f"  {line}" for line in compared_script_lines(it))]
+            )
             self._notify("window/logMessage", {"type": _INFO, "message": words})
 
     def _show_build(self, phase: str) -> None:

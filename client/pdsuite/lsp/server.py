@@ -21,7 +21,7 @@ from pdsuite.lsp.sender_status import SenderStatus
 from pdsuite.lsp.transport import CONTENT_MODIFIED, INTERNAL_ERROR, INVALID_PARAMS, INVALID_REQUEST, NOT_INITIALIZED
 from pdsuite.lsp.transport import Promise, RequestError, Transport
 from pdsuite.packetdrill.lines import Extent
-from pdsuite.programs.locate import commit
+from pdsuite.programs.locate import client_commit
 from pdsuite.programs.lookup import SenderChangedError
 from pdsuite.programs.program import ProgramEndedError
 from pdsuite.signals import StoppedError
@@ -196,7 +196,7 @@ class Server:
             self._publisher.has_tags = self.client.has_tags
         if self._sender_status is not None:
             self._sender_status.takes_progress = self.client.takes_progress
-        return {"capabilities": OFFERED, "serverInfo": {"name": "pdsuite", "version": commit()}}
+        return {"capabilities": OFFERED, "serverInfo": {"name": "pdsuite", "version": client_commit()}}
 
     def _initialized(self, params: object) -> None:
         self._is_ready = True

@@ -5,7 +5,7 @@ import re
 from pdsuite.lsp.diagnostics import ERROR, Diagnostic
 from pdsuite.lsp.positions import Lines
 from pdsuite.packetdrill.lines import Extent
-from pdsuite.scripts.toml_places import key_of, places_in
+from pdsuite.scripts.toml_places import find_toml_places, key_on_line
 
 _AT = re.compile(r"\(at line (\d+), column (\d+)\)")
 # What a fault names: a key at its begin, and the script whose table it stands in.
@@ -20,7 +20,7 @@ def diagnostic_of(fault: str, lines: Lines) -> Diagnostic:
 
 def key_at(lines: Lines, line: int) -> str | None:
     """The key that a line gives a value."""
-    return key_of(lines.content(line))
+    return key_on_line(lines.content(line))
 
 
 def _extent(fault: str, lines: Lines) -> Extent:
@@ -37,4 +37,4 @@ def _extent(fault: str, lines: Lines) -> Extent:
 
 def _line_of(table: str, key: str, lines: Lines) -> Extent:
     """The line that begins a table or gives its key a value; the first where none does."""
-    return lines.whole_line((places_in("", lines.text).line(table, key) or 1) - 1)
+    return lines.whole_line((find_toml_places("", lines.text).line_of(table, key) or 1) - 1)

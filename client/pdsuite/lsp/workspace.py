@@ -9,7 +9,7 @@ from pdsuite.lsp.documents import Document, path_of
 from pdsuite.lsp.open_settings import OpenSettings
 from pdsuite.programs.protocol import Cause
 from pdsuite.programs.verdict import Row, Verdict
-from pdsuite.run.outcomes import Outcome, at_end
+from pdsuite.run.outcomes import Outcome, warning_at_end
 from pdsuite.scripts.config import CONFIG_FILE, ScriptRules
 from pdsuite.scripts.discover import ScriptFile
 from pdsuite.scripts.text import Text
@@ -38,7 +38,7 @@ class Result:
     @property
     def has_diagnostics(self) -> bool:
         """Whether there is anything to report of it."""
-        return not self.outcome.passes or bool(self.outcome.warnings) or self.outcome.is_known
+        return not self.outcome.lets_run_pass or bool(self.outcome.warnings) or self.outcome.is_known_failure
 
 
 @dataclass(frozen=True)
@@ -196,7 +196,7 @@ class Workspace:
         return ScriptFile(path, folder, name)
 
     def _rules(self, file: ScriptFile) -> ScriptRules:
-        return self._folders.suite.rules(file)
+        return self._folders.suite.rules_of_script(file)
 
     def _take_results(
         self,
@@ -228,7 +228,7 @@ class Workspace:
         settings = () if wanted is None else wanted.settings
         outcome = Outcome(file.path, settings, row, line, is_strict=rules.is_strict, expected=rules.expected)
         if row.line is None:
-            outcome.at_end = at_end(row, cause)
+            outcome.at_end = warning_at_end(row, cause)
         return Result(file, outcome, text, cause if row.line is not None else None)
 
 

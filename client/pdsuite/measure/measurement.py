@@ -12,7 +12,7 @@ from pdsuite.measure.transfer import Delivery, play
 from pdsuite.measure.transfer_batch import TransferOutcome, UnfinishedTransferError, play_transfers
 from pdsuite.programs.locate import REGRESS
 from pdsuite.scripts.defaults import DEFAULTS
-from pdsuite.scripts.settings import Settings, settings_of
+from pdsuite.scripts.settings import Settings, sorted_settings
 from pdsuite.signals import Stop, StoppedError
 
 # So many transfers share a program.
@@ -85,7 +85,7 @@ def cases_of(paths: Sequence[NetworkPath], runs: int) -> list[TransferCase]:
 def settings_for(side: Side, common: Settings, path: NetworkPath) -> Settings:
     """The settings of a side over a path: the sender's segments are as large as the path's, unless it is set."""
     own = {_MSS: path.mss} if path.mss != DEFAULTS[_MSS] else {}
-    return side.settings(settings_of({**own, **dict(common)}))
+    return side.effective_settings(sorted_settings({**own, **dict(common)}))
 
 
 @dataclass(frozen=True)

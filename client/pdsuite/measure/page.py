@@ -5,18 +5,18 @@ from pathlib import Path
 
 from pdsuite.compare.sides import Side
 from pdsuite.diagram.timeline import timeline_of
-from pdsuite.files import write
+from pdsuite.files import write_file_atomically
 from pdsuite.measure.measurement import Pair, TransferCase, program_of, settings_for
 from pdsuite.measure.report import MeasureReport, cells_of, title_of, unplayed_of
 from pdsuite.measure.statistics import ChangeVerdict, FigureTable
 from pdsuite.measure.transfer import Delivery
-from pdsuite.packages import missing
+from pdsuite.packages import missing_module_message
 from pdsuite.page.folder import TABLE, prepare, sweep
 from pdsuite.page.measure_view import MeasurePicture, MeasureRow, MeasureSection
 from pdsuite.page.render import measure_page
 from pdsuite.programs.locate import RECORD
-from pdsuite.programs.recorder import TRACE, record_all
-from pdsuite.programs.trace import events_in
+from pdsuite.programs.recorder import TRACE, record_texts
+from pdsuite.programs.trace import traced_events_in
 from pdsuite.scripts.settings import Settings
 from pdsuite.signals import Stop
 
@@ -41,7 +41,7 @@ class MeasurePage:
     def write(self, report: MeasureReport, totals: Sequence[str], stop: Stop) -> None:
         """Writes the page."""
         sections = [self._section(number, it, stop) for number, it in enumerate(report.tables)]
-        write(self._folder / TABLE, measure_page(sections, totals, report.names, report.is_unproved))
+        write_file_atomically(self._folder / TABLE, measure_page(sections, totals, report.names, report.is_unproved))
         sweep(self._folder, (), ())
 
     def _section(self, number: int, table: FigureTable, stop: Stop) -> MeasureSection:
@@ -55,7 +55,7 @@ class MeasurePage:
 
     def _pictures(self, case: TransferCase, pairs: Sequence[Pair], stop: Stop) -> Iterator[MeasurePicture]:
         """The distributions of both sides, and the diagrams of the run that is worst for the sender after."""
-        if reason := missing("matplotlib"):
+        if reason := missing_module_message("matplotlib"):
             yield MeasurePicture("pictures", "", f"Nothing is drawn: {reason}")
             return
         # Only who draws pays for what draws.
@@ -70,12 +70,12 @@ class MeasurePage:
 
     def _diagram(self, case: TransferCase, side: Side, delivery: Delivery, title: str, stop: Stop) -> MeasurePicture:
         """The time-sequence diagram of a transfer, as the side's own program records it."""
-        if not side.sender.records:
+        if not side.sender.can_record:
             return MeasurePicture(title, "", "It isn't drawn: there is no pdrecord.")
         settings = settings_for(side, self._common, case.path)
         script = [delivery.script()]
-        (recording,) = record_all(program_of(side, RECORD), script, settings, stop, (TRACE,))
-        timeline = timeline_of(events_in(recording.text))
+        (recording,) = record_texts(program_of(side, RECORD), script, settings, stop, (TRACE,))
+        timeline = timeline_of(traced_events_in(recording.text))
         if timeline is None:
             return MeasurePicture(title, "", f"It isn't drawn: {recording.fault or 'nothing is recorded'}.")
         from pdsuite.diagram.pictures import for_page

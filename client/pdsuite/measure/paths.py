@@ -9,10 +9,10 @@ from pathlib import Path
 from typing import Any
 
 from pdsuite.faults import Fault
-from pdsuite.output.octets import shown_text
-from pdsuite.scripts.config import place_of, read_octets
-from pdsuite.scripts.defaults import nearest
-from pdsuite.scripts.toml_places import TomlPlaces, places_in
+from pdsuite.output.octets import printable_text
+from pdsuite.scripts.config import read_config_octets, shown_place
+from pdsuite.scripts.defaults import nearest_word
+from pdsuite.scripts.toml_places import TomlPlaces, find_toml_places
 
 # The paths that come with the client.
 FILE = Path(__file__).with_name("paths.toml")
@@ -112,15 +112,15 @@ _FIELDS = {it.name: it for it in fields(NetworkPath) if it.name != "name"}
 def paths_of(file: Path | None, patterns: Sequence[str] = ()) -> list[NetworkPath]:
     """The paths of a file, or those that come with the client: all, or those whose names fit a pattern."""
     place = FILE if file is None else file
-    octets = read_octets(place)
+    octets = read_config_octets(place)
     if octets is None:
-        raise Fault(f"{place_of(place)}: {os.strerror(2)}")
-    paths = list(paths_in(place_of(place), octets))
+        raise Fault(f"{shown_place(place)}: {os.strerror(2)}")
+    paths = list(paths_in(shown_place(place), octets))
     if not paths:
-        raise Fault(f"{place_of(place)}: there is no path in it; each is a table")
+        raise Fault(f"{shown_place(place)}: there is no path in it; each is a table")
     chosen = [it for it in paths if not patterns or any(fnmatchcase(it.name, pattern) for pattern in patterns)]
     if not chosen:
-        raise Fault(f"{place_of(place)}: no path has such a name; there are {', '.join(it.name for it in paths)}")
+        raise Fault(f"{shown_place(place)}: no path has such a name; there are {', '.join(it.name for it in paths)}")
     return chosen
 
 
@@ -132,11 +132,13 @@ def paths_in(file: str, octets: bytes) -> Iterator[NetworkPath]:
         text = octets.decode()
         tables = tomllib.loads(text)
     except (ValueError, RecursionError) as error:
-        raise Fault(f"{file}: no TOML: {shown_text(str(error))}") from error
-    places = places_in(file, text)
+        raise Fault(f"{file}: no TOML: {printable_text(str(error))}") from error
+    places = find_toml_places(file, text)
     for name, table in tables.items():
         if not isinstance(table, dict):
-            raise Fault(f"{places.at('', name)}: {shown_text(name)} stands in no table; each path is one")
+            raise Fault(
+                f"{places.file_and_line('', name)}: {printable_text(name)} stands in no table; each path is one"
+            )
         yield _Reading(places, name, table).path()
 
 
@@ -153,7 +155,7 @@ class _Reading:
             raise self._fault("", f"no name of a path: it is 1 to {_NAME_LENGTH} letters, digits, - and _")
         for key in self.table:
             if key not in _FIELDS:
-                near = nearest(key, _FIELDS)
+                near = nearest_word(key, _FIELDS)
                 raise self._fault(key, "there is no such key" + (f"; the nearest is {near}" if near else ""))
         values: dict[str, Any] = {key: self._value(key) for key in _FIELDS if key in self.table}
         for key, it in _FIELDS.items():
@@ -205,4 +207,4 @@ class _Reading:
 
     def _fault(self, key: str, reason: str) -> Fault:
         what = f"{self.name}.{key}" if key else self.name
-        return Fault(f"{self.places.at(self.name, key)}: {shown_text(what)}: {reason}")
+        return Fault(f"{self.places.file_and_line(self.name, key)}: {printable_text(what)}: {reason}")

@@ -7,9 +7,9 @@ from dataclasses import dataclass
 
 from pdsuite.measure.measurement import TransferCase
 from pdsuite.measure.statistics import ChangeVerdict, FigureRow, FigureTable, Unit
-from pdsuite.output.fitting import wrapped
-from pdsuite.output.octets import shown_text
-from pdsuite.output.styled_text import StyledText, unstyled
+from pdsuite.output.fitting import wrap_line
+from pdsuite.output.octets import printable_text
+from pdsuite.output.styled_text import StyledText, unstyled_text
 from pdsuite.run.outcomes import UNPROVED
 
 # Of the JSON, as docs/measure.schema.json has it.
@@ -64,7 +64,7 @@ def plain(report: MeasureReport, columns: int | None = None) -> StyledText:
 
 
 def _fitted(line: str, columns: int | None) -> str:
-    return line if columns is None else wrapped(line, columns, 2 * _INDENT)
+    return line if columns is None else wrap_line(line, columns, 2 * _INDENT)
 
 
 def totals_of(report: MeasureReport) -> tuple[str, str]:
@@ -78,7 +78,7 @@ def totals_of(report: MeasureReport) -> tuple[str, str]:
 def unplayed_of(table: FigureTable) -> str:
     """How many transfers came to no end, and why the first didn't."""
     first, *more = table.measured.unfinished
-    return f"not played: {shown_text(first)}" + (f", and {len(more)} more" if more else "")
+    return f"not played: {printable_text(first)}" + (f", and {len(more)} more" if more else "")
 
 
 def lines_of(table: FigureTable, columns: int | None) -> Iterator[tuple[str, ChangeVerdict, Sequence[str]]]:
@@ -140,7 +140,7 @@ def as_json(report: MeasureReport) -> StyledText:
         whole["cut"] = True
     if report.is_unproved:
         whole[UNPROVED] = True
-    return unstyled(json.dumps(whole, ensure_ascii=False, indent=1) + "\n")
+    return unstyled_text(json.dumps(whole, ensure_ascii=False, indent=1) + "\n")
 
 
 def _case(table: FigureTable) -> dict[str, object]:
@@ -153,7 +153,7 @@ def _case(table: FigureTable) -> dict[str, object]:
         "runs": [{"run": it.run, "before_us": it.before.time, "after_us": it.after.time} for it in measured.pairs],
     }
     if measured.unfinished:
-        case["unplayed"] = [shown_text(it) for it in measured.unfinished]
+        case["unplayed"] = [printable_text(it) for it in measured.unfinished]
     return case
 
 

@@ -10,13 +10,13 @@ from dataclasses import dataclass, field
 from pathlib import Path
 
 from pdsuite.measure.transfer import Delivery, Departure, SenderReply, StalledTransferError, TransferSteps
-from pdsuite.output.octets import shown_text
+from pdsuite.output.octets import printable_text
 from pdsuite.packetdrill.items import SECOND
 from pdsuite.programs.program import Program, ProgramEndedError
-from pdsuite.programs.protocol import LONGEST_CAUSE, SETTLE, Cause, UnexpectedAnswerError, causes_in, name_of
-from pdsuite.programs.protocol import refusal_in
+from pdsuite.programs.protocol import LONGEST_CAUSE, SETTLE, Cause, UnexpectedAnswerError, parse_causes, script_name
+from pdsuite.programs.protocol import refusal_name
 from pdsuite.run.explainer import EXPLAIN, JSON
-from pdsuite.scripts.settings import Settings, settings_text
+from pdsuite.scripts.settings import Settings, settings_as_toml
 from pdsuite.scripts.text import LINES, OCTETS
 from pdsuite.signals import Stop
 
@@ -72,7 +72,7 @@ class _GrowingScript:
     def _take(self, text: str, by: object) -> None:
         found = _SENT.search(text)
         if found is None:
-            raise UnfinishedTransferError(f"no packet: {shown_text(text)}")
+            raise UnfinishedTransferError(f"no packet: {printable_text(text)}")
         options = " <...>" if "<" in found[4] else ""
         start, end = int(found[2]), int(found[3])
         self.taking.append(f"* > {found[1]} {start}:{end}({end - start}){options}")
@@ -102,9 +102,9 @@ def play_transfers(
     games: Sequence[TransferSteps], program: Path, settings: Settings, stop: Stop
 ) -> list[TransferOutcome]:
     """What came of transfers that are played against a program under these settings."""
-    text = settings_text(settings)
+    text = settings_as_toml(settings)
     words: list[str | Path] = [program, EXPLAIN, JSON, *(["--settings", text] if text else [])]
-    batch = _TransferBatch([_GrowingScript(name_of(number), game) for number, game in enumerate(games)])
+    batch = _TransferBatch([_GrowingScript(script_name(number), game) for number, game in enumerate(games)])
     try:
         with Program(words, stop) as started:
             batch.play(started)
@@ -144,9 +144,9 @@ class _TransferBatch:
 def _explanations(program: Program, commands: bytes, count: int) -> dict[bytes, Cause]:
     """What the program explains of the scripts that changed, by their names."""
     answer, errors = program.query_with_errors(commands + SETTLE, (count + 1) * LONGEST_CAUSE)
-    if refusal := refusal_in(answer):
+    if refusal := refusal_name(answer):
         raise UnexpectedAnswerError(f"pdregress refuses a script of a transfer: {refusal}")
-    causes = {name: cause for (name, _), cause in causes_in(errors).items()}
+    causes = {name: cause for (name, _), cause in parse_causes(errors).items()}
     if len(causes) != count:
         raise UnexpectedAnswerError(f"pdregress explains {len(causes)} of {count} scripts")
     return causes

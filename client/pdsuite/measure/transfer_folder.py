@@ -5,16 +5,16 @@ from pathlib import Path
 
 from pdsuite.compare.sides import Side
 from pdsuite.faults import Fault
-from pdsuite.files import new_folder, write_folder
+from pdsuite.files import require_new_or_empty_folder, write_folder_atomically
 from pdsuite.measure.measurement import MeasuredCase, TransferCase, program_of, settings_for
 from pdsuite.measure.transfer import Delivery, Departure
-from pdsuite.output.octets import shown_path
+from pdsuite.output.octets import printable_path
 from pdsuite.packetdrill.items import Packet
 from pdsuite.programs.locate import RECORD
-from pdsuite.programs.recorder import TRACE, Recording, record_all
-from pdsuite.programs.trace import events_in
+from pdsuite.programs.recorder import TRACE, Recording, record_texts
+from pdsuite.programs.trace import traced_events_in
 from pdsuite.scripts.config import CONFIG_FILE
-from pdsuite.scripts.settings import Settings, settings_text
+from pdsuite.scripts.settings import Settings, settings_as_toml
 from pdsuite.signals import Stop
 
 _SIDES = ("before", "after")
@@ -26,14 +26,14 @@ class TransferFolder:
 
     def __init__(self, folder: Path, sides: tuple[Side, Side]) -> None:
         for side in sides:
-            if not side.sender.records:
+            if not side.sender.can_record:
                 raise Fault(f"--save: {side.sender} has no pdrecord")
         self._sides = sides
-        self._target = new_folder(folder)
+        self._target = require_new_or_empty_folder(folder)
 
     def write(self, cases: Sequence[MeasuredCase], common: Settings, stop: Stop) -> None:
         """Writes all transfers."""
-        write_folder(self._target, self._files(cases, common, stop))
+        write_folder_atomically(self._target, self._files(cases, common, stop))
 
     def _files(self, cases: Sequence[MeasuredCase], common: Settings, stop: Stop) -> Iterator[tuple[str, bytes]]:
         for number, side in enumerate(self._sides):
@@ -41,10 +41,10 @@ class TransferFolder:
                 case = measured.case
                 folder = f"{_SIDES[number]}/{case.path.name}-{case.size}"
                 settings = settings_for(side, common, case.path)
-                yield f"{folder}/{CONFIG_FILE}", f"root = true\n{settings_text(settings)}\n".encode()
+                yield f"{folder}/{CONFIG_FILE}", f"root = true\n{settings_as_toml(settings)}\n".encode()
                 deliveries = [it.sides[number] for it in measured.pairs]
                 scripts = [it.script() for it in deliveries]
-                recordings = record_all(program_of(side, RECORD), scripts, settings, stop, (TRACE,))
+                recordings = record_texts(program_of(side, RECORD), scripts, settings, stop, (TRACE,))
                 for pair, delivery, recording in zip(measured.pairs, deliveries, recordings):
                     name = f"{folder}/{pair.run:04}.pkt"
                     yield name, self._script(name, case, delivery, recording)
@@ -53,7 +53,7 @@ class TransferFolder:
         """A recording as a script; a fault where it has other packets than were played."""
         if sent_in(recording) != list(delivery.packets):
             why = recording.fault or "pdrecord sends other packets than were played"
-            raise Fault(f"--save: {shown_path(self._target / name)}: {why}")
+            raise Fault(f"--save: {printable_path(self._target / name)}: {why}")
         head = f"// {case.size:,} octets over {case.path.name}: delivered in {delivery.time / 1_000:.3f} ms.\n"
         lines = (it for it in recording.text.split("\n") if not it.startswith(_TRACE_LINE))
         return (head + "\n".join(lines)).encode()
@@ -61,5 +61,5 @@ class TransferFolder:
 
 def sent_in(recording: Recording) -> list[Departure]:
     """The segments with octets of a recording with its trace."""
-    packets = [(it.moment, it.what) for it in events_in(recording.text) if isinstance(it.what, Packet)]
+    packets = [(it.moment, it.what) for it in traced_events_in(recording.text) if isinstance(it.what, Packet)]
     return [Departure(at, it.start, it.end) for at, it in packets if not it.is_inbound and it.start < it.end]

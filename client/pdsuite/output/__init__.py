@@ -3,11 +3,11 @@
 A report is a `StyledText`: pieces of text, each with a style. `Screen` writes it, with colours on a terminal and
 without them elsewhere, and keeps a line of progress at the bottom of a terminal. `Terminal` is what of it needs rich.
 
-    octets, names, paths --shown()--> text --StyledText--> Screen --> Terminal, or standard output
-                                                              '----> standard error: Screen.note
+    octets, names, paths --printable_octets()--> text --StyledText--> Screen --> Terminal, or standard output
+                                                                         '----> standard error: Screen.print_note
 
-- Whatever comes from a script, a path or a program goes through `shown` before it is printed or written: it is
-  printable afterwards, and no two octet strings look alike. So there is one function for terminals, JSON, XML and
+- Whatever comes from a script, a path or a program goes through `printable_octets` before it is printed or written: it
+  is printable afterwards, and no two octet strings look alike. So there is one function for terminals, JSON, XML and
   pages.
 - Reports go to standard output, notes to standard error: who reads a report by a program gets no line of another kind.
 - If standard output takes no more, `OutputError` ends the command.

@@ -10,7 +10,7 @@ _PLAIN = re.compile(rb"[ -\[\]-~]*")
 _CUT = "..."
 
 
-def shown(octets: bytes, most: int | None = None, also: str = "") -> str:
+def printable_octets(octets: bytes, most: int | None = None, also: str = "") -> str:
     r"""The octets as text that is safe to print.
 
     Octets that aren't UTF-8 and characters that don't print, control characters among
@@ -21,38 +21,38 @@ def shown(octets: bytes, most: int | None = None, also: str = "") -> str:
         signs = list(octets.decode("ascii")) if most is not None else None
         text = octets.decode("ascii")
     else:
-        signs = [_sign(it, also) for it in octets.decode("utf-8", "surrogateescape")]
+        signs = [_escape_character(it, also) for it in octets.decode("utf-8", "surrogateescape")]
         text = "".join(signs)
     if signs is None or most is None or len(text.encode()) <= most:
         return text
-    return _cut(signs, most - len(_CUT)) + _CUT
+    return _join_fitting_signs(signs, most - len(_CUT)) + _CUT
 
 
-def shown_text(text: str, most: int | None = None) -> str:
+def printable_text(text: str, most: int | None = None) -> str:
     """A text as people see it. Octets that aren't UTF-8 stand in it as Python's `surrogateescape` has them."""
-    return shown(text.encode("utf-8", "surrogateescape"), most)
+    return printable_octets(text.encode("utf-8", "surrogateescape"), most)
 
 
-def shown_path(path: str | Path, also: str = "") -> str:
+def printable_path(path: str | Path, also: str = "") -> str:
     """A path as people see it."""
     text = path if isinstance(path, str) else os.fspath(path)
     if not also and text.isascii() and text.isprintable() and "\\" not in text:
         return text
-    return shown(os.fsencode(text), also=also)
+    return printable_octets(os.fsencode(text), also=also)
 
 
-def absolute_paths() -> Callable[[str], str]:
+def absolute_path_function() -> Callable[[str], str]:
     """What makes a path absolute, as people see it, for as long as the working folder stays the same."""
     here = os.getcwd().rstrip("/")
 
-    def absolute(path: str) -> str:
+    def absolute_printable_path(path: str) -> str:
         whole = path if path[:1] == "/" else f"{here}/{path}"
-        return shown_path(os.path.normpath(whole) if "/." in whole else whole)
+        return printable_path(os.path.normpath(whole) if "/." in whole else whole)
 
-    return absolute
+    return absolute_printable_path
 
 
-def _sign(character: str, also: str) -> str:
+def _escape_character(character: str, also: str) -> str:
     if character == "\\" and character not in also:
         return "\\\\"
     if character.isprintable() and character not in also:
@@ -61,7 +61,7 @@ def _sign(character: str, also: str) -> str:
     return "".join(f"\\x{octet:02x}" for octet in octets)
 
 
-def _cut(signs: list[str], most: int) -> str:
+def _join_fitting_signs(signs: list[str], most: int) -> str:
     """As many of the first signs as fit into so many octets; a sign is never halved."""
     sizes = accumulate(len(sign.encode()) for sign in signs)
     return "".join(sign for sign, size in zip(signs, sizes) if size <= most)

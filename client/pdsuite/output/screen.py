@@ -6,7 +6,7 @@ import sys
 from typing import TYPE_CHECKING
 
 
-from pdsuite.faults import why
+from pdsuite.faults import error_reason
 from pdsuite.output.styled_text import StyledText
 
 if TYPE_CHECKING:
@@ -17,7 +17,7 @@ class OutputError(Exception):
     """Standard output takes no more."""
 
     def __init__(self, error: OSError) -> None:
-        super().__init__(why(error))
+        super().__init__(error_reason(error))
         self.is_reader_gone = error.errno == errno.EPIPE
 
 
@@ -25,13 +25,13 @@ class Screen:
     """Where reports are written. Only on a terminal are there colours, and a line that says how far the work is."""
 
     def __init__(self, color: bool, progress: bool) -> None:
-        self._terminal = _terminal(color, progress) if sys.stdout.isatty() else None
+        self._terminal = _make_terminal(color, progress) if sys.stdout.isatty() else None
 
     def __enter__(self) -> "Screen":
         return self
 
     def __exit__(self, *error: object) -> None:
-        self.clear()
+        self.clear_live_lines()
 
     @property
     def width(self) -> int | None:
@@ -52,33 +52,33 @@ class Screen:
         except OSError as error:
             raise OutputError(error) from error
 
-    def note(self, line: str) -> None:
+    def print_note(self, line: str) -> None:
         """Says on standard error what no report holds."""
         if self._terminal is None:
             print_error(line)
             return
-        was_live = self._terminal.clear()
+        was_live = self._terminal.clear_live_lines()
         print_error(line)
         if was_live:
-            self._terminal.put_back()
+            self._terminal.restore_bottom_line()
 
-    def advance(self, done: int, count: int, what: str = "scripts") -> None:
+    def show_progress(self, done: int, count: int, what: str = "scripts") -> None:
         """Says how many of the scripts, or of other things, are done."""
         if self._terminal is not None:
-            self._terminal.advance(done, count, what)
+            self._terminal.show_progress(done, count, what)
 
-    def bottom(self, line: str) -> None:
+    def keep_bottom_line(self, line: str) -> None:
         """Keeps a line below all that is shown."""
         if self._terminal is not None:
-            self._terminal.bottom(line)
+            self._terminal.keep_bottom_line(line)
 
-    def clear(self) -> None:
+    def clear_live_lines(self) -> None:
         """Takes the line of progress, and the one at the bottom, away."""
         if self._terminal is not None:
-            self._terminal.clear()
+            self._terminal.clear_live_lines()
 
 
-def _terminal(color: bool, progress: bool) -> "Terminal":
+def _make_terminal(color: bool, progress: bool) -> "Terminal":
     # Only where there is a terminal is what draws on it paid for.
     from pdsuite.output.terminal import Terminal
 
@@ -94,6 +94,6 @@ def print_error(line: str) -> None:
             pass  # nobody reads it
 
 
-def wants_color() -> bool:
+def is_color_allowed() -> bool:
     """Whether the environment lets colours be: NO_COLOR, if it isn't empty, forbids them."""
     return not os.environ.get("NO_COLOR")

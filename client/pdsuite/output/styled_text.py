@@ -25,6 +25,6 @@ class StyledText:
         return self
 
 
-def unstyled(text: str) -> StyledText:
+def unstyled_text(text: str) -> StyledText:
     """A text without a style."""
     return StyledText([(text, "")])

@@ -16,9 +16,9 @@ class Terminal:
         self._console = Console(
             force_terminal=True, color_system="auto" if color else None, no_color=not color, highlight=False
         )
-        self._progress = self._progress_line() if progress else None
+        self._progress = self._make_progress_line() if progress else None
         self._task = None if self._progress is None else self._progress.add_task("scripts")
-        self._live = self._bottom_line()
+        self._live = self._make_bottom_line()
 
     @property
     def width(self) -> int:
@@ -29,7 +29,7 @@ class Terminal:
         """Writes a text."""
         self._console.print(Text.assemble(*text.pieces), end="", soft_wrap=True)
 
-    def advance(self, done: int, count: int, what: str) -> None:
+    def show_progress(self, done: int, count: int, what: str) -> None:
         """Says how many of the scripts, or of other things, are done."""
         if self._progress is not None and self._task is not None:
             self._progress.update(self._task, completed=done, total=count, description=what)
@@ -37,14 +37,14 @@ class Terminal:
                 self._progress.start()
             self._progress.refresh()
 
-    def bottom(self, line: str) -> None:
+    def keep_bottom_line(self, line: str) -> None:
         """Keeps a line below all that is shown."""
         self._live.update(Text(line, "dim", no_wrap=True, overflow="ellipsis"))
         if not self._live.is_started:
             self._live.start()
         self._live.refresh()
 
-    def clear(self) -> bool:
+    def clear_live_lines(self) -> bool:
         """Takes the line of progress, and the one at the bottom, away; whether there was one at the bottom."""
         if self._progress is not None and self._progress.live.is_started:
             self._progress.stop()
@@ -53,15 +53,15 @@ class Terminal:
             self._live.stop()
         return was_live
 
-    def put_back(self) -> None:
+    def restore_bottom_line(self) -> None:
         """Shows the line at the bottom again."""
         self._live.start(refresh=True)
 
-    def _bottom_line(self) -> Live:
+    def _make_bottom_line(self) -> Live:
         return Live(
             console=self._console, auto_refresh=False, transient=True, redirect_stdout=False, redirect_stderr=False
         )
 
-    def _progress_line(self) -> Progress:
+    def _make_progress_line(self) -> Progress:
         parts = (BarColumn(), MofNCompleteColumn(), TextColumn("{task.description}"))
         return Progress(*parts, console=self._console, auto_refresh=False, transient=True)

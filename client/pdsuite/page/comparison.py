@@ -4,19 +4,25 @@ from collections.abc import Iterator, Sequence
 from dataclasses import dataclass
 from pathlib import Path
 
-from pdsuite.compare.comparison import ComparedScript, ComparisonKind, KindCounts, SenderResults, counts_of
-from pdsuite.compare.groups import groups_of
+from pdsuite.compare.comparison import (
+    ComparedScript,
+    ComparisonKind,
+    KindCounts,
+    SenderResults,
+    counts_by_folder_and_total,
+)
+from pdsuite.compare.groups import group_by_first_difference
 from pdsuite.diagram.failing_line import failing_line_of
 from pdsuite.diagram.timeline import timeline_of
-from pdsuite.files import write
-from pdsuite.output.octets import shown_path
-from pdsuite.packages import missing
+from pdsuite.files import write_file_atomically
+from pdsuite.output.octets import printable_path
+from pdsuite.packages import missing_module_message
 from pdsuite.page.folder import TABLE, prepare, sweep
 from pdsuite.page.links import file_of
 from pdsuite.page.render import compare_page
-from pdsuite.programs.trace import events_in
+from pdsuite.programs.trace import traced_events_in
 from pdsuite.programs.verdict import Verdict
-from pdsuite.reports.comparison import lines_of
+from pdsuite.reports.comparison import compared_script_lines
 
 # So many scripts are drawn.
 _MOST = 50
@@ -59,8 +65,8 @@ class ComparisonPage:
     ) -> None:
         """Writes the page."""
         sections = tuple(_sections(compared, results))
-        counts: tuple[KindCounts, ...] = tuple(counts_of(compared))
-        write(self._folder / TABLE, compare_page(sections, counts, names, is_unproved))
+        counts: tuple[KindCounts, ...] = tuple(counts_by_folder_and_total(compared))
+        write_file_atomically(self._folder / TABLE, compare_page(sections, counts, names, is_unproved))
         sweep(self._folder, (), ())
 
 
@@ -70,7 +76,7 @@ def _sections(
     """The scripts that differ, those that turned first, group by group."""
     number = 0
     for kind in (ComparisonKind.TURNED, ComparisonKind.OTHERWISE):
-        for group in groups_of([it for it in compared if it.kind is kind]):
+        for group in group_by_first_difference([it for it in compared if it.kind is kind]):
             title = f"{len(group.scripts)} scripts differ first in {group.title}" if len(group.scripts) > 1 else ""
             for it in group.scripts:
                 yield _section(it, results, number < _MOST, title)
@@ -83,8 +89,8 @@ def _section(
 ) -> ComparisonSection:
     pictures = [_picture(side, it.index, sender, is_drawn) for side, sender in zip(("before", "after"), results)]
     name = file_of(it.path).removesuffix(".html")
-    lines = [it.comment] * bool(it.comment) + lines_of(it)
-    return ComparisonSection(shown_path(it.path), name, it.kind, tuple(lines), tuple(pictures), title)
+    lines = [it.comment] * bool(it.comment) + compared_script_lines(it)
+    return ComparisonSection(printable_path(it.path), name, it.kind, tuple(lines), tuple(pictures), title)
 
 
 def _picture(side: str, index: int, sender: SenderResults, is_drawn: bool) -> ComparisonPicture:
@@ -96,14 +102,14 @@ def _picture(side: str, index: int, sender: SenderResults, is_drawn: bool) -> Co
         )
     if not is_drawn:
         return ComparisonPicture(side, "", f"It isn't drawn, since {_MOST} others are.")
-    if reason := missing("matplotlib"):
+    if reason := missing_module_message("matplotlib"):
         return ComparisonPicture(side, "", f"It isn't drawn: {reason}")
     outcome, text = sender.outcomes[index], sender.texts[index]
     failing = None
     if outcome.row.verdict is Verdict.FAIL and outcome.row.line is not None:
         script = text.octets.decode("utf-8", "surrogateescape")
         failing = failing_line_of(script, outcome.row.line, sender.causes.get(index, {}))
-    strokes = timeline_of(events_in(recording.text), failing)
+    strokes = timeline_of(traced_events_in(recording.text), failing)
     if strokes is None:
         return ComparisonPicture(side, "", "There is nothing to draw: no packet comes or leaves.")
     # Only who draws pays for what draws.

@@ -6,7 +6,7 @@ from enum import Enum
 
 from pdsuite.programs.verdict import Verdict
 from pdsuite.run.outcomes import Outcome
-from pdsuite.scripts.discover import fits
+from pdsuite.scripts.discover import fits_pattern
 
 # So many failing scripts are drawn if no number is given.
 MOST = 50
@@ -39,7 +39,7 @@ def plots_of(outcomes: Iterable[Outcome], wanted: DiagramChoice) -> Iterator[Plo
     for outcome in outcomes:
         is_first = outcome.row.verdict is Verdict.FAIL and left > 0
         left -= is_first
-        if wanted.pattern is not None and fits(outcome.path, wanted.pattern):
+        if wanted.pattern is not None and fits_pattern(outcome.path, wanted.pattern):
             yield Plot.FILES
         else:
             yield Plot.PAGE if is_first else Plot.NONE

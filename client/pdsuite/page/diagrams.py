@@ -7,14 +7,14 @@ from pathlib import Path
 from pdsuite.diagram.failing_line import FailingLine, failing_line_of
 from pdsuite.diagram.timeline import timeline_of
 from pdsuite.diagram.timeline_parts import Timeline
-from pdsuite.files import write
-from pdsuite.output.octets import shown_path
-from pdsuite.packages import missing
+from pdsuite.files import write_file_atomically
+from pdsuite.output.octets import printable_path
+from pdsuite.packages import missing_module_message
 from pdsuite.page.diagram_choice import Plot
 from pdsuite.page.links import PLOTS, plot_files
 from pdsuite.programs.protocol import Cause
 from pdsuite.programs.recorder import Recorder
-from pdsuite.programs.trace import events_in
+from pdsuite.programs.trace import traced_events_in
 from pdsuite.programs.verdict import Row, Verdict
 from pdsuite.run.outcomes import Outcome
 from pdsuite.scripts.text import Text
@@ -56,12 +56,12 @@ def diagram_of(
     row = outcome.row
     if plot is Plot.NONE or text is None or row.verdict in _NO_RECORDING:
         return undrawn(row)
-    if reason := missing("matplotlib"):
+    if reason := missing_module_message("matplotlib"):
         return Diagram("", (f"It isn't drawn: {reason}",))
-    recording = recorder.record(outcome.path, text.octets, outcome.settings)
+    recording = recorder.record_script(outcome.path, text.octets, outcome.settings)
     if not recording.text:
         return Diagram("", (f"There is no recording: {recording.fault or 'pdrecord writes nothing'}",))
-    timeline = timeline_of(events_in(recording.text), _failing(text, row, cause))
+    timeline = timeline_of(traced_events_in(recording.text), _failing(text, row, cause))
     if timeline is None:
         return Diagram("", ("There is nothing to draw: no packet comes or leaves.",))
     # Only who draws pays for what draws.
@@ -95,8 +95,8 @@ def _write_files(folder: Path, path: str, timeline: Timeline) -> tuple[str, ...]
     from pdsuite.diagram.pictures import png_file, svg_file
 
     names = plot_files(path)
-    title = shown_path(path)
+    title = printable_path(path)
     for name, octets in zip(names, (svg_file(timeline, title), png_file(timeline, title))):
         (folder / PLOTS).mkdir(exist_ok=True)
-        write(folder / PLOTS / name, octets)
+        write_file_atomically(folder / PLOTS / name, octets)
     return names

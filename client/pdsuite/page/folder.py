@@ -4,9 +4,9 @@ from collections.abc import Collection, Iterable
 from contextlib import suppress
 from pathlib import Path
 
-from pdsuite.faults import Fault, why
-from pdsuite.files import write
-from pdsuite.output.octets import shown_path
+from pdsuite.faults import Fault, error_reason
+from pdsuite.files import write_file_atomically
+from pdsuite.output.octets import printable_path
 from pdsuite.page.links import FOLDER, PLOTS, is_file, is_plot
 from pdsuite.page.render import GENERATOR, STATIC, static
 
@@ -19,12 +19,12 @@ def prepare(folder: Path) -> None:
     """Makes the folder, with what all pages use; a fault where it can't be, or holds what is no part of a page."""
     try:
         if folder.exists() and (other := _other(folder)):
-            raise Fault(f"{shown_path(folder)}: holds {shown_path(other)}, which is no part of a page")
+            raise Fault(f"{printable_path(folder)}: holds {printable_path(other)}, which is no part of a page")
         (folder / FOLDER).mkdir(parents=True, exist_ok=True)
     except OSError as error:
-        raise Fault(f"{shown_path(folder)}: {why(error)}") from error
+        raise Fault(f"{printable_path(folder)}: {error_reason(error)}") from error
     for name in STATIC:
-        write(folder / name, static(name))
+        write_file_atomically(folder / name, static(name))
 
 
 def sweep(folder: Path, files: Iterable[str], plots: Collection[str]) -> None:

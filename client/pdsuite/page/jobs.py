@@ -4,14 +4,14 @@ from collections.abc import Callable
 from dataclasses import dataclass
 from pathlib import Path
 
-from pdsuite.files import write
+from pdsuite.files import write_file_atomically
 from pdsuite.page.diagrams import diagram_of
 from pdsuite.page.folder import TABLE, sweep
 from pdsuite.page.links import FOLDER
 from pdsuite.page.notes import SenderNotes
 from pdsuite.page.render import script_page, table_page
 from pdsuite.page.view_model import PageEntry, TableRow, script_view
-from pdsuite.programs.locate import is_folder_taken
+from pdsuite.programs.locate import is_programs_folder_set
 from pdsuite.programs.recorder import Recorder
 from pdsuite.programs.verdict import Verdict
 from pdsuite.run.line_diff import LineDiff, line_diff
@@ -39,24 +39,24 @@ class Job:
 def carry_out(job: Job, stop: Stop, done: Callable[[int], None]) -> None:
     """Does a job. `done` gets the place of each script whose page stands."""
     if job.rows is not None:
-        write(job.folder / TABLE, table_page(job.rows, job.is_unproved, job.notes))
+        write_file_atomically(job.folder / TABLE, table_page(job.rows, job.is_unproved, job.notes))
         sweep(job.folder, (it.file for it in job.rows), job.plots)
     recorder = Recorder(stop, lambda line: None, job.record)
     for place, entry in enumerate(job.entries):
-        stop.check()
+        stop.raise_if_stopped()
         _write_page(job, entry, recorder)
         done(place)
 
 
 def _has_programs(job: Job) -> bool:
     """Whether there are programs to start: proved ones, or a build that is kept."""
-    return not job.is_unproved or job.regress is not None or is_folder_taken()
+    return not job.is_unproved or job.regress is not None or is_programs_folder_set()
 
 
 def _write_page(job: Job, entry: PageEntry, recorder: Recorder) -> None:
     diagram = diagram_of(entry.outcome, entry.text, entry.plot, entry.cause, recorder, job.folder)
     sheet = script_view(entry, entry.cause, diagram, _met(entry, recorder if _has_programs(job) else None))
-    write(job.folder / FOLDER / sheet.row.file, script_page(sheet, job.is_unproved))
+    write_file_atomically(job.folder / FOLDER / sheet.row.file, script_page(sheet, job.is_unproved))
 
 
 def _met(entry: PageEntry, recorder: Recorder | None) -> LineDiff | None:
@@ -65,5 +65,5 @@ def _met(entry: PageEntry, recorder: Recorder | None) -> LineDiff | None:
     if recorder is None or text is None or outcome.row.verdict is not Verdict.FAIL or outcome.line_diff is not None:
         return outcome.line_diff
     written = text.octets.decode("utf-8", "surrogateescape")
-    recording = recorder.record(outcome.path, text.octets, outcome.settings)
+    recording = recorder.record_script(outcome.path, text.octets, outcome.settings)
     return line_diff(outcome.row, outcome.block_lines, written, recording, outcome.settings)

@@ -4,7 +4,7 @@ import hashlib
 import os
 import re
 
-from pdsuite.output.octets import shown_path
+from pdsuite.output.octets import printable_path
 
 FOLDER = "scripts"
 PLOTS = "plots"
@@ -18,7 +18,7 @@ _PLOT = re.compile(rf"[A-Za-z0-9._-]+-[0-9a-f]{{{_DIGITS}}}\.(svg|png)")
 def file_of(path: str) -> str:
     """The name of the file with a script's page: the end of its path, and a digest of the whole."""
     digest = hashlib.sha256(os.fsencode(path)).hexdigest()[:_DIGITS]
-    words = _OTHER.sub("_", shown_path(path)).removesuffix(".pkt")
+    words = _OTHER.sub("_", printable_path(path)).removesuffix(".pkt")
     return f"{words[-_LONGEST:].strip('._-') or 'script'}-{digest}.html"
 
 

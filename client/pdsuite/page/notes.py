@@ -4,9 +4,9 @@ from collections.abc import Sequence
 from dataclasses import dataclass
 
 from pdsuite.compare.comparison import ComparedScript
-from pdsuite.output.octets import shown_path
+from pdsuite.output.octets import printable_path
 from pdsuite.page.links import file_of
-from pdsuite.reports.comparison import lines_of
+from pdsuite.reports.comparison import compared_script_lines
 
 # Of so many scripts the table shows how they turned; of all others that they did.
 _MOST = 50
@@ -31,6 +31,8 @@ class SenderNotes:
 
 def turned_of(scripts: Sequence[ComparedScript]) -> tuple[TurnedScript, ...]:
     """The scripts that turned, as the table has them."""
-    line_lists = [tuple(lines_of(it)) for it in scripts[:_MOST]]
+    line_lists = [tuple(compared_script_lines(it)) for it in scripts[:_MOST]]
     line_lists += [()] * (len(scripts) - len(line_lists))
-    return tuple(TurnedScript(shown_path(it.path), file_of(it.path), lines) for it, lines in zip(scripts, line_lists))
+    return tuple(
+        TurnedScript(printable_path(it.path), file_of(it.path), lines) for it, lines in zip(scripts, line_lists)
+    )

@@ -7,8 +7,8 @@ from dataclasses import replace
 from pathlib import Path
 
 from pdsuite.compare.comparison import ComparedScript
-from pdsuite.files import write
-from pdsuite.packages import need
+from pdsuite.files import write_file_atomically
+from pdsuite.packages import require_module
 from pdsuite.page.diagram_choice import DiagramChoice, Plot, plots_of
 from pdsuite.page.draw_process import FAILED, FAULT
 from pdsuite.page.folder import prepare
@@ -33,7 +33,7 @@ class PageUpdates:
         self, folder: Path, plots: DiagramChoice, note: Callable[[str], None], is_unproved: bool = False
     ) -> None:
         if plots.pattern is not None:
-            need("matplotlib")
+            require_module("matplotlib")
         prepare(folder)
         self._plots = plots
         self._is_unproved = is_unproved
@@ -57,7 +57,7 @@ class PageUpdates:
 
     def __exit__(self, *error: object) -> None:
         for worker in self._workers:
-            worker.close()
+            worker.close_and_get_status()
 
     def filenos(self) -> list[int]:
         """What can be read once a process has drawn something or has ended."""
@@ -77,7 +77,7 @@ class PageUpdates:
         shown_words = words or (_DRAWING if self._is_turning else "")
         if shown_words != self._shown_words:
             self._shown_words = shown_words
-            write(self._folder / SENDER, sender_style(shown_words))
+            write_file_atomically(self._folder / SENDER, sender_style(shown_words))
 
     def show_refusals(self, refusals: Sequence[Sequence[str]]) -> None:
         """Has the table say why the sender isn't built or proved."""
@@ -93,7 +93,7 @@ class PageUpdates:
         """Has what is drawn now ended, since it isn't wanted any more."""
         self._is_ending = True
         for worker in self._workers:
-            worker.end()
+            worker.terminate()
 
     def follow(self, entries: Sequence[PageEntry], turned: Sequence[ComparedScript] = ()) -> None:
         """Has the page drawn of these scripts, as soon as nothing else is drawn; the sender turned some."""
@@ -122,7 +122,7 @@ class PageUpdates:
         while self._workers:
             advance(len(self._drawn), count)
             select.select([stop.fileno(), *self.filenos()], [], [])
-            stop.check()
+            stop.raise_if_stopped()
             self.look()
 
     def _begin(self, entries: Sequence[PageEntry]) -> None:
@@ -141,7 +141,7 @@ class PageUpdates:
             self._workers[ChildProcess(_DRAWER, job)] = share
 
     def _read(self, worker: ChildProcess, entries: Sequence[PageEntry]) -> None:
-        for line in worker.read():
+        for line in worker.read_lines():
             if line.startswith(FAULT):
                 self._fail(line.removeprefix(FAULT))
             else:
@@ -149,7 +149,7 @@ class PageUpdates:
                 self._drawn[entry.outcome.path] = entry
         if worker.has_ended:
             del self._workers[worker]
-            status = worker.close()
+            status = worker.close_and_get_status()
             if status not in (0, FAILED) and not self._is_ending:
                 self._fail(f"what draws the page ended with status {status}")
 

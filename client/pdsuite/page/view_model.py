@@ -3,19 +3,27 @@
 from collections.abc import Iterator, Mapping
 from dataclasses import dataclass
 
-from pdsuite.output.octets import shown, shown_path
+from pdsuite.output.octets import printable_octets, printable_path
 from pdsuite.packetdrill.columns import Mark, PacketColumns, PacketField, columns
 from pdsuite.page.diagram_choice import Plot
 from pdsuite.page.diagrams import Diagram
 from pdsuite.page.links import file_of
-from pdsuite.programs.cause_text import STATE, WORDS, dropped_segments, safe, sender_of, unmatched, value_of
-from pdsuite.programs.cause_text import with_sender
+from pdsuite.programs.cause_text import (
+    STATE,
+    WORDS,
+    dropped_segments,
+    make_printable,
+    origin_in_words,
+    unmatched_packets,
+    value_in_words,
+)
+from pdsuite.programs.cause_text import packet_with_sender
 from pdsuite.programs.protocol import Cause
 from pdsuite.programs.verdict import Verdict
-from pdsuite.reports.outcome_text import block, reason, warnings
+from pdsuite.reports.outcome_text import lines_below_row, reason_for_row, warning_texts
 from pdsuite.run.line_diff import DiffLine, LineDiff
 from pdsuite.run.outcomes import CountedAs, Outcome
-from pdsuite.scripts.settings import shown_value
+from pdsuite.scripts.settings import value_as_toml
 from pdsuite.scripts.text import Text
 
 _LONGEST_LINE = 160
@@ -128,7 +136,7 @@ def table_row(outcome: Outcome) -> TableRow:
     """The row of a script in the table."""
     row = outcome.row
     return TableRow(
-        shown_path(outcome.path),
+        printable_path(outcome.path),
         file_of(outcome.path),
         row.verdict,
         outcome.counted_as,
@@ -144,7 +152,7 @@ def _text(outcome: Outcome) -> str:
     """The line of its text that the row is about, as it is shown."""
     if outcome.line != outcome.row.line and outcome.block_lines:
         return outcome.block_lines[0].strip()  # the program marks another one than the row has
-    return "" if outcome.text is None else shown(outcome.text.expandtabs().strip(), _LONGEST_LINE)
+    return "" if outcome.text is None else printable_octets(outcome.text.expandtabs().strip(), _LONGEST_LINE)
 
 
 def script_view(entry: PageEntry, cause: Cause | None, diagram: Diagram, met: LineDiff | None = None) -> ScriptView:
@@ -154,7 +162,7 @@ def script_view(entry: PageEntry, cause: Cause | None, diagram: Diagram, met: Li
         row=table_row(outcome),
         events=outcome.row.number if outcome.row.verdict is Verdict.PASS else None,
         lines=tuple(_lines(entry.text, outcome.line)) if entry.text else (),
-        settings=tuple(NamedFact(key, safe(shown_value(value))) for key, value in outcome.settings),
+        settings=tuple(NamedFact(key, make_printable(value_as_toml(value))) for key, value in outcome.settings),
         packets=_packets(explanation),
         reason=_string(explanation, "reason_words"),
         refused=_refused(explanation),
@@ -162,24 +170,24 @@ def script_view(entry: PageEntry, cause: Cause | None, diagram: Diagram, met: Li
         unmatched=tuple(_unmatched(explanation)),
         more_unmatched=_number(explanation, "more_untaken_packets"),
         state=tuple(_state(explanation)),
-        below=() if explanation else tuple(block(outcome)),
+        below=() if explanation else tuple(lines_below_row(outcome)),
         diagram=diagram,
         met=() if met is None else met.lines,
     )
 
 
 def _facts(explanation: Cause) -> Iterator[NamedFact]:
-    if sender := sender_of(explanation.get("sent_by")):
+    if sender := origin_in_words(explanation.get("sent_by")):
         yield NamedFact("sent by", sender)
     for key, words in WORDS.items():
         if key in explanation and key not in _ELSEWHERE:
             yield NamedFact(words, _value(key, explanation[key]))
     for it in dropped_segments(explanation):
-        yield NamedFact("dropped", safe(it))
+        yield NamedFact("dropped", make_printable(it))
 
 
 def _unmatched(explanation: Cause) -> Iterator[str]:
-    return (safe(with_sender(packet, origin)) for packet, origin in unmatched(explanation))
+    return (make_printable(packet_with_sender(packet, origin)) for packet, origin in unmatched_packets(explanation))
 
 
 def _expected(outcome: Outcome) -> str:
@@ -187,19 +195,19 @@ def _expected(outcome: Outcome) -> str:
     expected = outcome.expected
     if expected is None or outcome.row.verdict is Verdict.NOT_RUN:
         return ""
-    return expected.reason if outcome.is_known else f'"{expected.row}" is expected ({expected.reason})'
+    return expected.reason if outcome.is_known_failure else f'"{expected.row}" is expected ({expected.reason})'
 
 
 def _why(outcome: Outcome) -> str:
     """Why a row is so, as far as that is explained, or what is warned of."""
     if outcome.row.verdict is Verdict.ERROR:
         return outcome.row.word
-    return "; ".join(warnings(outcome)) or reason(outcome)
+    return "; ".join(warning_texts(outcome)) or reason_for_row(outcome)
 
 
 def _lines(text: Text, named: int | None) -> Iterator[ScriptLine]:
     for number, line in enumerate(text.octets.split(b"\n")[: text.lines], 1):
-        yield ScriptLine(number, shown(line.removesuffix(b"\r").expandtabs()), number == named)
+        yield ScriptLine(number, printable_octets(line.removesuffix(b"\r").expandtabs()), number == named)
 
 
 def _packets(explanation: Cause) -> tuple[tuple[str, PacketColumns], ...]:
@@ -232,17 +240,17 @@ def _state(explanation: Cause) -> Iterator[NamedFact]:
 def _value(key: str, value: object) -> str:
     """A value as people see it, with the unit of moments and spans."""
     unit = " s" if key.endswith("_us") and value is not None else ""
-    return f"{safe(value_of(key, value))}{unit}"
+    return f"{make_printable(value_in_words(key, value))}{unit}"
 
 
 def _string(explanation: Cause, key: str) -> str:
     value = explanation.get(key)
-    return safe(value) if isinstance(value, str) else ""
+    return make_printable(value) if isinstance(value, str) else ""
 
 
 def _texts(explanation: Cause, key: str) -> tuple[str, ...]:
     values = explanation.get(key)
-    return tuple(safe(it) for it in values if isinstance(it, str)) if isinstance(values, list) else ()
+    return tuple(make_printable(it) for it in values if isinstance(it, str)) if isinstance(values, list) else ()
 
 
 def _number(explanation: Cause, key: str) -> int:

@@ -4,7 +4,7 @@ import re
 from collections.abc import Iterable, Iterator, Sequence
 from dataclasses import dataclass, field
 
-from pdsuite.output.octets import shown
+from pdsuite.output.octets import printable_octets
 
 # A run is expected to write so much at most, far less than `rt try` takes.
 ROOM = 1 << 19
@@ -51,7 +51,7 @@ class Answer:
     raw: ProcessOutput = field(default=ProcessOutput(), compare=False)
 
 
-def batches_of(cases: Iterable[Case]) -> Iterator[list[Case]]:
+def split_into_batches(cases: Iterable[Case]) -> Iterator[list[Case]]:
     """The cases of each run, in their order."""
     batch: list[Case] = []
     room = 0
@@ -65,21 +65,24 @@ def batches_of(cases: Iterable[Case]) -> Iterator[list[Case]]:
         yield batch
 
 
-def input_of(cases: Iterable[Case]) -> bytes:
+def batch_input(cases: Iterable[Case]) -> bytes:
     """The input of a run; the first word of each case is the program."""
-    return b"".join(part("\0".join(it.words).encode()) + part(it.given) for it in cases)
+    return b"".join(with_length_line("\0".join(it.words).encode()) + with_length_line(it.given) for it in cases)
 
 
-def answers_in(output: bytes, errors: bytes, status: str, count: int) -> list[Answer]:
+def parse_batch_answers(output: bytes, errors: bytes, status: str, count: int) -> list[Answer]:
     """The answers to the cases of a run, which has ended with this status, a number or why there is none."""
-    each = list(parts_in(bytearray(output))) if status == "0" else []
+    each = list(take_length_prefixed(bytearray(output))) if status == "0" else []
     if len(each) == 3 * count:
-        return [answer_of(written, errors, ended.decode().strip()) for written, errors, ended in zip(*[iter(each)] * 3)]
-    why = answer_of(output, errors, status).fault or f"ended with status {status}"
+        return [
+            answer_from_status(written, errors, ended.decode().strip())
+            for written, errors, ended in zip(*[iter(each)] * 3)
+        ]
+    why = answer_from_status(output, errors, status).fault or f"ended with status {status}"
     return [Answer(b"", b"", why, count > 1)] * count
 
 
-def answer_of(output: bytes, errors: bytes, status: str) -> Answer:
+def answer_from_status(output: bytes, errors: bytes, status: str) -> Answer:
     """What came of a start, whose status is a number or why there is none."""
     if status in _REGULAR:
         return Answer(output, errors, raw=ProcessOutput(output, errors, status))
@@ -88,23 +91,23 @@ def answer_of(output: bytes, errors: bytes, status: str) -> Answer:
     lines = [line for line in errors.split(b"\n") if line.strip()]
     why = f"ended with status {status}"
     if lines:
-        why = shown(lines[0] if lines[0].startswith(_REFUSES) else lines[-1])
+        why = printable_octets(lines[0] if lines[0].startswith(_REFUSES) else lines[-1])
     return Answer(b"", b"", why, raw=ProcessOutput(output, errors, status))
 
 
-def part(octets: bytes) -> bytes:
+def with_length_line(octets: bytes) -> bytes:
     """Octets after a line with their number."""
     return b"%d\n%b" % (len(octets), octets)
 
 
-def parts_in(octets: bytearray) -> Iterator[bytes]:
+def take_length_prefixed(octets: bytearray) -> Iterator[bytes]:
     """Takes the octets that stand after a line with their number each, up to what isn't whole."""
     while (found := _NUMBER.match(octets)) and len(octets) >= (end := found.end() + int(found[1])):
         yield bytes(octets[found.end() : end])
         del octets[:end]
 
 
-def with_program_named(program: str, words: Sequence[str], cases: Iterable[Case]) -> Iterator[Case]:
+def prepend_program_and_words(program: str, words: Sequence[str], cases: Iterable[Case]) -> Iterator[Case]:
     """The cases with the words of all, before which the program is named."""
     for it in cases:
         yield Case((program, *words, *it.words), it.given, it.room, it.is_alone)

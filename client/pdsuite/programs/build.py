@@ -13,7 +13,7 @@ from pathlib import Path
 from typing import IO, Literal
 
 from pdsuite.faults import Fault
-from pdsuite.output.octets import shown
+from pdsuite.output.octets import printable_octets
 from pdsuite.programs.locate import BUILD_TOOL
 from pdsuite.signals import Stop
 
@@ -34,16 +34,18 @@ class NoKeptBuildError(Fault):
     """That none can be built and kept here, and why; `rt try` may run the programs still."""
 
 
-def kept_build(tree: Path, mode: BuildMode = "any") -> Path | None:
+def find_kept_build(tree: Path, mode: BuildMode = "any") -> Path | None:
     """The folder of both programs of a tree, each by its name, where they are kept; nothing is built."""
-    command = _command(tree, mode, "--kept")
+    command = _build_command(tree, mode, "--kept")
     if not BUILD_TOOL.is_file():
         return None
     done = subprocess.run(command, stdin=subprocess.DEVNULL, capture_output=True, process_group=0)
-    return _folder(done.stdout) if done.returncode == 0 else None
+    return _folder_in_output(done.stdout) if done.returncode == 0 else None
 
 
-def built_folder(tree: Path, mode: BuildMode, stop: Stop, note: Callable[[str, float], None] = lambda *_: None) -> Path:
+def build_if_needed(
+    tree: Path, mode: BuildMode, stop: Stop, note: Callable[[str, float], None] = lambda *_: None
+) -> Path:
     """The folder of both programs of a tree, built now if need be; a note comes with each phase and about each second.
 
     Raises BuildError where the sources don't compile, and NoKeptBuildError where none can be built and kept.
@@ -56,11 +58,11 @@ def built_folder(tree: Path, mode: BuildMode, stop: Stop, note: Callable[[str, f
             poll.register(each, select.POLLIN)
         while not building.is_over:
             poll.poll(1_000)
-            stop.check()
-            building.read()
+            stop.raise_if_stopped()
+            building.read_progress()
             if building.phase:
-                note(building.phase, building.seconds)
-        return building.folder()
+                note(building.phase, building.phase_seconds)
+        return building.programs_folder()
 
 
 class Build:
@@ -72,7 +74,7 @@ class Build:
     def __init__(self, tree: Path, mode: BuildMode) -> None:
         self._errors: IO[bytes] = tempfile.TemporaryFile()
         self._process = subprocess.Popen(
-            _command(tree, mode),
+            _build_command(tree, mode),
             stdin=subprocess.DEVNULL,
             stdout=subprocess.PIPE,
             stderr=self._errors,
@@ -92,40 +94,40 @@ class Build:
         return self
 
     def __exit__(self, *error: object) -> None:
-        self.end()
+        self.end_tool()
 
     def fileno(self) -> int:
         """What can be read where a phase begins, and at the end."""
         return self._out.fileno()
 
     @property
-    def seconds(self) -> float:
+    def phase_seconds(self) -> float:
         """For how long the phase goes on, in seconds."""
         return time.monotonic() - self._begin
 
-    def read(self) -> None:
+    def read_progress(self) -> None:
         """Takes what the tool says now, without waiting."""
         with suppress(BlockingIOError):
             while octets := os.read(self.fileno(), _READ):
                 self._got += octets
             self.is_over = True
         lines = [it for it in self._got.split(b"\n")[:-1] if not it.startswith(_BUILT)]
-        if lines and shown(lines[-1]) != self.phase:
-            self.phase, self._begin = shown(lines[-1]), time.monotonic()
+        if lines and printable_octets(lines[-1]) != self.phase:
+            self.phase, self._begin = printable_octets(lines[-1]), time.monotonic()
 
-    def folder(self) -> Path:
+    def programs_folder(self) -> Path:
         """The folder of both programs, once it is over. Raises BuildError and NoKeptBuildError."""
         status = self._process.wait()
         if status == 0:
-            return _folder(self._got)
+            return _folder_in_output(self._got)
         self._errors.seek(0)
         first, *lines = self._errors.read().splitlines() or [b"the tool ended with status %d" % status]
-        reason = shown(first).partition("unproved: ")[2] or shown(first)
+        reason = printable_octets(first).partition("unproved: ")[2] or printable_octets(first)
         if status == _NO_BUILD:
             raise NoKeptBuildError(reason)
-        raise BuildError("\n".join([f"unproved: {reason}", *map(shown, lines)]))
+        raise BuildError("\n".join([f"unproved: {reason}", *map(printable_octets, lines)]))
 
-    def end(self) -> None:
+    def end_tool(self) -> None:
         """Ends the tool, if it hasn't ended, which ends what it started and leaves nothing."""
         for number in (signal.SIGTERM, signal.SIGKILL):
             if self._process.poll() is None:
@@ -138,12 +140,12 @@ class Build:
         self._errors.close()
 
 
-def _command(tree: Path, mode: BuildMode, *words: str) -> list[str | Path]:
+def _build_command(tree: Path, mode: BuildMode, *words: str) -> list[str | Path]:
     # As the tools start each other: what isn't requested isn't looked for either.
     return [sys.executable, "-EsSB", BUILD_TOOL, "--way", mode, "--tree", tree, *words]
 
 
-def _folder(output: bytes) -> Path:
+def _folder_in_output(output: bytes) -> Path:
     """The folder that the tool names last."""
     *_, last = output.splitlines()
     return Path(os.fsdecode(last.removeprefix(_BUILT)))

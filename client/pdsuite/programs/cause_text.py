@@ -4,7 +4,7 @@ import re
 from collections.abc import Iterator, Mapping
 from itertools import chain, repeat
 
-from pdsuite.output.octets import shown_text
+from pdsuite.output.octets import printable_text
 from pdsuite.programs.protocol import Cause
 
 # What is explained by keys, in the order of a block, each with its words.
@@ -49,17 +49,17 @@ _ESCAPE = re.compile(r"\\x[0-9A-Fa-f]{2}")
 _ESCAPED = 4
 
 
-def lines_of(cause: Cause) -> tuple[str, ...]:
+def block_lines_of(cause: Cause) -> tuple[str, ...]:
     """The lines of a block below its first one, safe to print (docs/EXPLAIN.md)."""
-    lines = [_cut(it) for it in _lines(cause)]
+    lines = [_cut_long_line(it) for it in _cause_lines(cause)]
     state = cause.get("state")
     if isinstance(state, Mapping):
-        line = _state(state)
-        lines.append(line if "prr_out" in state else _cut(line))
-    return tuple(map(safe, lines))
+        line = _state_line(state)
+        lines.append(line if "prr_out" in state else _cut_long_line(line))
+    return tuple(map(make_printable, lines))
 
 
-def value_of(key: str, value: object) -> str:
+def value_in_words(key: str, value: object) -> str:
     """What stands under a key, in words; of moments and spans seconds."""
     if value is None:
         return _NULLS.get(key, "none")
@@ -76,14 +76,14 @@ def dropped_segments(cause: Cause) -> Iterator[str]:
             yield f"line {it.get('line')}: {it.get('rule_words')}"
 
 
-def sender_of(origin: object) -> str:
+def origin_in_words(origin: object) -> str:
     """What sent a packet: a line, or the timer; empty where that isn't known."""
     if not isinstance(origin, Mapping):
         return ""
     return f"line {origin['line']}" if "line" in origin else "the timer"
 
 
-def unmatched(cause: Cause) -> Iterator[tuple[str, object]]:
+def unmatched_packets(cause: Cause) -> Iterator[tuple[str, object]]:
     """The unmatched packets that are listed, each with what sent it, where that is known."""
     packets, origins = cause.get("untaken_packets"), cause.get("untaken_sent_by")
     senders = chain(origins if isinstance(origins, list) else [], repeat(None))
@@ -92,92 +92,92 @@ def unmatched(cause: Cause) -> Iterator[tuple[str, object]]:
             yield packet, origin
 
 
-def with_sender(packet: str, origin: object) -> str:
+def packet_with_sender(packet: str, origin: object) -> str:
     """A packet with what sent it, where that is known."""
-    sender = sender_of(origin)
+    sender = origin_in_words(origin)
     return f"{packet}, sent by {sender}" if sender else packet
 
 
-def safe(text: str) -> str:
+def make_printable(text: str) -> str:
     """What the program has made safe to print, and anything else as it is shown."""
-    return text if text.isprintable() else shown_text(text)
+    return text if text.isprintable() else printable_text(text)
 
 
-def _lines(cause: Cause) -> Iterator[str]:
-    yield from _inserts(cause)
+def _cause_lines(cause: Cause) -> Iterator[str]:
+    yield from _insert_lines(cause)
     for key, words in WORDS.items():
         if key in cause:
-            value = value_of(key, cause[key])
-            yield f"{words}: {with_sender(value, cause.get('sent_by')) if key == 'actual_packet' else value}"
+            value = value_in_words(key, cause[key])
+            yield f"{words}: {packet_with_sender(value, cause.get('sent_by')) if key == 'actual_packet' else value}"
     if "text" in cause:
-        yield from _marked(str(cause["text"]), cause.get("column"))
+        yield from _line_with_mark(str(cause["text"]), cause.get("column"))
     if "found" in cause:
         yield f"found: {cause['found']}"
     for key in ("runs", "mend", "expected"):
         if key in cause:
             found = cause[key]
-            yield f"{key}:{_listed(found)}" if isinstance(found, list) else f"{key}: {found}"
+            yield f"{key}:{_join_with_or(found)}" if isinstance(found, list) else f"{key}: {found}"
     for it in dropped_segments(cause):
         yield f"dropped: {it}"
-    for packet, origin in unmatched(cause):
-        yield f"untaken packet: {with_sender(packet, origin)}"
+    for packet, origin in unmatched_packets(cause):
+        yield f"untaken packet: {packet_with_sender(packet, origin)}"
     if more := cause.get("more_untaken_packets"):
         yield f"more untaken packets: {more}"
 
 
-def _state(state: Mapping[str, object]) -> str:
-    numbers = (f"{words}:{value_of(key, state[key])}" for key, words in STATE.items() if key in state)
+def _state_line(state: Mapping[str, object]) -> str:
+    numbers = (f"{words}:{value_in_words(key, state[key])}" for key, words in STATE.items() if key in state)
     return " ".join([f"state: {state.get('name')}", *numbers])
 
 
-def _inserts(cause: Cause) -> Iterator[str]:
+def _insert_lines(cause: Cause) -> Iterator[str]:
     """The packets that no line expects: the one that differs, and those unmatched that follow it."""
     count = cause.get("unasked_packets")
     if isinstance(count, int):
-        packets = [str(cause.get("actual_packet")), *(packet for packet, _ in unmatched(cause))]
+        packets = [str(cause.get("actual_packet")), *(packet for packet, _ in unmatched_packets(cause))]
         yield from (f"mend by inserting: {it}" for it in packets[:count])
 
 
-def _marked(text: str, column: object) -> Iterator[str]:
+def _line_with_mark(text: str, column: object) -> Iterator[str]:
     """A line, and below it a mark at a column, or that it is the end of the text."""
     if not isinstance(column, int):
         yield from (text, "at the end of the text")
         return
-    start = _start_of(text, column)
-    end = _end_from(text, start)
+    start = _shown_start(text, column)
+    end = _shown_end(text, start)
     before, after = _CUT if start else "", _CUT if end < len(text) else ""
     yield f"{before}{text[start:end]}{after}"
     yield " " * (max(0, column - start) + len(before)) + "^"
 
 
-def _listed(items: list[object]) -> str:
+def _join_with_or(items: list[object]) -> str:
     """Items as a list in a sentence, after a blank."""
     *first, last = map(str, items or [""])
     return f" {', '.join(first)} or {last}" if first else f" {last}".rstrip()
 
 
-def _cut(line: str) -> str:
-    end = _end_from(line, 0)
+def _cut_long_line(line: str) -> str:
+    end = _shown_end(line, 0)
     return line if end == len(line) else line[:end] + _CUT
 
 
-def _start_of(line: str, mark: int) -> int:
+def _shown_start(line: str, mark: int) -> int:
     """Where what is shown of a line begins: a little before a mark that is far along it, and behind no torn escape."""
     if mark < _MOST - _BEFORE_MARK // 2:
         return 0
     start = min(mark - _BEFORE_MARK, max(0, len(line) - _MOST))
-    torn = _torn_at(line, start)
+    torn = _torn_escape_start(line, start)
     return start if torn is None else torn + _ESCAPED
 
 
-def _end_from(line: str, start: int) -> int:
+def _shown_end(line: str, start: int) -> int:
     """Where what is shown from a place on ends, before an escape that would be torn."""
     end = min(start + _MOST, len(line))
-    torn = _torn_at(line, end)
+    torn = _torn_escape_start(line, end)
     return end if torn is None else torn
 
 
-def _torn_at(line: str, place: int) -> int | None:
+def _torn_escape_start(line: str, place: int) -> int | None:
     """Where the escape begins that a cut at a place would tear."""
     backs = (place - it for it in range(1, _ESCAPED) if place >= it)
     return next((it for it in backs if _ESCAPE.match(line, it)), None)

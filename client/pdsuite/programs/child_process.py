@@ -36,7 +36,7 @@ class ChildProcess:
         """What can be read once it has printed something, or has ended."""
         return self._out.fileno()
 
-    def read(self) -> list[str]:
+    def read_lines(self) -> list[str]:
         """The lines that it has printed since they were read last."""
         while (octets := self._out.read(_READ)) is not None:
             self._got += octets
@@ -46,14 +46,14 @@ class ChildProcess:
         *lines, self._got = self._got.split(b"\n")
         return [line.decode() for line in lines]
 
-    def end(self) -> None:
+    def terminate(self) -> None:
         """Requests its end."""
         self._process.terminate()
 
-    def close(self) -> int:
+    def close_and_get_status(self) -> int:
         """Its status, once it has ended: by itself if it has, else since that is requested, or has to be."""
         if not self.has_ended:
-            self.end()
+            self.terminate()
         try:
             return self._process.wait(_GRACE)
         except subprocess.TimeoutExpired:

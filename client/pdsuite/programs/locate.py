@@ -5,7 +5,7 @@ import subprocess
 from pathlib import Path
 
 from pdsuite.faults import Fault
-from pdsuite.output.octets import shown, shown_path
+from pdsuite.output.octets import printable_octets, printable_path
 
 TOP = Path(__file__).resolve().parents[3]
 PROGRAMS_VARIABLE = "PDSUITE_PROGRAMS"
@@ -25,29 +25,29 @@ class UnprovedError(Fault):
     """That a program isn't proved and built, or has changed since."""
 
 
-def locate(name: str) -> Path:
+def locate_program(name: str) -> Path:
     """The built program of this name."""
     if folder := os.environ.get(PROGRAMS_VARIABLE):
         path = Path(folder, name).absolute()
         if not path.is_file() or not os.access(path, os.X_OK):
-            raise Fault(f"{shown_path(path)}: no program ({PROGRAMS_VARIABLE} names the folder)")
+            raise Fault(f"{printable_path(path)}: no program ({PROGRAMS_VARIABLE} names the folder)")
         return path
     if PACKAGE_VERSION.exists():
         return TOP.parents[1] / "bin" / name
-    return proved_program(name, TOP)
+    return find_proved_program(name, TOP)
 
 
-def take_folder(folder: Path) -> None:
+def use_programs_folder(folder: Path) -> None:
     """Has the programs of a folder be those of this call from now on, also in processes that it starts."""
     os.environ[PROGRAMS_VARIABLE] = str(folder)
 
 
-def is_folder_taken() -> bool:
+def is_programs_folder_set() -> bool:
     """Whether the programs of this call are those of a folder."""
     return bool(os.environ.get(PROGRAMS_VARIABLE))
 
 
-def proved_program(name: str, top: Path) -> Path:
+def find_proved_program(name: str, top: Path) -> Path:
     """The proved program of this name in a tree."""
     done = subprocess.run(
         [top / PROVED_TOOL, name],
@@ -56,29 +56,29 @@ def proved_program(name: str, top: Path) -> Path:
         process_group=0,  # a key of the terminal ends the client alone
     )
     if done.returncode:
-        raise UnprovedError(shown(done.stderr.strip()))
+        raise UnprovedError(printable_octets(done.stderr.strip()))
     return Path(os.fsdecode(done.stdout.removesuffix(b"\n")))
 
 
-def launched_from(folder: Path) -> Path | None:
+def tree_of_launchers(folder: Path) -> Path | None:
     """The tree whose launchers a folder has, or links to them. A launcher also runs what isn't proved."""
     top = (folder / REGRESS).resolve().parent
     return top if (top / PROVED_TOOL).is_file() and (top / "crates.txt").is_file() else None
 
 
-def commit() -> str:
+def client_commit() -> str:
     """The commit that this client is of, with `-dirty` where files differ from it; before it the package's version."""
     if PACKAGE_VERSION.exists():
-        return shown(PACKAGE_VERSION.read_bytes().strip())
+        return printable_octets(PACKAGE_VERSION.read_bytes().strip())
     words = ["describe", "--always", "--dirty", "--abbrev=40", "--exclude=*"]
     try:
         done = subprocess.run(["git", "-C", TOP, *words], stdin=subprocess.DEVNULL, capture_output=True)
     except OSError:
         return "unknown"
-    return shown(done.stdout.strip()) if done.returncode == 0 else "unknown"
+    return printable_octets(done.stdout.strip()) if done.returncode == 0 else "unknown"
 
 
-def digest(path: Path) -> str:
+def sha256_of(path: Path) -> str:
     """The SHA-256 of a program."""
     import hashlib  # only who requests it pays for what makes it
 

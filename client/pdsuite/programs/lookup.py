@@ -13,11 +13,11 @@ from os.path import isdir
 from pathlib import Path
 from typing import TypeVar
 
-from pdsuite.faults import Fault, why
-from pdsuite.file_stamps import Stamp, have_stamps, is_sure, stamp_of
-from pdsuite.output.octets import shown_path
+from pdsuite.faults import Fault, error_reason
+from pdsuite.file_stamps import Stamp, are_stamps_current, shows_any_later_write, stamp_of
+from pdsuite.output.octets import printable_path
 from pdsuite.programs.locate import BUILD_TOOL, PACKAGE_VERSION, PROGRAMS_VARIABLE, PROVED_TOOL, TOP
-from pdsuite.programs.locate import UnprovedError, digest, launched_from, locate, proved_program
+from pdsuite.programs.locate import UnprovedError, find_proved_program, locate_program, sha256_of, tree_of_launchers
 
 # While files change all the time, the tools are queried so often.
 _TRIES = 5
@@ -46,22 +46,22 @@ class StampedProgram:
     digest: str
 
     @property
-    def is_there(self) -> bool:
+    def is_same_file(self) -> bool:
         """Whether the file is the one that was found."""
         return stamp_of(self.path) == self.stamp
 
-    def check(self) -> None:
+    def raise_if_changed(self) -> None:
         """Raises SenderChangedError where the file isn't the one that was found."""
-        if not self.is_there:
-            raise SenderChangedError(f"{shown_path(self.path)} is another file")
+        if not self.is_same_file:
+            raise SenderChangedError(f"{printable_path(self.path)} is another file")
 
 
 def stamped_program(path: Path) -> StampedProgram:
     """A program as it stands at a path; a fault where it can't be read."""
     try:
-        return StampedProgram(path, stamp_of(path), digest(path))
+        return StampedProgram(path, stamp_of(path), sha256_of(path))
     except OSError as error:
-        raise Fault(f"{shown_path(path)}: {why(error)}") from error
+        raise Fault(f"{printable_path(path)}: {error_reason(error)}") from error
 
 
 # A program, or why there is none.
@@ -77,9 +77,9 @@ class _LookupState:
     folders: frozenset[str]
     is_sure: bool
 
-    def stands(self) -> bool:
+    def is_surely_current(self) -> bool:
         """Whether it is surely so still."""
-        return self.is_sure and have_stamps(self.stamps)
+        return self.is_sure and are_stamps_current(self.stamps)
 
 
 class ProgramLookup:
@@ -91,73 +91,76 @@ class ProgramLookup:
         self._files = files
         self._seen: _LookupState | None = None
 
-    def now(self) -> Mapping[str, FoundProgram]:
+    def current_programs(self) -> Mapping[str, FoundProgram]:
         """What stands now, by the names of programs."""
-        return self._see().found
+        return self._current_state().found
 
-    def need(self, name: str) -> StampedProgram:
+    def require_program(self, name: str) -> StampedProgram:
         """The program of this name that stands now; a fault where none does."""
-        found = self.now()[name]
+        found = self.current_programs()[name]
         if isinstance(found, Fault):
             raise found
         return found
 
-    def sources(self) -> Mapping[str, Stamp]:
+    def source_stamps(self) -> Mapping[str, Stamp]:
         """The stamps of all files that aren't made beside a program. A folder is what lies in it."""
-        seen = self._see()
+        seen = self._current_state()
         return {path: it for path, it in seen.stamps.items() if path not in seen.folders and _MADE not in path}
 
-    def folders(self) -> set[str]:
+    def folders_to_watch(self) -> set[str]:
         """The folders in which something that counts may change."""
-        seen = self._see()
+        seen = self._current_state()
         return {*seen.folders, *(str(Path(it).parent) for it in seen.stamps)}
 
-    def _see(self) -> _LookupState:
-        if self._seen is None or not self._seen.stands():
-            self._seen = self._look()
+    def _current_state(self) -> _LookupState:
+        if self._seen is None or not self._seen.is_surely_current():
+            self._seen = self._query_until_stable()
         return self._seen
 
-    def _look(self) -> _LookupState:
+    def _query_until_stable(self) -> _LookupState:
         """Queries what stands, until no file changes meanwhile."""
         for _ in range(_TRIES):
             moment = time.time_ns()
             paths = [path for name in self._names for path in self._files(name)]
             stamps = {path: stamp_of(path) for path in paths}
-            found = {name: self._found(name) for name in self._names}
+            found = {name: self._program_or_fault(name) for name in self._names}
             if stamps == {path: stamp_of(path) for path in paths}:
                 folders = frozenset(filter(isdir, stamps))
                 return _LookupState(
-                    found, stamps, folders, bool(paths) and all(is_sure(it, moment) for it in stamps.values())
+                    found,
+                    stamps,
+                    folders,
+                    bool(paths) and all(shows_any_later_write(it, moment) for it in stamps.values()),
                 )
         changing = UnprovedError(f"{', '.join(self._names)}: files change all the time")
         return _LookupState(dict.fromkeys(self._names, changing), {}, frozenset(), False)
 
-    def _found(self, name: str) -> FoundProgram:
+    def _program_or_fault(self, name: str) -> FoundProgram:
         try:
             return stamped_program(self._find(name))
         except Fault as fault:
             return fault
         except OSError as error:
-            return Fault(f"{name}: {why(error)}")
+            return Fault(f"{name}: {error_reason(error)}")
 
 
 class SenderGuard:
     """Sees whether senders stay as they were when this was made: proved programs, or else the sources of a tree."""
 
     def __init__(self, *looks: ProgramLookup) -> None:
-        self._looks = _side_by_side(lambda it: (it, it.now(), it.sources()), looks)
+        self._looks = _map_in_threads(lambda it: (it, it.current_programs(), it.source_stamps()), looks)
 
-    def need_same(self, consequence: str) -> None:
+    def require_unchanged(self, consequence: str) -> None:
         """A fault where one isn't as it was; it names the consequence."""
         if self.has_changed():
             raise Fault(f"{CHANGED}: {consequence}")
 
     def has_changed(self) -> bool:
         """Whether one isn't as it was."""
-        return any(_side_by_side(lambda it: _has_changed(*it), self._looks))
+        return any(_map_in_threads(lambda it: _has_lookup_changed(*it), self._looks))
 
 
-def _side_by_side(work: Callable[[T], U], each: Sequence[T]) -> list[U]:
+def _map_in_threads(work: Callable[[T], U], each: Sequence[T]) -> list[U]:
     """What a function answers to each: looks wait for the tools of their trees."""
     if len(each) < 2:
         return [work(it) for it in each]
@@ -168,44 +171,44 @@ def _side_by_side(work: Callable[[T], U], each: Sequence[T]) -> list[U]:
         return list(pool.map(work, each))
 
 
-def _has_changed(lookup: ProgramLookup, found: Mapping[str, FoundProgram], sources: Mapping[str, Stamp]) -> bool:
-    now = lookup.now()
+def _has_lookup_changed(lookup: ProgramLookup, found: Mapping[str, FoundProgram], sources: Mapping[str, Stamp]) -> bool:
+    now = lookup.current_programs()
     proved = [name for name, it in found.items() if isinstance(it, StampedProgram)]
-    return any(now[name] != found[name] for name in proved) if proved else lookup.sources() != sources
+    return any(now[name] != found[name] for name in proved) if proved else lookup.source_stamps() != sources
 
 
-def own_lookup(*names: str) -> ProgramLookup:
+def client_programs_lookup(*names: str) -> ProgramLookup:
     """A look at the programs of this client: those of a folder that is named, of its package, or of its tree."""
     if word := environ.get(PROGRAMS_VARIABLE):
         folder = Path(word)
-        if tree := launched_from(folder):
-            return tree_lookup(tree, *names)
-        return ProgramLookup(names, locate, lambda name: [str((folder / name).absolute())])
+        if tree := tree_of_launchers(folder):
+            return proved_programs_lookup(tree, *names)
+        return ProgramLookup(names, locate_program, lambda name: [str((folder / name).absolute())])
     if PACKAGE_VERSION.exists():
-        return ProgramLookup(names, locate, lambda name: [str(locate(name))])
-    return tree_lookup(TOP, *names)
+        return ProgramLookup(names, locate_program, lambda name: [str(locate_program(name))])
+    return proved_programs_lookup(TOP, *names)
 
 
-def buildable() -> Path | None:
+def buildable_tree() -> Path | None:
     """The tree whose sender is built without proofs where it isn't proved: that of this client, or of its launchers."""
     if word := environ.get(PROGRAMS_VARIABLE):
-        tree = launched_from(Path(word))
+        tree = tree_of_launchers(Path(word))
     else:
         tree = None if PACKAGE_VERSION.exists() else TOP
     return tree if BUILD_TOOL.is_file() else None
 
 
-def tree_lookup(top: Path, *names: str) -> ProgramLookup:
+def proved_programs_lookup(top: Path, *names: str) -> ProgramLookup:
     """A look at the proved programs of a tree."""
-    return ProgramLookup(names, lambda name: proved_program(name, top), partial(_files_in, top))
+    return ProgramLookup(names, lambda name: find_proved_program(name, top), partial(_files_deciding_proof, top))
 
 
-def programs_lookup(programs: Mapping[str, Path]) -> ProgramLookup:
+def lookup_by_paths(programs: Mapping[str, Path]) -> ProgramLookup:
     """A look at programs by their paths."""
     return ProgramLookup(list(programs), programs.__getitem__, lambda name: [str(programs[name])])
 
 
-def _files_in(top: Path, name: str) -> list[str]:
+def _files_deciding_proof(top: Path, name: str) -> list[str]:
     """All files and folders on which it depends whether a tree's program is proved; none where nobody says."""
     try:
         done = subprocess.run(

@@ -13,8 +13,8 @@ from math import inf
 from pathlib import Path
 from typing import TypeVar
 
-from pdsuite.faults import why
-from pdsuite.output.octets import shown, shown_path
+from pdsuite.faults import error_reason
+from pdsuite.output.octets import printable_octets, printable_path
 from pdsuite.programs.batch_protocol import ProcessOutput
 from pdsuite.signals import Stop
 
@@ -40,7 +40,7 @@ class Program:
 
     def __init__(self, words: Sequence[str | Path], stop: Stop) -> None:
         self._stop = stop
-        self._name = shown_path(Path(Path(words[0]).name))
+        self._name = printable_path(Path(Path(words[0]).name))
         try:
             self._process = subprocess.Popen(
                 words,
@@ -51,13 +51,13 @@ class Program:
                 process_group=0,
             )
         except (OSError, ValueError) as error:
-            raise ProgramEndedError(f"{shown_path(Path(words[0]))}: {why(error)}") from error
+            raise ProgramEndedError(f"{printable_path(Path(words[0]))}: {error_reason(error)}") from error
         try:
-            self._in, self._out, self._err = _pipes(self._process)
+            self._in, self._out, self._err = _prepare_pipes(self._process)
             self._selector = selectors.EpollSelector()
         except OSError as error:
-            self._kill()
-            raise ProgramEndedError(f"{self._name}: {why(error)}") from error
+            self._kill_group()
+            raise ProgramEndedError(f"{self._name}: {error_reason(error)}") from error
         self._unsent = b""
         # An empty line before what was printed lets every line begin after a newline.
         self._got = bytearray(b"\n")
@@ -72,11 +72,11 @@ class Program:
         return self
 
     def __exit__(self, *error: object) -> None:
-        self.close()
+        self.kill_and_close()
 
     def query(self, commands: bytes, longest: int) -> bytes:
         """What the program answers, up to the line `total`. It is read while the commands are written."""
-        return self._waited(self._answer(commands, longest))
+        return self._drive_steps(self._answer_steps(commands, longest))
 
     def query_with_errors(
         self, commands: bytes, longest: int, longest_errors: int | None = None
@@ -85,83 +85,85 @@ class Program:
 
         Neither is longer than `longest`, or what is printed than `longest_errors`, in octets.
         """
-        return self._waited(self.querying(commands, longest, longest if longest_errors is None else longest_errors))
+        return self._drive_steps(
+            self.query_steps(commands, longest, longest if longest_errors is None else longest_errors)
+        )
 
-    def querying(
+    def query_steps(
         self, commands: bytes, longest: int, longest_errors: int
     ) -> Generator["Program", None, tuple[bytes, bytes]]:
         """The same, which gives way where it has to wait until the program can be read or written (`fileno`)."""
         self._most, self._kept, self._errors = longest_errors, longest_errors + 1, b""
-        answer = yield from self._answer(commands, longest)
+        answer = yield from self._answer_steps(commands, longest)
         # What was printed before the line that ends an answer is in the pipe by then.
-        while self._work(0):
-            self._check_errors()
+        while self._read_or_write_ready(0):
+            self._refuse_long_errors()
         errors, self._errors = self._errors, b""
         return answer, errors
 
-    def wait(self) -> None:
+    def wait_until_ready(self) -> None:
         """Waits until the program can be read or written, or a signal comes."""
         self._selector.select()
 
-    def _answer(self, commands: bytes, longest: int) -> Generator["Program", None, bytes]:
-        self._send(commands)
+    def _answer_steps(self, commands: bytes, longest: int) -> Generator["Program", None, bytes]:
+        self._send_commands(commands)
         seen = 0
         while True:
             start = self._got.find(b"\ntotal ", seen)
             end = self._got.find(b"\n", start + 1) if start >= 0 else -1
             if end >= 0:
-                return self._take(end)
+                return self._take_printed_up_to(end)
             seen = max(0, start if start >= 0 else len(self._got) - len(b"\ntotal "))
             if len(self._got) > longest:
                 raise ProgramEndedError(f"{self._name} answered more than was asked")
-            self._check_errors()
-            if not self._is_open(self._out):
-                raise ProgramEndedError(self._last_words())
+            self._refuse_long_errors()
+            if not self._is_watched(self._out):
+                raise ProgramEndedError(self._reason_of_end())
             yield self
-            self._work(0)
+            self._read_or_write_ready(0)
 
-    def _waited(self, steps: Generator["Program", None, T]) -> T:
+    def _drive_steps(self, steps: Generator["Program", None, T]) -> T:
         while True:
             try:
                 next(steps)
             except StopIteration as end:
                 answer: T = end.value
                 return answer
-            self.wait()
+            self.wait_until_ready()
 
-    def _check_errors(self) -> None:
+    def _refuse_long_errors(self) -> None:
         if len(self._errors) > self._most:
             raise ProgramEndedError(f"{self._name} said more than was asked")
 
-    def finish(self, commands: bytes, longest: int) -> bytes:
+    def finish_and_read_errors(self, commands: bytes, longest: int) -> bytes:
         """What the program prints on standard error at these commands. They are its last, and it ends."""
-        self._finish(commands, longest)
+        self._finish_regularly(commands, longest)
         return self._errors
 
-    def record(self, text: bytes, longest: int) -> tuple[bytes, str]:
+    def record_script(self, text: bytes, longest: int) -> tuple[bytes, str]:
         """What the program writes of this text, which is all of its input, and its first line on standard error."""
-        self._finish(text, longest)
-        return bytes(self._got[1:]), shown(self._errors.partition(b"\n")[0], _SHOWN)
+        self._finish_regularly(text, longest)
+        return bytes(self._got[1:]), printable_octets(self._errors.partition(b"\n")[0], _SHOWN)
 
-    def run(self, given: bytes, longest: int) -> ProcessOutput:
+    def run_on_input(self, given: bytes, longest: int) -> ProcessOutput:
         """All that the program writes of this, which is all of its input, and its status."""
-        status = self._end_of(given, longest)
+        status = self._run_to_end(given, longest)
         return ProcessOutput(bytes(self._got[1:]), self._errors, str(status))
 
-    def sections(self, count: int, longest: int) -> Iterator[tuple[bytes, bytes]]:
+    def read_file_sections(self, count: int, longest: int) -> Iterator[tuple[bytes, bytes]]:
         """What the program writes of so many files: of each the first word of its title, and the lines after that."""
         self._is_last = True
-        self._send(b"")
+        self._send_commands(b"")
         for _ in range(count):
-            while (section := self._section()) is None:
+            while (section := self._next_whole_section()) is None:
                 if len(self._got) > longest:
                     raise ProgramEndedError(f"{self._name} wrote more than was asked")
-                if not self._is_open(self._out):
-                    raise ProgramEndedError(self._last_words())
-                self._work(None)
+                if not self._is_watched(self._out):
+                    raise ProgramEndedError(self._reason_of_end())
+                self._read_or_write_ready(None)
             yield section
 
-    def _section(self) -> tuple[bytes, bytes] | None:
+    def _next_whole_section(self) -> tuple[bytes, bytes] | None:
         """The next title, with the lines after it, once all of them are there."""
         end = self._got.find(b"\n", 1)
         if end < 0:
@@ -172,75 +174,75 @@ class Program:
         lines = self._got.split(b"\n", int(words[1]) + 2)
         if len(lines) < int(words[1]) + 3:
             return None
-        self._take(len(self._got) - len(lines[-1]) - 1)
+        self._take_printed_up_to(len(self._got) - len(lines[-1]) - 1)
         return words[0], b"".join(bytes(line) + b"\n" for line in lines[2:-1])
 
-    def _finish(self, commands: bytes, longest: int) -> None:
+    def _finish_regularly(self, commands: bytes, longest: int) -> None:
         """The same, of a program that has to end regularly."""
-        status = self._end_of(commands, longest)
+        status = self._run_to_end(commands, longest)
         if status not in _REGULAR:
-            raise ProgramEndedError((self._last_line() if status > 0 else "") or self._end())
+            raise ProgramEndedError((self._last_error_line() if status > 0 else "") or self._kill_and_describe_end())
 
-    def _end_of(self, commands: bytes, longest: int) -> int:
+    def _run_to_end(self, commands: bytes, longest: int) -> int:
         """Writes the last of the input, and reads what the program writes until it has ended; its status."""
         self._kept = longest + 1
         self._is_last = True
-        self._send(commands)
-        while self._is_open(self._out) or self._is_open(self._err):
-            self._work(None)
+        self._send_commands(commands)
+        while self._is_watched(self._out) or self._is_watched(self._err):
+            self._read_or_write_ready(None)
             if max(len(self._errors), len(self._got)) > longest:
                 raise ProgramEndedError(f"{self._name} said more than was asked")
-        if not self._has_ended():
+        if not self._ends_within_grace():
             raise ProgramEndedError(f"{self._name} closed its output")
-        return self._kill()
+        return self._kill_group()
 
     def fileno(self) -> int:
         """What can be read once a program that nobody queries has something to print, or has ended."""
         return self._selector.fileno()
 
-    def check(self) -> None:
+    def require_idle(self) -> None:
         """Raises ProgramEndedError where the program has ended since the last query, or prints what nobody queried."""
-        self._work(0)
-        if not self._is_open(self._out):
-            raise ProgramEndedError(self._last_words())
+        self._read_or_write_ready(0)
+        if not self._is_watched(self._out):
+            raise ProgramEndedError(self._reason_of_end())
         if len(self._got) > 1:
             raise ProgramEndedError(f"{self._name} answered more than was asked")
 
-    def close(self) -> None:
+    def kill_and_close(self) -> None:
         """Ends the program."""
-        self._kill()
+        self._kill_group()
         self._selector.close()
         for pipe in (self._process.stdin, self._process.stdout, self._process.stderr):
             if pipe is not None:
                 pipe.close()
 
-    def _take(self, end: int) -> bytes:
+    def _take_printed_up_to(self, end: int) -> bytes:
         """What was printed up to this newline; that newline stays, before what comes next."""
         answer = bytes(self._got[1 : end + 1])
         del self._got[:end]
         return answer
 
-    def _send(self, commands: bytes) -> None:
+    def _send_commands(self, commands: bytes) -> None:
         """Writes as much of the commands as the pipe takes; the rest is written while answers are read."""
         self._unsent += commands
-        self._write()
-        if self._unsent and not self._is_open(self._in):
+        self._write_unsent()
+        if self._unsent and not self._is_watched(self._in):
             self._selector.register(self._in, selectors.EVENT_WRITE)
 
-    def _work(self, seconds: float | None) -> bool:
+    def _read_or_write_ready(self, seconds: float | None) -> bool:
         """Waits until something can be read or written, and does it; whether there was anything in that time."""
         ready = self._selector.select(seconds)
         for key, _ in ready:
             if key.fd == self._in:
-                self._write()
+                self._write_unsent()
             elif key.fd == self._out:
-                self._got += self._read(self._out)
+                self._got += self._read_available(self._out)
             elif key.fd == self._err:
-                self._errors = (self._errors + self._read(self._err))[-self._kept :]
-        self._stop.check()
+                self._errors = (self._errors + self._read_available(self._err))[-self._kept :]
+        self._stop.raise_if_stopped()
         return bool(ready)
 
-    def _write(self) -> None:
+    def _write_unsent(self) -> None:
         try:
             self._unsent = self._unsent[os.write(self._in, self._unsent) :]
         except BlockingIOError:
@@ -249,12 +251,12 @@ class Program:
             # Whoever reads no more has ended, or is about to answer.
             self._unsent = b""
         if not self._unsent:
-            if self._is_open(self._in):
+            if self._is_watched(self._in):
                 self._selector.unregister(self._in)
             if self._is_last and self._process.stdin is not None:
                 self._process.stdin.close()
 
-    def _read(self, descriptor: int) -> bytes:
+    def _read_available(self, descriptor: int) -> bytes:
         try:
             octets = os.read(descriptor, _READ)
         except BlockingIOError:
@@ -265,33 +267,35 @@ class Program:
             self._selector.unregister(descriptor)
         return octets
 
-    def _is_open(self, descriptor: int) -> bool:
+    def _is_watched(self, descriptor: int) -> bool:
         return descriptor in self._selector.get_map()
 
-    def _last_words(self) -> str:
+    def _reason_of_end(self) -> str:
         """Why the program has ended: the last line that it printed, else its status."""
         until = time.monotonic() + _GRACE
-        while self._is_open(self._err) and (left := until - time.monotonic()) > 0 and self._work(left):
+        while (
+            self._is_watched(self._err) and (left := until - time.monotonic()) > 0 and self._read_or_write_ready(left)
+        ):
             pass
-        if line := self._last_line():
+        if line := self._last_error_line():
             return line
-        if not self._has_ended():
+        if not self._ends_within_grace():
             return f"{self._name} closed its output"
-        return self._end()
+        return self._kill_and_describe_end()
 
-    def _last_line(self) -> str:
+    def _last_error_line(self) -> str:
         """The last line that the program printed, if it printed one."""
         lines = [line for line in self._errors.split(b"\n") if line.strip() and not line.startswith(_OF_JOBS)]
-        return shown(lines[-1], _SHOWN) if lines else ""
+        return printable_octets(lines[-1], _SHOWN) if lines else ""
 
-    def _end(self) -> str:
+    def _kill_and_describe_end(self) -> str:
         """How the program ended, by its status."""
-        status = self._kill()
+        status = self._kill_group()
         if status < 0:
             return f"{self._name} was ended by {_signal_name(-status)}"
         return f"{self._name} ended with status {status}"
 
-    def _has_ended(self) -> bool:
+    def _ends_within_grace(self) -> bool:
         descriptor = os.pidfd_open(self._process.pid)
         try:
             poll = select.poll()
@@ -300,7 +304,7 @@ class Program:
         finally:
             os.close(descriptor)
 
-    def _kill(self) -> int:
+    def _kill_group(self) -> int:
         """Ends all of the program's group, and answers its status; until then no other process can have its number."""
         if self._process.returncode is None:
             with contextlib.suppress(ProcessLookupError):
@@ -308,7 +312,7 @@ class Program:
         return self._process.wait()
 
 
-def _pipes(process: "subprocess.Popen[bytes]") -> tuple[int, int, int]:
+def _prepare_pipes(process: "subprocess.Popen[bytes]") -> tuple[int, int, int]:
     pipes = (process.stdin, process.stdout, process.stderr)
     ends = [pipe.fileno() for pipe in pipes if pipe is not None]
     for end in ends:

@@ -4,7 +4,7 @@ import json
 import re
 from collections.abc import Mapping, Sequence
 
-from pdsuite.output.octets import shown
+from pdsuite.output.octets import printable_octets
 from pdsuite.programs.verdict import Row, Verdict
 from pdsuite.scripts.text import Text
 from pdsuite.scripts.text_edit import Edit
@@ -36,57 +36,57 @@ class UnexpectedAnswerError(Exception):
     """An answer that isn't the one to the query; the text says what it has in its place."""
 
 
-def name_of(number: int) -> bytes:
+def script_name(number: int) -> bytes:
     """The name of the script with this number in a run: never a word of a command or of a report."""
     return b"s%d" % number
 
 
-def add(name: bytes, text: Text) -> bytes:
+def add_command(name: bytes, text: Text) -> bytes:
     """The command that adds a script."""
     return b"add %s %d\n%s" % (name, text.lines, text.octets)
 
 
-def edit(name: bytes, change: Edit) -> bytes:
+def edit_command(name: bytes, change: Edit) -> bytes:
     """The command that edits a script."""
     return b"edit %s %d %d %d\n%s" % (name, change.first, change.removed, change.put.lines, change.put.octets)
 
 
-def remove(name: bytes) -> bytes:
+def remove_command(name: bytes) -> bytes:
     """The command that removes a script."""
     return b"remove %s\n" % name
 
 
-def set_key(key: str, word: str) -> bytes:
+def set_command(key: str, word: str) -> bytes:
     """The command that sets a key."""
     return f"set {key} {word}\n".encode()
 
 
-def set_and_show(key: str, word: str) -> bytes:
+def set_and_show_commands(key: str, word: str) -> bytes:
     """The commands that set a key in an empty run, and have it answered."""
-    return set_key(key, word) + SHOW
+    return set_command(key, word) + SHOW
 
 
-def refusal_in(answer: bytes) -> str | None:
+def refusal_name(answer: bytes) -> str | None:
     """The name of the refusal that an answer begins with: `BadValue` of `refused 4 BadValue`."""
     first = answer.split(b"\n", 1)[0].split(b" ")
-    return shown(first[2]) if first[0] == b"refused" and len(first) == 3 else None
+    return printable_octets(first[2]) if first[0] == b"refused" and len(first) == 3 else None
 
 
-def rows_in(answer: bytes, before: bytes, names: Sequence[bytes], count: int) -> list[Row]:
+def parse_new_rows(answer: bytes, before: bytes, names: Sequence[bytes], count: int) -> list[Row]:
     """The rows of these names in an answer, after the ones that came before and before the totals of `count` rows."""
     if not answer.startswith(before):
-        raise UnexpectedAnswerError(_first_other(answer, before))
+        raise UnexpectedAnswerError(_describe_first_difference(answer, before))
     lines = answer[len(before) :].split(b"\n")
     known: dict[bytes, Row] = {}
-    rows = [_row(line, name, known) for line, name in zip(lines, names)]
+    rows = [_row_of_name(line, name, known) for line, name in zip(lines, names)]
     last = lines[len(names)] if len(lines) > len(names) else b""
     total = _TOTAL.fullmatch(last)
     if total is None or int(total[1]) != count or lines[len(names) + 1 :] != [b""]:
-        raise UnexpectedAnswerError(_quoted(last))
+        raise UnexpectedAnswerError(_quote_unexpected_line(last))
     return rows
 
 
-def blocks_in(errors: bytes) -> dict[tuple[bytes, int], list[bytes]]:
+def parse_blocks(errors: bytes) -> dict[tuple[bytes, int], list[bytes]]:
     """The printed blocks, by the names of their scripts and their lines: what each is, and the lines below."""
     blocks: dict[tuple[bytes, int], list[bytes]] = {}
     block: list[bytes] = []
@@ -96,31 +96,31 @@ def blocks_in(errors: bytes) -> dict[tuple[bytes, int], list[bytes]]:
         elif block and line.startswith(_INDENT):
             block.append(line.removeprefix(_INDENT))
         else:
-            raise UnexpectedAnswerError(f'said "{shown(line, _SHOWN)}", which is no line of a block')
+            raise UnexpectedAnswerError(f'said "{printable_octets(line, _SHOWN)}", which is no line of a block')
     return blocks
 
 
-def causes_in(errors: bytes) -> dict[tuple[bytes, int], Cause]:
+def parse_causes(errors: bytes) -> dict[tuple[bytes, int], Cause]:
     """What was printed as JSON, an object a line, by the names of scripts and their lines; other lines say else."""
     causes: dict[tuple[bytes, int], Cause] = {}
     for line in errors.split(b"\n"):
         if not line.startswith(b"{"):
             continue
-        cause = _object(line)
+        cause = _json_object_or_empty(line)
         match cause:
             case {"name": str(name), "line": int(number)}:
                 causes[name.encode(), number] = cause
             case _:
-                raise UnexpectedAnswerError(f'said "{shown(line, _SHOWN)}", which tells of no script')
+                raise UnexpectedAnswerError(f'said "{printable_octets(line, _SHOWN)}", which tells of no script')
     return causes
 
 
-def steps_in(errors: bytes) -> dict[bytes, int]:
+def parse_step_counts(errors: bytes) -> dict[bytes, int]:
     """How many steps jobs took, by the names of their scripts, as a program says that counts them."""
     return {name: int(steps) for name, steps in _STEPS.findall(errors)}
 
 
-def _object(line: bytes) -> Cause:
+def _json_object_or_empty(line: bytes) -> Cause:
     try:
         found = json.loads(line)
     except (ValueError, RecursionError):
@@ -128,38 +128,38 @@ def _object(line: bytes) -> Cause:
     return found if isinstance(found, dict) else {}
 
 
-def before_total(answer: bytes) -> bytes:
+def rows_before_total(answer: bytes) -> bytes:
     """The rows of an answer, which the next answer of the same run begins with."""
     return answer[: answer.rindex(b"total ")]
 
 
-def _row(line: bytes, name: bytes, known: dict[bytes, Row]) -> Row:
+def _row_of_name(line: bytes, name: bytes, known: dict[bytes, Row]) -> Row:
     """The row of this name in a line. `known` has what words were read as before, since many rows are equal."""
     printed_name, _, words = line.partition(b" ")
     if words not in known:
-        known[words] = _read_row(words, line)
+        known[words] = _parse_row(words, line)
     if printed_name != name:
-        raise UnexpectedAnswerError(_quoted(line))
+        raise UnexpectedAnswerError(_quote_unexpected_line(line))
     return known[words]
 
 
-def _read_row(words: bytes, line: bytes) -> Row:
+def _parse_row(words: bytes, line: bytes) -> Row:
     found = _ROW.fullmatch(words)
     if found is None:
-        raise UnexpectedAnswerError(_quoted(line))
+        raise UnexpectedAnswerError(_quote_unexpected_line(line))
     if found[4] is not None:
         return Row(Verdict.FAIL, int(found[3]), found[4].decode())
     return Row(_VERDICTS[found[1]], int(found[2]))
 
 
-def _first_other(answer: bytes, before: bytes) -> str:
+def _describe_first_difference(answer: bytes, before: bytes) -> str:
     for line, wanted in zip(answer.split(b"\n"), before.split(b"\n")):
         if line != wanted:
-            return _quoted(line)
-    return _quoted(b"")
+            return _quote_unexpected_line(line)
+    return _quote_unexpected_line(b"")
 
 
-def _quoted(line: bytes) -> str:
+def _quote_unexpected_line(line: bytes) -> str:
     if line.startswith(b"refused "):
-        return shown(line, _SHOWN)
-    return f'answered "{shown(line, _SHOWN)}", which isn\'t the row that is due'
+        return printable_octets(line, _SHOWN)
+    return f'answered "{printable_octets(line, _SHOWN)}", which isn\'t the row that is due'

@@ -6,12 +6,12 @@ from dataclasses import dataclass
 from pathlib import Path
 
 from pdsuite.faults import Fault
-from pdsuite.output.octets import shown, shown_path
+from pdsuite.output.octets import printable_octets, printable_path
 from pdsuite.programs.batch_protocol import Answer, Case
-from pdsuite.programs.locate import RECORD, locate
+from pdsuite.programs.locate import RECORD, locate_program
 from pdsuite.programs.program import Program, ProgramEndedError
 from pdsuite.programs.unproved_batch import ProgramCases
-from pdsuite.scripts.settings import Settings, settings_text
+from pdsuite.scripts.settings import Settings, settings_as_toml
 from pdsuite.signals import Stop
 
 # A recording has at most 4,096 events, each with a line of its state.
@@ -45,34 +45,34 @@ class Recorder:
         self._program = program
         self._fault = ""
 
-    def record(self, path: str, text: bytes, settings: Settings, word: str = TRACE) -> Recording:
+    def record_script(self, path: str, text: bytes, settings: Settings, word: str = TRACE) -> Recording:
         """The recording of a script, or why there is none: the program refuses it, ends on it, or isn't there.
 
         It has a trace, or is what another option names.
         """
-        program = self._located()
+        program = self._locate_program_once()
         if program is None:
             return Recording("", self._fault)
         try:
             with Program([program, word, *_settings_words(settings)], self._stop) as started:
-                octets, reason = started.record(text, _LONGEST)
+                octets, reason = started.record_script(text, _LONGEST)
         except ProgramEndedError as end:
-            self._note(f"pdsuite: {end}; {shown_path(Path(path))} isn't recorded")
+            self._note(f"pdsuite: {end}; {printable_path(Path(path))} isn't recorded")
             return Recording("", str(end))
         return Recording(octets.decode("utf-8", "surrogateescape"), reason)
 
-    def _located(self) -> Path | None:
+    def _locate_program_once(self) -> Path | None:
         """The program; that it isn't there is reported once."""
         if self._program is None and not self._fault:
             try:
-                self._program = locate(RECORD)
+                self._program = locate_program(RECORD)
             except Fault as fault:
                 self._fault = str(fault)
                 self._note(f"pdsuite: {fault}; nothing is recorded")
         return self._program
 
 
-def record_all(
+def record_texts(
     program: Path, texts: Sequence[bytes], settings: Settings, stop: Stop, words: Sequence[str] = ()
 ) -> Iterator[Recording]:
     """The recordings of texts under settings, without traces, or why there are none; a process records many.
@@ -88,7 +88,7 @@ def record_all(
             part = paths[done : done + _FILES]
             try:
                 with Program([program, *words, *_settings_words(settings), *part], stop) as started:
-                    for word, octets in started.sections(len(part), _LONGEST):
+                    for word, octets in started.read_file_sections(len(part), _LONGEST):
                         done += 1
                         yield _recording_in_section(word, octets)
             except ProgramEndedError as end:
@@ -100,7 +100,7 @@ def _recording_in_section(word: bytes, octets: bytes) -> Recording:
     """A recording, or why there is none, as the lines after a title have it."""
     if word == _RECORDED:
         return Recording(octets.decode("utf-8", "surrogateescape"))
-    return Recording("", shown(octets.partition(b"\n")[0].removeprefix(b"pdrecord: ")))
+    return Recording("", printable_octets(octets.partition(b"\n")[0].removeprefix(b"pdrecord: ")))
 
 
 def recording_cases(tree: Path, scripts: Iterable[tuple[Settings, bytes]], is_alone: bool = False) -> ProgramCases:
@@ -109,12 +109,12 @@ def recording_cases(tree: Path, scripts: Iterable[tuple[Settings, bytes]], is_al
     return ProgramCases(tree, RECORD, (TRACE,), tuple(cases))
 
 
-def recording_of(answer: Answer) -> Recording:
+def recording_from_answer(answer: Answer) -> Recording:
     """What such a start came to."""
     lines = [line for line in answer.errors.split(b"\n") if line.strip()]
-    fault = answer.fault or (shown(lines[0]) if lines else "")
+    fault = answer.fault or (printable_octets(lines[0]) if lines else "")
     return Recording(answer.output.decode("utf-8", "surrogateescape"), fault)
 
 
 def _settings_words(settings: Settings) -> tuple[str, ...]:
-    return ("--settings", settings_text(settings)) if settings else ()
+    return ("--settings", settings_as_toml(settings)) if settings else ()

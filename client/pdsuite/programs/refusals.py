@@ -7,10 +7,17 @@ from dataclasses import dataclass
 
 from pdsuite.faults import Fault
 from pdsuite.programs.program import Program, ProgramEndedError
-from pdsuite.programs.protocol import LONGEST_LINE, SHOW, UnexpectedAnswerError, refusal_in, rows_in, set_and_show
+from pdsuite.programs.protocol import (
+    LONGEST_LINE,
+    SHOW,
+    UnexpectedAnswerError,
+    parse_new_rows,
+    refusal_name,
+    set_and_show_commands,
+)
 from pdsuite.scripts.config import Claim
 from pdsuite.scripts.renamed import BAD_VALUE, UNKNOWN_KEY
-from pdsuite.scripts.settings import set_words
+from pdsuite.scripts.settings import set_command_words
 
 # Why the program refuses a key or its value; any other refusal ends the run.
 _REFUSALS = (UNKNOWN_KEY, BAD_VALUE)
@@ -29,74 +36,74 @@ class Refusal:
     reason: str
 
     @property
-    def line(self) -> str:
+    def refusal_line(self) -> str:
         """The line that says so."""
-        return self.claim.refused(self.reason)
+        return self.claim.refusal_line(self.reason)
 
 
-def refusals(claims: Iterable[Claim], start: Callable[[], Program]) -> list[str]:
+def refusal_lines(claims: Iterable[Claim], start: Callable[[], Program]) -> list[str]:
     """The lines of the claims that the program refuses. Without claims it is still queried whether it answers."""
-    return [it.line for it in refused_of(claims, start)]
+    return [it.refusal_line for it in find_refusals(claims, start)]
 
 
-def refused_of(claims: Iterable[Claim], start: Callable[[], Program]) -> list[Refusal]:
+def find_refusals(claims: Iterable[Claim], start: Callable[[], Program]) -> list[Refusal]:
     """The claims that the program refuses. Without claims it is still queried whether it answers."""
     each = list(claims)
     known: _Known = {}
     with suppress(ProgramEndedError):  # a new run begins with what is left
-        return _refused(each, known, start)
+        return _query_refusals(each, known, start)
     try:
-        return _refused(each, known, start)
+        return _query_refusals(each, known, start)
     except ProgramEndedError as end:
         raise Fault(str(end)) from end
 
 
-def _refused(claims: list[Claim], known: _Known, start: Callable[[], Program]) -> list[Refusal]:
+def _query_refusals(claims: list[Claim], known: _Known, start: Callable[[], Program]) -> list[Refusal]:
     with start() as program:
-        _check(program.query(SHOW, 2 * LONGEST_LINE), b"")
+        _check_report_without_scripts(program.query(SHOW, 2 * LONGEST_LINE), b"")
         for claim in claims:
-            words = set_words(claim.key, claim.value)
+            words = set_command_words(claim.key, claim.value)
             if words not in known:
-                known[words] = _answer(words, program)
+                known[words] = _query_refusal_reason(words, program)
     return _known_refusals(claims, known)
 
 
-def distinct_pairs(claims: Iterable[Claim]) -> list[tuple[str, str]]:
+def distinct_key_values(claims: Iterable[Claim]) -> list[tuple[str, str]]:
     """The queries where all are made at once: each key with its value, once."""
-    return list(dict.fromkeys(set_words(it.key, it.value) for it in claims))
+    return list(dict.fromkeys(set_command_words(it.key, it.value) for it in claims))
 
 
-def refused_at_once(claims: Iterable[Claim], answer: bytes) -> list[Refusal]:
-    """The claims that the program refuses, by its answer to `set_and_show` of all questions."""
+def refusals_in_answer(claims: Iterable[Claim], answer: bytes) -> list[Refusal]:
+    """The claims that the program refuses, by its answer to `set_and_show_commands` of all questions."""
     each = list(claims)
-    pairs = distinct_pairs(each)
+    pairs = distinct_key_values(each)
     *parts, rest = _AFTER_TOTAL.split(answer)
     # The last part is the report at the end.
     if rest or len(parts) != len(pairs) + 1:
         raise ProgramEndedError(f"pdregress answered {len(parts) - 1} of {len(pairs)} questions")
-    return _known_refusals(each, {words: _reason(part) for words, part in zip(pairs, parts)})
+    return _known_refusals(each, {words: _refusal_reason_in(part) for words, part in zip(pairs, parts)})
 
 
 def _known_refusals(claims: Iterable[Claim], known: _Known) -> list[Refusal]:
-    reasons = ((claim, known[set_words(claim.key, claim.value)]) for claim in claims)
+    reasons = ((claim, known[set_command_words(claim.key, claim.value)]) for claim in claims)
     return [Refusal(claim, reason) for claim, reason in reasons if reason is not None]
 
 
-def _answer(words: tuple[str, str], program: Program) -> str | None:
+def _query_refusal_reason(words: tuple[str, str], program: Program) -> str | None:
     """Why the program refuses a key with its value, if it does."""
-    return _reason(program.query(set_and_show(*words), 3 * LONGEST_LINE))
+    return _refusal_reason_in(program.query(set_and_show_commands(*words), 3 * LONGEST_LINE))
 
 
-def _reason(answer: bytes) -> str | None:
+def _refusal_reason_in(answer: bytes) -> str | None:
     """Why a key with its value is refused, by the answer to both, if it is."""
-    reason = refusal_in(answer)
-    _check(answer, answer.split(b"\n", 1)[0] + b"\n" if reason in _REFUSALS else b"")
+    reason = refusal_name(answer)
+    _check_report_without_scripts(answer, answer.split(b"\n", 1)[0] + b"\n" if reason in _REFUSALS else b"")
     return reason
 
 
-def _check(answer: bytes, before: bytes) -> None:
+def _check_report_without_scripts(answer: bytes, before: bytes) -> None:
     """Raises ProgramEndedError where an answer is no report without scripts, behind what may stand before it."""
     try:
-        rows_in(answer, before, (), 0)
+        parse_new_rows(answer, before, (), 0)
     except UnexpectedAnswerError as unexpected:
         raise ProgramEndedError(f"pdregress: {unexpected}") from unexpected

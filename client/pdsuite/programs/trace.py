@@ -23,13 +23,13 @@ class TracedEvent:
         """Whether it is a packet that arrives or a call."""
         return not isinstance(self.what, Packet) or self.what.is_inbound
 
-    def number(self, name: str) -> int | None:
+    def numeric_fact(self, name: str) -> int | None:
         """A fact that is a number, where the state has it."""
         value = self.facts.get(name, "")
         return int(value) if value.isdecimal() else None
 
 
-def events_in(recording: str) -> tuple[TracedEvent, ...]:
+def traced_events_in(recording: str) -> tuple[TracedEvent, ...]:
     """The events of a recording, or none where one of them has no state."""
     items = [(it.what, it.end) for it in read(recording).items if isinstance(it.what, Packet | Call)]
     recorded = recorded_in(recording)

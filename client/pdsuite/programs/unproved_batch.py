@@ -13,8 +13,15 @@ from dataclasses import dataclass
 from itertools import islice
 from pathlib import Path
 
-from pdsuite.output.octets import shown
-from pdsuite.programs.batch_protocol import Answer, Case, answers_in, batches_of, input_of, with_program_named
+from pdsuite.output.octets import printable_octets
+from pdsuite.programs.batch_protocol import (
+    Answer,
+    Case,
+    batch_input,
+    parse_batch_answers,
+    prepend_program_and_words,
+    split_into_batches,
+)
 from pdsuite.programs.build import BuildError
 from pdsuite.programs.locate import BATCH_TOOL
 from pdsuite.signals import Stop
@@ -34,33 +41,35 @@ class ProgramCases:
     cases: tuple[Case, ...]
 
 
-def run_cases(groups: Sequence[ProgramCases], stop: Stop) -> list[list[Answer]]:
+def build_and_run_cases(groups: Sequence[ProgramCases], stop: Stop) -> list[list[Answer]]:
     """The answers to the cases of each program; both programs of a tree are built as one, and trees side by side."""
     cases: dict[Path, list[Case]] = {it.tree: [] for it in groups}
     for it in groups:
-        cases[it.tree] += with_program_named(it.program, it.words, it.cases)
+        cases[it.tree] += prepend_program_and_words(it.program, it.words, it.cases)
     with ThreadPoolExecutor(min(len(os.sched_getaffinity(0)), _MOST)) as pool:
-        answered = list(pool.map(lambda tree: _run_tree(tree, list(batches_of(cases[tree])), stop), cases))
+        answered = list(
+            pool.map(lambda tree: _build_and_run_batches(tree, list(split_into_batches(cases[tree])), stop), cases)
+        )
     answers = {tree: iter(each) for tree, each in zip(cases, answered)}
     return [list(islice(answers[it.tree], len(it.cases))) for it in groups]
 
 
-def _run_tree(tree: Path, batches: Sequence[Sequence[Case]], stop: Stop) -> list[Answer]:
+def _build_and_run_batches(tree: Path, batches: Sequence[Sequence[Case]], stop: Stop) -> list[Answer]:
     """The answers of a tree's programs, which are built for them."""
-    stop.check()
+    stop.raise_if_stopped()
     with tempfile.TemporaryDirectory(prefix="pdsuite-") as folder:
-        tool = BatchTool(tree, [input_of(it) for it in batches], Path(folder))
+        tool = BatchTool(tree, [batch_input(it) for it in batches], Path(folder))
         try:
             wait_readable(tool.fileno(), stop)
         finally:
-            tool.end()
-        tool.check()
-        return [it for number, run in enumerate(batches) for it in _read(tool, number, len(run))]
+            tool.end_tool()
+        tool.raise_if_build_failed()
+        return [it for number, run in enumerate(batches) for it in _read_batch_answers(tool, number, len(run))]
 
 
-def _read(tool: "BatchTool", number: int, count: int) -> list[Answer]:
-    output, errors, status = (tool.answer(number, end) for end in ("output", "errors", "status"))
-    return answers_in(output, errors, status.decode(), count)
+def _read_batch_answers(tool: "BatchTool", number: int, count: int) -> list[Answer]:
+    output, errors, status = (tool.read_result_file(number, end) for end in ("output", "errors", "status"))
+    return parse_batch_answers(output, errors, status.decode(), count)
 
 
 def wait_readable(descriptor: int, stop: Stop) -> None:
@@ -69,7 +78,7 @@ def wait_readable(descriptor: int, stop: Stop) -> None:
     for each in (descriptor, stop.fileno()):
         poll.register(each, select.POLLIN)
     while descriptor not in dict(poll.poll()):
-        stop.check()
+        stop.raise_if_stopped()
 
 
 class BatchTool:
@@ -92,7 +101,7 @@ class BatchTool:
         """What can be read once the tool has ended."""
         return self._descriptor
 
-    def end(self) -> None:
+    def end_tool(self) -> None:
         """Ends the tool, if it hasn't ended, which ends what it started."""
         for number in (signal.SIGTERM, signal.SIGKILL):
             if self._process.poll() is None:
@@ -103,13 +112,13 @@ class BatchTool:
         self._process.wait()
         os.close(self._descriptor)
 
-    def check(self) -> None:
+    def raise_if_build_failed(self) -> None:
         """Says why nothing was run, if so it was: the tool has ended."""
         if status := self._process.wait():
             first, *lines = self._errors.read_bytes().splitlines() or [b"the tool ended with status %d" % status]
-            reason = shown(first).partition("unproved: ")[2] or shown(first)
-            raise BuildError("\n".join([f"unproved: {reason}", *map(shown, lines)]))
+            reason = printable_octets(first).partition("unproved: ")[2] or printable_octets(first)
+            raise BuildError("\n".join([f"unproved: {reason}", *map(printable_octets, lines)]))
 
-    def answer(self, number: int, end: str) -> bytes:
+    def read_result_file(self, number: int, end: str) -> bytes:
         """What came of an input: its output, its errors or its status."""
         return (self._answers / f"{number:06}.{end}").read_bytes()

@@ -4,10 +4,10 @@ from collections.abc import Callable
 from contextlib import suppress
 from pathlib import Path
 
-from pdsuite.output.octets import shown_path
+from pdsuite.output.octets import printable_path
 from pdsuite.output.screen import Screen
-from pdsuite.programs.build import BuildMode, NoKeptBuildError, built_folder, kept_build
-from pdsuite.programs.locate import BATCH_TOOL, TOP, UnprovedError, locate, take_folder
+from pdsuite.programs.build import BuildMode, NoKeptBuildError, build_if_needed, find_kept_build
+from pdsuite.programs.locate import BATCH_TOOL, TOP, UnprovedError, locate_program, use_programs_folder
 from pdsuite.signals import Stop
 
 _PHASES = {
@@ -18,49 +18,51 @@ _PHASES = {
 }
 
 
-def program_of(name: str, stop: Stop, screen: Screen) -> Path:
+def proved_or_built_program(name: str, stop: Stop, screen: Screen) -> Path:
     """The program of this name: the proved one, or that of a build, which is reported first.
 
     Raises UnprovedError where there is neither.
     """
     try:
-        return locate(name)
+        return locate_program(name)
     except UnprovedError:
-        if not (BATCH_TOOL.is_file() and take_build("plain", stop, screen)):
+        if not (BATCH_TOOL.is_file() and use_build("plain", stop, screen)):
             raise
-    return locate(name)
+    return locate_program(name)
 
 
-def take_build(way: BuildMode, stop: Stop, screen: Screen) -> bool:
+def use_build(way: BuildMode, stop: Stop, screen: Screen) -> bool:
     """Has the programs of this call be a build of the tree as it stands; whether there can be one.
 
     A line says first that they aren't proved, and on a terminal another one how far the build is.
     """
-    folder = kept_build(TOP, way)
-    screen.note(f"pdsuite: {first_line(folder is not None)}")
+    folder = find_kept_build(TOP, way)
+    screen.print_note(f"pdsuite: {unproved_notice(folder is not None)}")
     try:
-        take_folder(folder or built_folder(TOP, way, stop, progress(screen)))
+        use_programs_folder(folder or build_if_needed(TOP, way, stop, build_progress_printer(screen)))
     except NoKeptBuildError:
         return False
     finally:
-        screen.clear()
+        screen.clear_live_lines()
     return True
 
 
-def progress(screen: Screen, of: str = "") -> Callable[[str, float], None]:
+def build_progress_printer(screen: Screen, of: str = "") -> Callable[[str, float], None]:
     """What keeps a line at the bottom of a terminal: the phase of a build, and for how many seconds it goes on."""
-    return lambda phase, seconds: screen.bottom(f"building{of}: {_PHASES.get(phase, phase)}, {int(seconds)} s")
+    return lambda phase, seconds: screen.keep_bottom_line(
+        f"building{of}: {_PHASES.get(phase, phase)}, {int(seconds)} s"
+    )
 
 
-def first_line(is_kept: bool) -> str:
+def unproved_notice(is_kept: bool) -> str:
     """What is printed before a sender is run that isn't proved, and of which a build is kept or not."""
     doing = "running without proofs" if is_kept else "building first, then running without proofs"
-    return f"unproved: {doing}; {_way_to_prove()} proves the programs"
+    return f"unproved: {doing}; {_prove_command()} proves the programs"
 
 
-def _way_to_prove() -> str:
+def _prove_command() -> str:
     """The command that proves the programs of this tree, as it is written from here."""
     with suppress(OSError):
         if Path.cwd() == TOP:
             return "./prove"
-    return shown_path(TOP / "prove")
+    return printable_path(TOP / "prove")

@@ -6,7 +6,14 @@ import tempfile
 from collections.abc import Iterator, Sequence
 from pathlib import Path
 
-from pdsuite.programs.batch_protocol import Answer, Case, answer_of, input_of, parts_in, with_program_named
+from pdsuite.programs.batch_protocol import (
+    Answer,
+    Case,
+    answer_from_status,
+    batch_input,
+    prepend_program_and_words,
+    take_length_prefixed,
+)
 from pdsuite.programs.build import BuildError
 from pdsuite.programs.locate import RECORD
 from pdsuite.programs.unproved_batch import BatchTool, ProgramCases
@@ -27,40 +34,40 @@ class UnprovedSession:
     def __init__(self, tree: Path, stop: Stop) -> None:
         self._stop = stop
         self._folder = tempfile.TemporaryDirectory(prefix="pdsuite-")
-        self._pipes = _pipes_in(Path(self._folder.name))
+        self._pipes = _make_pipes(Path(self._folder.name))
         inputs = [f"{requests}\n{answers}\n".encode() for requests, answers in self._pipes]
         self._tool = BatchTool(tree, inputs, Path(self._folder.name), "--seconds", str(_SECONDS))
         self._requests = self._answers = -1
-        self._open_pipes()
+        self._open_next_pipes()
 
     def __enter__(self) -> "UnprovedSession":
         return self
 
     def __exit__(self, *error: object) -> None:
         self._close_pipes()
-        self._tool.end()
+        self._tool.end_tool()
         self._folder.cleanup()
 
-    def wait(self) -> None:
+    def wait_until_built(self) -> None:
         """Waits until the programs are built."""
-        self._exchange([Case((RECORD,), b"")])
+        self._run_until_programs_end([Case((RECORD,), b"")])
 
-    def answers(self, cases: ProgramCases) -> list[Answer]:
+    def run_cases(self, cases: ProgramCases) -> list[Answer]:
         """The answers to the cases of a build of this tree."""
-        left = list(with_program_named(cases.program, cases.words, cases.cases))
+        left = list(prepend_program_and_words(cases.program, cases.words, cases.cases))
         answers: list[Answer] = []
         while left:
-            answered = self._exchange(left)
+            answered = self._run_until_programs_end(left)
             answers += answered
             left = left[len(answered) :]
             if left:
                 answers.append(Answer(b"", b"", _ENDED))
                 del left[0]
                 self._close_pipes()
-                self._open_pipes()
+                self._open_next_pipes()
         return answers
 
-    def _open_pipes(self) -> None:
+    def _open_next_pipes(self) -> None:
         """Opens the pipes of the next programs."""
         if not self._pipes:
             raise BuildError(f"unproved: the programs ended {_ENDS} times")
@@ -73,9 +80,9 @@ class UnprovedSession:
         for each in (self._requests, self._answers):
             os.close(each)
 
-    def _exchange(self, cases: Sequence[Case]) -> list[Answer]:
+    def _run_until_programs_end(self, cases: Sequence[Case]) -> list[Answer]:
         """The answers to the cases, up to one on which the programs end."""
-        unsent = memoryview(input_of(cases))
+        unsent = memoryview(batch_input(cases))
         got = bytearray()
         parts: list[bytes] = []
         poll = select.poll()
@@ -84,7 +91,7 @@ class UnprovedSession:
         poll.register(self._requests, select.POLLOUT)
         while len(parts) < _PARTS * len(cases):
             ready = dict(poll.poll())
-            self._stop.check()
+            self._stop.raise_if_stopped()
             if self._requests in ready:
                 unsent = unsent[os.write(self._requests, unsent) :]
                 if not unsent:
@@ -94,14 +101,14 @@ class UnprovedSession:
                 if not octets:
                     break
                 got += octets
-                parts += parts_in(got)
+                parts += take_length_prefixed(got)
             elif self._tool.fileno() in ready:
-                self._tool.check()
+                self._tool.raise_if_build_failed()
                 raise BuildError("unproved: the programs have ended")
-        return list(_answers(parts))
+        return list(_answers_from_parts(parts))
 
 
-def _pipes_in(folder: Path) -> list[tuple[Path, Path]]:
+def _make_pipes(folder: Path) -> list[tuple[Path, Path]]:
     """The named pipes in a folder: one for the cases, and one for the answers."""
     pipes = [(folder / f"asks.{number}", folder / f"answers.{number}") for number in range(_ENDS)]
     for pair in pipes:
@@ -110,6 +117,6 @@ def _pipes_in(folder: Path) -> list[tuple[Path, Path]]:
     return pipes
 
 
-def _answers(parts: Sequence[bytes]) -> Iterator[Answer]:
+def _answers_from_parts(parts: Sequence[bytes]) -> Iterator[Answer]:
     for written, errors, status in zip(*[iter(parts)] * _PARTS):
-        yield answer_of(written, errors, status.decode().strip())
+        yield answer_from_status(written, errors, status.decode().strip())

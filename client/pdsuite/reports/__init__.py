@@ -9,8 +9,8 @@ reports back, and `row_changes` compares two of them.
                   |
                   +--> junit, as_json, tap: files    +--> report_cache --> --last-failed, --new-only, pdsuite diff
 
-- A formatter gets values and knows of no run: head, one entry for each script, foot. So each format is tested by
-  itself.
+- A formatter gets values and knows of no run: an opening, one entry for each script, a summary. So each format is
+  tested by itself.
 - An outcome is shown as soon as all before it were; the order is that of paths, and never that of finishing.
 - A report that is read back has to be one: what is no report is a fault that names the file, and no guess.
 - Explanations are shown in the words of the program (`outcome_text`); a format only escapes them.

@@ -4,7 +4,7 @@ from collections.abc import Iterator, Sequence
 from itertools import groupby
 
 from pdsuite.compare.affected import Affected, AffectedRow, Paragraph
-from pdsuite.output.octets import shown_text
+from pdsuite.output.octets import printable_text
 
 
 def affected_lines(affected: Affected) -> list[str]:
@@ -12,7 +12,7 @@ def affected_lines(affected: Affected) -> list[str]:
     runs = [it for it in affected.rows if it.title]
     rows = [it for it in affected.rows if not it.title]
     found = [it for it in affected.paragraphs or () if it.page]
-    lines = [*_row_lines(rows), *(f"{_place(it.file, it.line)}: {shown_text(it.title)}" for it in runs)]
+    lines = [*_row_lines(rows), *(f"{_file_and_line(it.file, it.line)}: {printable_text(it.title)}" for it in runs)]
     lines += [line for it in affected.paragraphs or () for line in _paragraph_lines(it)]
     if affected.paragraphs is None:
         lines.append("paragraphs of pages: unknown, since the sources of the sender before are")
@@ -22,8 +22,8 @@ def affected_lines(affected: Affected) -> list[str]:
     return [f"affected in the tree: {counts}", *(f"  {it}" for it in lines)]
 
 
-def _place(file: str, line: int) -> str:
-    return f"{shown_text(file)}:{line}"
+def _file_and_line(file: str, line: int) -> str:
+    return f"{printable_text(file)}:{line}"
 
 
 def _row_lines(rows: Sequence[AffectedRow]) -> Iterator[str]:
@@ -31,10 +31,10 @@ def _row_lines(rows: Sequence[AffectedRow]) -> Iterator[str]:
     for file, mine in groupby(rows, key=lambda it: it.file):
         lines = [it.line for it in mine]
         word = "line" if len(lines) == 1 else f"{len(lines)} rows, lines"
-        yield f"{shown_text(file)}: {word} {', '.join(_spans(lines))}"
+        yield f"{printable_text(file)}: {word} {', '.join(_collapse_ranges(lines))}"
 
 
-def _spans(numbers: Sequence[int]) -> Iterator[str]:
+def _collapse_ranges(numbers: Sequence[int]) -> Iterator[str]:
     """Numbers, those that follow one another as `FIRST-LAST`."""
     for _, each in groupby(enumerate(numbers), key=lambda it: it[1] - it[0]):
         span = [number for _, number in each]
@@ -43,7 +43,7 @@ def _spans(numbers: Sequence[int]) -> Iterator[str]:
 
 def _paragraph_lines(it: Paragraph) -> Iterator[str]:
     if it.page:
-        yield f"{_place(it.page, it.line)}: {it.heading}, '{it.name}': {', '.join(it.sections)}"
+        yield f"{_file_and_line(it.page, it.line)}: {it.heading}, '{it.name}': {', '.join(it.sections)}"
         yield from (f"  {rule}" for rule in it.rules)
     else:
         why = "its code changed, and paragraphs are about definitions" if it.name else "no paragraph cites its section"

@@ -5,10 +5,10 @@ from collections.abc import Mapping
 from dataclasses import dataclass
 from functools import cache
 
-from pdsuite.output.octets import shown_path
-from pdsuite.output.styled_text import StyledText, unstyled
+from pdsuite.output.octets import printable_path
+from pdsuite.output.styled_text import StyledText, unstyled_text
 from pdsuite.programs.verdict import Verdict
-from pdsuite.reports.outcome_text import block
+from pdsuite.reports.outcome_text import lines_below_row
 from pdsuite.run.outcomes import UNPROVED, CountedAs, Outcome, Totals
 from pdsuite.scripts.settings import Settings
 from pdsuite.scripts.shards import Shard
@@ -25,42 +25,42 @@ class JsonFormatter:
 
     shard: Shard | None = None
 
-    def head(self, count: int) -> StyledText:
-        return unstyled(f'{{"version": {VERSION}, "scripts": [')
+    def opening(self, count: int) -> StyledText:
+        return unstyled_text(f'{{"version": {VERSION}, "scripts": [')
 
     def entry(self, number: int, outcome: Outcome) -> StyledText:
         begin = "\n" if number == 1 else ",\n"
-        return unstyled(begin + script_text(outcome, shown_path(outcome.path), outcome.explanation))
+        return unstyled_text(begin + script_json(outcome, printable_path(outcome.path), outcome.explanation))
 
-    def foot(self, totals: Totals, seconds: float) -> StyledText:
+    def summary(self, totals: Totals, seconds: float) -> StyledText:
         counts = {it.value: totals.counts[it] for it in Verdict}
         counts |= {it.value: totals.counts[it] for it in CountedAs if totals.counts[it]}
         if totals.warnings:
             counts["warnings"] = totals.warnings
-        total = json.dumps({"scripts": totals.scripts, **counts})
+        total = json.dumps({"scripts": totals.script_count, **counts})
         shard = "" if self.shard is None else f', "shard": "{self.shard}"'
         unproved = f', "{UNPROVED}": true' if totals.is_unproved else ""
-        return unstyled(f'\n], "total": {total}, "seconds": {seconds:.2f}{shard}{unproved}}}\n')
+        return unstyled_text(f'\n], "total": {total}, "seconds": {seconds:.2f}{shard}{unproved}}}\n')
 
 
-def script_text(outcome: Outcome, path: str, explanation: Mapping[str, object] | None = None) -> str:
+def script_json(outcome: Outcome, path: str, explanation: Mapping[str, object] | None = None) -> str:
     """A script on one line, under this path, which is safe to print; beside its lines the explanation."""
     row = outcome.row
     if row.verdict is not _PASS or outcome.warnings or outcome.expected is not None:
-        script = _script(outcome, path)
+        script = _script_by_keys(outcome, path)
         return _encoded(script if explanation is None else {**script, "explanation": explanation})
     # Most scripts pass and have nothing else to report: their line is put together by hand, in a fifth of the time.
     quoted = _encoded(path) if '"' in path or "\\" in path else f'"{path}"'
-    settings = _settings(outcome.settings) if outcome.settings else "{}"
+    settings = _settings_json(outcome.settings) if outcome.settings else "{}"
     return f'{{"path": {quoted}, "verdict": "pass", "events": {row.number}, "below": [], "settings": {settings}}}'
 
 
 @cache
-def _settings(settings: Settings) -> str:
+def _settings_json(settings: Settings) -> str:
     return _encoded(dict(settings))
 
 
-def _script(outcome: Outcome, path: str) -> dict[str, object]:
+def _script_by_keys(outcome: Outcome, path: str) -> dict[str, object]:
     row = outcome.row
     script: dict[str, object] = {"path": path, "verdict": row.verdict.value}
     match row.verdict:
@@ -76,7 +76,7 @@ def _script(outcome: Outcome, path: str) -> dict[str, object]:
         script["what"] = outcome.why
     if outcome.expected is not None:
         expected = outcome.expected
-        script["expected"] = {"row": expected.row, "reason": expected.reason, "known": outcome.is_known}
+        script["expected"] = {"row": expected.row, "reason": expected.reason, "known": outcome.is_known_failure}
     if outcome.warnings:
         script.update(warnings=list(outcome.warnings), strict=outcome.is_strict)
     if outcome.line_diff is not None:
@@ -84,4 +84,4 @@ def _script(outcome: Outcome, path: str) -> dict[str, object]:
         from pdsuite.reports.diff_text import diff_by_keys
 
         script["met"] = diff_by_keys(outcome.line_diff)
-    return {**script, "below": block(outcome), "settings": dict(outcome.settings)}
+    return {**script, "below": lines_below_row(outcome), "settings": dict(outcome.settings)}

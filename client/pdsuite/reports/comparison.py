@@ -5,14 +5,14 @@ from collections.abc import Iterator, Sequence
 from dataclasses import asdict, dataclass
 
 from pdsuite.compare.affected import Affected
-from pdsuite.compare.comparison import ComparedScript, ComparisonKind, KindCounts, counts_of
+from pdsuite.compare.comparison import ComparedScript, ComparisonKind, KindCounts, counts_by_folder_and_total
 from pdsuite.compare.divergence import Divergence, PlayedEvent
-from pdsuite.compare.groups import Group, groups_of
+from pdsuite.compare.groups import Group, group_by_first_difference
 from pdsuite.compare.quantities import Quantity
-from pdsuite.output.octets import shown_path, shown_text
-from pdsuite.output.styled_text import StyledText, unstyled
+from pdsuite.output.octets import printable_path, printable_text
+from pdsuite.output.styled_text import StyledText, unstyled_text
 from pdsuite.reports.affected import affected_lines
-from pdsuite.reports.outcome_text import block, meaning
+from pdsuite.reports.outcome_text import lines_below_row, meaning_suffix
 from pdsuite.reports.quantities import quantities_by_keys, quantity_lines
 from pdsuite.run.outcomes import UNPROVED, Outcome
 
@@ -23,28 +23,30 @@ _ENDS = "nothing more"
 VERSION = 2
 
 
-def lines_of(it: ComparedScript) -> list[str]:
+def compared_script_lines(it: ComparedScript) -> list[str]:
     """The lines below a script: both blocks where it turned, and where the recordings part."""
     lines = (
-        [*_explained("before", it.before), *_explained("after", it.after)] if it.kind is ComparisonKind.TURNED else []
+        [*_outcome_lines("before", it.before), *_outcome_lines("after", it.after)]
+        if it.kind is ComparisonKind.TURNED
+        else []
     )
     if it.divergence is not None:
         return [*lines, *_divergence_lines(it.divergence)]
     if it.kind is ComparisonKind.OTHERWISE:
-        lines += [f"{side}: {_unrecorded(why)}" for side, why in zip(_SIDES, it.unrecorded)]
+        lines += [f"{side}: {_recorded_or_why_not(why)}" for side, why in zip(_SIDES, it.unrecorded)]
     return lines
 
 
-def _explained(side: str, outcome: Outcome) -> Iterator[str]:
+def _outcome_lines(side: str, outcome: Outcome) -> Iterator[str]:
     line = "" if outcome.line is None else f"line {outcome.line}: "
-    yield f"{side}: {line}{outcome.row}{meaning(outcome)}"
-    yield from (f"  {it}" for it in block(outcome))
+    yield f"{side}: {line}{outcome.row}{meaning_suffix(outcome)}"
+    yield from (f"  {it}" for it in lines_below_row(outcome))
 
 
 def _divergence_lines(it: Divergence) -> Iterator[str]:
     yield "the first event that differs:"
-    yield f"  before: {_played(it.before)}"
-    yield f"  after:  {_played(it.after)}"
+    yield f"  before: {_event_or_nothing_more(it.before)}"
+    yield f"  after:  {_event_or_nothing_more(it.after)}"
     if it.state_before == it.state_after:
         yield f"  state:  {it.state_before or 'none'}"
     else:
@@ -52,11 +54,11 @@ def _divergence_lines(it: Divergence) -> Iterator[str]:
         yield f"  state of the sender after:  {it.state_after}"
 
 
-def _played(it: PlayedEvent | None) -> str:
-    return _ENDS if it is None else shown_text(str(it))
+def _event_or_nothing_more(it: PlayedEvent | None) -> str:
+    return _ENDS if it is None else printable_text(str(it))
 
 
-def _unrecorded(why: str) -> str:
+def _recorded_or_why_not(why: str) -> str:
     return f"not recorded: {why}" if why else "recorded"
 
 
@@ -77,17 +79,17 @@ class ComparisonReport:
     def groups(self) -> Iterator[tuple[ComparisonKind, Group]]:
         """The groups of the scripts that turned, and then of those that are played otherwise."""
         for kind in _STYLES:
-            for group in groups_of([it for it in self.compared if it.kind is kind]):
+            for group in group_by_first_difference([it for it in self.compared if it.kind is kind]):
                 yield kind, group
 
 
-def entry_of(it: ComparedScript) -> StyledText:
+def compared_script_entry(it: ComparedScript) -> StyledText:
     """A script that differs, and what is reported of it."""
-    text = StyledText().append(f"{shown_path(it.path)}: ").append(it.kind, _STYLES[it.kind]).append("\n")
-    return text.append("".join(f"  {line}\n" for line in lines_of(it)), "dim")
+    text = StyledText().append(f"{printable_path(it.path)}: ").append(it.kind, _STYLES[it.kind]).append("\n")
+    return text.append("".join(f"  {line}\n" for line in compared_script_lines(it)), "dim")
 
 
-def plain(report: ComparisonReport) -> StyledText:
+def plain_comparison(report: ComparisonReport) -> StyledText:
     """Scripts that turned, those that are played otherwise, totals by folder, and what is affected in the tree."""
     text = StyledText()
     for kind, group in report.groups():
@@ -95,73 +97,73 @@ def plain(report: ComparisonReport) -> StyledText:
         if len(group.scripts) > 1:
             text.append(f"{len(group.scripts)} scripts differ first in {group.title}:\n", "bold")
         for it in group.scripts[:whole]:
-            text.append_text(entry_of(it))
+            text.append_text(compared_script_entry(it))
         for it in group.scripts[whole:]:
-            text.append(f"{shown_path(it.path)}: ").append(kind, _STYLES[kind])
+            text.append(f"{printable_path(it.path)}: ").append(kind, _STYLES[kind])
             text.append(f": {it.comment}\n" if it.comment else "\n")
     text.append("".join(f"{line}\n" for line in quantity_lines(report.compared, report.sort, report.is_every)))
-    *folders, total = counts_of(report.compared)
+    *folders, total = counts_by_folder_and_total(report.compared)
     for count in folders:
-        text.append(f"{shown_path(count.name)}: {count.words}\n")
+        text.append(f"{printable_path(count.name)}: {count.counts_in_words}\n")
     if report.affected is not None:
         text.append("".join(f"{line}\n" for line in affected_lines(report.affected)))
     mark = f" {UNPROVED}" if report.is_unproved else ""
     return text.append(f"total {total} in {report.seconds:.2f} s{mark}\n")
 
 
-def as_json(report: ComparisonReport, names: tuple[str, str]) -> StyledText:
+def comparison_json(report: ComparisonReport, names: tuple[str, str]) -> StyledText:
     """One object: the two senders, scripts that differ, totals by folder, and what is affected in the tree."""
-    *folders, total = counts_of(report.compared)
+    *folders, total = counts_by_folder_and_total(report.compared)
     whole: dict[str, object] = {
         "version": VERSION,
         **dict(zip(_SIDES, names)),
-        "scripts": [_script(it) for it in report.compared if it.differs],
-        "groups": [_group(kind, it) for kind, it in report.groups()],
+        "scripts": [_compared_script_by_keys(it) for it in report.compared if it.differs],
+        "groups": [_group_by_keys(kind, it) for kind, it in report.groups()],
         "quantities": quantities_by_keys(report.compared, report.sort),
-        "folders": {shown_path(it.name): _counts(it) for it in folders},
-        "total": _counts(total),
+        "folders": {printable_path(it.name): _counts_by_kind(it) for it in folders},
+        "total": _counts_by_kind(total),
         "seconds": round(report.seconds, 2),
     }
     if report.affected is not None:
         whole["affected"] = asdict(report.affected)
     if report.is_unproved:
         whole[UNPROVED] = True
-    return unstyled(json.dumps(whole, ensure_ascii=False, indent=1) + "\n")
+    return unstyled_text(json.dumps(whole, ensure_ascii=False, indent=1) + "\n")
 
 
-def _counts(count: KindCounts) -> dict[str, int]:
+def _counts_by_kind(count: KindCounts) -> dict[str, int]:
     return {"scripts": sum(count.counts.values()), **{it.value: count.counts[it] for it in ComparisonKind}}
 
 
-def _script(it: ComparedScript) -> dict[str, object]:
-    script: dict[str, object] = {"path": shown_path(it.path), "kind": it.kind.value}
+def _compared_script_by_keys(it: ComparedScript) -> dict[str, object]:
+    script: dict[str, object] = {"path": printable_path(it.path), "kind": it.kind.value}
     for side, outcome in zip(_SIDES, (it.before, it.after)):
         script[side] = {
             "row": str(outcome.row),
             "line": outcome.row.line,
             "what": outcome.why,
-            "below": block(outcome),
+            "below": lines_below_row(outcome),
         }
     if it.divergence is not None:
         script["parting"] = {
-            "before": _event(it.divergence.before, it.divergence.state_before),
-            "after": _event(it.divergence.after, it.divergence.state_after),
+            "before": _event_by_keys(it.divergence.before, it.divergence.state_before),
+            "after": _event_by_keys(it.divergence.after, it.divergence.state_after),
         }
     elif it.kind is ComparisonKind.OTHERWISE:
         script["unrecorded"] = dict(zip(_SIDES, it.unrecorded))
     return script
 
 
-def _group(kind: ComparisonKind, it: Group) -> dict[str, object]:
+def _group_by_keys(kind: ComparisonKind, it: Group) -> dict[str, object]:
     return {
         "kind": kind.value,
         "field": it.field,
         "event": it.event,
-        "scripts": [{"path": shown_path(each.path), "comment": each.comment} for each in it.scripts],
+        "scripts": [{"path": printable_path(each.path), "comment": each.comment} for each in it.scripts],
     }
 
 
-def _event(it: PlayedEvent | None, state: str) -> dict[str, object]:
+def _event_by_keys(it: PlayedEvent | None, state: str) -> dict[str, object]:
     if it is None:
         return {"event": None, "state": state}
-    return {"event": shown_text(it.line), "moment": it.moment, "state": state}
+    return {"event": printable_text(it.line), "moment": it.moment, "state": state}

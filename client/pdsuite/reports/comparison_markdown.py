@@ -2,12 +2,12 @@
 
 from collections.abc import Iterator
 
-from pdsuite.compare.comparison import ComparedScript, ComparisonKind, counts_of
+from pdsuite.compare.comparison import ComparedScript, ComparisonKind, counts_by_folder_and_total
 from pdsuite.compare.groups import Group
-from pdsuite.output.octets import shown_path
-from pdsuite.output.styled_text import StyledText, unstyled
+from pdsuite.output.octets import printable_path
+from pdsuite.output.styled_text import StyledText, unstyled_text
 from pdsuite.reports.affected import affected_lines
-from pdsuite.reports.comparison import ComparisonReport, lines_of
+from pdsuite.reports.comparison import ComparisonReport, compared_script_lines
 from pdsuite.reports.quantities import quantity_lines
 from pdsuite.run.outcomes import UNPROVED
 
@@ -17,44 +17,44 @@ _INDENT = "    "
 
 def as_markdown(report: ComparisonReport, names: tuple[str, str]) -> StyledText:
     """A summary, a part for each group, and what else is reported, folded."""
-    return unstyled("".join(f"{line}\n" for line in _lines(report, names)))
+    return unstyled_text("".join(f"{line}\n" for line in _markdown_lines(report, names)))
 
 
-def _lines(report: ComparisonReport, names: tuple[str, str]) -> Iterator[str]:
-    *_, total = counts_of(report.compared)
+def _markdown_lines(report: ComparisonReport, names: tuple[str, str]) -> Iterator[str]:
+    *_, total = counts_by_folder_and_total(report.compared)
     yield "## Before and after"
     yield ""
-    yield f"- before: {_code(names[0])}"
-    yield f"- after: {_code(names[1])}"
-    yield f"- {total.words}{f' ({UNPROVED})' if report.is_unproved else ''}"
+    yield f"- before: {_as_code(names[0])}"
+    yield f"- after: {_as_code(names[1])}"
+    yield f"- {total.counts_in_words}{f' ({UNPROVED})' if report.is_unproved else ''}"
     for kind, group in report.groups():
-        yield from _group(kind, group, report.is_every)
+        yield from _group_lines(kind, group, report.is_every)
     more = list(quantity_lines(report.compared, report.sort, report.is_every))
     more += [] if report.affected is None else affected_lines(report.affected)
     if more:
-        yield from _folded("Quantities and what is affected" if report.affected else "Quantities", more)
+        yield from _details_block("Quantities and what is affected" if report.affected else "Quantities", more)
 
 
-def _group(kind: ComparisonKind, group: Group, is_every: bool) -> Iterator[str]:
+def _group_lines(kind: ComparisonKind, group: Group, is_every: bool) -> Iterator[str]:
     count = len(group.scripts)
     yield ""
     yield f"### {kind}: {count} {'script' if count == 1 else 'scripts'}, first in {group.title}"
     yield ""
     whole = count if is_every else 1
     for it in group.scripts[:whole]:
-        yield from _whole(it)
+        yield from _script_lines(it)
     for it in group.scripts[whole:]:
-        yield f"- {_code(shown_path(it.path))}{f': {_escaped(it.comment)}' if it.comment else ''}"
+        yield f"- {_as_code(printable_path(it.path))}{f': {_escape_markup(it.comment)}' if it.comment else ''}"
 
 
-def _whole(it: ComparedScript) -> Iterator[str]:
-    yield f"{_code(shown_path(it.path))}{f': {_escaped(it.comment)}' if it.comment else ''}"
+def _script_lines(it: ComparedScript) -> Iterator[str]:
+    yield f"{_as_code(printable_path(it.path))}{f': {_escape_markup(it.comment)}' if it.comment else ''}"
     yield ""
-    yield from (f"{_INDENT}{line}" for line in lines_of(it))
+    yield from (f"{_INDENT}{line}" for line in compared_script_lines(it))
     yield ""
 
 
-def _folded(title: str, lines: list[str]) -> Iterator[str]:
+def _details_block(title: str, lines: list[str]) -> Iterator[str]:
     yield ""
     yield f"<details><summary>{title}</summary>"
     yield ""
@@ -63,7 +63,7 @@ def _folded(title: str, lines: list[str]) -> Iterator[str]:
     yield "</details>"
 
 
-def _code(text: str) -> str:
+def _as_code(text: str) -> str:
     """A text as code, in more backquotes than it has in a row."""
     fence = "`"
     while fence in text:
@@ -72,6 +72,6 @@ def _code(text: str) -> str:
     return f"{fence}{pad}{text}{pad}{fence}"
 
 
-def _escaped(text: str) -> str:
+def _escape_markup(text: str) -> str:
     """A comment, of which no character is markup but its backquotes."""
     return "".join(f"\\{it}" if it in "\\<>*_[]#|" else it for it in text)

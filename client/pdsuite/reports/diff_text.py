@@ -11,37 +11,37 @@ _UNEXPECTED = "asked for by no line"
 _NUMBER = 5
 
 
-def diff_text(differences: LineDiff) -> Iterator[str]:
+def line_diff_lines(differences: LineDiff) -> Iterator[str]:
     """A line for each event; where another came, that in a second line, and marks below what differs."""
     if differences.fault:
         yield f"line by line: not known, since it isn't recorded: {differences.fault}"
         return
     yield _HEAD
     for it in differences.lines:
-        yield from _lines(it)
+        yield from _event_lines(it)
 
 
-def _lines(it: DiffLine) -> Iterator[str]:
+def _event_lines(it: DiffLine) -> Iterator[str]:
     if it.line is None:
-        yield _line("", "+", f"{packet_text(it.met)} ({_UNEXPECTED})")
+        yield _format_line("", "+", f"{packet_in_columns(it.met)} ({_UNEXPECTED})")
         return
-    yield _line(str(it.line), "-" if it.differs else " ", packet_text(it.script))
+    yield _format_line(str(it.line), "-" if it.differs else " ", packet_in_columns(it.script))
     if it.differs:
-        yield _line("", "+", packet_text(it.met) or _NOTHING)
-        if marks := _marks(it.met or it.script):
-            yield _line("", "?", marks)
+        yield _format_line("", "+", packet_in_columns(it.met) or _NOTHING)
+        if marks := _mark_line(it.met or it.script):
+            yield _format_line("", "?", marks)
 
 
-def _line(number: str, sign: str, text: str) -> str:
+def _format_line(number: str, sign: str, text: str) -> str:
     return f"{number:>{_NUMBER}} {sign} {text}".rstrip()
 
 
-def packet_text(packet: PacketColumns) -> str:
+def packet_in_columns(packet: PacketColumns) -> str:
     """A packet in its columns."""
     return "".join(it.text + " " * it.blanks for it in packet)
 
 
-def _marks(packet: PacketColumns) -> str:
+def _mark_line(packet: PacketColumns) -> str:
     """What marks the fields that differ."""
     return "".join(
         ("^" if it.mark is not Mark.NONE else " ") * len(it.text) + " " * it.blanks for it in packet
@@ -52,18 +52,18 @@ def diff_by_keys(differences: LineDiff) -> list[dict[str, object]] | str:
     """The same by keys; or why it isn't known."""
     if differences.fault:
         return differences.fault
-    return [_by_keys(it) for it in differences.lines]
+    return [_event_by_keys(it) for it in differences.lines]
 
 
-def _by_keys(it: DiffLine) -> dict[str, object]:
+def _event_by_keys(it: DiffLine) -> dict[str, object]:
     keys: dict[str, object] = {"line": it.line, "differs": it.differs}
     if it.line is not None:
-        keys["event"] = _plain(it.script)
+        keys["event"] = _packet_without_columns(it.script)
     if it.differs:
-        keys["met_by"] = _plain(it.met) or None
+        keys["met_by"] = _packet_without_columns(it.met) or None
     return keys
 
 
-def _plain(packet: PacketColumns) -> str:
+def _packet_without_columns(packet: PacketColumns) -> str:
     """A packet without columns."""
     return " ".join(it.text for it in packet if it.text)

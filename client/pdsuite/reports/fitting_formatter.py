@@ -4,7 +4,7 @@ import textwrap
 from collections.abc import Callable
 from dataclasses import dataclass
 
-from pdsuite.output.fitting import columns_of, fitting
+from pdsuite.output.fitting import fit_to_columns, usable_columns
 from pdsuite.output.styled_text import StyledText
 from pdsuite.reports.formatter import Formatter
 from pdsuite.run.outcomes import Outcome, Totals
@@ -17,16 +17,16 @@ class FittingFormatter:
     form: Formatter
     width: Callable[[], int | None]
 
-    def head(self, count: int) -> StyledText:
-        return self.form.head(count)
+    def opening(self, count: int) -> StyledText:
+        return self.form.opening(count)
 
     def entry(self, number: int, outcome: Outcome) -> StyledText | None:
         entry, width = self.form.entry(number, outcome), self.width()
-        return entry if entry is None or width is None else fitting(entry, columns_of(width))
+        return entry if entry is None or width is None else fit_to_columns(entry, usable_columns(width))
 
-    def foot(self, totals: Totals, seconds: float) -> StyledText:
-        foot, width = self.form.foot(totals, seconds), self.width()
-        if width is None or len(foot.plain) <= columns_of(width):
+    def summary(self, totals: Totals, seconds: float) -> StyledText:
+        foot, width = self.form.summary(totals, seconds), self.width()
+        if width is None or len(foot.plain) <= usable_columns(width):
             return foot
-        lines = textwrap.wrap(foot.plain, columns_of(width))
+        lines = textwrap.wrap(foot.plain, usable_columns(width))
         return StyledText([("".join(f"{line}\n" for line in lines), foot.pieces[0][1])])

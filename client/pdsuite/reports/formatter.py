@@ -10,18 +10,18 @@ from pdsuite.run.outcomes import Outcome, Totals
 class Formatter(Protocol):
     """A report in parts: what stands first, what stands for each script in the order of paths, what stands last."""
 
-    def head(self, count: int) -> StyledText:
+    def opening(self, count: int) -> StyledText:
         """What stands before so many scripts."""
 
     def entry(self, number: int, outcome: Outcome) -> StyledText | None:
         """What stands for a script, if anything does; the first has the number 1."""
 
-    def foot(self, totals: Totals, seconds: float) -> StyledText:
+    def summary(self, totals: Totals, seconds: float) -> StyledText:
         """What stands at the end."""
 
 
-def whole(form: Formatter, outcomes: Sequence[Outcome], totals: Totals, seconds: float) -> str:
+def format_report(form: Formatter, outcomes: Sequence[Outcome], totals: Totals, seconds: float) -> str:
     """A report of outcomes that are all there."""
     entries = (form.entry(number, it) for number, it in enumerate(outcomes, 1))
-    parts = [form.head(len(outcomes)), *entries, form.foot(totals, seconds)]
+    parts = [form.opening(len(outcomes)), *entries, form.summary(totals, seconds)]
     return "".join(it.plain for it in parts if it is not None)

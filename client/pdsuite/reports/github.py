@@ -6,10 +6,17 @@ from collections import Counter
 from collections.abc import Iterator, Sequence
 from pathlib import Path
 
-from pdsuite.output.octets import shown_path
-from pdsuite.output.styled_text import StyledText, unstyled
+from pdsuite.output.octets import printable_path
+from pdsuite.output.styled_text import StyledText, unstyled_text
 from pdsuite.programs.verdict import Verdict
-from pdsuite.reports.outcome_text import block, heading, reason, row_text, warned, warnings
+from pdsuite.reports.outcome_text import (
+    heading_line,
+    lines_below_row,
+    reason_for_row,
+    row_text,
+    warning_lines_of,
+    warning_texts,
+)
 from pdsuite.run.outcomes import CountedAs, Outcome, Totals
 
 SUMMARY = "GITHUB_STEP_SUMMARY"
@@ -34,7 +41,7 @@ class GithubFormatter:
         self._counts: Counter[str] = Counter()
         self._roots: dict[str, str] = {}
 
-    def head(self, count: int) -> StyledText:
+    def opening(self, count: int) -> StyledText:
         return StyledText()
 
     def entry(self, number: int, outcome: Outcome) -> StyledText | None:
@@ -42,45 +49,47 @@ class GithubFormatter:
             return None
         lines: list[str] = []
         if outcome.counted_as is not Verdict.PASS:
-            text_lines = [heading(outcome), *(f"  {it}" for it in block(outcome))]
+            text_lines = [heading_line(outcome), *(f"  {it}" for it in lines_below_row(outcome))]
             lines.append(
-                self._annotation("notice" if outcome.is_known else "error", outcome, _title(outcome), text_lines)
+                self._annotation_or_row(
+                    "notice" if outcome.is_known_failure else "error", outcome, _annotation_title(outcome), text_lines
+                )
             )
         level = "error" if outcome.is_strict else "warning"
-        each = zip(warnings(outcome), warned(outcome))
-        lines += [self._annotation(level, outcome, title, [line]) for title, line in each]
-        return unstyled("".join(lines)) if lines else None
+        each = zip(warning_texts(outcome), warning_lines_of(outcome))
+        lines += [self._annotation_or_row(level, outcome, title, [line]) for title, line in each]
+        return unstyled_text("".join(lines)) if lines else None
 
-    def foot(self, totals: Totals, seconds: float) -> StyledText:
+    def summary(self, totals: Totals, seconds: float) -> StyledText:
         left = {level: count - _MOST for level, count in self._counts.items() if count > _MOST}
         more = [f"and {count:,} more {level}{'s' if count > 1 else ''}\n" for level, count in sorted(left.items())]
-        return unstyled("".join(more) + f"{totals} in {seconds:.2f} s{totals.mark}\n")
+        return unstyled_text("".join(more) + f"{totals} in {seconds:.2f} s{totals.unproved_mark}\n")
 
-    def _annotation(self, level: str, outcome: Outcome, title: str, text_lines: Sequence[str]) -> str:
+    def _annotation_or_row(self, level: str, outcome: Outcome, title: str, text_lines: Sequence[str]) -> str:
         """The command that puts lines beside a script, while GitHub shows it; else the first of them alone."""
         self._counts[level] += 1
         if self._counts[level] > _MOST:
             return f"- {text_lines[0].replace(_COMMAND, _NO_COMMAND)}\n"
-        where = f"file={_property(shown_path(self._placed(outcome.path)))}"
+        where = f"file={_escape_property(printable_path(self._path_from_repository_root(outcome.path)))}"
         if outcome.line is not None:
             where += f",line={outcome.line}"
-        return f"::{level} {where},title={_property(title)}::{'%0A'.join(map(_data, text_lines))}\n"
+        return f"::{level} {where},title={_escape_property(title)}::{'%0A'.join(map(_escape_message, text_lines))}\n"
 
-    def _placed(self, path: str) -> str:
+    def _path_from_repository_root(self, path: str) -> str:
         """A path from the root of the repository that it lies in, if it lies in one."""
         whole = os.path.abspath(path)
         folder = os.path.dirname(whole)
         if folder not in self._roots:
-            self._roots[folder] = _root_of(folder)
+            self._roots[folder] = _repository_root(folder)
         root = self._roots[folder]
         return os.path.relpath(whole, root) if root else path
 
 
-def summary_of(outcomes: Sequence[Outcome], totals: Totals) -> str:
+def step_summary(outcomes: Sequence[Outcome], totals: Totals) -> str:
     """The summary of a step in Markdown: the totals, and a row for each script that fails the run or is warned of."""
     verdicts = ", ".join(f"{count:,} {it.value}" for it, count in totals.counts.items() if count)
     warnings = f"; warnings: {totals.warnings:,}" if totals.warnings else ""
-    parts = [f"### pdsuite: {totals.scripts:,} scripts: {verdicts}{warnings}{totals.mark}\n\n"]
+    parts = [f"### pdsuite: {totals.script_count:,} scripts: {verdicts}{warnings}{totals.unproved_mark}\n\n"]
     rows = [line for it in outcomes for line in _summary_rows(it)]
     if rows:
         parts.append("| script | line | row | reason |\n|---|---|---|---|\n")
@@ -94,33 +103,35 @@ def summary_of(outcomes: Sequence[Outcome], totals: Totals) -> str:
     return "".join(parts)
 
 
-def _title(outcome: Outcome) -> str:
+def _annotation_title(outcome: Outcome) -> str:
     """What an annotation is called by: the row, in the fewest words."""
-    if outcome.is_known:
+    if outcome.is_known_failure:
         return f"known: {outcome.row}"
     return "passes, though it is expected not to" if outcome.row.verdict is Verdict.PASS else str(outcome.row)
 
 
 def _summary_rows(outcome: Outcome) -> Iterator[str]:
-    path, row = shown_path(outcome.path), outcome.row
+    path, row = printable_path(outcome.path), outcome.row
     if outcome.counted_as is Verdict.ERROR:
-        yield _cells(path, "", row.verdict.value, row.word)
+        yield _table_row(path, "", row.verdict.value, row.word)
     elif outcome.counted_as not in (Verdict.PASS, Verdict.NOT_RUN, CountedAs.KNOWN):
-        yield _cells(path, "" if outcome.line is None else str(outcome.line), row_text(outcome), reason(outcome))
-    for warning in warnings(outcome):
-        yield _cells(path, "", str(row), warning)
+        yield _table_row(
+            path, "" if outcome.line is None else str(outcome.line), row_text(outcome), reason_for_row(outcome)
+        )
+    for warning in warning_texts(outcome):
+        yield _table_row(path, "", str(row), warning)
 
 
-def _cells(*texts: str) -> str:
+def _table_row(*texts: str) -> str:
     """A row of a table, in which no character of a text means anything."""
-    return "".join(f"| {_escaped(it)} " for it in texts) + "|\n"
+    return "".join(f"| {_escape_markdown(it)} " for it in texts) + "|\n"
 
 
-def _escaped(text: str) -> str:
+def _escape_markdown(text: str) -> str:
     return _PUNCTUATION.sub(r"\\\g<0>", text)
 
 
-def _root_of(folder: str) -> str:
+def _repository_root(folder: str) -> str:
     """The root of the repository that a folder lies in, else of what GitHub checked out; empty if it is in neither."""
     here = Path(folder)
     for above in (here, *here.parents):
@@ -130,9 +141,9 @@ def _root_of(folder: str) -> str:
     return workspace if workspace and here.is_relative_to(workspace) else ""
 
 
-def _data(text: str) -> str:
+def _escape_message(text: str) -> str:
     return text.replace("%", "%25")
 
 
-def _property(text: str) -> str:
-    return _data(text).replace(":", "%3A").replace(",", "%2C")
+def _escape_property(text: str) -> str:
+    return _escape_message(text).replace(":", "%3A").replace(",", "%2C")

@@ -5,9 +5,9 @@ from collections.abc import Iterable, Mapping, Sequence
 from dataclasses import dataclass
 from datetime import UTC, datetime, timedelta
 
-from pdsuite.output.octets import shown_path
+from pdsuite.output.octets import printable_path
 from pdsuite.programs.verdict import Verdict
-from pdsuite.reports.outcome_text import block, heading, summary, warned
+from pdsuite.reports.outcome_text import heading_line, lines_below_row, one_line_summary, warning_lines_of
 from pdsuite.run.outcomes import UNPROVED, Outcome
 
 # The line of a script that none is named of.
@@ -35,12 +35,12 @@ class _Suite:
     folder: str
     cases: Sequence[tuple[Outcome, Sequence[_Result]]]
 
-    def count(self, kind: str) -> int:
+    def count_results(self, kind: str) -> int:
         """How many results of a kind its cases have."""
         return sum(it.kind == kind for _, results in self.cases for it in results)
 
 
-def junit(outcomes: Sequence[Outcome], seconds: float, is_unproved: bool = False) -> bytes:
+def junit_xml(outcomes: Sequence[Outcome], seconds: float, is_unproved: bool = False) -> bytes:
     """A suite for each folder, with a case for each script: a `fail` is a failure, all else that doesn't pass an error.
 
     One that is known not to pass is skipped, and one that passes though another row is expected is a failure.
@@ -50,71 +50,81 @@ def junit(outcomes: Sequence[Outcome], seconds: float, is_unproved: bool = False
     begin = (datetime.now(UTC) - timedelta(seconds=seconds)).strftime("%Y-%m-%dT%H:%M:%S")
     folders: dict[str, list[tuple[Outcome, Sequence[_Result]]]] = {}
     for outcome in outcomes:
-        folders.setdefault(shown_path(os.path.dirname(outcome.path)), []).append((outcome, _results(outcome)))
+        folders.setdefault(printable_path(os.path.dirname(outcome.path)), []).append(
+            (outcome, _results_of_case(outcome))
+        )
     suites = [_Suite(*it) for it in folders.items()]
-    body = "".join(_suite(it, begin, seconds * len(it.cases) / len(outcomes), is_unproved) for it in suites)
-    counts = {f"{kind}s": sum(it.count(kind) for it in suites) for kind in (_FAILURE, _ERROR)}
-    skipped = sum(it.count(_SKIPPED) for it in suites)
+    body = "".join(_suite_element(it, begin, seconds * len(it.cases) / len(outcomes), is_unproved) for it in suites)
+    counts = {f"{kind}s": sum(it.count_results(kind) for it in suites) for kind in (_FAILURE, _ERROR)}
+    skipped = sum(it.count_results(_SKIPPED) for it in suites)
     whole: Attributes = {
         "name": "pdsuite",
         "tests": len(outcomes),
         **counts,
         "skipped": skipped,
-        "time": _rounded(seconds),
+        "time": _round_to_milliseconds(seconds),
     }
-    return (_HEAD + _element("testsuites", whole, body)).encode()
+    return (_HEAD + _xml_element("testsuites", whole, body)).encode()
 
 
-def _suite(suite: _Suite, begin: str, seconds: float, is_unproved: bool) -> str:
-    counts = {f"{kind}s": suite.count(kind) for kind in (_ERROR, _FAILURE)}
+def _suite_element(suite: _Suite, begin: str, seconds: float, is_unproved: bool) -> str:
+    counts = {f"{kind}s": suite.count_results(kind) for kind in (_ERROR, _FAILURE)}
     named: Attributes = {"name": suite.folder or os.curdir, "timestamp": begin, "tests": len(suite.cases), **counts}
-    folder = _quoted(suite.folder)
-    cases = "".join(_case(folder, *it) for it in suite.cases)
-    mark = _element("property", {"name": UNPROVED, "value": "true"})
-    more = _element("properties", {}, mark) if is_unproved else ""
-    return _element("testsuite", {**named, "skipped": suite.count(_SKIPPED), "time": _rounded(seconds)}, cases + more)
+    folder = _escape_attribute(suite.folder)
+    cases = "".join(_case_element(folder, *it) for it in suite.cases)
+    mark = _xml_element("property", {"name": UNPROVED, "value": "true"})
+    more = _xml_element("properties", {}, mark) if is_unproved else ""
+    return _xml_element(
+        "testsuite",
+        {**named, "skipped": suite.count_results(_SKIPPED), "time": _round_to_milliseconds(seconds)},
+        cases + more,
+    )
 
 
-def _case(folder: str, outcome: Outcome, results: Iterable[_Result]) -> str:
+def _case_element(folder: str, outcome: Outcome, results: Iterable[_Result]) -> str:
     """The case of a script in a folder, whose name is quoted already."""
-    path = _quoted(shown_path(outcome.path))
-    below = "".join(_element(it.kind, {"message": it.message, "type": it.type}, _text(it.text)) for it in results)
-    if outcome.counted_as is Verdict.PASS and outcome.passes and (lines := warned(outcome)):
-        below += _element("system-err", {}, _text("\n".join(lines)))
+    path = _escape_attribute(printable_path(outcome.path))
+    below = "".join(
+        _xml_element(it.kind, {"message": it.message, "type": it.type}, _escape_text(it.text)) for it in results
+    )
+    if outcome.counted_as is Verdict.PASS and outcome.lets_run_pass and (lines := warning_lines_of(outcome)):
+        below += _xml_element("system-err", {}, _escape_text("\n".join(lines)))
     # Where a case's script is, as GitLab and CircleCI read it.
     place = f'file="{path}" line="{outcome.line or _FIRST}"'
     begin = f'<testcase name="{path}" classname="{folder}" time="0.0" {place}'
     return f"{begin}>{below}</testcase>" if below else f"{begin}/>"
 
 
-def _results(outcome: Outcome) -> Sequence[_Result]:
+def _results_of_case(outcome: Outcome) -> Sequence[_Result]:
     """Why a script's case doesn't count as passed, if it doesn't."""
     if outcome.counted_as is Verdict.PASS:
-        return () if outcome.passes else [_Result(_FAILURE, it, "warning") for it in warned(outcome)]
-    text_line = summary(outcome)
+        return () if outcome.lets_run_pass else [_Result(_FAILURE, it, "warning") for it in warning_lines_of(outcome)]
+    text_line = one_line_summary(outcome)
     # Of a script that wasn't run nothing more is reported.
     if outcome.row.verdict is Verdict.NOT_RUN:
         return (_Result(_ERROR, text_line, outcome.counted_as.value, text_line),)
-    text = "\n".join([heading(outcome), *(f"  {it}" for it in block(outcome)), *warned(outcome)])
-    if outcome.is_known and outcome.expected is not None:
+    text = "\n".join(
+        [heading_line(outcome), *(f"  {it}" for it in lines_below_row(outcome)), *warning_lines_of(outcome)]
+    )
+    if outcome.is_known_failure and outcome.expected is not None:
         return (_Result(_SKIPPED, outcome.expected.reason, outcome.counted_as.value, text),)
     kind = _FAILURE if outcome.row.verdict in (Verdict.FAIL, Verdict.PASS) else _ERROR
     return (_Result(kind, text_line, outcome.counted_as.value, text),)
 
 
-def _element(tag: str, attributes: Attributes, inside: str = "") -> str:
+def _xml_element(tag: str, attributes: Attributes, inside: str = "") -> str:
     """An element with what stands inside it, which is XML already."""
-    attribute_text = "".join(f' {name}="{_quoted(str(value))}"' for name, value in attributes.items())
+    attribute_text = "".join(f' {name}="{_escape_attribute(str(value))}"' for name, value in attributes.items())
     return f"<{tag}{attribute_text}>{inside}</{tag}>" if inside else f"<{tag}{attribute_text}/>"
 
 
-def _text(text: str) -> str:
+def _escape_text(text: str) -> str:
     return text.replace("&", "&amp;").replace("<", "&lt;").replace(">", "&gt;").replace("\r", "&#13;")
 
 
-def _quoted(text: str) -> str:
-    return _text(text).replace('"', "&quot;").replace("\t", "&#9;").replace("\n", "&#10;")
+def _escape_attribute(text: str) -> str:
+    return _escape_text(text).replace('"', "&quot;").replace("\t", "&#9;").replace("\n", "&#10;")
 
 
-def _rounded(seconds: float) -> float:
+def _round_to_milliseconds(seconds: float) -> float:
     return round(seconds, 3)

@@ -3,8 +3,8 @@
 from collections.abc import Callable, Sequence
 from pathlib import Path
 
-from pdsuite.faults import Fault, why
-from pdsuite.output.octets import absolute_paths, shown_path
+from pdsuite.faults import Fault, error_reason
+from pdsuite.output.octets import absolute_path_function, printable_path
 from pdsuite.reports.formatter import Formatter
 from pdsuite.reports.new_rows import NewRowsFormatter
 from pdsuite.reports.report_cache import LastReport
@@ -14,32 +14,32 @@ from pdsuite.run.outcomes import Outcome
 PrintNote = Callable[[str], None]
 
 
-def failed_last(paths: Sequence[Path]) -> frozenset[str]:
+def scripts_failed_last(paths: Sequence[Path]) -> frozenset[str]:
     """The absolute paths of the scripts that didn't pass when these paths were run last."""
     report = LastReport(paths).load()
     if report is None:
-        raise Fault(f"{_shown(paths)}: no run has left a report: run it without --last-failed first")
+        raise Fault(f"{_join_paths(paths)}: no run has left a report: run it without --last-failed first")
     return frozenset(path for path, it in report.rows.items() if it.is_failing)
 
 
-def only_new(form: Formatter, turned: Formatter, paths: Sequence[Path], note: PrintNote) -> Formatter:
+def with_new_rows_only(form: Formatter, turned: Formatter, paths: Sequence[Path], note: PrintNote) -> Formatter:
     """A form without the rows that are as they were when these paths were run last."""
     report = LastReport(paths).load()
     if report is None:
-        note(f"pdsuite: {_shown(paths)}: no run has left a report: all rows are new")
-    return NewRowsFormatter(form, turned, {} if report is None else report.rows, absolute_paths())
+        note(f"pdsuite: {_join_paths(paths)}: no run has left a report: all rows are new")
+    return NewRowsFormatter(form, turned, {} if report is None else report.rows, absolute_path_function())
 
 
-def leave(paths: Sequence[Path], outcomes: Sequence[Outcome], is_part: bool, note: PrintNote) -> None:
+def leave_report(paths: Sequence[Path], outcomes: Sequence[Outcome], is_part: bool, note: PrintNote) -> None:
     """Leaves the report of a run for the next one. Where it can't be written, that is reported, and is no fault."""
     try:
-        LastReport(paths).leave(outcomes, is_part)
+        LastReport(paths).save_run(outcomes, is_part)
     except Fault as fault:
         note(f"pdsuite: {fault}: the report isn't kept")
     except OSError as error:
-        place = f"{shown_path(error.filename)}: " if error.filename else ""
-        note(f"pdsuite: {place}{why(error)}: the report isn't kept")
+        place = f"{printable_path(error.filename)}: " if error.filename else ""
+        note(f"pdsuite: {place}{error_reason(error)}: the report isn't kept")
 
 
-def _shown(paths: Sequence[Path]) -> str:
-    return ", ".join(map(shown_path, paths))
+def _join_paths(paths: Sequence[Path]) -> str:
+    return ", ".join(map(printable_path, paths))

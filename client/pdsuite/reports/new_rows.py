@@ -19,8 +19,8 @@ class NewRowsFormatter:
     before: SavedRows  # by absolute paths
     absolute: Callable[[str], str]
 
-    def head(self, count: int) -> StyledText:
-        return self.form.head(count)
+    def opening(self, count: int) -> StyledText:
+        return self.form.opening(count)
 
     def entry(self, number: int, outcome: Outcome) -> StyledText | None:
         saved = self.before.get(self.absolute(outcome.path))
@@ -30,5 +30,5 @@ class NewRowsFormatter:
             return None
         return self.turned.entry(number, outcome)
 
-    def foot(self, totals: Totals, seconds: float) -> StyledText:
-        return self.form.foot(totals, seconds)
+    def summary(self, totals: Totals, seconds: float) -> StyledText:
+        return self.form.summary(totals, seconds)

@@ -1,6 +1,6 @@
 """What a report has of a script that doesn't pass: its row in words, the lines below that; and its warnings."""
 
-from pdsuite.output.octets import shown, shown_path
+from pdsuite.output.octets import printable_octets, printable_path
 from pdsuite.programs.verdict import Verdict
 from pdsuite.run.outcomes import Outcome
 
@@ -11,45 +11,45 @@ _EXPECTED = "expected: "
 _END = "at the end of the text"
 
 
-def place(outcome: Outcome) -> str:
+def path_and_line(outcome: Outcome) -> str:
     """The path, with the line that the row is about."""
-    path = shown_path(outcome.path)
+    path = printable_path(outcome.path)
     return path if outcome.line is None else f"{path}:{outcome.line}"
 
 
-def meaning(outcome: Outcome) -> str:
+def meaning_suffix(outcome: Outcome) -> str:
     """What comes after the row: what it means, where that is explained."""
-    why = _lacking(outcome) if outcome.row.verdict is Verdict.SYNTAX else outcome.why
+    why = _syntax_lack(outcome) if outcome.row.verdict is Verdict.SYNTAX else outcome.why
     return f": {why}" if why else ""
 
 
 def row_text(outcome: Outcome) -> str:
     """The row of an outcome, with the one that is expected of it, where one is."""
-    if outcome.expected is None or not (outcome.is_known or outcome.is_unexpected):
+    if outcome.expected is None or not (outcome.is_known_failure or outcome.has_unexpected_row):
         return str(outcome.row)
-    if outcome.is_known:
+    if outcome.is_known_failure:
         return f"known: {outcome.row} ({outcome.expected.reason})"
     row = "passes" if outcome.row.verdict is Verdict.PASS else str(outcome.row)
     return f'{row}, though "{outcome.expected.row}" is expected ({outcome.expected.reason})'
 
 
-def heading(outcome: Outcome) -> str:
+def heading_line(outcome: Outcome) -> str:
     """The line of an outcome: its place, its row and what that means."""
-    return f"{place(outcome)}: {row_text(outcome)}{meaning(outcome)}"
+    return f"{path_and_line(outcome)}: {row_text(outcome)}{meaning_suffix(outcome)}"
 
 
-def reason(outcome: Outcome) -> str:
+def reason_for_row(outcome: Outcome) -> str:
     """Why a row is so, where that is explained: the reason, or what the row means, with the rule that stops it."""
     if outcome.row.verdict is Verdict.FAIL:
         found = (it.removeprefix(_REASON) for it in outcome.block_lines if it.startswith(_REASON))
         return next(found, outcome.why)
     if outcome.row.verdict is Verdict.SYNTAX:
-        return _lacking(outcome)
+        return _syntax_lack(outcome)
     rule = next((it.removeprefix(_RULE) for it in outcome.block_lines[:1] if it.startswith(_RULE)), "")
     return f"{outcome.why}: {rule}" if rule else outcome.why
 
 
-def _lacking(outcome: Outcome) -> str:
+def _syntax_lack(outcome: Outcome) -> str:
     """What a text that is no script lacks where it breaks off, as far as that is explained."""
     below = outcome.block_lines[1:]  # the first is the line of the text
     expected = next((it for it in below if it.startswith(_EXPECTED)), "")
@@ -58,25 +58,25 @@ def _lacking(outcome: Outcome) -> str:
     return f"expected {expected.removeprefix(_EXPECTED)}" + (f" {_END}" if _END in below else "")
 
 
-def summary(outcome: Outcome) -> str:
+def one_line_summary(outcome: Outcome) -> str:
     """An outcome in one line: its place, its row and the reason."""
-    why = reason(outcome)
-    return f"{place(outcome)}: {row_text(outcome)}" + (f": {why}" if why else "")
+    why = reason_for_row(outcome)
+    return f"{path_and_line(outcome)}: {row_text(outcome)}" + (f": {why}" if why else "")
 
 
-def warnings(outcome: Outcome) -> list[str]:
+def warning_texts(outcome: Outcome) -> list[str]:
     """What is warned of."""
     end = " (strict)" if outcome.is_strict else ""
     return [f"passes, but {it}{end}" for it in outcome.warnings]
 
 
-def warned(outcome: Outcome) -> list[str]:
+def warning_lines_of(outcome: Outcome) -> list[str]:
     """A line for each warning: its place, and what it is."""
-    return [f"{place(outcome)}: {it}" for it in warnings(outcome)]
+    return [f"{path_and_line(outcome)}: {it}" for it in warning_texts(outcome)]
 
 
-def block(outcome: Outcome) -> list[str]:
+def lines_below_row(outcome: Outcome) -> list[str]:
     """The lines below an outcome's row: its explanation, else the line of the script that it names."""
     if outcome.block_lines:
         return list(outcome.block_lines)
-    return [] if outcome.text is None else [shown(outcome.text, _MOST)]
+    return [] if outcome.text is None else [printable_octets(outcome.text, _MOST)]

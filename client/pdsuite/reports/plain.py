@@ -3,9 +3,9 @@
 from dataclasses import dataclass
 
 
-from pdsuite.output.styled_text import StyledText, unstyled
+from pdsuite.output.styled_text import StyledText, unstyled_text
 from pdsuite.programs.verdict import Verdict
-from pdsuite.reports.outcome_text import block, meaning, place, row_text, warned
+from pdsuite.reports.outcome_text import lines_below_row, meaning_suffix, path_and_line, row_text, warning_lines_of
 from pdsuite.run.outcomes import CountedAs, Outcome, Totals
 
 _STYLES: dict[Verdict | CountedAs, str] = {
@@ -31,45 +31,49 @@ class PlainFormatter:
 
     every: bool
 
-    def head(self, count: int) -> StyledText:
+    def opening(self, count: int) -> StyledText:
         return StyledText()
 
     def entry(self, number: int, outcome: Outcome) -> StyledText | None:
         if not self.every and outcome.counted_as in _UNSHOWN:
-            return self.warnings(outcome) if outcome.warnings else None
-        if outcome.warnings or outcome.is_known:
-            return self.changed(outcome)
-        line = self.row(outcome).append(meaning(outcome))
-        below = "".join(f"  {it}\n" for it in [*block(outcome), *_met(outcome)])
+            return self.styled_warnings(outcome) if outcome.warnings else None
+        if outcome.warnings or outcome.is_known_failure:
+            return self.row_and_warnings(outcome)
+        line = self.row_alone(outcome).append(meaning_suffix(outcome))
+        below = "".join(f"  {it}\n" for it in [*lines_below_row(outcome), *_met_lines(outcome)])
         return line.append("\n").append(below, "dim")
 
-    def row(self, outcome: Outcome) -> StyledText:
+    def row_alone(self, outcome: Outcome) -> StyledText:
         """A script's row alone."""
-        return unstyled(f"{place(outcome)}: ").append(row_text(outcome), _STYLES[outcome.counted_as])
+        return unstyled_text(f"{path_and_line(outcome)}: ").append(row_text(outcome), _STYLES[outcome.counted_as])
 
-    def warnings(self, outcome: Outcome) -> StyledText:
+    def styled_warnings(self, outcome: Outcome) -> StyledText:
         """What is warned of, a line each."""
         style = _STRICT if outcome.is_strict else _WARNED
-        return StyledText([(f"{line}\n", style) for line in warned(outcome)])
+        return StyledText([(f"{line}\n", style) for line in warning_lines_of(outcome)])
 
-    def changed(self, outcome: Outcome) -> StyledText:
+    def row_and_warnings(self, outcome: Outcome) -> StyledText:
         """A script's row alone, with what is warned of."""
-        return self.row(outcome).append("\n").append_text(self.warnings(outcome))
+        return self.row_alone(outcome).append("\n").append_text(self.styled_warnings(outcome))
 
-    def foot(self, totals: Totals, seconds: float) -> StyledText:
-        return StyledText().append(str(totals), style_of(totals)).append(f" in {seconds:.2f} s{totals.mark}\n")
+    def summary(self, totals: Totals, seconds: float) -> StyledText:
+        return (
+            StyledText()
+            .append(str(totals), totals_style(totals))
+            .append(f" in {seconds:.2f} s{totals.unproved_mark}\n")
+        )
 
 
-def style_of(totals: Totals) -> str:
+def totals_style(totals: Totals) -> str:
     """The style of the totals."""
-    return "green" if totals.status() == 0 else "bold red"
+    return "green" if totals.exit_status() == 0 else "bold red"
 
 
-def _met(outcome: Outcome) -> list[str]:
+def _met_lines(outcome: Outcome) -> list[str]:
     """What each line was met by, where that is requested."""
     if outcome.line_diff is None:
         return []
     # Only who requests it pays for what reads scripts.
-    from pdsuite.reports.diff_text import diff_text
+    from pdsuite.reports.diff_text import line_diff_lines
 
-    return list(diff_text(outcome.line_diff))
+    return list(line_diff_lines(outcome.line_diff))

@@ -23,43 +23,43 @@ class Report:
         self._screen = screen
         self._waiting: dict[int, Outcome] = {}
 
-    def open(self) -> None:
+    def show_opening(self) -> None:
         """Shows what stands before all scripts."""
-        self._screen.show(self._form.head(len(self._scripts)))
-        self._screen.advance(0, len(self._scripts))
+        self._screen.show(self._form.opening(len(self._scripts)))
+        self._screen.show_progress(0, len(self._scripts))
 
-    def take(self, outcomes: Iterable[tuple[Script, Outcome]]) -> None:
+    def take_outcomes(self, outcomes: Iterable[tuple[Script, Outcome]]) -> None:
         """Shows outcomes, as soon as all before them were shown."""
         for script, outcome in outcomes:
             self._waiting[script.index] = outcome
-        self._show(list(self._ready()))
+        self._show_outcomes(list(self._take_ready()))
         done = len(self.outcomes) + len(self._waiting)
-        self._screen.advance(done, len(self._scripts))
+        self._screen.show_progress(done, len(self._scripts))
 
-    def left(self) -> list[Outcome]:
+    def unshown_outcomes(self) -> list[Outcome]:
         """What wasn't shown: outcomes that still wait, and scripts that weren't run."""
-        return [self._waiting.get(it.index, _not_run(it)) for it in self._scripts[len(self.outcomes) :]]
+        return [self._waiting.get(it.index, _not_run_outcome(it)) for it in self._scripts[len(self.outcomes) :]]
 
-    def close(self, seconds: float) -> Totals:
+    def show_rest_and_totals(self, seconds: float) -> Totals:
         """Shows what is left, and the totals."""
-        self._screen.clear()
-        self._show(self.left())
-        totals = self.totals(self.outcomes)
-        self._screen.show(self._form.foot(totals, seconds))
+        self._screen.clear_live_lines()
+        self._show_outcomes(self.unshown_outcomes())
+        totals = self.totals_of(self.outcomes)
+        self._screen.show(self._form.summary(totals, seconds))
         return totals
 
-    def totals(self, outcomes: Iterable[Outcome]) -> Totals:
+    def totals_of(self, outcomes: Iterable[Outcome]) -> Totals:
         """The totals of outcomes of this report."""
-        return replace(Totals.of(outcomes), is_unproved=self.is_unproved)
+        return replace(Totals.of_outcomes(outcomes), is_unproved=self.is_unproved)
 
-    def _ready(self) -> Iterator[Outcome]:
+    def _take_ready(self) -> Iterator[Outcome]:
         """The outcomes that wait for none before them."""
         index = len(self.outcomes)
         while (outcome := self._waiting.pop(index, None)) is not None:
             yield outcome
             index += 1
 
-    def _show(self, outcomes: Sequence[Outcome]) -> None:
+    def _show_outcomes(self, outcomes: Sequence[Outcome]) -> None:
         text = StyledText()
         for number, outcome in enumerate(outcomes, len(self.outcomes) + 1):
             if (entry := self._form.entry(number, outcome)) is not None:
@@ -68,5 +68,5 @@ class Report:
         self._screen.show(text)
 
 
-def _not_run(script: Script) -> Outcome:
+def _not_run_outcome(script: Script) -> Outcome:
     return outcome_of(script, Row(Verdict.NOT_RUN))

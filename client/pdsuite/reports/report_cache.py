@@ -11,11 +11,11 @@ from contextlib import contextmanager, suppress
 from itertools import islice
 from pathlib import Path
 
-from pdsuite.faults import Fault, why
-from pdsuite.output.octets import absolute_paths, shown_path
+from pdsuite.faults import Fault, error_reason
+from pdsuite.output.octets import absolute_path_function, printable_path
 from pdsuite.programs.verdict import Verdict
-from pdsuite.reports.as_json import script_text
-from pdsuite.reports.saved_reports import SavedReport, joined, reports_in
+from pdsuite.reports.as_json import script_json
+from pdsuite.reports.saved_reports import SavedReport, join_reports, parse_reports
 from pdsuite.run.outcomes import Outcome
 
 # Of so many groups of paths the last reports are kept.
@@ -50,56 +50,56 @@ class LastReport:
     """The report of the last run of these paths. Rows of scripts that a later run left out stay in it."""
 
     def __init__(self, paths: Iterable[Path]) -> None:
-        self.of = sorted({shown_path(os.path.abspath(it)) for it in paths})
+        self.of = sorted({printable_path(os.path.abspath(it)) for it in paths})
         self._folder = cache_folder()
-        self._file = self._folder / _name(self.of)
+        self._file = self._folder / _cache_file_name(self.of)
 
     def load(self) -> SavedReport | None:
         """What is kept, if anything is."""
-        octets = self._octets()
-        return None if octets is None else _report(self._file, octets)
+        octets = self._kept_octets()
+        return None if octets is None else _parse_report(self._file, octets)
 
-    def leave(self, outcomes: Sequence[Outcome], is_part: bool) -> None:
+    def save_run(self, outcomes: Sequence[Outcome], is_part: bool) -> None:
         """Keeps the rows of a run. What was known of scripts that it had no row of stays, if they are there still."""
-        absolute = absolute_paths()
-        with _alone(self._folder):
+        absolute = absolute_path_function()
+        with _folder_lock(self._folder):
             if is_part or any(it.row.verdict is _NOT_RUN for it in outcomes):
-                lines = self._merged({absolute(it.path): it for it in outcomes}, is_part)
+                lines = self._merge_lines({absolute(it.path): it for it in outcomes}, is_part)
             else:
-                lines = (script_text(it, absolute(it.path)) for it in outcomes)
-            self._write(lines)
-            _sweep(self._folder)
+                lines = (script_json(it, absolute(it.path)) for it in outcomes)
+            self._write_report(lines)
+            _remove_oldest_reports(self._folder)
 
-    def _merged(self, outcomes: Mapping[str, Outcome], is_part: bool) -> Iterator[str]:
-        lines = self._lines()
+    def _merge_lines(self, outcomes: Mapping[str, Outcome], is_part: bool) -> Iterator[str]:
+        lines = self._kept_lines()
         for path, it in outcomes.items():
             if it.row.verdict is not _NOT_RUN:
-                lines[path] = script_text(it, path)
+                lines[path] = script_json(it, path)
         return (line for path, line in lines.items() if is_part or path in outcomes)
 
-    def _lines(self) -> dict[str, str]:
+    def _kept_lines(self) -> dict[str, str]:
         """The lines that are kept, by the paths of their scripts; none where the file has been damaged."""
         try:
-            octets = self._octets()
+            octets = self._kept_octets()
             if octets is None:
                 return {}
-            paths = _report(self._file, octets).rows
+            paths = _parse_report(self._file, octets).rows
             lines = octets.decode().split("\n")[1:-2]
         except (Fault, ValueError):
             return {}
         return {path: line.removesuffix(",") for path, line in zip(paths, lines)} if len(paths) == len(lines) else {}
 
-    def _octets(self) -> bytes | None:
+    def _kept_octets(self) -> bytes | None:
         """The file, if it is there and of these paths."""
         try:
             octets = self._file.read_bytes()
         except FileNotFoundError:
             return None
         except OSError as error:
-            raise Fault(f"{shown_path(self._file)}: {why(error)}") from error
-        return octets if _of(octets.split(b"\n", 1)[0]) == self.of else None
+            raise Fault(f"{printable_path(self._file)}: {error_reason(error)}") from error
+        return octets if _paths_in_head(octets.split(b"\n", 1)[0]) == self.of else None
 
-    def _write(self, lines: Iterator[str]) -> None:
+    def _write_report(self, lines: Iterator[str]) -> None:
         beside = self._folder / _NEW
         with beside.open("w", encoding="utf-8") as file:
             file.write(f'{{"of": {json.dumps(self.of, ensure_ascii=False)}, "scripts": [')
@@ -111,23 +111,23 @@ class LastReport:
         beside.replace(self._file)
 
 
-def newest(paths: Iterable[str]) -> SavedReport | None:
+def newest_report_covering(paths: Iterable[str]) -> SavedReport | None:
     """The report that was left last of runs whose paths hold all of these scripts."""
     each = list(paths)
-    for file in sorted(cache_folder().glob(_REPORTS), key=_age):
+    for file in sorted(cache_folder().glob(_REPORTS), key=_newest_first_key):
         with suppress(FileNotFoundError), file.open("rb") as opened:
-            of = _of(opened.readline())
+            of = _paths_in_head(opened.readline())
             if of and all(any(it == top or it.startswith(f"{top.rstrip('/')}/") for top in of) for it in each):
                 opened.seek(0)
-                return _report(file, opened.read())
+                return _parse_report(file, opened.read())
     return None
 
 
-def _report(file: Path, octets: bytes) -> SavedReport:
-    return joined(shown_path(file), reports_in(shown_path(file), octets))
+def _parse_report(file: Path, octets: bytes) -> SavedReport:
+    return join_reports(printable_path(file), parse_reports(printable_path(file), octets))
 
 
-def _of(head: bytes) -> list[str]:
+def _paths_in_head(head: bytes) -> list[str]:
     """The paths of what was run, as the first line of a report that is kept has them."""
     try:
         match json.loads(head + _END):
@@ -138,26 +138,26 @@ def _of(head: bytes) -> list[str]:
     return []
 
 
-def _name(of: Sequence[str]) -> str:
+def _cache_file_name(of: Sequence[str]) -> str:
     """The name of the file for these paths: two groups of paths can have one, so the file says whose it is."""
     words = _OTHER.sub("_", of[0])[-_LONGEST:].strip("._-") or "root"
     return f"{words}-{zlib.crc32(json.dumps(of).encode()):08x}.json"
 
 
 @contextmanager
-def _alone(folder: Path) -> Iterator[None]:
+def _folder_lock(folder: Path) -> Iterator[None]:
     """Lets nobody else write into the folder; it is made where it isn't there."""
     folder.mkdir(mode=0o700, parents=True, exist_ok=True)
     with (folder / _LOCK).open("a") as lock:
         until = time.monotonic() + _PATIENCE
-        while not _is_locked(lock.fileno()):
+        while not _try_lock(lock.fileno()):
             if time.monotonic() > until:
-                raise Fault(f"{shown_path(folder)}: another run is writing there")
+                raise Fault(f"{printable_path(folder)}: another run is writing there")
             time.sleep(_PAUSE)
         yield
 
 
-def _is_locked(descriptor: int) -> bool:
+def _try_lock(descriptor: int) -> bool:
     """Locks a file, if nobody else has: whether it is locked now, until it is closed."""
     try:
         fcntl.flock(descriptor, fcntl.LOCK_EX | fcntl.LOCK_NB)
@@ -166,13 +166,13 @@ def _is_locked(descriptor: int) -> bool:
     return True
 
 
-def _sweep(folder: Path) -> None:
+def _remove_oldest_reports(folder: Path) -> None:
     """Takes the oldest reports away, so that no more than so many stay."""
-    for file in sorted(folder.glob(_REPORTS), key=_age)[MOST:]:
+    for file in sorted(folder.glob(_REPORTS), key=_newest_first_key)[MOST:]:
         file.unlink(missing_ok=True)
 
 
-def _age(file: Path) -> tuple[float, str]:
+def _newest_first_key(file: Path) -> tuple[float, str]:
     """What puts the newest file first, and one that went last."""
     try:
         return -file.stat().st_mtime, file.name

@@ -39,28 +39,28 @@ class RowChange:
         """
         match self.kind:
             case RowChangeKind.NO_MORE | RowChangeKind.OTHERWISE:
-                return not _is_known(self.now)
+                return not _has_expected_row(self.now)
             case RowChangeKind.NOT_RUN:
                 return _passes(self.before)
             case RowChangeKind.NEW:
-                return not _passes(self.now) and not _is_known(self.now)
+                return not _passes(self.now) and not _has_expected_row(self.now)
         return False
 
 
 def row_changes(before: SavedRows, now: SavedRows) -> list[RowChange]:
     """The scripts that turned, by how they did and then in the order of paths."""
-    return sorted(_all(before, now), key=lambda it: (_ORDER[it.kind], it.path.encode()))
+    return sorted(_find_row_changes(before, now), key=lambda it: (_ORDER[it.kind], it.path.encode()))
 
 
-def _all(before: SavedRows, now: SavedRows) -> Iterator[RowChange]:
+def _find_row_changes(before: SavedRows, now: SavedRows) -> Iterator[RowChange]:
     for path in {**before, **now}:
         old, new = before.get(path), now.get(path)
-        kind = _kind(_row(old), None if new is None else new.row)
+        kind = _change_kind(_row_if_run(old), None if new is None else new.row)
         if kind is not None:
             yield RowChange(path, kind, old, new)
 
 
-def _kind(old: Row | None, new: Row | None) -> RowChangeKind | None:
+def _change_kind(old: Row | None, new: Row | None) -> RowChangeKind | None:
     """How a script turned whose rows are these, if it did."""
     if new is None or new.verdict is Verdict.NOT_RUN:
         return None if old is None else RowChangeKind.GONE if new is None else RowChangeKind.NOT_RUN
@@ -73,7 +73,7 @@ def _kind(old: Row | None, new: Row | None) -> RowChangeKind | None:
     return None if old == new else RowChangeKind.OTHERWISE
 
 
-def _row(saved: SavedRow | None) -> Row | None:
+def _row_if_run(saved: SavedRow | None) -> Row | None:
     """A script's row; one that wasn't run has none."""
     return None if saved is None or saved.row.verdict is Verdict.NOT_RUN else saved.row
 
@@ -82,5 +82,5 @@ def _passes(saved: SavedRow | None) -> bool:
     return saved is not None and saved.row.verdict is Verdict.PASS
 
 
-def _is_known(saved: SavedRow | None) -> bool:
+def _has_expected_row(saved: SavedRow | None) -> bool:
     return saved is not None and saved.is_known is True

@@ -6,10 +6,10 @@ from collections.abc import Iterable, Iterator, Mapping, Sequence
 from dataclasses import dataclass
 from pathlib import Path
 
-from pdsuite.faults import Fault, why
-from pdsuite.output.octets import shown_path, shown_text
+from pdsuite.faults import Fault, error_reason
+from pdsuite.output.octets import printable_path, printable_text
 from pdsuite.programs.verdict import Row, Verdict
-from pdsuite.scripts.shards import Shard, shard_of
+from pdsuite.scripts.shards import Shard, parse_shard
 
 _BLANKS = re.compile(r"[ \t\r\n]*")
 _REPORTS = "*.json"
@@ -45,22 +45,27 @@ class SavedReport:
     rows: SavedRows
     shards: frozenset[Shard] = frozenset()
 
-    def missing_shard(self) -> Shard | None:
+    def first_missing_shard(self) -> Shard | None:
         """The first of its shards that isn't there."""
         count = max((it.count for it in self.shards), default=0)
         each = (Shard(number, count) for number in range(1, count + 1))
         return next((it for it in each if it not in self.shards), None)
 
 
-def read_report(paths: Sequence[Path]) -> SavedReport:
+def read_reports_as_one(paths: Sequence[Path]) -> SavedReport:
     """The reports in files, and in all files `*.json` in folders, as one."""
-    reports = [it for path in paths for file in _files(path) for it in reports_in(shown_path(file), _octets(file))]
-    return joined(", ".join(map(shown_path, paths)), reports)
+    reports = [
+        it
+        for path in paths
+        for file in _report_files(path)
+        for it in parse_reports(printable_path(file), _read_octets(file))
+    ]
+    return join_reports(", ".join(map(printable_path, paths)), reports)
 
 
-def joined(place: str, reports: Sequence[SavedReport]) -> SavedReport:
+def join_reports(place: str, reports: Sequence[SavedReport]) -> SavedReport:
     """Reports as one: each script stands in one of them."""
-    shards = _shards(reports)
+    shards = _collect_shards(reports)
     rows: dict[str, SavedRow] = {}
     places: dict[str, str] = {}
     for report in reports:
@@ -71,13 +76,14 @@ def joined(place: str, reports: Sequence[SavedReport]) -> SavedReport:
     return SavedReport(place, rows, shards)
 
 
-def _shards(reports: Sequence[SavedReport]) -> frozenset[Shard]:
+def _collect_shards(reports: Sequence[SavedReport]) -> frozenset[Shard]:
     known: dict[Shard, str] = {}
     for report in reports:
-        if _count(report) != _count(reports[0]):
+        if _shard_counts(report) != _shard_counts(reports[0]):
             first = reports[0]
             raise Fault(
-                f"{first.place} is of {_part(first)} and {report.place} of {_part(report)}: they are no one run"
+                f"{first.place} is of {_shards_in_words(first)} and {report.place} of {_shards_in_words(report)}:"
+                " they are no one run"
             )
         for shard in report.shards:
             if shard in known:
@@ -86,42 +92,42 @@ def _shards(reports: Sequence[SavedReport]) -> frozenset[Shard]:
     return frozenset(known)
 
 
-def _count(report: SavedReport) -> set[int]:
+def _shard_counts(report: SavedReport) -> set[int]:
     return {it.count for it in report.shards}
 
 
-def _part(report: SavedReport) -> str:
+def _shards_in_words(report: SavedReport) -> str:
     return ", ".join(f"shard {it}" for it in sorted(report.shards)) or "all scripts"
 
 
-def _files(path: Path) -> list[Path]:
+def _report_files(path: Path) -> list[Path]:
     """The file, or those in a folder and below it."""
     if not path.is_dir():
         return [path]
     if files := sorted(path.rglob(_REPORTS)):
         return files
-    raise Fault(f"{shown_path(path)}: holds no file {_REPORTS}")
+    raise Fault(f"{printable_path(path)}: holds no file {_REPORTS}")
 
 
-def _octets(path: Path) -> bytes:
+def _read_octets(path: Path) -> bytes:
     try:
         return path.read_bytes()
     except (OSError, ValueError) as error:
-        raise Fault(f"{shown_path(path)}: {why(error)}") from error
+        raise Fault(f"{printable_path(path)}: {error_reason(error)}") from error
 
 
-def reports_in(place: str, octets: bytes) -> list[SavedReport]:
+def parse_reports(place: str, octets: bytes) -> list[SavedReport]:
     """The reports in a file, one after another."""
     try:
-        values = list(_values(octets.decode()))
+        values = list(_json_values(octets.decode()))
     except (ValueError, RecursionError) as error:
-        raise Fault(f"{place}: no JSON: {shown_text(str(error))}") from error
+        raise Fault(f"{place}: no JSON: {printable_text(str(error))}") from error
     if not values:
         raise Fault(f"{place}: no JSON: the file is empty")
-    return [_report(place, it) for it in values]
+    return [_report_from_value(place, it) for it in values]
 
 
-def _values(text: str) -> Iterator[object]:
+def _json_values(text: str) -> Iterator[object]:
     """The JSON values that stand in a text, with blanks between them."""
     decoder = json.JSONDecoder()
     end = _end_of_blanks(text, 0)
@@ -136,23 +142,23 @@ def _end_of_blanks(text: str, begin: int) -> int:
     return begin if found is None else found.end()
 
 
-def _report(place: str, value: object) -> SavedReport:
+def _report_from_value(place: str, value: object) -> SavedReport:
     scripts = value.get("scripts") if isinstance(value, dict) else None
     if not isinstance(value, dict) or not isinstance(scripts, list):
         raise Fault(f"{place}: no report of pdsuite run --json: it has no list of scripts")
-    return SavedReport(place, _rows(place, scripts), _shard_in(place, value))
+    return SavedReport(place, _rows_by_path(place, scripts), _shard_in(place, value))
 
 
 def _shard_in(place: str, report: Mapping[str, object]) -> frozenset[Shard]:
     if "shard" not in report:
         return frozenset()
-    shard = shard_of(str(report["shard"]))
+    shard = parse_shard(str(report["shard"]))
     if shard is None:
         raise Fault(f"{place}: no report of pdsuite run --json: its shard is no K/N")
     return frozenset((shard,))
 
 
-def _rows(place: str, scripts: Iterable[object]) -> dict[str, SavedRow]:
+def _rows_by_path(place: str, scripts: Iterable[object]) -> dict[str, SavedRow]:
     rows: dict[str, SavedRow] = {}
     for number, script in enumerate(scripts, 1):
         path, row = _path_in(script), _row_in(script)

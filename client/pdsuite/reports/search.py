@@ -4,11 +4,11 @@ from collections.abc import Iterator, Mapping, Sequence
 from itertools import zip_longest
 
 from pdsuite.compare.divergence import PlayedEvent, played_events
-from pdsuite.output.octets import shown_text
+from pdsuite.output.octets import printable_text
 from pdsuite.output.styled_text import StyledText
 from pdsuite.programs.verdict import Row
 from pdsuite.run.outcomes import UNPROVED
-from pdsuite.scripts.settings import Settings, settings_text
+from pdsuite.scripts.settings import Settings, settings_as_toml
 from pdsuite.search.coverage import SHARES, Coverage
 from pdsuite.search.find import Find
 from pdsuite.search.search import SearchResult
@@ -17,7 +17,7 @@ _ENDS = "nothing more"
 _SETTINGS = "settings"
 
 
-def found(
+def find_text(
     find: Find, what: str, settings: Sequence[Settings], other: str | None, row: Row | None, explanation: Sequence[str]
 ) -> StyledText:
     """A find: its recording beside the other sender's, if there is one, each with its settings, and why it fails.
@@ -26,8 +26,8 @@ def found(
     """
     text = StyledText().append(f"{what}\n", "bold red")
     text.append("".join(f"  {line}\n" for line in _settings_lines(settings)))
-    pairs = _alone(find.recording) if other is None else _beside(find.recording, other)
-    text.append("".join(f"  {shown_text(line)}\n" for line in pairs))
+    pairs = _recording_lines(find.recording) if other is None else _recordings_side_by_side(find.recording, other)
+    text.append("".join(f"  {printable_text(line)}\n" for line in pairs))
     if row is not None:
         line = "" if row.line is None else f"line {row.line}: "
         meaning, *below = explanation or [str(row)]
@@ -36,19 +36,19 @@ def found(
     return text
 
 
-def offered(offer: Sequence[str]) -> StyledText:
+def offer_text(offer: Sequence[str]) -> StyledText:
     """The name and the first lines with which a script may come into the suite, if there are any."""
     text = StyledText()
     if offer:
         name, *lines = offer
-        text.append(f"for examples/suite: as {shown_text(name)}, below lines that say what it tests:\n")
-        text.append("".join(f"  {shown_text(line)}\n" for line in lines))
+        text.append(f"for examples/suite: as {printable_text(name)}, below lines that say what it tests:\n")
+        text.append("".join(f"  {printable_text(line)}\n" for line in lines))
     return text
 
 
 def _settings_lines(settings: Sequence[Settings]) -> Iterator[str]:
     """The settings, or where they aren't the same on both sides those of each."""
-    texts = [settings_text(it).splitlines() or ["no settings"] for it in settings]
+    texts = [settings_as_toml(it).splitlines() or ["no settings"] for it in settings]
     if all(it == texts[0] for it in texts):
         yield from texts[0]
     else:
@@ -56,13 +56,13 @@ def _settings_lines(settings: Sequence[Settings]) -> Iterator[str]:
             yield f"{side}{', '.join(lines)}"
 
 
-def _alone(recording: str) -> Iterator[str]:
+def _recording_lines(recording: str) -> Iterator[str]:
     for it in played_events(recording):
         yield str(it)
         yield f"    {it.state}"
 
 
-def _beside(before: str, after: str) -> Iterator[str]:
+def _recordings_side_by_side(before: str, after: str) -> Iterator[str]:
     """Both recordings event by event: one line where they agree, else one for each."""
     for one, other in zip_longest(played_events(before), played_events(after)):
         if one is not None and other is not None and str(one) == str(other):
@@ -71,21 +71,21 @@ def _beside(before: str, after: str) -> Iterator[str]:
             if one.state != other.state:
                 yield f"    after: {other.state}"
         else:
-            yield from _side("before: ", one)
-            yield from _side("after:  ", other)
+            yield from _side_lines("before: ", one)
+            yield from _side_lines("after:  ", other)
 
 
-def _side(name: str, it: PlayedEvent | None) -> Iterator[str]:
+def _side_lines(name: str, it: PlayedEvent | None) -> Iterator[str]:
     yield f"{name}{_ENDS if it is None else it}"
     if it is not None:
         yield f"    {it.state}"
 
 
-def totals(searched: SearchResult, seed: int, is_unproved: bool) -> StyledText:
+def search_totals(searched: SearchResult, seed: int, is_unproved: bool) -> StyledText:
     """The last lines: how many of the inputs met what, and how many there were."""
     reached = searched.coverage
     text = StyledText()
-    for name, counts in _named(reached):
+    for name, counts in _named_counts(reached):
         if searched.find is None or name == _SETTINGS:
             text.append(f"{name}: {' '.join(f'{it} {count}' for it, count in sorted(counts.items())) or 'none'}\n")
     shares = ", ".join(f"{name} {reached.counts[name]}" for name in SHARES)
@@ -96,7 +96,7 @@ def totals(searched: SearchResult, seed: int, is_unproved: bool) -> StyledText:
     return text.append(f"{'total' if searched.find is None else 'found after'} {tried}{cut}, seed {seed}{mark}\n")
 
 
-def _named(reached: Coverage) -> Iterator[tuple[str, Mapping[str, int]]]:
+def _named_counts(reached: Coverage) -> Iterator[tuple[str, Mapping[str, int]]]:
     yield "states", reached.states
     yield "options", reached.options
     yield _SETTINGS, reached.settings

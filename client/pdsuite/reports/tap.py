@@ -1,10 +1,10 @@
 """The report as TAP, version 13, as the kernel's tests print it: what is reported of a test stands before its line."""
 
 
-from pdsuite.output.octets import shown_path
-from pdsuite.output.styled_text import StyledText, unstyled
+from pdsuite.output.octets import printable_path
+from pdsuite.output.styled_text import StyledText, unstyled_text
 from pdsuite.programs.verdict import Verdict
-from pdsuite.reports.outcome_text import block, heading, warned
+from pdsuite.reports.outcome_text import heading_line, lines_below_row, warning_lines_of
 from pdsuite.run.outcomes import Outcome, Totals
 
 # Begins a directive, and so stands in no name.
@@ -14,19 +14,23 @@ _DIRECTIVE = "#"
 class TapFormatter:
     """`ok` for each script that passes, and `not ok` for every other; one that is known not to is still to be done."""
 
-    def head(self, count: int) -> StyledText:
-        return unstyled(f"TAP version 13\n1..{count}\n")
+    def opening(self, count: int) -> StyledText:
+        return unstyled_text(f"TAP version 13\n1..{count}\n")
 
     def entry(self, number: int, outcome: Outcome) -> StyledText:
-        name = shown_path(outcome.path, also=_DIRECTIVE)
+        name = printable_path(outcome.path, also=_DIRECTIVE)
         if outcome.counted_as is Verdict.PASS:
-            warning_lines = warned(outcome)
+            warning_lines = warning_lines_of(outcome)
         else:
-            warning_lines = [heading(outcome), *(f"  {it}" for it in block(outcome)), *warned(outcome)]
-        is_ok = outcome.passes and not outcome.is_known
-        todo = f" # TODO {outcome.expected.reason}" if outcome.is_known and outcome.expected is not None else ""
+            warning_lines = [
+                heading_line(outcome),
+                *(f"  {it}" for it in lines_below_row(outcome)),
+                *warning_lines_of(outcome),
+            ]
+        is_ok = outcome.lets_run_pass and not outcome.is_known_failure
+        todo = f" # TODO {outcome.expected.reason}" if outcome.is_known_failure and outcome.expected is not None else ""
         lines = [*(f"# {it}" for it in warning_lines), f"{'ok' if is_ok else 'not ok'} {number} {name}{todo}"]
-        return unstyled("".join(f"{line}\n" for line in lines))
+        return unstyled_text("".join(f"{line}\n" for line in lines))
 
-    def foot(self, totals: Totals, seconds: float) -> StyledText:
-        return unstyled(f"# {totals} in {seconds:.2f} s{totals.mark}\n")
+    def summary(self, totals: Totals, seconds: float) -> StyledText:
+        return unstyled_text(f"# {totals} in {seconds:.2f} s{totals.unproved_mark}\n")

@@ -5,8 +5,8 @@ pieces; a `Mapper` has them settled, by the processors of this machine (`local_m
 `rt try` (`unproved_run`). What comes is a stream of `Step`: a `SettledPiece` with its outcomes, or a note that a
 program ended. `Outcome` has a script's row and what explains it, `Totals` the counts.
 
-    Script .. --batches_of--> Batch --Mapper--> Step, Step, ..  --> reports
-                                 |
+    Script .. --group_into_batches--> Batch --Mapper--> Step, Step, ..  --> reports
+                                         |
     a batch:  piece by piece --> settled
                  | the program ends: Restart
                  v

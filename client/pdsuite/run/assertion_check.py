@@ -4,7 +4,7 @@ from collections import Counter
 from collections.abc import Callable, Iterator
 from typing import TYPE_CHECKING
 
-from pdsuite.output.octets import shown_path
+from pdsuite.output.octets import printable_path
 from pdsuite.programs.recorder import Recorder
 from pdsuite.run.outcomes import Outcome
 from pdsuite.run.run_batches import SettledPiece
@@ -25,31 +25,31 @@ class AssertionCheck:
         self._recorder = Recorder(stop, note)
         self._asserting: dict[int, tuple[Outcome, Text]] = {}
 
-    def take(self, step: SettledPiece) -> None:
+    def keep_asserting_scripts(self, step: SettledPiece) -> None:
         """Keeps the scripts of a piece that have assertions."""
         texts = {index: it for index, it in step.texts.items() if it.octets.find(_MARK) >= 0}
         if texts:
             asserting = [it for it in step.outcomes if it[0].index in texts]
             self._asserting.update((script.index, (outcome, texts[script.index])) for script, outcome in asserting)
 
-    def lines(self) -> Iterator[str]:
+    def report_lines(self) -> Iterator[str]:
         """A line for each assertion that doesn't hold, in the order of paths, and their count."""
         counts: Counter[bool | None] = Counter()
         for _, (outcome, text) in sorted(self._asserting.items()):
-            compared = self._compared(outcome, text)
+            compared = self._compare_with_recording(outcome, text)
             counts.update(it.holds for it in compared)
-            yield from (f"{shown_path(outcome.path)}: {it}" for it in compared if it.holds is False)
+            yield from (f"{printable_path(outcome.path)}: {it}" for it in compared if it.holds is False)
         if counts:
             yield (
                 f"assertions {counts.total()} hold {counts[True]} don't hold {counts[False]}"
                 f" not compared {counts[None]}"
             )
 
-    def _compared(self, outcome: Outcome, text: Text) -> list["CheckedAssertion"]:
+    def _compare_with_recording(self, outcome: Outcome, text: Text) -> list["CheckedAssertion"]:
         # Only who has assertions pays for what reads scripts.
         from pdsuite.imports.assertion_checks import compare
 
         script = text.octets.decode("utf-8", "surrogateescape")
-        recording = self._recorder.record(outcome.path, text.octets, outcome.settings).text
+        recording = self._recorder.record_script(outcome.path, text.octets, outcome.settings).text
         mss = {**DEFAULTS, **dict(outcome.settings)}["mss"]
         return compare(script, recording, outcome.row.line, mss if isinstance(mss, int) else 0)

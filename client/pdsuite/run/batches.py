@@ -48,19 +48,19 @@ class Batch:
     pieces: tuple[Piece, ...]
 
 
-def batches_of(scripts: Iterable[Script]) -> list[Batch]:
+def group_into_batches(scripts: Iterable[Script]) -> list[Batch]:
     """The batches of all scripts: groups of equal settings in the order of their first scripts."""
     groups: dict[Settings, list[Script]] = {}
     for script in scripts:
         groups.setdefault(script.settings, []).append(script)
     return [
-        Batch(settings, tuple(cut(part, PIECE_SIZE)))
+        Batch(settings, tuple(split_by_size(part, PIECE_SIZE)))
         for settings, group in groups.items()
-        for part in cut(group, BATCH_SIZE)
+        for part in split_by_size(group, BATCH_SIZE)
     ]
 
 
-def cut(items: Sequence[T], size: int) -> list[tuple[T, ...]]:
+def split_by_size(items: Sequence[T], size: int) -> list[tuple[T, ...]]:
     """The items in parts of so many, the last one with what is left."""
     rest = iter(items)
     parts = []

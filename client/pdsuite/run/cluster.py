@@ -24,10 +24,10 @@ from distributed.scheduler import KilledWorker
 
 import pdsuite
 from pdsuite.faults import CutShortError, Fault
-from pdsuite.output.octets import shown_text
+from pdsuite.output.octets import printable_text
 from pdsuite.run import serialize
-from pdsuite.run.batches import Batch, cut
-from pdsuite.run.run_batches import Mapper, Step, not_run
+from pdsuite.run.batches import Batch, split_by_size
+from pdsuite.run.run_batches import Mapper, Step, error_piece
 from pdsuite.run.serialize import PackedBatch, WantedProgram
 from pdsuite.signals import Stop
 
@@ -54,21 +54,21 @@ class _Task:
 
 
 @contextmanager
-def cluster(address: str, wanted: WantedProgram, stop: Stop, note: Callable[[str], None]) -> Iterator[Mapper]:
+def cluster_mapper(address: str, wanted: WantedProgram, stop: Stop, note: Callable[[str], None]) -> Iterator[Mapper]:
     """Has batches settled by the workers of a scheduler that have this machine's program."""
-    client = _connected(address)
-    stop.check()
+    client = _connect_client(address)
+    stop.raise_if_stopped()
     try:
         workers = _Cluster(client, address, wanted, stop, note)
-        workers.wait_for_one()
-        yield workers.settle
+        workers.wait_for_worker()
+        yield workers.settle_batches
     finally:
         # A scheduler that went away answers no good-bye, and what ended the run counts.
         with suppress(OSError):
             client.close(timeout=_LOOK)
 
 
-def _quiet() -> None:
+def _silence_library() -> None:
     """Has the library write nothing: what counts is printed here."""
     logging.disable()
     warnings.filterwarnings("ignore", "Large object of size")
@@ -76,23 +76,23 @@ def _quiet() -> None:
     sys.unraisablehook = lambda _: None
 
 
-def _connected(address: str) -> Client:
+def _connect_client(address: str) -> Client:
     gc.enable()  # the library's objects have cycles
-    _quiet()
+    _silence_library()
     dask.config.set({"distributed.comm.timeouts.connect": _PATIENCE})
     # The code goes along, with every call.
     pickle = import_module("cloudpickle")  # it declares no types
     for module in (pdsuite, serialize):
         pickle.register_pickle_by_value(module)
-    place = _shown(address)
+    place = _shown_in_one_line(address)
     try:
         resolve_address(address)
     except (OSError, ValueError) as error:
-        raise Fault(f"{place}: no address of a scheduler: {_shown(error)}") from error
+        raise Fault(f"{place}: no address of a scheduler: {_shown_in_one_line(error)}") from error
     try:
         return Client(address, timeout=_PATIENCE, set_as_default=False)
     except Exception as error:  # the library has many for this
-        raise Fault(f"{place}: no scheduler is reached within {_PATIENCE} s: {_shown(error)}") from error
+        raise Fault(f"{place}: no scheduler is reached within {_PATIENCE} s: {_shown_in_one_line(error)}") from error
 
 
 class _Cluster:
@@ -107,7 +107,7 @@ class _Cluster:
         note: Callable[[str], None],
     ) -> None:
         self._client = client
-        self._address = _shown(address)
+        self._address = _shown_in_one_line(address)
         self._wanted = wanted
         self._stop = stop
         self._note = note
@@ -120,40 +120,40 @@ class _Cluster:
         self._looked = 0.0
         self._served = time.monotonic()
 
-    def wait_for_one(self) -> None:
+    def wait_for_worker(self) -> None:
         """Waits for a worker that may be used."""
-        self._look()
+        self._look_for_workers()
         while not self._threads:
-            if self._is_deserted():
+            if self._has_no_worker_for_long():
                 raise Fault(f"{self._address}: no worker that can be used")
-            self._wait()
-            self._look()
+            self._wait_for_event()
+            self._look_for_workers()
 
-    def settle(self, batches: Iterable[Batch]) -> Generator[Step, None, None]:
+    def settle_batches(self, batches: Iterable[Batch]) -> Generator[Step, None, None]:
         """Has batches settled, some ahead; their steps come in the order of the batches."""
-        left = (Batch(batch.settings, pieces) for batch in batches for pieces in cut(batch.pieces, _PIECES))
+        left = (Batch(batch.settings, pieces) for batch in batches for pieces in split_by_size(batch.pieces, _PIECES))
         tasks: deque[_Task] = deque()
         while True:
-            if self._look():
-                self._send_again(tasks)
+            if self._look_for_workers():
+                self._resend_orphaned(tasks)
             room = max(1, _AHEAD * sum(self._threads.values())) - len(tasks)
             for batch in islice(left, max(0, room)):
-                tasks.append(_Task(batch, serialize.pack(batch)))
-                self._send(tasks[-1])
+                tasks.append(_Task(batch, serialize.pack_batch(batch)))
+                self._send_task(tasks[-1])
             if not tasks:
                 return
-            if (steps := self._steps(tasks[0])) is None:
-                self._wait()
+            if (steps := self._steps_if_done(tasks[0])) is None:
+                self._wait_for_event()
             else:
                 tasks.popleft()
                 yield from steps
 
-    def _steps(self, task: _Task) -> list[Step] | None:
+    def _steps_if_done(self, task: _Task) -> list[Step] | None:
         """The steps of a task, if it has come to any."""
         if task.future is None:
             if task.sendings == _SENDINGS:
-                return _unrun(task.run, f"all workers that had it went away, {_SENDINGS} times")
-            return _unrun(task.run, "no worker is left") if self._is_deserted() else None
+                return _not_run_steps(task.run, f"all workers that had it went away, {_SENDINGS} times")
+            return _not_run_steps(task.run, "no worker is left") if self._has_no_worker_for_long() else None
         if not task.future.done():
             return None
         try:
@@ -161,112 +161,112 @@ class _Cluster:
         except TimeoutError:
             return None  # its worker went away with it
         except CancelledError as error:
-            raise self._gone() from error
+            raise self._scheduler_gone_error() from error
         except KilledWorker as killed:
-            return _unrun(task.run, f"{killed.allowed_failures + 1} workers ended that had it")
+            return _not_run_steps(task.run, f"{killed.allowed_failures + 1} workers ended that had it")
         except Exception as error:  # whatever a worker has for this
-            return _unrun(task.run, f"a worker says: {_shown(error)}")
+            return _not_run_steps(task.run, f"a worker says: {_shown_in_one_line(error)}")
         if isinstance(answer, str):
-            self._give_up(task, answer)
+            self._refuse_worker_and_resend(task, answer)
             return None
-        return list(serialize.steps_of(task.run, task.parcel, answer, self._note))
+        return list(serialize.steps_from_answer(task.run, task.parcel, answer, self._note))
 
-    def _send(self, task: _Task) -> None:
+    def _send_task(self, task: _Task) -> None:
         """Sends a task to the workers that may be used, if there are any."""
         task.workers = frozenset(self._threads)
         task.future = None
         if task.workers and task.sendings < _SENDINGS:
             task.sendings += 1
             task.future = self._client.submit(
-                serialize.run_packed, task.parcel, self._wanted, workers=list(task.workers), pure=False
+                serialize.run_packed_batch, task.parcel, self._wanted, workers=list(task.workers), pure=False
             )
-            task.future.add_done_callback(self._ring)
+            task.future.add_done_callback(self._wake_waiter)
 
-    def _send_again(self, tasks: Iterable[_Task]) -> None:
+    def _resend_orphaned(self, tasks: Iterable[_Task]) -> None:
         """Sends each task again whose workers are all gone; what one of them made isn't there any more, either."""
         for task in tasks:
             is_settled = task.future is not None and task.future.status == "error"
             if not is_settled and not task.workers & self._threads.keys():
-                self._send(task)
+                self._send_task(task)
 
-    def _give_up(self, task: _Task, fault: str) -> None:
+    def _refuse_worker_and_resend(self, task: _Task, fault: str) -> None:
         """Uses the worker no longer that has other programs by now, and sends its task elsewhere."""
-        for workers in self._query(self._client.who_has, [task.future]).values():
+        for workers in self._query_scheduler(self._client.who_has, [task.future]).values():
             for worker in workers:
-                self._refuse(worker, fault)
+                self._refuse_worker(worker, fault)
         task.sendings -= 1
-        self._send(task)
+        self._send_task(task)
 
-    def _look(self) -> bool:
+    def _look_for_workers(self) -> bool:
         """Looks which workers there are, once in a while; whether it did."""
         now = time.monotonic()
         if now < self._looked + _LOOK:
             return False
         self._looked = now
-        threads = self._query(self._client.nthreads)
+        threads = self._query_scheduler(self._client.nthreads)
         self._faults = {it: fault for it, fault in self._faults.items() if it in threads}
-        self._meet([it for it in threads if it not in self._faults])
+        self._check_new_workers([it for it in threads if it not in self._faults])
         self._threads = {it: threads[it] for it, fault in self._faults.items() if not fault}
         if self._threads:
             self._served = now
         return True
 
-    def _meet(self, workers: list[str]) -> None:
+    def _check_new_workers(self, workers: list[str]) -> None:
         """Queries new workers whether they can be used. One that doesn't answer is queried again."""
         here = platform.python_version_tuple()[:2]
-        pythons = self._answers(workers, platform.python_version_tuple)
+        pythons = self._call_on_workers(workers, platform.python_version_tuple)
         for worker, python in pythons.items():
             if tuple(python[:2]) != here:
-                self._refuse(worker, f"has Python {'.'.join(python)}")
+                self._refuse_worker(worker, f"has Python {'.'.join(python)}")
         same = [it for it in pythons if it not in self._faults]
-        for worker, fault in self._answers(same, serialize.fault_of, self._wanted).items():
+        for worker, fault in self._call_on_workers(same, serialize.program_fault, self._wanted).items():
             self._faults[worker] = ""
             if fault:
-                self._refuse(worker, _shown(fault))
+                self._refuse_worker(worker, _shown_in_one_line(fault))
 
-    def _refuse(self, worker: str, fault: str) -> None:
+    def _refuse_worker(self, worker: str, fault: str) -> None:
         self._faults[worker] = fault
         self._threads.pop(worker, None)
         self._note(f"pdsuite: worker {worker} isn't used: {fault}")
 
-    def _answers(self, workers: list[str], function: Callable[..., Any], *words: Any) -> dict[str, Any]:
+    def _call_on_workers(self, workers: list[str], function: Callable[..., Any], *words: Any) -> dict[str, Any]:
         """What workers answer to a call, without those that don't."""
         if not workers:
             return {}
-        answers = self._query(self._client.run, function, *words, workers=workers, on_error="return")
+        answers = self._query_scheduler(self._client.run, function, *words, workers=workers, on_error="return")
         return {it: answer for it, answer in answers.items() if not isinstance(answer, OSError)}
 
-    def _query(self, call: Callable[..., Any], *words: Any, **more: Any) -> Any:
+    def _query_scheduler(self, call: Callable[..., Any], *words: Any, **more: Any) -> Any:
         """What the scheduler answers."""
         try:
             return call(*words, **more)
         except (OSError, CancelledError) as error:
-            raise self._gone() from error
+            raise self._scheduler_gone_error() from error
 
-    def _gone(self) -> CutShortError:
+    def _scheduler_gone_error(self) -> CutShortError:
         return CutShortError(f"{self._address}: the scheduler went away")
 
-    def _is_deserted(self) -> bool:
+    def _has_no_worker_for_long(self) -> bool:
         return not self._threads and time.monotonic() > self._served + _PATIENCE
 
-    def _wait(self) -> None:
+    def _wait_for_event(self) -> None:
         """Waits until a task is done, a signal comes, or it is time to look at the workers."""
         seconds = self._looked + _LOOK - time.monotonic()
         ready, _, _ = select.select([self._stop, self._near], [], [], max(0.0, seconds))
         if self._near in ready:
             self._near.recv(4_096)
-        self._stop.check()
+        self._stop.raise_if_stopped()
 
-    def _ring(self, future: Future) -> None:
+    def _wake_waiter(self, future: Future) -> None:
         """Ends the waiting; called in a thread of the library's."""
         with suppress(OSError):
             self._far.send(b"\0")
 
 
-def _unrun(batch: Batch, reason: str) -> list[Step]:
-    return [not_run(piece, reason) for piece in batch.pieces]
+def _not_run_steps(batch: Batch, reason: str) -> list[Step]:
+    return [error_piece(piece, reason) for piece in batch.pieces]
 
 
-def _shown(what: object) -> str:
+def _shown_in_one_line(what: object) -> str:
     """In one line."""
-    return shown_text(" ".join(str(what).split()), 200)
+    return printable_text(" ".join(str(what).split()), 200)

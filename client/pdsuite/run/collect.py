@@ -6,12 +6,12 @@ from collections.abc import Iterable, Sequence, Set
 from dataclasses import dataclass, replace
 from pathlib import Path
 
-from pdsuite.faults import Fault, why
-from pdsuite.output.octets import absolute_paths
+from pdsuite.faults import Fault, error_reason
+from pdsuite.output.octets import absolute_path_function
 from pdsuite.run.batches import Script
 from pdsuite.scripts.config import SuiteConfig
-from pdsuite.scripts.discover import ScriptFile, find_with_folders
-from pdsuite.scripts.shards import Shard, members
+from pdsuite.scripts.discover import ScriptFile, find_scripts_and_folders
+from pdsuite.scripts.shards import Shard, scripts_of_shard
 from pdsuite.scripts.text import LONGEST_FILE
 from pdsuite.signals import Stop
 
@@ -23,7 +23,7 @@ class Selection:
     shard: Shard | None = None
     paths: Set[str] | None = None
 
-    def nothing(self) -> str:
+    def empty_message(self) -> str:
         """The words that say that it has no script."""
         return f"shard {self.shard} has no script" if self.paths is None else "none of these scripts failed last"
 
@@ -33,52 +33,54 @@ _WHOLE = Selection()
 INPUT = Path("-")
 
 
-def found_of(
+def find_selected_scripts(
     paths: Sequence[Path], only: Sequence[str], suite: SuiteConfig, stop: Stop, part: Selection = _WHOLE
 ) -> list[ScriptFile]:
     """The scripts that are meant, in the order of their paths; all files with their settings are read."""
-    finding = find_with_folders(paths, only, stop)
+    finding = find_scripts_and_folders(paths, only, stop)
     if not finding.scripts:
         raise Fault("no script found")
-    suite.look(finding.folders)
-    return _chosen(finding.scripts, part)
+    suite.read_folders(finding.folders)
+    return _select_scripts(finding.scripts, part)
 
 
-def input_of(paths: Sequence[Path], suite: SuiteConfig, is_strict: bool = False) -> Script | None:
+def standard_input_script(paths: Sequence[Path], suite: SuiteConfig, is_strict: bool = False) -> Script | None:
     """The script that standard input is, where `-` is meant; it has the settings of the working folder."""
     if INPUT not in paths:
         return None
     if len(paths) > 1:
         raise Fault(f"{INPUT}: standard input stands alone")
     folder = os.path.realpath(os.curdir)
-    suite.look([folder])
-    return replace(_script(0, ScriptFile(str(INPUT), folder, str(INPUT)), suite, is_strict), held=_read_input())
+    suite.read_folders([folder])
+    return replace(
+        _make_script(0, ScriptFile(str(INPUT), folder, str(INPUT)), suite, is_strict), held=_read_standard_input()
+    )
 
 
-def _read_input() -> bytes:
+def _read_standard_input() -> bytes:
     try:
         return sys.stdin.buffer.read(LONGEST_FILE + 1)
     except OSError as error:
-        raise Fault(f"standard input: {why(error)}") from error
+        raise Fault(f"standard input: {error_reason(error)}") from error
 
 
-def scripts_of(found: Iterable[ScriptFile], suite: SuiteConfig, is_strict: bool = False) -> list[Script]:
+def make_scripts(found: Iterable[ScriptFile], suite: SuiteConfig, is_strict: bool = False) -> list[Script]:
     """The scripts with what holds for them; all of them are strict, or those that the files name."""
-    return [_script(index, it, suite, is_strict) for index, it in enumerate(found)]
+    return [_make_script(index, it, suite, is_strict) for index, it in enumerate(found)]
 
 
-def _chosen(found: list[ScriptFile], part: Selection) -> list[ScriptFile]:
+def _select_scripts(found: list[ScriptFile], part: Selection) -> list[ScriptFile]:
     """The scripts of a part. A shard is one of all scripts, so that what failed on its machine is found there again."""
     if part.shard is not None:
-        found = members(found, part.shard)
+        found = scripts_of_shard(found, part.shard)
     if part.paths is None:
         return found
-    absolute = absolute_paths()
+    absolute = absolute_path_function()
     return [it for it in found if absolute(it.path) in part.paths]
 
 
-def _script(index: int, it: ScriptFile, suite: SuiteConfig, is_strict: bool) -> Script:
+def _make_script(index: int, it: ScriptFile, suite: SuiteConfig, is_strict: bool) -> Script:
     if it.fault:
         return Script(index, it.path, (), it.fault)
-    rules = suite.rules(it)
+    rules = suite.rules_of_script(it)
     return Script(index, it.path, rules.settings, "", is_strict or rules.is_strict, rules.expected)

@@ -2,11 +2,11 @@
 
 from dataclasses import replace
 
-from pdsuite.programs.cause_text import lines_of, safe
+from pdsuite.programs.cause_text import block_lines_of, make_printable
 from pdsuite.programs.protocol import Cause
 from pdsuite.programs.verdict import Verdict
-from pdsuite.run.outcomes import Outcome, at_end
-from pdsuite.run.script_style import in_script_style
+from pdsuite.run.outcomes import Outcome, warning_at_end
+from pdsuite.run.script_style import inserts_in_script_style
 from pdsuite.scripts.text import Text
 
 # What has it explain why scripts don't pass, that as JSON, and what those that pass leave at their ends.
@@ -28,7 +28,7 @@ def with_explanation(outcome: Outcome, cause: Cause | None, text: Text) -> Outco
     if cause is None:
         return outcome
     if row.line is None:
-        return replace(outcome, at_end=at_end(row, cause))
-    lines = in_script_style(lines_of(cause), text.octets)
+        return replace(outcome, at_end=warning_at_end(row, cause))
+    lines = inserts_in_script_style(block_lines_of(cause), text.octets)
     explanation = cause if row.verdict is Verdict.SYNTAX else None
-    return replace(outcome, why=safe(str(cause.get("what", ""))), block_lines=lines, explanation=explanation)
+    return replace(outcome, why=make_printable(str(cause.get("what", ""))), block_lines=lines, explanation=explanation)

@@ -8,7 +8,7 @@ from pdsuite.packetdrill.layout import Event, Layout, layout_of
 from pdsuite.packetdrill.lines import Extent, TextLines
 from pdsuite.packetdrill.reader import flat
 from pdsuite.packetdrill.tokens import tokens_of
-from pdsuite.programs.cause_text import safe
+from pdsuite.programs.cause_text import make_printable
 from pdsuite.programs.protocol import Cause
 from pdsuite.programs.verdict import Row
 from pdsuite.run.locate_row import RowLocation, failing_event, locate_row
@@ -22,18 +22,19 @@ _NAME = "name"
 _SCRIPT_PACKET, _ACTUAL_PACKET = "script_packet", "actual_packet"
 
 
-def whole_steps(steps: Iterable[Step]) -> Iterator[Step]:
+def with_whole_explanations(steps: Iterable[Step]) -> Iterator[Step]:
     """The steps, in which each explanation has the place of its row and its packets by field."""
     for step in steps:
         if isinstance(step, SettledPiece):
             whole = [
-                _whole(it, step.causes.get(script.index), step.texts.get(script.index)) for script, it in step.outcomes
+                _with_whole_explanation(it, step.causes.get(script.index), step.texts.get(script.index))
+                for script, it in step.outcomes
             ]
             step = replace(step, outcomes=[(script, it) for (script, _), it in zip(step.outcomes, whole)])
         yield step
 
 
-def _whole(outcome: Outcome, cause: Cause | None, text: Text | None) -> Outcome:
+def _with_whole_explanation(outcome: Outcome, cause: Cause | None, text: Text | None) -> Outcome:
     if cause is None or text is None or outcome.row.line is None:
         return outcome
     return replace(outcome, explanation=explanation_of(outcome.row, cause, text))
@@ -43,9 +44,11 @@ def explanation_of(row: Row, cause: Cause, text: Text) -> Mapping[str, object]:
     """What the program says of a row, safe to print, with the place in the text and the packets by field."""
     script = text.octets.decode("utf-8", "surrogateescape")
     layout, lines = layout_of(script), TextLines(script)
-    explained: dict[str, object] = {key: _safe(value) for key, value in cause.items() if key != _NAME}
+    explained: dict[str, object] = {key: _make_value_printable(value) for key, value in cause.items() if key != _NAME}
     explained["place"] = _place_fields(locate_row(row, cause, layout, lines), lines)
-    fields = {key: _by_field(event) for key, event in _packets(row, cause, layout) if event is not None}
+    fields = {
+        key: _packet_fields(event) for key, event in _script_and_actual_packets(row, cause, layout) if event is not None
+    }
     return {**explained, "fields": fields} if fields else explained
 
 
@@ -62,44 +65,44 @@ def _line_and_column(offset: int, lines: TextLines) -> tuple[int, int]:
     return line + 1, len(lines.text[lines.start(line) : offset].encode("utf-8", "surrogateescape"))
 
 
-def _packets(row: Row, cause: Cause, layout: Layout) -> Iterator[tuple[str, Event | None]]:
+def _script_and_actual_packets(row: Row, cause: Cause, layout: Layout) -> Iterator[tuple[str, Event | None]]:
     """The packet of the script, as its text has it, and the one that was sent."""
     if _SCRIPT_PACKET in cause:
         event = failing_event(row, cause, layout)
-        yield _SCRIPT_PACKET, event if event is not None and event.is_expected else _read(cause[_SCRIPT_PACKET])
+        yield _SCRIPT_PACKET, event if event is not None and event.is_expected else _parse_packet(cause[_SCRIPT_PACKET])
     if _ACTUAL_PACKET in cause:
-        yield _ACTUAL_PACKET, _read(cause[_ACTUAL_PACKET])
+        yield _ACTUAL_PACKET, _parse_packet(cause[_ACTUAL_PACKET])
 
 
-def _read(packet: object) -> Event | None:
+def _parse_packet(packet: object) -> Event | None:
     """A packet of the program's words."""
     events = layout_of(packet).items if isinstance(packet, str) else ()
     return next((it for it in events if it.is_expected), None)
 
 
-def _by_field(event: Event) -> dict[str, object]:
+def _packet_fields(event: Event) -> dict[str, object]:
     """A packet by the names that kinds of failures have, as far as it has these fields."""
     packet = event.item.what
     assert isinstance(packet, Packet)  # what is expected to leave
     fields: dict[str, object] = {
-        it: _written(event, event.fields[it]) for it in ("time", "flags") if it in event.fields
+        it: _field_text(event, event.fields[it]) for it in ("time", "flags") if it in event.fields
     }
     fields["seq"] = {"start": packet.start, "end": packet.end}
     fields |= {name: number for name, number in (("ack", packet.ack), ("win", packet.win)) if number is not None}
     return {**fields, "options": packet.options_text} if packet.options_text else fields
 
 
-def _written(event: Event, extent: Extent) -> str:
+def _field_text(event: Event, extent: Extent) -> str:
     return flat(list(tokens_of(event.text[extent.start : extent.end])))
 
 
-def _safe(value: object) -> object:
+def _make_value_printable(value: object) -> object:
     """What the program has made safe to print, and anything else as it is shown."""
     match value:
         case str():
-            return safe(value)
+            return make_printable(value)
         case list():
-            return [_safe(it) for it in value]
+            return [_make_value_printable(it) for it in value]
         case dict():
-            return {safe(str(key)): _safe(it) for key, it in value.items()}
+            return {make_printable(str(key)): _make_value_printable(it) for key, it in value.items()}
     return value

@@ -15,19 +15,19 @@ from pdsuite.scripts.text import Text
 Record = Callable[[Script, Text], Recording]
 
 
-def differing_steps(steps: Iterable[Step], record: Record) -> Iterator[Step]:
+def with_line_diffs(steps: Iterable[Step], record: Record) -> Iterator[Step]:
     """The steps, in which each script that fails has what its lines were met by."""
     for step in steps:
         if isinstance(step, SettledPiece):
             outcomes = [
-                (it, _with_differences(it, outcome, step.texts.get(it.index), record)) for it, outcome in step.outcomes
+                (it, _with_line_diff(it, outcome, step.texts.get(it.index), record)) for it, outcome in step.outcomes
             ]
             step = replace(step, outcomes=outcomes)
         yield step
 
 
-def _with_differences(script: Script, outcome: Outcome, text: Text | None, record: Record) -> Outcome:
-    if outcome.row.verdict is not Verdict.FAIL or outcome.is_known or text is None:
+def _with_line_diff(script: Script, outcome: Outcome, text: Text | None, record: Record) -> Outcome:
+    if outcome.row.verdict is not Verdict.FAIL or outcome.is_known_failure or text is None:
         return outcome
     written = text.octets.decode("utf-8", "surrogateescape")
     found = line_diff(outcome.row, outcome.block_lines, written, record(script, text), outcome.settings)

@@ -13,25 +13,25 @@ MARK = b"// why: set-up, which is read and never run"
 _EARLY = "early by: "
 
 
-def lacking_steps(steps: Iterable[Step]) -> Iterator[Step]:
+def with_dropped_features(steps: Iterable[Step]) -> Iterator[Step]:
     """The steps, with what acts at the lines at which imported scripts fail."""
     for step in steps:
         if isinstance(step, SettledPiece):
-            outcomes = [(it, _lacking(outcome, step.texts.get(it.index))) for it, outcome in step.outcomes]
+            outcomes = [(it, _with_dropped_feature(outcome, step.texts.get(it.index))) for it, outcome in step.outcomes]
             step = replace(step, outcomes=outcomes)
         yield step
 
 
-def _lacking(outcome: Outcome, text: Text | None) -> Outcome:
+def _with_dropped_feature(outcome: Outcome, text: Text | None) -> Outcome:
     if outcome.row.verdict is not Verdict.FAIL or text is None or text.octets.find(MARK) < 0:
         return outcome
     # Only who has imported scripts pays for what reads them.
     from pdsuite.imports.dropped_features import acting_feature
     from pdsuite.packetdrill.layout import layout_of
-    from pdsuite.run.line_diff import event_in, passed_before
+    from pdsuite.run.line_diff import count_passed_events, event_of_block
 
     layout = layout_of(text.octets.decode("utf-8", "surrogateescape"))
-    place = passed_before(layout, outcome.row, event_in(outcome.block_lines))
+    place = count_passed_events(layout, outcome.row, event_of_block(outcome.block_lines))
     is_early = any(it.startswith(_EARLY) for it in outcome.block_lines)
     found = acting_feature(layout.events, place, outcome.row.word, is_early) if place < len(layout.events) else None
     return (

@@ -3,7 +3,7 @@
 from collections.abc import Iterator, Mapping, Sequence
 from dataclasses import dataclass, replace
 
-from pdsuite.output.octets import shown_text
+from pdsuite.output.octets import printable_text
 from pdsuite.packetdrill.columns import Mark, PacketColumns, PacketField, columns
 from pdsuite.packetdrill.items import SECOND
 from pdsuite.packetdrill.layout import Event, Layout, layout_of
@@ -52,18 +52,20 @@ def diff_lines(
 ) -> tuple[DiffLine, ...]:
     """What each event of a script that fails was met by, in a recording with its trace."""
     layout, recorded = layout_of(text), recorded_in(recording)
-    allowed = tolerance_of(layout.items, tolerance(settings))
-    met = list(match_events(layout.events, recorded, passed_before(layout, row, event_in(block_lines)), allowed))
-    return tuple(_lines(met, recorded, recording, allowed))
+    allowed = tolerance_of(layout.items, tolerance_us_of(settings))
+    met = list(
+        match_events(layout.events, recorded, count_passed_events(layout, row, event_of_block(block_lines)), allowed)
+    )
+    return tuple(_diff_lines_in_order(met, recorded, recording, allowed))
 
 
-def tolerance(settings: Settings) -> int:
+def tolerance_us_of(settings: Settings) -> int:
     """The tolerance that settings give, in microseconds."""
     value = {**DEFAULTS, **dict(settings)}["tolerance_us"]
     return value if isinstance(value, int) else SECOND
 
 
-def passed_before(layout: Layout, row: Row, cause: Mapping[str, object] | None) -> int:
+def count_passed_events(layout: Layout, row: Row, cause: Mapping[str, object] | None) -> int:
     """How many events passed before the one of a row that isn't a pass, as far as the row says."""
     event = failing_event(row, cause, layout)
     if event is not None and event in layout.events:
@@ -71,7 +73,7 @@ def passed_before(layout: Layout, row: Row, cause: Mapping[str, object] | None) 
     return sum(it.item.line < (row.line or 0) for it in layout.events)
 
 
-def event_in(block_lines: Sequence[str]) -> dict[str, object]:
+def event_of_block(block_lines: Sequence[str]) -> dict[str, object]:
     """The event that lines below a row have."""
     return {
         key: line.removeprefix(begin)
@@ -81,7 +83,7 @@ def event_in(block_lines: Sequence[str]) -> dict[str, object]:
     }
 
 
-def _lines(
+def _diff_lines_in_order(
     met: Sequence[MatchedEvent], recorded: Sequence[RecordedEvent], recording: str, allowed: int
 ) -> Iterator[DiffLine]:
     """The events in order; what none of them expects comes before the next that met something."""
@@ -90,39 +92,39 @@ def _lines(
     for it in met:
         if it.recorded is not None:
             while left and left[0].start < it.recorded.start:
-                yield _unexpected(left.pop(0), recording)
+                yield _unexpected_line(left.pop(0), recording)
         yield _event_line(it, recording, allowed)
     for one in left:
-        yield _unexpected(one, recording)
+        yield _unexpected_line(one, recording)
 
 
-def _unexpected(one: RecordedEvent, recording: str) -> DiffLine:
-    return DiffLine(None, (), (PacketField(_sent(one, recording)),), True)
+def _unexpected_line(one: RecordedEvent, recording: str) -> DiffLine:
+    return DiffLine(None, (), (PacketField(_sent_packet_text(one, recording)),), True)
 
 
 def _event_line(met: MatchedEvent, recording: str, allowed: int) -> DiffLine:
     """An event beside what it was met by."""
     event, one = met.event, met.recorded
-    written = _written(event)
+    written = _event_text(event)
     if one is None:
         return DiffLine(event.item.line, (PacketField(written),), (), not event.is_input)
     if not event.is_expected:
         return _call_line(event, one, recording)
     is_late = not met.first - allowed <= one.moment <= met.last + allowed
-    script, actual = map(_marked, columns(written, _sent(one, recording), _TIME if is_late else ""))
+    script, actual = map(_soften_marks, columns(written, _sent_packet_text(one, recording), _TIME if is_late else ""))
     if any(it.mark is not Mark.NONE for it in script):
         return DiffLine(event.item.line, script, actual, True)
     return DiffLine(event.item.line, (PacketField(written),))
 
 
-def _marked(packet: PacketColumns) -> PacketColumns:
+def _soften_marks(packet: PacketColumns) -> PacketColumns:
     """A packet whose marks say no more than that a field differs."""
     return tuple(replace(it, mark=Mark.DIFFERS) if it.mark is Mark.FAILS else it for it in packet)
 
 
 def _call_line(event: Event, one: RecordedEvent, recording: str) -> DiffLine:
     """A call beside its answer; a packet that arrives is met by itself."""
-    written, result = _written(event), event.fields.get("result")
+    written, result = _event_text(event), event.fields.get("result")
     if result is None:
         return DiffLine(event.item.line, (PacketField(written),))
     wanted = event.text[result.start : result.end]
@@ -131,21 +133,21 @@ def _call_line(event: Event, one: RecordedEvent, recording: str) -> DiffLine:
     got = "" if place is None else answered[0].text[place.start : place.end]
     if "".join(got.split()) == "".join(wanted.split()) or not got:
         return DiffLine(event.item.line, (PacketField(written),))
-    before = shown_text(" ".join(event.text[event.item.start : result.start].split()))
+    before = printable_text(" ".join(event.text[event.item.start : result.start].split()))
     marked = PacketField(before, blanks=1)
-    return DiffLine(event.item.line, (marked, _differs(wanted)), (marked, _differs(got)), True)
+    return DiffLine(event.item.line, (marked, _differing_field(wanted)), (marked, _differing_field(got)), True)
 
 
-def _differs(text: str) -> PacketField:
-    return PacketField(shown_text(" ".join(text.split())), Mark.DIFFERS)
+def _differing_field(text: str) -> PacketField:
+    return PacketField(printable_text(" ".join(text.split())), Mark.DIFFERS)
 
 
-def _written(event: Event) -> str:
+def _event_text(event: Event) -> str:
     """An event as its script has it, on one line and safe to print."""
-    return shown_text(" ".join(event.text[event.item.start : event.item.end].split()))
+    return printable_text(" ".join(event.text[event.item.start : event.item.end].split()))
 
 
-def _sent(one: RecordedEvent, recording: str) -> str:
+def _sent_packet_text(one: RecordedEvent, recording: str) -> str:
     """A packet that was sent, with its moment in a comment."""
     moment = f"{one.moment // SECOND}.{one.moment % SECOND:06}"
-    return f"{shown_text(recording[one.start : one.end])} // {moment}"
+    return f"{printable_text(recording[one.start : one.end])} // {moment}"

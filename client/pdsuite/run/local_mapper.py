@@ -8,8 +8,16 @@ from dataclasses import dataclass, field
 from pathlib import Path
 
 from pdsuite.programs.program import Program
-from pdsuite.run.batches import Batch, cut
-from pdsuite.run.run_batches import LoadText, Mapper, Step, load, run_batch_steps, start_explaining, start_with
+from pdsuite.run.batches import Batch, split_by_size
+from pdsuite.run.run_batches import (
+    LoadText,
+    Mapper,
+    Step,
+    load_script_text,
+    run_batch_steps,
+    starter_with_options,
+    starter_without_explanations,
+)
 from pdsuite.signals import Stop, StoppedError
 
 # A program has so many pieces at most, so that others have some, too.
@@ -19,18 +27,20 @@ _AHEAD = 4
 
 
 def local_mapper(
-    program: Path, options: tuple[str, ...], workers: int, stop: Stop, load_text: LoadText = load
+    program: Path, options: tuple[str, ...], workers: int, stop: Stop, load_text: LoadText = load_script_text
 ) -> Mapper:
     """Has batches settled by programs that are started here, and that explain scripts as these options say."""
-    start, plain_start = start_explaining(program, options, 1, stop), start_with(program, 0, 1, stop)
+    start, plain_start = starter_with_options(program, options, 1, stop), starter_without_explanations(
+        program, 0, 1, stop
+    )
     most = max(1, workers)
 
-    def settled(batches: Iterable[Batch]) -> Generator[Step, None, None]:
-        left = (Batch(batch.settings, pieces) for batch in batches for pieces in cut(batch.pieces, _PIECES))
+    def settle_batches(batches: Iterable[Batch]) -> Generator[Step, None, None]:
+        left = (Batch(batch.settings, pieces) for batch in batches for pieces in split_by_size(batch.pieces, _PIECES))
         begun: deque[_RunningBatch] = deque()
         with ExitStack() as held:
             while True:
-                while _has_room(begun, most) and (batch := next(left, None)) is not None:
+                while _can_begin_batch(begun, most) and (batch := next(left, None)) is not None:
                     steps = held.enter_context(closing(run_batch_steps(batch, start, load_text, plain_start)))
                     begun.append(_RunningBatch(steps))
                 if not begun:
@@ -42,12 +52,12 @@ def local_mapper(
                     begun.popleft()
                     continue
                 try:
-                    _wait([it for it in begun if not it.is_over])
+                    _wait_and_advance([it for it in begun if not it.is_over])
                 except StoppedError:
                     yield from (step for it in begun for step in it.steps)
                     raise
 
-    return settled
+    return settle_batches
 
 
 @dataclass
@@ -60,9 +70,9 @@ class _RunningBatch:
     is_over: bool = False
 
     def __post_init__(self) -> None:
-        self.go_on()
+        self.advance_until_wait()
 
-    def go_on(self) -> None:
+    def advance_until_wait(self) -> None:
         """Goes on until its program is to be waited for, or it is over."""
         for step in self.left:
             if isinstance(step, Program):
@@ -72,16 +82,16 @@ class _RunningBatch:
         self.is_over = True
 
 
-def _has_room(begun: Collection[_RunningBatch], most: int) -> bool:
+def _can_begin_batch(begun: Collection[_RunningBatch], most: int) -> bool:
     """Whether a further batch may begin beside these."""
     return len(begun) < _AHEAD * most and sum(not it.is_over for it in begun) < most
 
 
-def _wait(each: Iterable[_RunningBatch]) -> None:
+def _wait_and_advance(each: Iterable[_RunningBatch]) -> None:
     """Waits until some can go on, and lets these."""
     poll = select.poll()
     waiting = {it.program.fileno(): it for it in each if it.program is not None}
     for file in waiting:
         poll.register(file, select.POLLIN)
     for file, _ in poll.poll():
-        waiting[file].go_on()
+        waiting[file].advance_until_wait()

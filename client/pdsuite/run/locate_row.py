@@ -46,7 +46,7 @@ def locate_row(row: Row, cause: Cause | None, layout: Layout, lines: TextLines) 
         return RowLocation(lines.whole_line(0))
     line = min(row.line, lines.count) - 1
     if row.verdict is Verdict.SYNTAX:
-        return RowLocation(_token(line, cause, layout, lines))
+        return RowLocation(_syntax_error_extent(line, cause, layout, lines))
     event = failing_event(row, cause, layout)
     if event is None:
         return RowLocation(lines.whole_line(line))
@@ -64,7 +64,7 @@ def failing_event(row: Row, cause: Cause | None, layout: Layout) -> Event | None
     return layout.of_line(row.line, printed)
 
 
-def _token(line: int, cause: Cause | None, layout: Layout, lines: TextLines) -> Extent:
+def _syntax_error_extent(line: int, cause: Cause | None, layout: Layout, lines: TextLines) -> Extent:
     """The token at which no script goes on, or where a line lacks something; at the end of the text its last line."""
     explanation = cause or {}
     column, number = explanation.get("column"), explanation.get("text_line")
@@ -72,21 +72,21 @@ def _token(line: int, cause: Cause | None, layout: Layout, lines: TextLines) -> 
         return lines.whole_line(line)
     if isinstance(number, int):
         line = number - 1
-    start = lines.start(line) + unshown(lines.content(line), column)
+    start = lines.start(line) + character_at_shown_column(lines.content(line), column)
     found = _TOKEN.match(layout.text, start)
     return Extent(start, start + 1 if found is None else found.end())
 
 
-def unshown(content: str, column: int) -> int:
+def character_at_shown_column(content: str, column: int) -> int:
     """The character of a line that stands at a column of it as the program shows it, where a hidden octet takes 4."""
     shown = 0
     for place, character in enumerate(content):
         if shown >= column:
             return place
-        shown += 1 if " " <= character <= "~" else 4 * _octets(character)
+        shown += 1 if " " <= character <= "~" else 4 * _octet_count(character)
     return len(content)
 
 
-def _octets(character: str) -> int:
+def _octet_count(character: str) -> int:
     """How many octets a character is of; one that isn't UTF-8 stands as Python's `surrogateescape` has it."""
     return 1 if "\udc80" <= character <= "\udcff" else len(character.encode("utf-8", "surrogatepass"))

@@ -5,7 +5,7 @@ from dataclasses import dataclass
 from enum import StrEnum
 from typing import TYPE_CHECKING
 
-from pdsuite.programs.cause_text import safe
+from pdsuite.programs.cause_text import make_printable
 from pdsuite.programs.verdict import Row, Verdict
 from pdsuite.scripts.expectation import Expectation
 from pdsuite.scripts.settings import Settings
@@ -63,21 +63,21 @@ class Outcome:
         return found if isinstance(found, int) else self.row.line
 
     @property
-    def is_known(self) -> bool:
+    def is_known_failure(self) -> bool:
         """Whether the script doesn't pass, as is expected of it."""
-        return self.expected is not None and self.expected.fits(self.row.whole)
+        return self.expected is not None and self.expected.fits_row(self.row.whole_text)
 
     @property
-    def is_unexpected(self) -> bool:
+    def has_unexpected_row(self) -> bool:
         """Whether the script was run, and another row is expected of it."""
-        return self.expected is not None and self.row.verdict is not Verdict.NOT_RUN and not self.is_known
+        return self.expected is not None and self.row.verdict is not Verdict.NOT_RUN and not self.is_known_failure
 
     @property
     def counted_as(self) -> Verdict | CountedAs:
         """How the script is counted. One that couldn't be run is an error, whatever else is expected of it."""
         if self.expected is None or self.row.verdict is Verdict.NOT_RUN:
             return self.row.verdict
-        if self.is_known:
+        if self.is_known_failure:
             return CountedAs.KNOWN
         return self.row.verdict if self.row.verdict is Verdict.ERROR else CountedAs.UNEXPECTED
 
@@ -90,18 +90,18 @@ class Outcome:
         return (words,) if words else ()
 
     @property
-    def passes(self) -> bool:
+    def lets_run_pass(self) -> bool:
         """Whether the script makes no run fail: it passes, and no warning makes it fail, or its row is expected."""
         if self.expected is not None:
-            return self.is_known
+            return self.is_known_failure
         return self.row.verdict is Verdict.PASS and not (self.is_strict and self.warnings)
 
 
-def at_end(row: Row, cause: Mapping[str, object] | None) -> str:
+def warning_at_end(row: Row, cause: Mapping[str, object] | None) -> str:
     """What is to be warned of at the end of a script that passes, in the words that follow `passes, but`."""
     if cause is None or row.verdict is not Verdict.PASS or not row.number:
         return ""
-    return safe(str(cause.get("what", ""))).removeprefix(_IT)
+    return make_printable(str(cause.get("what", ""))).removeprefix(_IT)
 
 
 @dataclass(frozen=True)
@@ -117,7 +117,7 @@ class Totals:
     is_unproved: bool = False
 
     @classmethod
-    def of(cls, outcomes: Iterable[Outcome]) -> "Totals":
+    def of_outcomes(cls, outcomes: Iterable[Outcome]) -> "Totals":
         """The totals of outcomes."""
         counts: dict[Verdict | CountedAs, int] = dict.fromkeys((*Verdict, *CountedAs), 0)
         warned: list[Outcome] = []
@@ -130,32 +130,32 @@ class Totals:
         return cls(counts, sum(len(it.warnings) for it in warned), failing)
 
     @property
-    def scripts(self) -> int:
+    def script_count(self) -> int:
         return sum(self.counts.values())
 
     @property
-    def passing(self) -> int:
+    def passing_count(self) -> int:
         """How many scripts pass, and fail by no warning."""
         return self.counts[Verdict.PASS] - self.failing
 
     @property
-    def mark(self) -> str:
+    def unproved_mark(self) -> str:
         """What ends the last line where the sender isn't proved."""
         return f" {UNPROVED}" if self.is_unproved else ""
 
     def __str__(self) -> str:
         counts = [f"{it.value} {count}" for it, count in self.counts.items() if count or isinstance(it, Verdict)]
         warnings = [f"warnings {self.warnings}"] if self.warnings else []
-        return " ".join([f"total {self.scripts}", *counts, *warnings])
+        return " ".join([f"total {self.script_count}", *counts, *warnings])
 
-    def brief(self) -> str:
+    def nonzero_counts(self) -> str:
         """The counts that aren't 0."""
         counts = [f"{it.value} {count}" for it, count in self.counts.items() if count]
         warnings = [f"warnings {self.warnings}"] if self.warnings else []
-        return " ".join([f"total {self.scripts}", *counts, *warnings])
+        return " ".join([f"total {self.script_count}", *counts, *warnings])
 
-    def status(self) -> int:
+    def exit_status(self) -> int:
         """The exit status: 0 where each script passes or is known not to, 2 where one couldn't be run, else 1."""
         if self.counts[Verdict.ERROR]:
             return 2
-        return 0 if self.passing + self.counts[CountedAs.KNOWN] == self.scripts else 1
+        return 0 if self.passing_count + self.counts[CountedAs.KNOWN] == self.script_count else 1

@@ -6,16 +6,16 @@ from collections.abc import Callable, Generator, Iterable, Iterator, Mapping, Se
 from dataclasses import dataclass, field
 from pathlib import Path
 
-from pdsuite.output.octets import shown_path
+from pdsuite.output.octets import printable_path
 from pdsuite.programs.program import Program, ProgramEndedError
 from pdsuite.programs.protocol import LONGEST_CAUSE, LONGEST_LINE, SETTLE, Cause, UnexpectedAnswerError
-from pdsuite.programs.protocol import add, before_total, causes_in, name_of, rows_in
+from pdsuite.programs.protocol import add_command, parse_causes, parse_new_rows, rows_before_total, script_name
 from pdsuite.programs.verdict import Row, Verdict
 from pdsuite.run.batches import Batch, Piece, Script, outcome_of
 from pdsuite.run.explainer import with_explanation
 from pdsuite.run.outcomes import Outcome
-from pdsuite.scripts.settings import Settings, settings_text
-from pdsuite.scripts.text import Text, UnfitTextError, read_text, text_of
+from pdsuite.scripts.settings import Settings, settings_as_toml
+from pdsuite.scripts.text import Text, UnfitTextError, make_text, read_text
 from pdsuite.signals import Stop
 
 Start = Callable[[Settings], Program]
@@ -41,7 +41,7 @@ class Restart:
 
     def __str__(self) -> str:
         """The line that says so."""
-        return f"pdsuite: {self.reason}; a new run begins at {shown_path(self.script.path)}"
+        return f"pdsuite: {self.reason}; a new run begins at {printable_path(self.script.path)}"
 
 
 @dataclass(frozen=True)
@@ -53,7 +53,7 @@ class UnexplainedScript:
 
     def __str__(self) -> str:
         """The line that says so."""
-        return f"pdsuite: {self.reason}; nothing is told of {shown_path(self.script.path)}"
+        return f"pdsuite: {self.reason}; nothing is told of {printable_path(self.script.path)}"
 
 
 Step = SettledPiece | Restart | UnexplainedScript
@@ -61,50 +61,50 @@ Step = SettledPiece | Restart | UnexplainedScript
 Mapper = Callable[[Iterable[Batch]], Generator[Step, None, None]]
 
 
-def start_with(program: Path, workers: int, cache: int, stop: Stop) -> Start:
+def starter_without_explanations(program: Path, workers: int, cache: int, stop: Stop) -> Start:
     """What starts the program for a run under settings, in which it prints nothing of scripts but their rows."""
-    return start_explaining(program, ("--workers", str(workers)), cache, stop)
+    return starter_with_options(program, ("--workers", str(workers)), cache, stop)
 
 
-def start_explaining(program: Path, options: Sequence[str], cache: int, stop: Stop) -> Start:
+def starter_with_options(program: Path, options: Sequence[str], cache: int, stop: Stop) -> Start:
     """What starts the program for a run under settings, with options that say what it explains of scripts."""
 
     def start(settings: Settings) -> Program:
         words: list[str | Path] = [program, *options, "--cache", str(cache)]
-        text = settings_text(settings)
+        text = settings_as_toml(settings)
         return Program([*words, "--settings", text] if text else words, stop)
 
     return start
 
 
-def load(script: Script) -> Text | str:
+def load_script_text(script: Script) -> Text | str:
     """The text that is in the script's file, or why it can't be run."""
     if script.fault:
         return script.fault
     try:
-        return read_text(script.path) if script.held is None else text_of(script.held)
+        return read_text(script.path) if script.held is None else make_text(script.held)
     except UnfitTextError as unfit:
         return str(unfit)
 
 
 def run_batch(
-    batch: Batch, start: Start, load_text: LoadText = load, plain_start: Start | None = None
+    batch: Batch, start: Start, load_text: LoadText = load_script_text, plain_start: Start | None = None
 ) -> Generator[Step, None, None]:
     """Has a batch settled, as `run_batch_steps` does it, and waits for its programs."""
     with closing(run_batch_steps(batch, start, load_text, plain_start)) as steps:
-        yield from _waited(steps)
+        yield from _waiting_for_programs(steps)
 
 
-def _waited(steps: Iterable[Step | Program]) -> Iterator[Step]:
+def _waiting_for_programs(steps: Iterable[Step | Program]) -> Iterator[Step]:
     for step in steps:
         if isinstance(step, Program):
-            step.wait()
+            step.wait_until_ready()
         else:
             yield step
 
 
 def run_batch_steps(
-    batch: Batch, start: Start, load_text: LoadText = load, plain_start: Start | None = None
+    batch: Batch, start: Start, load_text: LoadText = load_script_text, plain_start: Start | None = None
 ) -> Generator[Step | Program, None, None]:
     """Has a batch settled, and gives way with its program where that is to be waited for.
 
@@ -121,28 +121,28 @@ def run_batch_steps(
         except ProgramEndedError as end:
             piece = left.popleft()
             if len(piece) == 1 and piece[0].index in ended:
-                yield from _without_explanation(piece, batch.settings, plain_start, load_text, str(end))
+                yield from _settle_without_explanation(piece, batch.settings, plain_start, load_text, str(end))
                 continue
             ended.update(script.index for script in piece)
             left.extendleft((script,) for script in reversed(piece))
             yield Restart(piece[0], str(end))
 
 
-def _without_explanation(
+def _settle_without_explanation(
     piece: Piece, settings: Settings, plain_start: Start | None, load_text: LoadText, reason: str
 ) -> Iterator[Step]:
     """Has a script settled on which programs end that explain it."""
     if plain_start is not None:
         try:
             with plain_start(settings) as program:
-                steps = list(_waited(_settle_pieces(program, deque([piece]), load_text)))
+                steps = list(_waiting_for_programs(_settle_pieces(program, deque([piece]), load_text)))
         except ProgramEndedError as end:
             reason = str(end)
         else:
             yield UnexplainedScript(piece[0], reason)
             yield from steps
             return
-    yield not_run(piece, reason)
+    yield error_piece(piece, reason)
 
 
 def _settle_pieces(program: Program, left: deque[Piece], load_text: LoadText) -> Iterator[SettledPiece | Program]:
@@ -155,18 +155,18 @@ def _settle_pieces(program: Program, left: deque[Piece], load_text: LoadText) ->
         rows: list[Row] = []
         causes: dict[int, Cause] = {}
         if texts:
-            names = [name_of(count + number) for number in range(len(texts))]
+            names = [script_name(count + number) for number in range(len(texts))]
             count += len(texts)
-            commands = b"".join(map(add, names, texts.values())) + SETTLE
+            commands = b"".join(map(add_command, names, texts.values())) + SETTLE
             longest = LONGEST_LINE * (count + 2)
-            answer, errors = yield from program.querying(commands, longest, LONGEST_CAUSE * (len(texts) + 1))
-            rows, causes = _read(answer, errors, before, dict(zip(names, texts)), count)
-            before = before_total(answer)
+            answer, errors = yield from program.query_steps(commands, longest, LONGEST_CAUSE * (len(texts) + 1))
+            rows, causes = _read_rows_or_end(answer, errors, before, dict(zip(names, texts)), count)
+            before = rows_before_total(answer)
         left.popleft()
-        yield settled_piece(loaded, rows, causes)
+        yield make_settled_piece(loaded, rows, causes)
 
 
-def _read(
+def _read_rows_or_end(
     answer: bytes, errors: bytes, before: bytes, places: Mapping[bytes, int], count: int
 ) -> tuple[list[Row], dict[int, Cause]]:
     try:
@@ -182,34 +182,36 @@ def read_rows_and_causes(
 
     An explanation of another line than the row's is of no row.
     """
-    rows = rows_in(answer, before, list(places), count)
+    rows = parse_new_rows(answer, before, list(places), count)
     lines = {name: row.line for name, row in zip(places, rows)}
-    causes = causes_in(errors).items()
+    causes = parse_causes(errors).items()
     return rows, {places[name]: it for (name, line), it in causes if name in lines and lines[name] in (None, line)}
 
 
-def settled_piece(
+def make_settled_piece(
     loaded: Sequence[tuple[Script, Text | str]], rows: Iterable[Row], causes: Mapping[int, Cause]
 ) -> SettledPiece:
     """A piece of scripts with their texts, or why they couldn't be run; those that could have these rows."""
     left = iter(rows)
     texts = {script.index: text for script, text in loaded if isinstance(text, Text)}
     outcomes = [
-        _error(script, text) if isinstance(text, str) else _outcome(script, text, next(left), causes.get(script.index))
+        _error_outcome(script, text)
+        if isinstance(text, str)
+        else _explained_outcome(script, text, next(left), causes.get(script.index))
         for script, text in loaded
     ]
     return SettledPiece(outcomes, texts, causes)
 
 
-def _outcome(script: Script, text: Text, row: Row, cause: Cause | None) -> tuple[Script, Outcome]:
+def _explained_outcome(script: Script, text: Text, row: Row, cause: Cause | None) -> tuple[Script, Outcome]:
     line = None if row.line is None else text.line(row.line)
     return script, with_explanation(outcome_of(script, row, line), cause, text)
 
 
-def not_run(piece: Piece, reason: str) -> SettledPiece:
+def error_piece(piece: Piece, reason: str) -> SettledPiece:
     """A piece that couldn't be run."""
-    return SettledPiece([_error(script, reason) for script in piece])
+    return SettledPiece([_error_outcome(script, reason) for script in piece])
 
 
-def _error(script: Script, reason: str) -> tuple[Script, Outcome]:
+def _error_outcome(script: Script, reason: str) -> tuple[Script, Outcome]:
     return script, outcome_of(script, Row(Verdict.ERROR, word=reason))

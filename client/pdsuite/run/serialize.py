@@ -5,16 +5,24 @@ from collections.abc import Callable, Iterator
 from itertools import chain, islice
 from pathlib import Path
 
-from pdsuite.faults import Fault, why
-from pdsuite.output.octets import shown_path
-from pdsuite.programs.locate import PROGRAMS_VARIABLE, REGRESS, digest
+from pdsuite.faults import Fault, error_reason
+from pdsuite.output.octets import printable_path
+from pdsuite.programs.locate import PROGRAMS_VARIABLE, REGRESS, sha256_of
 from pdsuite.programs.protocol import Cause
 from pdsuite.programs.verdict import Row, Verdict
 from pdsuite.run.batches import Batch, Piece, Script
 from pdsuite.run.explainer import EXPLAIN_OPTIONS
-from pdsuite.run.run_batches import SettledPiece, Step, load, run_batch, settled_piece, start_explaining, start_with
+from pdsuite.run.run_batches import (
+    SettledPiece,
+    Step,
+    load_script_text,
+    make_settled_piece,
+    run_batch,
+    starter_with_options,
+    starter_without_explanations,
+)
 from pdsuite.scripts.settings import Settings
-from pdsuite.scripts.text import Text, text_of
+from pdsuite.scripts.text import Text, make_text
 from pdsuite.signals import Stop
 
 # The settings, and pieces of scripts: of each its path and its text, or why it can't be run.
@@ -29,36 +37,38 @@ PlainAnswer = list[str | list[PlainRow]] | str
 _INSTALLED = Path("/usr/bin")
 
 
-def pack(batch: Batch) -> PackedBatch:
+def pack_batch(batch: Batch) -> PackedBatch:
     """A batch with the texts that are in the files now."""
-    return batch.settings, [[(script.path, _plain_text(script)) for script in piece] for piece in batch.pieces]
+    return batch.settings, [[(script.path, _load_plain_text(script)) for script in piece] for piece in batch.pieces]
 
 
-def fault_of(wanted: WantedProgram) -> str:
+def program_fault(wanted: WantedProgram) -> str:
     """Why this machine can't be used, by its program; empty if it can."""
     try:
-        _find(*wanted)
+        _find_wanted_program(*wanted)
     except Fault as fault:
         return str(fault)
     return ""
 
 
-def run_packed(packed_batch: PackedBatch, wanted: WantedProgram) -> PlainAnswer:
+def run_packed_batch(packed_batch: PackedBatch, wanted: WantedProgram) -> PlainAnswer:
     """Settles a batch on the machine where this is called, if its program is that one."""
     try:
-        program = _find(*wanted)
+        program = _find_wanted_program(*wanted)
     except Fault as fault:
         return str(fault)
-    batch, texts = _unpacked(packed_batch)
+    batch, texts = _unpack_batch(packed_batch)
     answer: list[str | list[PlainRow]] = []
     with Stop(signals=()) as stop:
-        start, plain_start = start_explaining(program, EXPLAIN_OPTIONS, 1, stop), start_with(program, 0, 1, stop)
+        start, plain_start = starter_with_options(program, EXPLAIN_OPTIONS, 1, stop), starter_without_explanations(
+            program, 0, 1, stop
+        )
         for step in run_batch(batch, start, lambda it: texts[it.index], plain_start):
             answer.append(_plain_step(step))
     return answer
 
 
-def steps_of(
+def steps_from_answer(
     batch: Batch, packed_batch: PackedBatch, answer: list[str | list[PlainRow]], note: Callable[[str], None]
 ) -> Iterator[Step]:
     """The steps that an answer has of a batch; `note` gets what was printed on the way."""
@@ -67,30 +77,30 @@ def steps_of(
         if isinstance(it, str):
             note(it)
             continue
-        piece = [(script, _text(text)) for script, text in islice(sent, len(it))]
+        piece = [(script, _text_from_plain(text)) for script, text in islice(sent, len(it))]
         answered = [(script, row) for (script, text), row in zip(piece, it) if isinstance(text, Text)]
         rows = (Row(Verdict(verdict), number, word) for _, (verdict, number, word, _) in answered)
-        yield settled_piece(piece, rows, {script.index: row[3] for script, row in answered if row[3] is not None})
+        yield make_settled_piece(piece, rows, {script.index: row[3] for script, row in answered if row[3] is not None})
 
 
-def _plain_text(script: Script) -> bytes | str:
-    text = load(script)
+def _load_plain_text(script: Script) -> bytes | str:
+    text = load_script_text(script)
     return text.octets if isinstance(text, Text) else text
 
 
-def _unpacked(packed_batch: PackedBatch) -> tuple[Batch, dict[int, Text | str]]:
+def _unpack_batch(packed_batch: PackedBatch) -> tuple[Batch, dict[int, Text | str]]:
     settings, plain = packed_batch
     pieces: list[Piece] = []
     texts: dict[int, Text | str] = {}
     for each in plain:
         first = len(texts)
         pieces.append(tuple(Script(index, path, settings) for index, (path, _) in enumerate(each, first)))
-        texts.update((index, _text(it)) for index, (_, it) in enumerate(each, first))
+        texts.update((index, _text_from_plain(it)) for index, (_, it) in enumerate(each, first))
     return Batch(settings, tuple(pieces)), texts
 
 
-def _text(plain: bytes | str) -> Text | str:
-    return text_of(plain) if isinstance(plain, bytes) else plain
+def _text_from_plain(plain: bytes | str) -> Text | str:
+    return make_text(plain) if isinstance(plain, bytes) else plain
 
 
 def _plain_step(step: Step) -> str | list[PlainRow]:
@@ -100,17 +110,17 @@ def _plain_step(step: Step) -> str | list[PlainRow]:
     return [(row.verdict.value, row.number, row.word, step.causes.get(index)) for index, row in rows]
 
 
-def _find(path: str, wanted: str) -> Path:
+def _find_wanted_program(path: str, wanted: str) -> Path:
     """The program of this machine, where it is the one that is wanted."""
     folder = os.environ.get(PROGRAMS_VARIABLE)
     places = [Path(folder, REGRESS)] if folder else [Path(path), _INSTALLED / REGRESS]
     there = [it for it in places if it.is_file() and os.access(it, os.X_OK)]
     if not there:
-        raise Fault(f"no program {' or '.join(map(shown_path, places))}")
+        raise Fault(f"no program {' or '.join(map(printable_path, places))}")
     try:
-        same = [it for it in there if digest(it) == wanted]
+        same = [it for it in there if sha256_of(it) == wanted]
     except OSError as error:
-        raise Fault(f"{shown_path(there[0])}: {why(error)}") from error
+        raise Fault(f"{printable_path(there[0])}: {error_reason(error)}") from error
     if not same:
-        raise Fault(f"{shown_path(there[0])} has another SHA-256")
+        raise Fault(f"{printable_path(there[0])} has another SHA-256")
     return same[0]

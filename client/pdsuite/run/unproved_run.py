@@ -8,15 +8,22 @@ from pdsuite.faults import Fault
 from pdsuite.programs.batch_protocol import ROOM, Answer, Case
 from pdsuite.programs.locate import RECORD, REGRESS
 from pdsuite.programs.program import ProgramEndedError
-from pdsuite.programs.protocol import Cause, UnexpectedAnswerError, add, name_of, set_and_show, set_key
-from pdsuite.programs.recorder import Recording, recording_cases, recording_of
-from pdsuite.programs.refusals import Refusal, distinct_pairs, refused_at_once
-from pdsuite.programs.unproved_batch import ProgramCases, run_cases
+from pdsuite.programs.protocol import (
+    Cause,
+    UnexpectedAnswerError,
+    add_command,
+    script_name,
+    set_and_show_commands,
+    set_command,
+)
+from pdsuite.programs.recorder import Recording, recording_cases, recording_from_answer
+from pdsuite.programs.refusals import Refusal, distinct_key_values, refusals_in_answer
+from pdsuite.programs.unproved_batch import ProgramCases, build_and_run_cases
 from pdsuite.programs.verdict import Row, Verdict
 from pdsuite.run.batches import Batch, Script
-from pdsuite.run.run_batches import SettledPiece, Step, load, read_rows_and_causes, settled_piece
+from pdsuite.run.run_batches import SettledPiece, Step, load_script_text, make_settled_piece, read_rows_and_causes
 from pdsuite.scripts.config import Claim
-from pdsuite.scripts.settings import Settings, set_words
+from pdsuite.scripts.settings import Settings, set_command_words
 from pdsuite.scripts.text import Text
 from pdsuite.signals import Stop
 
@@ -35,18 +42,18 @@ class StartBatch:
     scripts: tuple[tuple[Script, Text], ...]
 
     @property
-    def room(self) -> int:
+    def expected_octets(self) -> int:
         """How many octets are expected to be printed at most."""
-        return sum(_room_for(text) for _, text in self.scripts)
+        return sum(_expected_octets(text) for _, text in self.scripts)
 
-    def names(self) -> list[bytes]:
+    def script_names(self) -> list[bytes]:
         """The names of the scripts in its commands."""
-        return [name_of(number) for number in range(len(self.scripts))]
+        return [script_name(number) for number in range(len(self.scripts))]
 
-    def given(self) -> bytes:
+    def input_commands(self) -> bytes:
         """The commands that set the settings and add the scripts."""
-        sets = [set_key(*set_words(key, value)) for key, value in self.settings]
-        return b"".join(sets + [add(name, text) for name, (_, text) in zip(self.names(), self.scripts)])
+        sets = [set_command(*set_command_words(key, value)) for key, value in self.settings]
+        return b"".join(sets + [add_command(name, text) for name, (_, text) in zip(self.script_names(), self.scripts)])
 
 
 @dataclass(frozen=True)
@@ -57,7 +64,7 @@ class UnprovedResults:
     settled: list[SettledPiece] = field(default_factory=list)
     recordings: Mapping[int, Recording] = field(default_factory=dict)
 
-    def steps(self, batches: Iterable[Batch]) -> Generator[Step, None, None]:
+    def settled_steps(self, batches: Iterable[Batch]) -> Generator[Step, None, None]:
         """The pieces of the batches, in their order."""
         yield from self.settled
 
@@ -75,48 +82,53 @@ class UnprovedPlan:
     records: bool = False
 
     @property
-    def batches(self) -> list[StartBatch]:
-        return [it for piece in self.pieces for it in start_batches(piece)]
+    def all_start_batches(self) -> list[StartBatch]:
+        return [it for piece in self.pieces for it in split_into_start_batches(piece)]
 
     @property
-    def recorded(self) -> list[tuple[Script, Text]]:
+    def scripts_to_record(self) -> list[tuple[Script, Text]]:
         """The scripts that are recorded."""
-        return [one for it in self.batches for one in it.scripts] if self.records else []
+        return [one for it in self.all_start_batches for one in it.scripts] if self.records else []
 
     def program_cases(self, tree: Path) -> list[ProgramCases]:
         """The starts of a tree's programs: one queries the claims, the others run the batches and record."""
-        settings_case = Case((), b"".join(set_and_show(*it) for it in distinct_pairs(self.claims)), is_alone=True)
-        cases = cases_of(self.batches)
-        return [self.explain_cases(tree, [settings_case, *cases]), recording_cases(tree, map(_recorded, self.recorded))]
+        settings_case = Case(
+            (), b"".join(set_and_show_commands(*it) for it in distinct_key_values(self.claims)), is_alone=True
+        )
+        cases = cases_of_batches(self.all_start_batches)
+        return [
+            self.explain_cases(tree, [settings_case, *cases]),
+            recording_cases(tree, map(_settings_and_octets, self.scripts_to_record)),
+        ]
 
     def explain_cases(self, tree: Path, cases: Sequence[Case]) -> ProgramCases:
         """The starts of a tree's program, which explains."""
         return ProgramCases(tree, REGRESS, self.explain_options, tuple(cases))
 
 
-def plan_of(
+def make_plan(
     batches: Iterable[Batch], claims: Iterable[Claim], explain_options: tuple[str, ...], records: bool = False
 ) -> UnprovedPlan:
     """What is to be run of these batches, whose scripts are read."""
-    pieces = [[(script, load(script)) for script in piece] for batch in batches for piece in batch.pieces]
+    pieces = [[(script, load_script_text(script)) for script in piece] for batch in batches for piece in batch.pieces]
     return UnprovedPlan(list(claims), pieces, explain_options, records)
 
 
-def run_unproved(plan: UnprovedPlan, tree: Path, stop: Stop, note: Callable[[str], None]) -> UnprovedResults:
+def run_plan(plan: UnprovedPlan, tree: Path, stop: Stop, note: Callable[[str], None]) -> UnprovedResults:
     """What comes of a plan, after one build or two."""
-    return results_of(plan, run_cases(plan.program_cases(tree), stop), tree, stop, note)
+    return results_from_answers(plan, build_and_run_cases(plan.program_cases(tree), stop), tree, stop, note)
 
 
-def results_of(
+def results_from_answers(
     plan: UnprovedPlan, answers: Sequence[Sequence[Answer]], tree: Path, stop: Stop, note: Callable[[str], None]
 ) -> UnprovedResults:
     """What the answers say. Where a start ends early, a second build starts its scripts one by one."""
     (settings_answers, *explained), recorded = answers
-    if refused := _refused(plan.claims, settings_answers):
+    if refused := _refusals_or_fault(plan.claims, settings_answers):
         return UnprovedResults(refused)
     results = _BatchResults(plan, explained, recorded)
-    results.rerun_alone(tree, stop, note)
-    return UnprovedResults([], [results.settled(piece) for piece in plan.pieces], results.recordings)
+    results.rerun_unanswered_alone(tree, stop, note)
+    return UnprovedResults([], [results.settle_piece(piece) for piece in plan.pieces], results.recordings)
 
 
 class _BatchResults:
@@ -124,11 +136,13 @@ class _BatchResults:
 
     def __init__(self, plan: UnprovedPlan, explained: Sequence[Answer], recorded: Sequence[Answer]) -> None:
         self._plan = plan
-        self._rows, self._unanswered = read_answers(plan.batches, explained)
-        self.recordings = {script.index: recording_of(answer) for (script, _), answer in zip(plan.recorded, recorded)}
-        self._unrecorded = [(one, it.fault) for one, it in zip(plan.recorded, recorded) if it.is_shared]
+        self._rows, self._unanswered = read_answers(plan.all_start_batches, explained)
+        self.recordings = {
+            script.index: recording_from_answer(answer) for (script, _), answer in zip(plan.scripts_to_record, recorded)
+        }
+        self._unrecorded = [(one, it.fault) for one, it in zip(plan.scripts_to_record, recorded) if it.is_shared]
 
-    def rerun_alone(self, tree: Path, stop: Stop, note: Callable[[str], None]) -> None:
+    def rerun_unanswered_alone(self, tree: Path, stop: Stop, note: Callable[[str], None]) -> None:
         """Has each script that another one may have ended started by itself, if there is one."""
         singles = [StartBatch(it.settings, (one,)) for it, _ in self._unanswered for one in it.scripts]
         scripts = [one for one, _ in self._unrecorded]
@@ -139,47 +153,52 @@ class _BatchResults:
             note(f"pdsuite: {RECORD}: {why}; {len(scripts):,} scripts are recorded again, each by itself")
         if not (singles or scripts):
             return
-        cases = [replace(it, is_alone=True) for it in cases_of(singles)]
-        builds = [self._plan.explain_cases(tree, cases), recording_cases(tree, map(_recorded, scripts), is_alone=True)]
-        explained, recorded = run_cases(builds, stop)
+        cases = [replace(it, is_alone=True) for it in cases_of_batches(singles)]
+        builds = [
+            self._plan.explain_cases(tree, cases),
+            recording_cases(tree, map(_settings_and_octets, scripts), is_alone=True),
+        ]
+        explained, recorded = build_and_run_cases(builds, stop)
         again, lost = read_answers(singles, explained)
         self._rows |= again | {it.scripts[0][0].index: (Row(Verdict.ERROR, word=why), None) for it, why in lost}
-        self.recordings |= {script.index: recording_of(answer) for (script, _), answer in zip(scripts, recorded)}
+        self.recordings |= {
+            script.index: recording_from_answer(answer) for (script, _), answer in zip(scripts, recorded)
+        }
 
-    def settled(self, piece: Sequence[tuple[Script, Text | str]]) -> SettledPiece:
+    def settle_piece(self, piece: Sequence[tuple[Script, Text | str]]) -> SettledPiece:
         """What came of a piece."""
         rows = {script.index: self._rows[script.index] for script, text in piece if isinstance(text, Text)}
         causes = {index: cause for index, (_, cause) in rows.items() if cause is not None}
-        return settled_piece(piece, [row for row, _ in rows.values()], causes)
+        return make_settled_piece(piece, [row for row, _ in rows.values()], causes)
 
 
-def _recorded(each: tuple[Script, Text]) -> tuple[Settings, bytes]:
+def _settings_and_octets(each: tuple[Script, Text]) -> tuple[Settings, bytes]:
     script, text = each
     return script.settings, text.octets
 
 
-def start_batches(piece: Iterable[tuple[Script, Text | str]]) -> list[StartBatch]:
+def split_into_start_batches(piece: Iterable[tuple[Script, Text | str]]) -> list[StartBatch]:
     """The scripts of a piece that can be run, in batches of which no great output is expected."""
     batches: list[list[tuple[Script, Text]]] = []
     room = 0
     for script, text in piece:
         if isinstance(text, str):
             continue
-        if not batches or _room_for(text) > room:
+        if not batches or _expected_octets(text) > room:
             batches.append([])
             room = ROOM
-        room -= _room_for(text)
+        room -= _expected_octets(text)
         batches[-1].append((script, text))
     return [StartBatch(it[0][0].settings, tuple(it)) for it in batches]
 
 
-def _room_for(text: Text) -> int:
+def _expected_octets(text: Text) -> int:
     return _LONGEST_EXPLANATION + len(text.octets)
 
 
-def cases_of(batches: Iterable[StartBatch]) -> list[Case]:
+def cases_of_batches(batches: Iterable[StartBatch]) -> list[Case]:
     """The starts of the program on batches."""
-    return [Case((), it.given(), it.room) for it in batches]
+    return [Case((), it.input_commands(), it.expected_octets) for it in batches]
 
 
 def read_answers(
@@ -198,19 +217,19 @@ def read_answers(
 
 def explained_rows(batch: StartBatch, answer: Answer) -> ExplainedRows:
     """The rows of the scripts of a batch, by their places, each with its explanation by keys."""
-    places = {name: script.index for name, (script, _) in zip(batch.names(), batch.scripts)}
-    rows, causes = read_rows_and_causes(_answered(answer).output, answer.errors, b"", places, len(places))
+    places = {name: script.index for name, (script, _) in zip(batch.script_names(), batch.scripts)}
+    rows, causes = read_rows_and_causes(_require_answered(answer).output, answer.errors, b"", places, len(places))
     return {index: (row, causes.get(index)) for index, row in zip(places.values(), rows)}
 
 
-def _answered(answer: Answer) -> Answer:
+def _require_answered(answer: Answer) -> Answer:
     if answer.fault:
         raise UnexpectedAnswerError(answer.fault)
     return answer
 
 
-def _refused(claims: Iterable[Claim], answer: Answer) -> list[Refusal]:
+def _refusals_or_fault(claims: Iterable[Claim], answer: Answer) -> list[Refusal]:
     try:
-        return refused_at_once(claims, _answered(answer).output)
+        return refusals_in_answer(claims, _require_answered(answer).output)
     except (ProgramEndedError, UnexpectedAnswerError) as end:
         raise Fault(str(end)) from end

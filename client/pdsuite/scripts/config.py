@@ -8,14 +8,14 @@ from dataclasses import dataclass
 from pathlib import Path
 
 from pdsuite.faults import Fault, FileFault
-from pdsuite.output.octets import shown_path, shown_text
-from pdsuite.scripts.defaults import help_for
+from pdsuite.output.octets import printable_path, printable_text
+from pdsuite.scripts.defaults import refusal_help
 from pdsuite.scripts.discover import SUFFIX, ScriptFile
-from pdsuite.scripts.expectation import Expectation, is_row
-from pdsuite.scripts.renamed import reason_of
-from pdsuite.scripts.settings import Settings, Value, settings_of
-from pdsuite.scripts.text import UnfitTextError, read_file
-from pdsuite.scripts.toml_places import TomlPlaces, places_in
+from pdsuite.scripts.expectation import Expectation, can_begin_failing_row
+from pdsuite.scripts.renamed import rename_refusal
+from pdsuite.scripts.settings import Settings, Value, sorted_settings
+from pdsuite.scripts.text import UnfitTextError, read_regular_file
+from pdsuite.scripts.toml_places import TomlPlaces, find_toml_places
 
 CONFIG_FILE = "pdsuite.toml"
 OPTION = "--settings"
@@ -70,11 +70,11 @@ class Claim:
     key: str
     value: Value
 
-    def refused(self, reason: str) -> str:
+    def refusal_line(self, reason: str) -> str:
         """The line that says why it is refused."""
         beside = f' (["{_shown(self.table)}"])' if self.table else ""
         own = () if self.place in _OPTIONS else (_STRICT, EXPECT, REASON) if self.table else (_ROOT, _STRICT)
-        helps = help_for(self.key, self.value, reason, own)
+        helps = refusal_help(self.key, self.value, reason, own)
         return f"{self.place}: {_shown(self.key)}: {reason}{beside}" + (f": {helps}" if helps else "")
 
 
@@ -96,64 +96,64 @@ class SuiteConfig:
         self._layers: dict[str, Layer | None] = {}
         self._known: dict[str, tuple[ScriptRules, Layer]] = {}
 
-    def rules(self, script: ScriptFile) -> ScriptRules:
+    def rules_of_script(self, script: ScriptFile) -> ScriptRules:
         """What holds for a script."""
-        common, beside = self._known.get(script.folder) or self._common(script.folder)
+        common, beside = self._known.get(script.folder) or self._folder_rules(script.folder)
         own = beside.tables.get(script.name)
         if own is None:
             return common
-        settings = self._merged(script.folder, own) if own else common.settings
+        settings = self._merge_settings(script.folder, own) if own else common.settings
         is_strict = beside.strict.get(script.name, common.is_strict)
         return ScriptRules(settings, is_strict, beside.expected.get(script.name))
 
-    def settings(self, script: ScriptFile) -> Settings:
+    def settings_of_script(self, script: ScriptFile) -> Settings:
         """The settings of a script."""
-        return self.rules(script).settings
+        return self.rules_of_script(script).settings
 
-    def is_strict(self, script: ScriptFile) -> bool:
+    def is_script_strict(self, script: ScriptFile) -> bool:
         """Whether a warning makes a script fail."""
-        return self.rules(script).is_strict
+        return self.rules_of_script(script).is_strict
 
-    def expected(self, script: ScriptFile) -> Expectation | None:
+    def expectation_of_script(self, script: ScriptFile) -> Expectation | None:
         """The row that a script is known to have, if one is given."""
-        return self.rules(script).expected
+        return self.rules_of_script(script).expected
 
-    def look(self, folders: Iterable[str]) -> None:
+    def read_folders(self, folders: Iterable[str]) -> None:
         """Reads the files of these folders, whichever scripts they are about."""
         for folder in folders:
-            self._layer(folder)
+            self._layer_of_folder(folder)
 
-    def files(self) -> list[tuple[str, Layer]]:
+    def layers_by_folder(self) -> list[tuple[str, Layer]]:
         """The files that were read, by their folders, in the order of their places."""
         files = [(folder, it) for folder, it in self._layers.items() if it is not None]
         return sorted(files, key=lambda it: it[1].place)
 
-    def has_file(self, script: ScriptFile) -> bool:
+    def has_config_file(self, script: ScriptFile) -> bool:
         """Whether some file is there for a script, whatever it says."""
-        return bool(self._chain(script.folder))
+        return bool(self._layers_above(script.folder))
 
-    def claims(self) -> Iterator[Claim]:
+    def all_claims(self) -> Iterator[Claim]:
         """What `--settings` and the files that were read say, whichever scripts it is about."""
-        yield from claims_of([self._option, *(layer for _, layer in self.files())])
+        yield from claims_of_layers([self._option, *(layer for _, layer in self.layers_by_folder())])
 
-    def _common(self, folder: str) -> tuple[ScriptRules, Layer]:
+    def _folder_rules(self, folder: str) -> tuple[ScriptRules, Layer]:
         """What holds for all scripts of a folder of which the file beside them says nothing, and that file."""
-        is_strict = next((it.strict[""] for it in self._chain(folder) if "" in it.strict), False)
-        known = ScriptRules(self._merged(folder, {}), is_strict, None), self._layer(folder) or _EMPTY
+        is_strict = next((it.strict[""] for it in self._layers_above(folder) if "" in it.strict), False)
+        known = ScriptRules(self._merge_settings(folder, {}), is_strict, None), self._layer_of_folder(folder) or _EMPTY
         self._known[folder] = known
         return known
 
-    def _merged(self, folder: str, own: Table) -> Settings:
+    def _merge_settings(self, folder: str, own: Table) -> Settings:
         merged: dict[str, Value] = {}
-        for layer in reversed(self._chain(folder)):
+        for layer in reversed(self._layers_above(folder)):
             merged.update(layer.keys)
-        return settings_of({**merged, **own, **self._option.keys})
+        return sorted_settings({**merged, **own, **self._option.keys})
 
-    def _chain(self, folder: str) -> list[Layer]:
+    def _layers_above(self, folder: str) -> list[Layer]:
         """The layers of a folder, the nearest first."""
         chain: list[Layer] = []
         while True:
-            layer = self._layer(folder)
+            layer = self._layer_of_folder(folder)
             if layer is not None:
                 chain.append(layer)
             above = os.path.dirname(folder)
@@ -161,94 +161,100 @@ class SuiteConfig:
                 return chain
             folder = above
 
-    def _layer(self, folder: str) -> Layer | None:
+    def _layer_of_folder(self, folder: str) -> Layer | None:
         if folder not in self._layers:
             self._layers[folder] = self._read(Path(folder, CONFIG_FILE))
         return self._layers[folder]
 
 
-def layer_of(place: str, octets: bytes) -> Layer:
+def parse_layer(place: str, octets: bytes) -> Layer:
     """The layer that a file holds, or a fault where it isn't TOML, or a key of the client's own has another value."""
-    table = _table_of(place, octets)
-    places = places_in(place, octets.decode())
-    _refuse_unquoted(places, table)
-    root = _truth_of(table, _ROOT, places)
+    table = _parse_toml(place, octets)
+    places = find_toml_places(place, octets.decode())
+    _refuse_unquoted_names(places, table)
+    root = _take_truth_value(table, _ROOT, places)
     tables = {name: dict(it) for name, it in table.items() if name.endswith(SUFFIX) and isinstance(it, Mapping)}
     keys = {name: it for name, it in table.items() if name not in tables}
-    strict_values = {name: _truth_of(it, _STRICT, places, name) for name, it in {"": keys, **tables}.items()}
+    strict_values = {name: _take_truth_value(it, _STRICT, places, name) for name, it in {"": keys, **tables}.items()}
     strict = {name: it for name, it in strict_values.items() if it is not None}
-    _refuse_expected(places, keys)
-    rows = {name: it for name, table in tables.items() if (it := _expected_of(places, name, table)) is not None}
+    _refuse_expectation_outside_tables(places, keys)
+    rows = {name: it for name, table in tables.items() if (it := _take_expectation(places, name, table)) is not None}
     return Layer(places, root or False, keys, tables, strict, rows)
 
 
-def _truth_of(table: dict[str, Value], key: str, places: TomlPlaces, name: str = "") -> bool | None:
+def _take_truth_value(table: dict[str, Value], key: str, places: TomlPlaces, name: str = "") -> bool | None:
     """A truth value that is the client's own, taken out of a table; a fault where it is something else."""
     value = table.pop(key, None)
     if value is None or isinstance(value, bool):
         return value
     beside = f' (["{_shown(name)}"])' if name else ""
-    raise FileFault(f"{places.at(name, key)}: {key}: BadValue{beside}: it takes true or false")
+    raise FileFault(f"{places.file_and_line(name, key)}: {key}: BadValue{beside}: it takes true or false")
 
 
-def _expected_of(places: TomlPlaces, name: str, table: dict[str, Value]) -> Expectation | None:
+def _take_expectation(places: TomlPlaces, name: str, table: dict[str, Value]) -> Expectation | None:
     """The row that is expected of a script, with its reason, taken out of its table; neither stands alone."""
     row, reason = table.pop(EXPECT, None), table.pop(REASON, None)
     beside = f'(["{_shown(name)}"])'
     if row is None and reason is None:
         return None
     if reason is None:
-        raise FileFault(f"{places.at(name, EXPECT)}: {EXPECT}: needs a {REASON} beside it {beside}")
+        raise FileFault(f"{places.file_and_line(name, EXPECT)}: {EXPECT}: needs a {REASON} beside it {beside}")
     if row is None:
-        raise FileFault(f"{places.at(name, REASON)}: {REASON}: needs {EXPECT} beside it {beside}")
-    if not isinstance(row, str) or not is_row(row):
+        raise FileFault(f"{places.file_and_line(name, REASON)}: {REASON}: needs {EXPECT} beside it {beside}")
+    if not isinstance(row, str) or not can_begin_failing_row(row):
         takes = 'it takes a row that doesn\'t pass, as "fail 12 seq", or its first words'
-        raise FileFault(f"{places.at(name, EXPECT)}: {EXPECT}: BadValue {beside}: {takes}")
+        raise FileFault(f"{places.file_and_line(name, EXPECT)}: {EXPECT}: BadValue {beside}: {takes}")
     if not isinstance(reason, str) or not reason.strip():
-        raise FileFault(f"{places.at(name, REASON)}: {REASON}: BadValue {beside}: it takes a text that isn't empty")
+        raise FileFault(
+            f"{places.file_and_line(name, REASON)}: {REASON}: BadValue {beside}: it takes a text that isn't empty"
+        )
     return Expectation(row, _shown(reason))
 
 
-def _refuse_expected(places: TomlPlaces, keys: Table) -> None:
+def _refuse_expectation_outside_tables(places: TomlPlaces, keys: Table) -> None:
     """Raises a fault where a row is expected of no script."""
     for key in (EXPECT, REASON):
         if key in keys:
-            raise FileFault(f'{places.at("", key)}: {key}: stands in no script\'s table, as ["NAME{SUFFIX}"] is')
+            raise FileFault(
+                f'{places.file_and_line("", key)}: {key}: stands in no script\'s table, as ["NAME{SUFFIX}"] is'
+            )
 
 
-def _refuse_unquoted(places: TomlPlaces, table: Table) -> None:
+def _refuse_unquoted_names(places: TomlPlaces, table: Table) -> None:
     """Raises a fault where a script's name stands without quotes: its parts are then tables in tables."""
-    for name in _unquoted(table):
-        raise FileFault(f'{places.at(name)}: [{_shown(name)}]: a script\'s name stands in quotes: ["{_shown(name)}"]')
+    for name in _unquoted_script_names(table):
+        raise FileFault(
+            f'{places.file_and_line(name)}: [{_shown(name)}]: a script\'s name stands in quotes: ["{_shown(name)}"]'
+        )
 
 
-def _unquoted(table: Table, before: str = "", deepest: int = _DEEPEST) -> Iterator[str]:
+def _unquoted_script_names(table: Table, before: str = "", deepest: int = _DEEPEST) -> Iterator[str]:
     """The names that aren't quoted, of so many parts at most."""
     for key, value in table.items():
         if isinstance(value, Mapping):
             if before and key == _PART:
                 yield f"{before}{key}"
             elif deepest > 1 and not key.endswith(SUFFIX):
-                yield from _unquoted(value, f"{before}{key}.", deepest - 1)
+                yield from _unquoted_script_names(value, f"{before}{key}.", deepest - 1)
 
 
-def option_of(text: str, option: str = OPTION) -> Layer:
+def layer_of_option(text: str, option: str = OPTION) -> Layer:
     """The layer of `--settings`, or of such an option, which has neither tables nor keys of the client's own."""
     octets = text.encode("utf-8", "surrogateescape")
-    return Layer(TomlPlaces(option, {}), False, _table_of(option, octets), {}, {}, {})
+    return Layer(TomlPlaces(option, {}), False, _parse_toml(option, octets), {}, {}, {})
 
 
-def _table_of(place: str, octets: bytes) -> dict[str, Value]:
+def _parse_toml(place: str, octets: bytes) -> dict[str, Value]:
     try:
         return tomllib.loads(octets.decode())
     except (ValueError, RecursionError) as error:
-        words = f"no TOML: {_why_no_toml(error, octets)}"
+        words = f"no TOML: {_toml_error_reason(error, octets)}"
         if place in _OPTIONS:
             raise Fault(f"{place}: {words}") from error
-        raise FileFault(f"{place}:{_line_without_toml(error, octets)}: {words}") from error
+        raise FileFault(f"{place}:{_line_of_toml_error(error, octets)}: {words}") from error
 
 
-def _line_without_toml(error: ValueError | RecursionError, octets: bytes) -> int:
+def _line_of_toml_error(error: ValueError | RecursionError, octets: bytes) -> int:
     """The line at which octets are no TOML: their last one where they break off, and 1 where no line is known."""
     if isinstance(error, UnicodeDecodeError):
         return octets.count(b"\n", 0, error.start) + 1
@@ -258,7 +264,7 @@ def _line_without_toml(error: ValueError | RecursionError, octets: bytes) -> int
     return 1 if found is None else int(found[1])
 
 
-def _why_no_toml(error: ValueError | RecursionError, octets: bytes) -> str:
+def _toml_error_reason(error: ValueError | RecursionError, octets: bytes) -> str:
     """Why octets are no TOML, in the words of Python where it has any for people."""
     if isinstance(error, UnicodeDecodeError):
         return f"octet 0x{octets[error.start]:02x} is no UTF-8"
@@ -270,52 +276,52 @@ def _why_no_toml(error: ValueError | RecursionError, octets: bytes) -> str:
     return _shown(str(error))
 
 
-def claims_of(layers: Iterable[Layer]) -> Iterator[Claim]:
+def claims_of_layers(layers: Iterable[Layer]) -> Iterator[Claim]:
     """What layers say, one after another."""
     for layer in layers:
         for key, value in layer.keys.items():
-            yield Claim(layer.places.at("", key), "", key, value)
+            yield Claim(layer.places.file_and_line("", key), "", key, value)
         for name, table in layer.tables.items():
             for key, value in table.items():
-                yield Claim(layer.places.at(name, key), name, key, value)
+                yield Claim(layer.places.file_and_line(name, key), name, key, value)
 
 
-def old_names(claims: Iterable[Claim]) -> Iterator[str]:
+def old_name_refusals(claims: Iterable[Claim]) -> Iterator[str]:
     """The lines of claims by keys or words that have another name now, as where a program refuses them."""
     for claim in claims:
-        if (reason := reason_of(claim.key, claim.value)) is not None:
-            yield claim.refused(reason)
+        if (reason := rename_refusal(claim.key, claim.value)) is not None:
+            yield claim.refusal_line(reason)
 
 
 def read_layer(path: Path) -> Layer | None:
     """The layer that a file holds, if it is there."""
-    octets = read_octets(path)
-    return None if octets is None else layer_of(place_of(path), octets)
+    octets = read_config_octets(path)
+    return None if octets is None else parse_layer(shown_place(path), octets)
 
 
-def read_octets(path: Path) -> bytes | None:
+def read_config_octets(path: Path) -> bytes | None:
     """The octets of a file, if it is there."""
     if not os.path.lexists(path):
         return None
     try:
-        octets = read_file(path, LONGEST + 1)
+        octets = read_regular_file(path, LONGEST + 1)
     except UnfitTextError as unfit:
-        raise Fault(f"{place_of(path)}: {unfit}") from unfit
+        raise Fault(f"{shown_place(path)}: {unfit}") from unfit
     if len(octets) > LONGEST:
-        raise Fault(f"{place_of(path)}: more than {LONGEST:,} octets")
+        raise Fault(f"{shown_place(path)}: more than {LONGEST:,} octets")
     return octets
 
 
-def place_of(path: Path) -> str:
+def shown_place(path: Path) -> str:
     """Where a file stands, as people see it."""
-    return shown_path(_nearer(path))
+    return printable_path(_relative_if_below_here(path))
 
 
-def _nearer(path: Path) -> Path:
+def _relative_if_below_here(path: Path) -> Path:
     """The path from the working folder, where it lies below that."""
     here = Path.cwd()
     return path.relative_to(here) if path.is_relative_to(here) else path
 
 
 def _shown(text: str) -> str:
-    return shown_text(text)
+    return printable_text(text)

@@ -3,10 +3,10 @@
 from collections.abc import Iterable, Iterator, Mapping
 from dataclasses import dataclass
 
-from pdsuite.output.octets import shown_text
+from pdsuite.output.octets import printable_text
 from pdsuite.scripts.discover import SUFFIX
-from pdsuite.scripts.renamed import BAD_VALUE, UNKNOWN_KEY, new_name
-from pdsuite.scripts.settings import Settings, Value, shown_value
+from pdsuite.scripts.renamed import BAD_VALUE, UNKNOWN_KEY, new_name_hint
+from pdsuite.scripts.settings import Settings, Value, value_as_toml
 
 
 @dataclass(frozen=True, slots=True)
@@ -19,7 +19,7 @@ class Number:
     unit: str
 
     @property
-    def takes(self) -> str:
+    def accepted_values(self) -> str:
         """What it takes, for people."""
         return f"{self.least:,} to {self.most:,} {self.unit}"
 
@@ -32,9 +32,9 @@ class Word:
     words: tuple[Value, ...] = (True, False)
 
     @property
-    def takes(self) -> str:
+    def accepted_values(self) -> str:
         """What it takes, for people."""
-        return " or ".join(map(shown_value, self.words))
+        return " or ".join(map(value_as_toml, self.words))
 
 
 # made by tools/settings_table.py client
@@ -60,13 +60,13 @@ KEYS: dict[str, Number | Word] = {
 DEFAULTS: dict[str, Value] = {key: it.default for key, it in KEYS.items()}
 
 
-def can_be_set(old: Settings, new: Settings) -> bool:
+def can_switch_settings(old: Settings, new: Settings) -> bool:
     """Whether a run with the old settings can be given the new ones: of each key that goes the default is known."""
     after = dict(new)
     return all(key in after or key in DEFAULTS for key, _ in old)
 
 
-def changed_keys(old: Settings, new: Settings) -> Iterator[tuple[str, Value]]:
+def changed_settings(old: Settings, new: Settings) -> Iterator[tuple[str, Value]]:
     """The keys whose value changes, each with its new one: the default for a key that goes."""
     before, after = {**DEFAULTS, **dict(old)}, {**DEFAULTS, **dict(new)}
     for key in sorted(after):
@@ -74,7 +74,7 @@ def changed_keys(old: Settings, new: Settings) -> Iterator[tuple[str, Value]]:
             yield key, after[key]
 
 
-def nearest(word: str, words: Iterable[str]) -> str | None:
+def nearest_word(word: str, words: Iterable[str]) -> str | None:
     """The word that a misspelt one may have been meant to be, if one is near; small and capital letters are alike."""
     from difflib import get_close_matches  # only who mistypes pays for what compares
 
@@ -83,25 +83,25 @@ def nearest(word: str, words: Iterable[str]) -> str | None:
     return alike[near[0]] if near else None
 
 
-def _is_quoted(key: str, value: Value) -> bool:
+def _is_needlessly_quoted(key: str, value: Value) -> bool:
     """Whether a text stands where the same without quotes may be taken."""
     takes = KEYS[key]
     if not isinstance(value, str):
         return False
-    return value.isdecimal() if isinstance(takes, Number) else value in map(shown_value, takes.words)
+    return value.isdecimal() if isinstance(takes, Number) else value in map(value_as_toml, takes.words)
 
 
-def help_for(key: str, value: Value, reason: str, others: Iterable[str] = ()) -> str | None:
+def refusal_help(key: str, value: Value, reason: str, others: Iterable[str] = ()) -> str | None:
     """What helps against a refusal of a key or its value; `others` are the client's own keys in that place."""
-    name = new_name(key, value)
+    name = new_name_hint(key, value)
     if reason == BAD_VALUE and key in KEYS:
-        takes = f"it takes {KEYS[key].takes}"
-        return f"{takes}; {name}" if name else takes + (", without quotes" if _is_quoted(key, value) else "")
+        takes = f"it takes {KEYS[key].accepted_values}"
+        return f"{takes}; {name}" if name else takes + (", without quotes" if _is_needlessly_quoted(key, value) else "")
     if reason != UNKNOWN_KEY or key in KEYS:
         return None
     if name is not None:
         return name
     if isinstance(value, Mapping) and not key.endswith(SUFFIX):
-        return f'a table is of a script, by its whole name: ["{shown_text(key)}{SUFFIX}"]'
-    near = nearest(key, [*KEYS, *others])
+        return f'a table is of a script, by its whole name: ["{printable_text(key)}{SUFFIX}"]'
+    near = nearest_word(key, [*KEYS, *others])
     return f"the nearest is {near}" if near else None

@@ -6,7 +6,7 @@ from dataclasses import dataclass
 from fnmatch import fnmatchcase
 from pathlib import Path
 
-from pdsuite.faults import why
+from pdsuite.faults import error_reason
 from pdsuite.signals import Stop
 
 SUFFIX = ".pkt"
@@ -32,52 +32,52 @@ class FoundScripts:
     folders: set[str]
 
 
-def find(paths: Iterable[Path], only: Sequence[str], stop: Stop) -> list[ScriptFile]:
+def find_scripts(paths: Iterable[Path], only: Sequence[str], stop: Stop) -> list[ScriptFile]:
     """All scripts in the order of their paths, each file once, under the first of its paths.
 
     Where there are patterns, only those that fit one of them.
     """
-    return find_with_folders(paths, only, stop).scripts
+    return find_scripts_and_folders(paths, only, stop).scripts
 
 
-def find_with_folders(paths: Iterable[Path], only: Sequence[str], stop: Stop) -> FoundScripts:
+def find_scripts_and_folders(paths: Iterable[Path], only: Sequence[str], stop: Stop) -> FoundScripts:
     """The same scripts, and the folders in which one that comes would be found."""
     folders: set[str] = set()
-    found = sorted(_all(paths, folders, stop), key=lambda it: os.fsencode(it.path))
+    found = sorted(_scripts_at_paths(paths, folders, stop), key=lambda it: os.fsencode(it.path))
     first: dict[tuple[str, str], ScriptFile] = {}
     for it in found:
-        if it.fault or not only or any(fits(it.path, pattern) for pattern in only):
+        if it.fault or not only or any(fits_pattern(it.path, pattern) for pattern in only):
             first.setdefault((it.folder, it.name), it)
     return FoundScripts(list(first.values()), folders)
 
 
-def fits(path: str, pattern: str) -> bool:
+def fits_pattern(path: str, pattern: str) -> bool:
     """Whether a pattern fits a path, or the last name in it."""
     return fnmatchcase(path, pattern) or fnmatchcase(os.path.basename(path), pattern)
 
 
-def _all(paths: Iterable[Path], looked: set[str], stop: Stop) -> Iterator[ScriptFile]:
+def _scripts_at_paths(paths: Iterable[Path], looked: set[str], stop: Stop) -> Iterator[ScriptFile]:
     for path in paths:
         try:
             is_folder = path.is_dir()
             path.stat()
         except (OSError, ValueError) as error:
-            yield _lost(str(path), error)
+            yield _unreadable_script(str(path), error)
             continue
         if is_folder:
-            yield from _in_folder(path, looked, stop)
+            yield from _scripts_in_folder(path, looked, stop)
         else:
-            found = _file(str(path))
+            found = _script_file(str(path))
             looked.add(found.folder)
             yield found
 
 
-def _in_folder(top: Path, looked: set[str], stop: Stop) -> Iterator[ScriptFile]:
+def _scripts_in_folder(top: Path, looked: set[str], stop: Stop) -> Iterator[ScriptFile]:
     """The scripts in a folder and below it; links to folders and hidden names are left out."""
     before = "" if str(top) == os.curdir else os.path.join(top, "")
     folders = [(before, os.path.realpath(top))]
     while folders:
-        stop.check()
+        stop.raise_if_stopped()
         before, real = folders.pop()
         looked.add(real)
         try:
@@ -91,15 +91,15 @@ def _in_folder(top: Path, looked: set[str], stop: Stop) -> Iterator[ScriptFile]:
                     elif name.endswith(SUFFIX) and not entry.is_symlink():
                         yield ScriptFile(before + name, real, name)
                     elif name.endswith(SUFFIX) and not os.path.isdir(entry.path):
-                        yield _file(before + name)
+                        yield _script_file(before + name)
         except OSError as error:
-            yield _lost(before.rstrip("/") or before, error)
+            yield _unreadable_script(before.rstrip("/") or before, error)
 
 
-def _file(path: str) -> ScriptFile:
+def _script_file(path: str) -> ScriptFile:
     folder, name = os.path.split(os.path.realpath(path))
     return ScriptFile(path, folder, name)
 
 
-def _lost(path: str, error: OSError | ValueError) -> ScriptFile:
-    return ScriptFile(path, os.path.abspath(path), "", why(error))
+def _unreadable_script(path: str, error: OSError | ValueError) -> ScriptFile:
+    return ScriptFile(path, os.path.abspath(path), "", error_reason(error))

@@ -17,11 +17,11 @@ class Expectation:
     row: str
     reason: str
 
-    def fits(self, row: str) -> bool:
+    def fits_row(self, row: str) -> bool:
         """Whether a row, as the program says it without the script's name, has these words first."""
         return row.startswith(self.row) and row[len(self.row) : len(self.row) + 1] in _ENDS
 
 
-def is_row(words: str) -> bool:
+def can_begin_failing_row(words: str) -> bool:
     """Whether a row that doesn't pass can have these words first."""
     return _ROW.fullmatch(words) is not None

@@ -18,13 +18,13 @@ class FileDiff:
     new: bytes
 
     @property
-    def counts(self) -> tuple[int, int]:
+    def added_and_removed_counts(self) -> tuple[int, int]:
         """How many lines come, and how many go."""
-        signs = [line[:1] for line in hunks_of(self.old, self.new)]
+        signs = [line[:1] for line in unified_hunks(self.old, self.new)]
         return signs.count("+"), signs.count("-")
 
 
-def as_written(old: bytes, recording: bytes) -> bytes:
+def match_line_ends(old: bytes, recording: bytes) -> bytes:
     """A recording with the ends of lines that a file has, and with no newline after the last line where it has none."""
     newlines = old.count(b"\n")
     if newlines and newlines == old.count(b"\r\n"):
@@ -34,35 +34,35 @@ def as_written(old: bytes, recording: bytes) -> bytes:
     return recording
 
 
-def hunks_of(old: bytes, new: bytes) -> Iterator[str]:
+def unified_hunks(old: bytes, new: bytes) -> Iterator[str]:
     """The lines of a unified diff between two texts, after its head."""
-    before, after = _lines(old), _lines(new)
+    before, after = _split_lines(old), _split_lines(new)
     for group in SequenceMatcher(None, before, after, autojunk=False).get_grouped_opcodes(_AROUND):
         first, last = group[0], group[-1]
-        yield f"@@ -{_range(first[1], last[2])} +{_range(first[3], last[4])} @@"
+        yield f"@@ -{_unified_range(first[1], last[2])} +{_unified_range(first[3], last[4])} @@"
         for tag, begin, end, new_begin, new_end in group:
             if tag == "equal":
-                yield from _signed(" ", before[begin:end])
+                yield from _prefix_lines(" ", before[begin:end])
                 continue
-            yield from _signed("-", before[begin:end])
-            yield from _signed("+", after[new_begin:new_end])
+            yield from _prefix_lines("-", before[begin:end])
+            yield from _prefix_lines("+", after[new_begin:new_end])
 
 
-def _lines(text: bytes) -> list[str]:
+def _split_lines(text: bytes) -> list[str]:
     """The lines, each with its newline."""
     lines = [f"{line}\n" for line in text.decode("utf-8", "backslashreplace").split("\n")]
     last = lines.pop().removesuffix("\n")
     return [*lines, last] if last else lines
 
 
-def _signed(sign: str, lines: list[str]) -> Iterator[str]:
+def _prefix_lines(sign: str, lines: list[str]) -> Iterator[str]:
     for line in lines:
         yield sign + line.removesuffix("\n")
         if not line.endswith("\n"):
             yield _NO_NEWLINE
 
 
-def _range(begin: int, end: int) -> str:
+def _unified_range(begin: int, end: int) -> str:
     """Lines as a unified diff names them."""
     count = end - begin
     if count == 1:

@@ -21,26 +21,26 @@ WORDS: Mapping[str, Mapping[str, str]] = {
 }
 
 
-def reason_of(key: str, value: Value) -> str | None:
+def rename_refusal(key: str, value: Value) -> str | None:
     """Why the program refuses a key or a value that has another name now; None of all others."""
     if key in KEYS:
         return UNKNOWN_KEY
-    return BAD_VALUE if _word(key, value) else None
+    return BAD_VALUE if _new_word(key, value) else None
 
 
-def new_name(key: str, value: Value) -> str | None:
+def new_name_hint(key: str, value: Value) -> str | None:
     """What to write in place of a key, of its value or of both, in words; None where neither has another name."""
-    name, word = KEYS.get(key), _word(KEYS.get(key, key), value)
+    name, word = KEYS.get(key), _new_word(KEYS.get(key, key), value)
     parts = [f"its name is {name}"] if name else []
     return " and ".join([*parts, *([f'the word for "{value}" is "{word}"'] if word else [])]) or None
 
 
-def _word(key: str, value: Value) -> str | None:
+def _new_word(key: str, value: Value) -> str | None:
     """The word for an old one."""
     return WORDS.get(key, {}).get(value) if isinstance(value, str) else None
 
 
-def old_setting(key: str) -> str:
+def old_name_in_words(key: str) -> str:
     """The old name of a setting, with the old word for each word that it takes."""
     words = {word: old_word(key, word) for word in WORDS.get(key, {}).values()}
     return "".join([OLD_KEYS[key], *(f', with "{old}" for "{word}"' for word, old in words.items())])

@@ -16,12 +16,12 @@ _DIGITS = 20
 _NONE = "?"
 
 
-def settings_of(table: Mapping[str, Value]) -> Settings:
+def sorted_settings(table: Mapping[str, Value]) -> Settings:
     """The settings of a table."""
     return tuple(sorted(table.items()))
 
 
-def set_words(key: str, value: Value) -> tuple[str, str]:
+def set_command_words(key: str, value: Value) -> tuple[str, str]:
     """Key and value as words of a `set` command.
 
     Where no word can hold them, a word stands for them that the program refuses too.
@@ -29,12 +29,12 @@ def set_words(key: str, value: Value) -> tuple[str, str]:
     return (key if _KEY.fullmatch(key) else _NONE, _value_word(value))
 
 
-def settings_text(settings: Settings) -> str:
+def settings_as_toml(settings: Settings) -> str:
     """The settings as a TOML text for `--settings`; each of them was accepted."""
-    return "\n".join(f"{key} = {shown_value(value)}" for key, value in settings)
+    return "\n".join(f"{key} = {value_as_toml(value)}" for key, value in settings)
 
 
-def shown_value(value: Value) -> str:
+def value_as_toml(value: Value) -> str:
     """A value as TOML has it, where it is a number, a truth value or a word."""
     if isinstance(value, bool):
         return "true" if value else "false"

@@ -22,14 +22,14 @@ class Shard:
         return f"{self.number}/{self.count}"
 
 
-def shard_of(words: str) -> Shard | None:
+def parse_shard(words: str) -> Shard | None:
     """The shard that is written as K/N, where there can be one."""
     found = _WORDS.fullmatch(words)
     shard = Shard(int(found[1]), int(found[2])) if found else None
     return shard if shard is not None and 1 <= shard.number <= shard.count else None
 
 
-def parts(octets: Mapping[str, int], count: int) -> list[list[str]]:
+def split_by_octets(octets: Mapping[str, int], count: int) -> list[list[str]]:
     """The names in so many parts, each name in one of them, so that none has many more octets than another.
 
     The greatest come first, each into the part that has the fewest octets by then. Parts that stay empty are left out.
@@ -44,15 +44,15 @@ def parts(octets: Mapping[str, int], count: int) -> list[list[str]]:
     return chosen
 
 
-def members(found: Sequence[ScriptFile], shard: Shard) -> list[ScriptFile]:
+def scripts_of_shard(found: Sequence[ScriptFile], shard: Shard) -> list[ScriptFile]:
     """The scripts of a shard, in the order in which all were found."""
     names = [os.path.abspath(it.path) for it in found]
-    each = parts({name: _octets(it) for name, it in zip(names, found)}, shard.count)
+    each = split_by_octets({name: _file_size(it) for name, it in zip(names, found)}, shard.count)
     chosen = set(each[shard.number - 1]) if shard.number <= len(each) else set()
     return [it for name, it in zip(names, found) if name in chosen]
 
 
-def _octets(found: ScriptFile) -> int:
+def _file_size(found: ScriptFile) -> int:
     """The size of a script's file; of one that can't be looked at it is none."""
     try:
         return 0 if found.fault else os.stat(found.path).st_size

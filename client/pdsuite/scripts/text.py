@@ -5,7 +5,7 @@ import stat
 from dataclasses import dataclass
 from pathlib import Path
 
-from pdsuite.faults import why
+from pdsuite.faults import error_reason
 
 LINES = 4_096
 OCTETS = 65_536
@@ -32,7 +32,7 @@ class Text:
         return self.octets.split(b"\n", number)[number - 1].removesuffix(b"\r")
 
 
-def text_of(octets: bytes) -> Text:
+def make_text(octets: bytes) -> Text:
     """The text of a file with these octets, where the program takes it."""
     if octets[-1:] not in (b"", b"\n"):
         octets += b"\n"
@@ -46,15 +46,15 @@ def text_of(octets: bytes) -> Text:
 
 def read_text(path: str) -> Text:
     """The text of a script's file."""
-    return text_of(read_file(path, LONGEST_FILE + 1))
+    return make_text(read_regular_file(path, LONGEST_FILE + 1))
 
 
-def read_file(path: str | Path, most: int) -> bytes:
+def read_regular_file(path: str | Path, most: int) -> bytes:
     """The first octets of a file, at most so many; only of a regular one, since others can block."""
     try:
         descriptor = os.open(path, _FLAGS)
     except (OSError, ValueError) as error:
-        raise UnfitTextError(why(error)) from error
+        raise UnfitTextError(error_reason(error)) from error
     try:
         found = os.fstat(descriptor)
         if not stat.S_ISREG(found.st_mode):
@@ -64,7 +64,7 @@ def read_file(path: str | Path, most: int) -> bytes:
             return octets
         return octets + _read_up_to(descriptor, most - len(octets))
     except OSError as error:
-        raise UnfitTextError(why(error)) from error
+        raise UnfitTextError(error_reason(error)) from error
     finally:
         os.close(descriptor)
 

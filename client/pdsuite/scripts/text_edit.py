@@ -17,21 +17,21 @@ class Edit:
 
 def edit_between(old: Text, new: Text) -> Edit:
     """The edit that makes the new text of the old one."""
-    before, after = _lines(old), _lines(new)
-    front = _equal(zip(before, after))
+    before, after = _split_lines(old), _split_lines(new)
+    front = _count_equal_front(zip(before, after))
     most = min(len(before), len(after)) - front
-    back = min(most, _equal(zip(reversed(before), reversed(after))))
+    back = min(most, _count_equal_front(zip(reversed(before), reversed(after))))
     between = after[front : len(after) - back]
     put = Text(b"".join(line + b"\n" for line in between), len(between))
     return Edit(front + 1, len(before) - front - back, put)
 
 
-def _lines(text: Text) -> list[bytes]:
+def _split_lines(text: Text) -> list[bytes]:
     """The lines, which end at the octet 10 alone."""
     return text.octets.split(b"\n")[: text.lines]
 
 
-def _equal(pairs: Iterable[tuple[bytes, bytes]]) -> int:
+def _count_equal_front(pairs: Iterable[tuple[bytes, bytes]]) -> int:
     """How many pairs are equal before the first that isn't."""
     count = 0
     for one, other in pairs:

@@ -8,7 +8,7 @@ import tomlkit
 from tomlkit.items import Comment, InlineTable, Item, Key, Table
 
 from pdsuite.faults import Fault
-from pdsuite.output.octets import shown_text
+from pdsuite.output.octets import printable_text
 from pdsuite.scripts.config import EXPECT, REASON
 from pdsuite.scripts.expectation import Expectation
 
@@ -25,38 +25,38 @@ TableEdits = Mapping[str, TableEdit]
 _Body = Sequence[tuple[Key | None, Item]]
 
 
-def edited(place: str, text: str, edits: TableEdits) -> str:
+def edit_expectations(place: str, text: str, edits: TableEdits) -> str:
     """The text of a file with other rows expected of some scripts. Their tables are edited, and new ones come last."""
     tables = tomllib.loads(text)
     end = "\r\n" if "\r\n" in text else "\n"
-    new = _closed(text, end)
+    new = _with_final_newline(text, end)
     if not edits.keys().isdisjoint(tables):
-        new = _with_tables(new, edits, end)
+        new = _edit_tables(new, edits, end)
     for name, expected in edits.items():
         if isinstance(expected, Expectation) and name not in tables:
-            new += _table(name, expected, end, is_first=not new)
-    _check(place, new, tables, edits)
+            new += _new_table(name, expected, end, is_first=not new)
+    _check_edit_result(place, new, tables, edits)
     return new
 
 
-def _closed(text: str, end: str) -> str:
+def _with_final_newline(text: str, end: str) -> str:
     """The text with an end of its last line."""
     return f"{text}{end}" if text and not text.endswith("\n") else text
 
 
-def _table(name: str, expected: Expectation, end: str, is_first: bool) -> str:
+def _new_table(name: str, expected: Expectation, end: str, is_first: bool) -> str:
     """A new table, which a blank line parts from what stands before it."""
     text = tomlkit.dumps({name: {EXPECT: expected.row, REASON: expected.reason}})
     return ("" if is_first else end) + text.replace("\n", end)
 
 
-def _with_tables(text: str, edits: TableEdits, end: str) -> str:
+def _edit_tables(text: str, edits: TableEdits, end: str) -> str:
     """The text with its tables edited."""
     document = tomlkit.parse(text)
     body: list[tuple[Key | None, Item]] = []
     for key, item in document.body:
         if key is not None and key.key in edits:
-            body += _edited(key, item, edits[key.key], end)
+            body += _edit_table(key, item, edits[key.key], end)
         else:
             body.append((key, item))
     document.body[:] = body
@@ -66,24 +66,24 @@ def _with_tables(text: str, edits: TableEdits, end: str) -> str:
     return "" if new == end else new
 
 
-def _edited(key: Key, item: Item, expected: TableEdit, end: str) -> _Body:
+def _edit_table(key: Key, item: Item, expected: TableEdit, end: str) -> _Body:
     """What stands in the place of a table: the table, or the comments of one that has nothing to say any more."""
     if expected is TableRemoval.TAKEN:
-        return _comments([it for it in item.value.body if it[0] is None]) if isinstance(item, Table) else []
+        return _keep_comments([it for it in item.value.body if it[0] is None]) if isinstance(item, Table) else []
     if isinstance(item, InlineTable):
-        _edit_inline(item, expected)
+        _edit_inline_table(item, expected)
     elif isinstance(item, Table):
         body = item.value.body
         if expected is not None:
-            _put(body, expected, end)
+            _put_expectation(body, expected, end)
         else:
             body[:] = [it for it in body if it[0] is None or it[0].key not in (EXPECT, REASON)]
             if all(it[0] is None for it in body):
-                return _comments(body)
+                return _keep_comments(body)
     return [(key, item)]
 
 
-def _put(body: list[tuple[Key | None, Item]], expected: Expectation, end: str) -> None:
+def _put_expectation(body: list[tuple[Key | None, Item]], expected: Expectation, end: str) -> None:
     """Puts a row and its reason in the place of others, or after the last key."""
     for name, value in ((EXPECT, expected.row), (REASON, expected.reason)):
         item = tomlkit.string(value)
@@ -99,7 +99,7 @@ def _put(body: list[tuple[Key | None, Item]], expected: Expectation, end: str) -
             body[place] = (old[0], item)
 
 
-def _edit_inline(table: InlineTable, expected: Expectation | None) -> None:
+def _edit_inline_table(table: InlineTable, expected: Expectation | None) -> None:
     for name in (EXPECT, REASON):
         if expected is None:
             table.pop(name, None)
@@ -107,13 +107,13 @@ def _edit_inline(table: InlineTable, expected: Expectation | None) -> None:
             table[name] = expected.row if name == EXPECT else expected.reason
 
 
-def _comments(body: _Body) -> _Body:
+def _keep_comments(body: _Body) -> _Body:
     """The comments of a table and what stands between them."""
     first = next((place for place, it in enumerate(body) if isinstance(it[1], Comment)), len(body))
     return body[first:]
 
 
-def _check(place: str, text: str, before: Mapping[str, object], edits: TableEdits) -> None:
+def _check_edit_result(place: str, text: str, before: Mapping[str, object], edits: TableEdits) -> None:
     """Raises a fault where the text doesn't say just what is meant, as where a table's keys stand apart."""
     meant = dict(before)
     for name, expected in edits.items():
@@ -131,6 +131,6 @@ def _check(place: str, text: str, before: Mapping[str, object], edits: TableEdit
         pass
     wrong = next((name for name in edits if stated.get(name) != meant[name]), None)
     if wrong is not None:
-        raise Fault(f'{place}: what it says of ["{shown_text(wrong)}"] can\'t be edited: do it by hand')
+        raise Fault(f'{place}: what it says of ["{printable_text(wrong)}"] can\'t be edited: do it by hand')
     if stated != meant:
         raise Fault(f"{place}: it can't be edited: do it by hand")

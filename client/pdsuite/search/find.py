@@ -4,7 +4,7 @@ from collections.abc import Sequence
 from dataclasses import dataclass
 from typing import Protocol
 
-from pdsuite.compare.divergence import divergence_of, played_events
+from pdsuite.compare.divergence import first_divergence, played_events
 from pdsuite.programs.recorder import Recording
 from pdsuite.programs.verdict import Row, Verdict
 from pdsuite.search.coverage import StatePattern
@@ -109,4 +109,4 @@ def _difference(inputs: Inputs, one: Recording, other: Recording) -> SenderDiffe
 
 
 def _differ(one: Recording, other: Recording) -> bool:
-    return not other.text or divergence_of(one.text, other.text) is not None
+    return not other.text or first_divergence(one.text, other.text) is not None

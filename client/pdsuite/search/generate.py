@@ -5,7 +5,7 @@ from random import Random
 from typing import TypeVar
 
 from pdsuite.packetdrill.items import SECOND, TcpOption
-from pdsuite.scripts.settings import Settings, Value, settings_of
+from pdsuite.scripts.settings import Settings, Value, sorted_settings
 from pdsuite.search.inputs import call
 from pdsuite.search.scenario import Emphasis, Ending, Handshake, IrregularPacket, Irregularity, Network, PlannedCall
 from pdsuite.search.scenario import ReceiverPlan, Scenario, Theme
@@ -121,9 +121,9 @@ class _Generator:
         if self._first and not self._one_in(4):
             first = {key for key in self._first if not self._one_in(3)} or {self._pick(self._first)}
             more = {self._pick(self._keys) for _ in range(self._pick((0, 0, 1)))}
-            return settings_of({key: self._pick(KEYS[key]) for key in sorted(first | more)})
+            return sorted_settings({key: self._pick(KEYS[key]) for key in sorted(first | more)})
         keys = {self._pick(self._keys) for _ in range(self._pick((1, 1, 2, 3)))}
-        return settings_of({key: self._pick(KEYS[key]) for key in sorted(keys)})
+        return sorted_settings({key: self._pick(KEYS[key]) for key in sorted(keys)})
 
     def _handshake(self, round_trip: int) -> Handshake:
         takes = self._pick(_LONG_HANDSHAKES) if self._often(Theme.HANDSHAKE, 8) else round_trip

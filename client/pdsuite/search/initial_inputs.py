@@ -3,11 +3,11 @@
 from collections.abc import Iterator
 from pathlib import Path
 
-from pdsuite.programs.trace import events_in
+from pdsuite.programs.trace import traced_events_in
 from pdsuite.run.batches import Script
-from pdsuite.run.collect import found_of, scripts_of
-from pdsuite.run.run_batches import load
-from pdsuite.scripts.config import SuiteConfig, option_of
+from pdsuite.run.collect import find_selected_scripts, make_scripts
+from pdsuite.run.run_batches import load_script_text
+from pdsuite.scripts.config import SuiteConfig, layer_of_option
 from pdsuite.search.inputs import Input, Inputs
 from pdsuite.search.mutate import CorpusEntry
 from pdsuite.search.oracle import ConfiguredScript, SenderOracle
@@ -21,12 +21,16 @@ def scripts_in(tree: Path | None, stop: Stop) -> list[ConfiguredScript]:
     """The scripts of a tree's suite with their settings, in the order of their paths; none where there is no suite."""
     if tree is None or not (tree / SUITE).is_dir():
         return []
-    suite = SuiteConfig(option_of(""))
-    return [it for script in scripts_of(found_of([tree / SUITE], [], suite, stop), suite) for it in _configured(script)]
+    suite = SuiteConfig(layer_of_option(""))
+    return [
+        it
+        for script in make_scripts(find_selected_scripts([tree / SUITE], [], suite, stop), suite)
+        for it in _configured(script)
+    ]
 
 
 def _configured(script: Script) -> Iterator[ConfiguredScript]:
-    text = load(script)
+    text = load_script_text(script)
     if not isinstance(text, str):
         yield ConfiguredScript(script.settings, text.octets)
 
@@ -38,7 +42,7 @@ def initial_inputs(scripts: list[ConfiguredScript], oracle: SenderOracle, fixed:
     ]
     found: dict[Inputs, str] = {}
     for it, recording in zip(configured, oracle.recordings(configured)):
-        events = [Input(event.moment, event.what) for event in events_in(recording.text) if event.is_input]
+        events = [Input(event.moment, event.what) for event in traced_events_in(recording.text) if event.is_input]
         if events:
             found.setdefault(Inputs(it.settings, tuple(events)), recording.text)
     return [CorpusEntry(*it) for it in found.items()]

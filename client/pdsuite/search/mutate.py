@@ -7,7 +7,7 @@ from typing import TypeVar
 
 from pdsuite.compare.divergence import played_events
 from pdsuite.packetdrill.items import SECOND, Call, Packet, TcpOption
-from pdsuite.scripts.settings import Settings, settings_of
+from pdsuite.scripts.settings import Settings, sorted_settings
 from pdsuite.search.generate import KEYS
 from pdsuite.search.inputs import Input, Inputs, call, options_text, packet
 from pdsuite.search.scenario import Emphasis, Theme
@@ -92,7 +92,7 @@ class InputMutator:
             return given
         keys = self._first if self._first and self._random.random() < 0.8 else self._keys
         key = self._pick(keys)
-        return settings_of({**dict(given), key: self._pick(KEYS[key])})
+        return sorted_settings({**dict(given), key: self._pick(KEYS[key])})
 
     def _edit(self, events: list[Input], at: int, state: TracedState) -> None:
         """Changes an event, or puts one before it."""

@@ -9,26 +9,33 @@ from itertools import repeat
 from pathlib import Path
 from typing import Protocol, TypeVar
 
-from pdsuite.compare.built_senders import plain_of
+from pdsuite.compare.built_senders import as_plain_build
 from pdsuite.compare.senders import Sender
 from pdsuite.compare.sides import Side
 from pdsuite.faults import Fault
-from pdsuite.output.octets import shown
+from pdsuite.output.octets import printable_octets
 from pdsuite.programs.batch_protocol import Answer, Case
 from pdsuite.programs.locate import RECORD, REGRESS
 from pdsuite.programs.program import Program, ProgramEndedError
 from pdsuite.programs.protocol import LONGEST_BLOCK, LONGEST_LINE, SETTLE, UnexpectedAnswerError
-from pdsuite.programs.protocol import add, blocks_in, name_of, rows_in, set_and_show, set_key
-from pdsuite.programs.recorder import TRACE, Recording, record_all, recording_cases, recording_of
-from pdsuite.programs.refusals import Refusal, distinct_pairs, refused_at_once, refused_of
+from pdsuite.programs.protocol import (
+    add_command,
+    parse_blocks,
+    parse_new_rows,
+    script_name,
+    set_and_show_commands,
+    set_command,
+)
+from pdsuite.programs.recorder import TRACE, Recording, record_texts, recording_cases, recording_from_answer
+from pdsuite.programs.refusals import Refusal, distinct_key_values, find_refusals, refusals_in_answer
 from pdsuite.programs.unproved_batch import ProgramCases
 from pdsuite.programs.unproved_session import UnprovedSession
 from pdsuite.programs.verdict import Row, Verdict
-from pdsuite.run.batches import cut
+from pdsuite.run.batches import split_by_size
 from pdsuite.run.explainer import EXPLAIN
 from pdsuite.scripts.config import Claim
-from pdsuite.scripts.settings import Settings, set_words, settings_of, settings_text
-from pdsuite.scripts.text import Text, UnfitTextError, text_of
+from pdsuite.scripts.settings import Settings, set_command_words, settings_as_toml, sorted_settings
+from pdsuite.scripts.text import Text, UnfitTextError, make_text
 from pdsuite.search.inputs import Inputs
 from pdsuite.signals import Stop
 
@@ -86,7 +93,7 @@ class SideOracle:
 
     def settings(self, given: Settings) -> Settings:
         """The settings under which inputs or a script with these are played."""
-        return self.side.settings(settings_of({**dict(given), **dict(self.common)}))
+        return self.side.effective_settings(sorted_settings({**dict(given), **dict(self.common)}))
 
     def recordings(self, inputs: Sequence[Inputs | ConfiguredScript]) -> list[Recording]:
         return self.oracle.recordings([replace(it, settings=self.settings(it.settings)) for it in inputs])
@@ -105,17 +112,17 @@ class SideOracle:
 def oracles_of(senders: Sequence[Sender], stop: Stop) -> Iterator[list[SettingsOracle]]:
     """The oracles of senders: programs, or those of a tree, which `rt try` builds once for the block, side by side."""
     with ExitStack() as stack:
-        trees = {it.top for it in senders if not it.has_programs}
+        trees = {it.build_tree for it in senders if not it.has_programs}
         sessions = {tree: stack.enter_context(UnprovedSession(tree, stop)) for tree in trees}
         for session in sessions.values():
-            session.wait()
+            session.wait_until_built()
         yield [_oracle(it, stop, sessions) for it in senders]
 
 
 def _oracle(sender: Sender, stop: Stop, sessions: Mapping[Path, UnprovedSession]) -> SettingsOracle:
     if sender.has_programs:
         return ProgramOracle(sender, stop)
-    return UnprovedOracle(sender, sessions[sender.top])
+    return UnprovedOracle(sender, sessions[sender.build_tree])
 
 
 def sizes() -> Iterator[int]:
@@ -137,7 +144,7 @@ class ProgramOracle:
         self._count = len(os.sched_getaffinity(0))
 
     def refused(self, claims: Sequence[Claim]) -> list[Refusal]:
-        return refused_of(claims, lambda: Program([self._program], self._stop))
+        return find_refusals(claims, lambda: Program([self._program], self._stop))
 
     def recordings(self, inputs: Sequence[Inputs | ConfiguredScript]) -> list[Recording]:
         return self._by_settings(inputs, self._recordings)
@@ -148,7 +155,7 @@ class ProgramOracle:
     def _recordings(self, inputs: Sequence[Inputs | ConfiguredScript]) -> list[Recording]:
         """The recordings of inputs with equal settings."""
         texts = [it.script() for it in inputs]
-        return list(record_all(self._recorder, texts, inputs[0].settings, self._stop, (TRACE,)))
+        return list(record_texts(self._recorder, texts, inputs[0].settings, self._stop, (TRACE,)))
 
     def _by_settings(self, items: Sequence[A], work: Callable[[Sequence[A]], Sequence[U]]) -> list[U]:
         """What comes of each item, where those with equal settings are handed on together, so many at most."""
@@ -159,14 +166,14 @@ class ProgramOracle:
 
     def explain(self, script: ConfiguredScript) -> list[str]:
         with self._started(script.settings, EXPLAIN) as program:
-            return _explanation(program.finish(_commands([script]), 2 * LONGEST_BLOCK))
+            return _explanation(program.finish_and_read_errors(_commands([script]), 2 * LONGEST_BLOCK))
 
     def _rows(self, scripts: Sequence[ConfiguredScript]) -> list[Row]:
         """The rows of scripts with equal settings. Where the program ends on the way, each is run by itself."""
         try:
             with self._started(scripts[0].settings) as program:
                 answer = program.query(_commands(scripts) + SETTLE, LONGEST_LINE * (len(scripts) + 2))
-                return rows_in(answer, b"", _names(scripts), len(scripts))
+                return parse_new_rows(answer, b"", _names(scripts), len(scripts))
         except (ProgramEndedError, UnexpectedAnswerError) as end:
             if len(scripts) == 1:
                 return [Row(Verdict.ERROR, 0, self._why(scripts[0], str(end)))]
@@ -174,12 +181,12 @@ class ProgramOracle:
 
     def _why(self, script: ConfiguredScript, end: str) -> str:
         """Why the program ended on a script. Where an optimised one stops, a plain one says where."""
-        plain = plain_of(self._sender, self._stop) if _STOPS in end else None
+        plain = as_plain_build(self._sender, self._stop) if _STOPS in end else None
         (row,) = ProgramOracle(plain, self._stop).rows([script]) if plain else [Row(Verdict.ERROR, 0, end)]
         return row.word if row.verdict is Verdict.ERROR else end
 
     def _started(self, settings: Settings, *words: str) -> Program:
-        text = settings_text(settings)
+        text = settings_as_toml(settings)
         return Program([self._program, *words, *(["--settings", text] if text else [])], self._stop)
 
     def _each(self, work: Callable[[T], U], items: Sequence[T]) -> list[U]:
@@ -191,19 +198,21 @@ class UnprovedOracle:
     """Queries the programs of a tree as it stands, which `rt try` has built."""
 
     def __init__(self, sender: Sender, session: UnprovedSession) -> None:
-        self._tree = sender.top
+        self._tree = sender.build_tree
         self._session = session
 
     def refused(self, claims: Sequence[Claim]) -> list[Refusal]:
-        settings_case = Case((), b"".join(set_and_show(*it) for it in distinct_pairs(claims)), is_alone=True)
-        (answer,) = self._session.answers(ProgramCases(self._tree, REGRESS, (), (settings_case,)))
+        settings_case = Case(
+            (), b"".join(set_and_show_commands(*it) for it in distinct_key_values(claims)), is_alone=True
+        )
+        (answer,) = self._session.run_cases(ProgramCases(self._tree, REGRESS, (), (settings_case,)))
         if answer.fault:
             raise Fault(answer.fault)
-        return refused_at_once(claims, answer.output)
+        return refusals_in_answer(claims, answer.output)
 
     def recordings(self, inputs: Sequence[Inputs | ConfiguredScript]) -> list[Recording]:
-        answers = self._session.answers(recording_cases(self._tree, [(it.settings, it.script()) for it in inputs]))
-        return [recording_of(it) for it in answers]
+        answers = self._session.run_cases(recording_cases(self._tree, [(it.settings, it.script()) for it in inputs]))
+        return [recording_from_answer(it) for it in answers]
 
     def rows(self, scripts: Sequence[ConfiguredScript]) -> list[Row]:
         return [_row_of(it) for it in self._answers(scripts)]
@@ -215,7 +224,7 @@ class UnprovedOracle:
     def _answers(self, scripts: Sequence[ConfiguredScript], *words: str) -> list[Answer]:
         """What comes of each script in a start of its own, which costs little."""
         cases = tuple(Case((), _sets(it.settings) + _commands([it])) for it in scripts)
-        return self._session.answers(ProgramCases(self._tree, REGRESS, words, cases))
+        return self._session.run_cases(ProgramCases(self._tree, REGRESS, words, cases))
 
 
 def _row_of(answer: Answer) -> Row:
@@ -223,7 +232,7 @@ def _row_of(answer: Answer) -> Row:
     if answer.fault:
         return Row(Verdict.ERROR, 0, answer.fault)
     try:
-        (row,) = rows_in(answer.output, b"", [name_of(0)], 1)
+        (row,) = parse_new_rows(answer.output, b"", [script_name(0)], 1)
         return row
     except UnexpectedAnswerError as unexpected:
         return Row(Verdict.ERROR, 0, str(unexpected))
@@ -234,31 +243,31 @@ def _pieces(items: Sequence[A]) -> Iterable[tuple[int, ...]]:
     groups: dict[Settings, list[int]] = {}
     for place, it in enumerate(items):
         groups.setdefault(it.settings, []).append(place)
-    return [piece for group in groups.values() for piece in cut(group, _PIECE)]
+    return [piece for group in groups.values() for piece in split_by_size(group, _PIECE)]
 
 
 def _names(scripts: Sequence[ConfiguredScript]) -> list[bytes]:
-    return [name_of(number) for number in range(len(scripts))]
+    return [script_name(number) for number in range(len(scripts))]
 
 
 def _sets(settings: Settings) -> bytes:
-    return b"".join(set_key(*set_words(key, value)) for key, value in settings)
+    return b"".join(set_command(*set_command_words(key, value)) for key, value in settings)
 
 
 def _commands(scripts: Sequence[ConfiguredScript]) -> bytes:
-    return b"".join(add(name, _text(it.octets)) for name, it in zip(_names(scripts), scripts))
+    return b"".join(add_command(name, _text(it.octets)) for name, it in zip(_names(scripts), scripts))
 
 
 def _text(octets: bytes) -> Text:
     """The text of a recording, or one that fails where it is over the limits."""
     try:
-        return text_of(octets)
+        return make_text(octets)
     except UnfitTextError:
-        return text_of(b"too long")
+        return make_text(b"too long")
 
 
 def _explanation(errors: bytes) -> list[str]:
     """The block of the only script: what its row means, and the lines below that."""
-    blocks = blocks_in(errors)
+    blocks = parse_blocks(errors)
     (lines,) = blocks.values() or [[]]
-    return [shown(it) for it in lines]
+    return [printable_octets(it) for it in lines]

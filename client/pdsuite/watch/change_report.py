@@ -4,10 +4,10 @@ from collections.abc import Iterable, Iterator, Mapping, Sequence
 from dataclasses import replace
 
 from pdsuite.compare.comparison import ComparedScript
-from pdsuite.output.octets import shown_path
+from pdsuite.output.octets import printable_path
 from pdsuite.output.styled_text import StyledText
 from pdsuite.programs.verdict import Verdict
-from pdsuite.reports.comparison import entry_of
+from pdsuite.reports.comparison import compared_script_entry
 from pdsuite.reports.plain import PlainFormatter
 from pdsuite.run.outcomes import CountedAs, Outcome, Totals
 from pdsuite.watch.folder_moves import Move, Outcomes
@@ -43,7 +43,7 @@ class ChangeReport:
         form = PlainFormatter(True)
         text = StyledText()
         for outcome in changed(before, after):
-            text.append_text(form.changed(outcome))
+            text.append_text(form.row_and_warnings(outcome))
         for path in gone(before, after):
             text.append_text(gone_row(path))
         return text
@@ -56,12 +56,12 @@ class ChangeReport:
         """The scripts that another sender turned."""
         text = StyledText()
         for it in scripts:
-            text.append_text(entry_of(it))
+            text.append_text(compared_script_entry(it))
         return text
 
     def foot(self, outcomes: Outcomes, seconds: float) -> StyledText:
         """The totals."""
-        return PlainFormatter(True).foot(totals_of(outcomes, self.is_unproved), seconds)
+        return PlainFormatter(True).summary(totals_of(outcomes, self.is_unproved), seconds)
 
     def left(self, why: str) -> StyledText:
         """That the sender doesn't stand any more of which all rows are, and why."""
@@ -79,7 +79,7 @@ class ChangeReport:
 
 def totals_of(outcomes: Outcomes, is_unproved: bool = False) -> Totals:
     """The totals of a report."""
-    return replace(Totals.of(outcomes.values()), is_unproved=is_unproved)
+    return replace(Totals.of_outcomes(outcomes.values()), is_unproved=is_unproved)
 
 
 def of_sender_before(text: StyledText) -> StyledText:
@@ -102,7 +102,7 @@ def gone(before: Outcomes, after: Outcomes) -> Iterator[str]:
 
 def gone_row(path: str) -> StyledText:
     """The row of a script that went."""
-    return StyledText([(f"{shown_path(path)}: ", "")]).append("gone\n", "dim")
+    return StyledText([(f"{printable_path(path)}: ", "")]).append("gone\n", "dim")
 
 
 def newly_explained(before: Outcomes, after: Outcomes) -> list[Outcome]:
@@ -125,7 +125,12 @@ def _is_other(old: Outcome, new: Outcome) -> bool:
         return False
     if old.warnings != new.warnings:
         return True
-    return old.row != new.row or old.text != new.text or old.passes != new.passes or old.expected != new.expected
+    return (
+        old.row != new.row
+        or old.text != new.text
+        or old.lets_run_pass != new.lets_run_pass
+        or old.expected != new.expected
+    )
 
 
 def _is_newly_explained(old: Outcome | None, new: Outcome) -> bool:

@@ -7,7 +7,7 @@ from pathlib import Path
 from time import process_time
 
 from pdsuite.scripts.config import CONFIG_FILE, SuiteConfig
-from pdsuite.scripts.discover import SUFFIX, ScriptFile, find_with_folders
+from pdsuite.scripts.discover import SUFFIX, ScriptFile, find_scripts_and_folders
 from pdsuite.scripts.expectation import Expectation
 from pdsuite.signals import Stop
 from pdsuite.watch.plan_changes import WantedScript
@@ -82,16 +82,16 @@ class Folders:
             if isinstance(text, str):
                 unfit[path] = text
             else:
-                wanted[path] = WantedScript(self._suite.settings(it.found), text)
+                wanted[path] = WantedScript(self._suite.settings_of_script(it.found), text)
         return wanted, unfit
 
     def is_strict(self, path: str) -> bool:
         """Whether a warning makes a script fail."""
-        return self._choice.is_strict or self._suite.is_strict(self.files[path].found)
+        return self._choice.is_strict or self._suite.is_script_strict(self.files[path].found)
 
     def expected(self, path: str) -> Expectation | None:
         """The row that a script is known to have, if one is given."""
-        return self._suite.expected(self.files[path].found)
+        return self._suite.expectation_of_script(self.files[path].found)
 
     def check_settings(self) -> None:
         """Has the settings files checked anew, as another sender may read them otherwise."""
@@ -166,7 +166,7 @@ class Folders:
     def _find(self) -> list[ScriptFile]:
         """Finds all scripts, and has their folders watched before any of them is read."""
         for _ in range(_TRIES):
-            finding = find_with_folders(self._choice.paths, self._choice.only, self._stop)
+            finding = find_scripts_and_folders(self._choice.paths, self._choice.only, self._stop)
             folders = finding.folders | self._settings_files.folders()
             self._report_limit(self._watcher.watch(folders))
             self._settings_files.read(finding.folders)

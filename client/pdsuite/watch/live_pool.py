@@ -3,11 +3,11 @@
 from collections.abc import Callable, Iterator, Mapping
 from dataclasses import dataclass
 
-from pdsuite.output.octets import shown_path
+from pdsuite.output.octets import printable_path
 from pdsuite.programs.program import ProgramEndedError
 from pdsuite.programs.protocol import Cause
 from pdsuite.programs.verdict import Row, Verdict
-from pdsuite.run.batches import PIECE_SIZE, Batch, Script, cut
+from pdsuite.run.batches import PIECE_SIZE, Batch, Script, split_by_size
 from pdsuite.run.explainer import with_explanation
 from pdsuite.run.outcomes import Outcome
 from pdsuite.run.run_batches import SettledPiece, Start, UnexplainedScript, run_batch
@@ -50,7 +50,7 @@ class LivePool:
 
     def __exit__(self, *error: object) -> None:
         for run in self._runs:
-            run.program.close()
+            run.program.kill_and_close()
 
     @property
     def runs(self) -> tuple[LiveRun, ...]:
@@ -73,7 +73,7 @@ class LivePool:
         ended = False
         for run in self.runs:
             try:
-                run.program.check()
+                run.program.require_idle()
             except ProgramEndedError as end:
                 ended = True
                 self._begin_again(run, run.contents, str(end))
@@ -129,7 +129,7 @@ class LivePool:
         try:
             run.carry_out([AddScript(path, text) for path, text in contents.texts.items()], contents)
         except BaseException:
-            run.program.close()
+            run.program.kill_and_close()
             raise
         self._runs.insert(place, run)
 
@@ -137,7 +137,7 @@ class LivePool:
         """Ends a run; the number that it had."""
         place = self._runs.index(run)
         del self._runs[place]
-        run.program.close()
+        run.program.kill_and_close()
         return place
 
     def _begin_again(self, run: LiveRun | None, contents: RunContents, reason: str) -> None:
@@ -173,13 +173,13 @@ class LivePool:
         except ProgramEndedError:
             return False
         finally:
-            run.program.close()
+            run.program.kill_and_close()
         return True
 
     def _fatal(self, contents: RunContents) -> dict[str, Row]:
         """The scripts on which a run ends twice, as `pdsuite run` finds them, each with its row."""
         scripts = [Script(index, path, contents.settings) for index, path in enumerate(contents.texts)]
-        batch = Batch(contents.settings, tuple(cut(scripts, PIECE_SIZE)))
+        batch = Batch(contents.settings, tuple(split_by_size(scripts, PIECE_SIZE)))
         unexplained: set[str] = set()
         rows: dict[str, Row] = {}
         for step in run_batch(batch, self._start, lambda script: contents.texts[script.path], self._plain_start):
@@ -196,4 +196,4 @@ def _running(change: RunChange) -> str:
 
 
 def _counted(paths: list[str]) -> str:
-    return shown_path(paths[0]) if len(paths) == 1 else f"{len(paths):,} scripts"
+    return printable_path(paths[0]) if len(paths) == 1 else f"{len(paths):,} scripts"

@@ -5,7 +5,16 @@ from typing import TypeVar
 
 from pdsuite.programs.program import Program, ProgramEndedError
 from pdsuite.programs.protocol import LONGEST_CAUSE, LONGEST_LINE, SETTLE, Cause, UnexpectedAnswerError
-from pdsuite.programs.protocol import add, causes_in, edit, name_of, remove, rows_in, set_key, steps_in
+from pdsuite.programs.protocol import (
+    add_command,
+    edit_command,
+    parse_causes,
+    parse_new_rows,
+    parse_step_counts,
+    remove_command,
+    script_name,
+    set_command,
+)
 from pdsuite.programs.verdict import Row
 from pdsuite.run.run_batches import Start
 from pdsuite.scripts.settings import Settings
@@ -40,15 +49,15 @@ class LiveRun:
         longest = LONGEST_LINE * (len(acts) + len(names) + 2)
         answer, errors = self.program.query_with_errors(commands + SETTLE, longest, LONGEST_CAUSE * (len(names) + 1))
         try:
-            rows = rows_in(answer, b"", names, len(names))
-            causes = {name: it for (name, _), it in causes_in(errors).items()}
+            rows = parse_new_rows(answer, b"", names, len(names))
+            causes = {name: it for (name, _), it in parse_causes(errors).items()}
         except UnexpectedAnswerError as unexpected:
             raise ProgramEndedError(f"pdregress: {unexpected}") from unexpected
         self.rows = dict(zip(self._names, rows))
         self.contents = after
         self.acts += sum(1 + _PER_JOB * (len(names) if isinstance(it, SetKey) else 1) for it in acts)
         self._update_causes(acts, self._by_paths(causes))
-        self.steps = self._by_paths(steps_in(errors))
+        self.steps = self._by_paths(parse_step_counts(errors))
 
     def _update_causes(self, acts: Sequence[Act], causes: Mapping[str, Cause]) -> None:
         """Takes the explanations of the scripts that have run again; any other keeps the one before."""
@@ -66,12 +75,12 @@ class LiveRun:
     def _command(self, act: Act) -> bytes:
         match act:
             case RemoveScript(path):
-                return remove(self._names.pop(path))
+                return remove_command(self._names.pop(path))
             case SetKey(key, word):
-                return set_key(key, word)
+                return set_command(key, word)
             case EditScript(path, change):
-                return edit(self._names[path], change)
+                return edit_command(self._names[path], change)
             case AddScript(path, text):
-                self._names[path] = name = name_of(self._count)
+                self._names[path] = name = script_name(self._count)
                 self._count += 1
-                return add(name, text)
+                return add_command(name, text)

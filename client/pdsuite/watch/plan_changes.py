@@ -5,8 +5,8 @@ from collections.abc import Iterator, Mapping, Sequence
 from dataclasses import dataclass
 
 from pdsuite.run.batches import BATCH_SIZE
-from pdsuite.scripts.defaults import can_be_set, changed_keys
-from pdsuite.scripts.settings import Settings, set_words
+from pdsuite.scripts.defaults import can_switch_settings, changed_settings
+from pdsuite.scripts.settings import Settings, set_command_words
 from pdsuite.scripts.text import Text
 from pdsuite.scripts.text_edit import Edit, edit_between
 
@@ -123,7 +123,7 @@ def _targets(runs: Sequence[RunContents], wanted: Mapping[str, WantedScript]) ->
     for number in sorted(range(len(runs)), key=lambda it: choices[it][:1] != [runs[it].settings]):
         for settings in choices[number]:
             before = runs[number].settings
-            if settings == before or having[settings] < need[settings] and can_be_set(before, settings):
+            if settings == before or having[settings] < need[settings] and can_switch_settings(before, settings):
                 targets[number] = settings
                 having[settings] += 1
                 break
@@ -148,7 +148,9 @@ def _removed(old: RunContents, new: RunContents) -> Iterator[RemoveScript]:
 
 def _set(old: RunContents, new: RunContents) -> Iterator[SetKey]:
     if old.settings != new.settings:
-        yield from (SetKey(*set_words(key, value)) for key, value in changed_keys(old.settings, new.settings))
+        yield from (
+            SetKey(*set_command_words(key, value)) for key, value in changed_settings(old.settings, new.settings)
+        )
 
 
 def _changed(old: RunContents, new: RunContents) -> Iterator[EditScript]:

@@ -5,9 +5,9 @@ from collections.abc import Iterator, Mapping, Sequence
 from pathlib import Path
 
 from pdsuite.faults import Fault
-from pdsuite.file_stamps import Stamp, have_stamps, stamp_of
-from pdsuite.output.octets import shown
-from pdsuite.scripts.text import UnfitTextError, read_file
+from pdsuite.file_stamps import Stamp, are_stamps_current, stamp_of
+from pdsuite.output.octets import printable_octets
+from pdsuite.scripts.text import UnfitTextError, read_regular_file
 
 # What ./prove leaves where a proof is refused, and takes away when it begins.
 _FILE = "crates/pdregress/out/refused"
@@ -33,7 +33,7 @@ class RefusedProof:
             self._stamp = stamp
             self.lines = tuple(self._read())
             self._named = {path: stamp_of(path) for line in self.lines for path in _PLACE.findall(line)}
-        elif not have_stamps(self._named):
+        elif not are_stamps_current(self._named):
             self.lines, self._named = (), {}
         return self.lines != before
 
@@ -44,6 +44,6 @@ class RefusedProof:
         if self._file is None or len(self._stamp) == _NONE:
             return
         try:
-            yield from (shown(line) for line in read_file(self._file, _LONGEST).splitlines())
+            yield from (printable_octets(line) for line in read_regular_file(self._file, _LONGEST).splitlines())
         except (Fault, UnfitTextError):
             return

@@ -6,7 +6,7 @@ from math import inf
 from pathlib import Path
 
 from pdsuite.faults import Fault
-from pdsuite.file_stamps import Stamp, have_stamps
+from pdsuite.file_stamps import Stamp, are_stamps_current
 from pdsuite.programs.build import Build, BuildError, BuildMode
 from pdsuite.programs.locate import RECORD, REGRESS
 from pdsuite.programs.lookup import ProgramLookup, StampedProgram, stamped_program
@@ -33,7 +33,7 @@ class LiveSender:
         """Raises SenderChangedError where a program's file isn't the one that was found."""
         for it in (self.regress, self.record):
             if it is not None:
-                it.check()
+                it.raise_if_changed()
 
     @property
     def paths(self) -> tuple[Path, Path | None]:
@@ -43,7 +43,7 @@ class LiveSender:
     @property
     def is_there(self) -> bool:
         """Whether the programs can be started still."""
-        return all(it is None or it.is_there for it in (self.regress, self.record))
+        return all(it is None or it.is_same_file for it in (self.regress, self.record))
 
 
 class SenderFollower:
@@ -87,14 +87,14 @@ class SenderFollower:
     @property
     def doing(self) -> str:
         """What is built, and for how long."""
-        return "" if self._building is None else f"{self.phase} {self._building.seconds:.0f} s"
+        return "" if self._building is None else f"{self.phase} {self._building.phase_seconds:.0f} s"
 
     def look(self, now: float) -> bool:
         """Looks at what stands; whether that is other than it was."""
         before = self.sender, self.reason, self.failure
-        if self._building is not None and not have_stamps(self._sources or {}):
+        if self._building is not None and not are_stamps_current(self._sources or {}):
             self._end_build()  # before any query, which takes longer
-        found = self._look.now()
+        found = self._look.current_programs()
         missing = [str(it) for name in self._needs if isinstance(it := found[name], Fault)]
         regress, record = found[REGRESS], found[RECORD]
         if isinstance(regress, StampedProgram) and not missing:
@@ -109,7 +109,7 @@ class SenderFollower:
 
     def folders(self) -> set[str]:
         """The folders in which a change may make another sender stand."""
-        return self._look.folders()
+        return self._look.folders_to_watch()
 
     def due(self, now: float) -> float:
         """The moment at which it is to be looked again, whatever is reported."""
@@ -130,7 +130,7 @@ class SenderFollower:
 
     def _follow_sources(self, tree: Path, now: float) -> None:
         """Has a sender built of the sources as they are now; a change of these ends what is built."""
-        sources = self._look.sources()
+        sources = self._look.source_stamps()
         if sources != self._sources:
             self._end_build()
             self._quiet_at = now if self._sources is None and self.sender is None else now + _QUIET
@@ -151,11 +151,11 @@ class SenderFollower:
             self._building = Build(tree, WAY)
         if self._building is None:
             return
-        self._building.read()
+        self._building.read_progress()
         if not self._building.is_over:
             return
         try:
-            folder = self._building.folder()
+            folder = self._building.programs_folder()
             self._built = LiveSender(stamped_program(folder / REGRESS), stamped_program(folder / RECORD), False)
         except BuildError as untried:
             self.failure = tuple(str(untried).splitlines())
@@ -165,5 +165,5 @@ class SenderFollower:
 
     def _end_build(self) -> None:
         if self._building is not None:
-            self._building.end()
+            self._building.end_tool()
             self._building = None

@@ -11,13 +11,13 @@ from pdsuite.output.screen import Screen
 from pdsuite.programs.lookup import SenderChangedError
 from pdsuite.programs.program import Program
 from pdsuite.programs.protocol import Cause
-from pdsuite.programs.refusals import refusals
+from pdsuite.programs.refusals import refusal_lines
 from pdsuite.programs.verdict import Row, Verdict
 from pdsuite.run.batches import BATCH_SIZE
 from pdsuite.run.explainer import EXPLAIN_OPTIONS
 from pdsuite.run.outcomes import Outcome
-from pdsuite.run.run_batches import start_explaining, start_with
-from pdsuite.scripts.config import Claim, Layer, claims_of
+from pdsuite.run.run_batches import starter_with_options, starter_without_explanations
+from pdsuite.scripts.config import Claim, Layer, claims_of_layers
 from pdsuite.scripts.settings import Settings
 from pdsuite.scripts.text import Text
 from pdsuite.signals import Stop
@@ -86,8 +86,8 @@ class Session:
         self._runs = held.enter_context(ExitStack())
         self._watcher = held.enter_context(Watcher())
         self._sources = held.enter_context(Watcher())
-        settings_files = SettingsFiles(watched.option, self._refused, screen.note)
-        self._folders = Folders(watched.choice, settings_files, self._watcher, stop, screen.note)
+        settings_files = SettingsFiles(watched.option, self._refused, screen.print_note)
+        self._folders = Folders(watched.choice, settings_files, self._watcher, stop, screen.print_note)
 
     def follow(self) -> NoReturn:
         """Shows what changes, on and on, until a signal comes."""
@@ -98,7 +98,7 @@ class Session:
             except SenderChangedError:
                 continue  # the next look says what stands
             self._wait()
-            self._stop.check()
+            self._stop.raise_if_stopped()
 
     def _look(self) -> None:
         """Looks at which sender stands, and goes over to it."""
@@ -135,7 +135,7 @@ class Session:
             return None
         other: EarlierSender = base or EarlierBuild(None if before is None else before.paths)
         programs = sender.paths
-        return lambda shown, now: turned_scripts(other, programs, shown, now, self._stop, self._screen.note)
+        return lambda shown, now: turned_scripts(other, programs, shown, now, self._stop, self._screen.print_note)
 
     def _step(self) -> None:
         events, now = self._watcher.read(), time.monotonic()
@@ -171,23 +171,23 @@ class Session:
             return []
         program = sender.regress.path
         sender.check()
-        return refusals(claims, lambda: Program([program], self._stop))
+        return refusal_lines(claims, lambda: Program([program], self._stop))
 
     def _begin(self, sender: LiveSender) -> LivePool:
         """Begins runs of a sender in place of those of the one before."""
         is_first = self._view.status is None
         self._end_runs()
-        start = start_explaining(sender.regress.path, EXPLAIN_OPTIONS, BATCH_SIZE, self._stop)
-        plain_start = start_with(sender.regress.path, 0, 1, self._stop)
+        start = starter_with_options(sender.regress.path, EXPLAIN_OPTIONS, BATCH_SIZE, self._stop)
+        plain_start = starter_without_explanations(sender.regress.path, 0, 1, self._stop)
 
         def checked(settings: Settings) -> Program:
             sender.check()
             return start(settings)
 
         self._sender = sender
-        if is_first and (lines := self._refused(claims_of([self._watched.option]))):
+        if is_first and (lines := self._refused(claims_of_layers([self._watched.option]))):
             raise SessionSettingsError(lines)
-        pool = LivePool(checked, self._screen.note, self._view.show_progress, plain_start)
+        pool = LivePool(checked, self._screen.print_note, self._view.show_progress, plain_start)
         self._pool = self._runs.enter_context(pool)
         self._is_new = True
         if not is_first:

@@ -4,9 +4,18 @@ from collections.abc import Callable, Iterable, Set
 from pathlib import Path
 
 from pdsuite.faults import Fault
-from pdsuite.file_stamps import StampedValue, is_as_read, read_stamped
-from pdsuite.scripts.config import CONFIG_FILE, Claim, Layer, SuiteConfig, claims_of, layer_of, place_of, read_octets
-from pdsuite.scripts.unused_tables import unused_tables
+from pdsuite.file_stamps import StampedValue, is_unchanged_since_read, read_stamped
+from pdsuite.scripts.config import (
+    CONFIG_FILE,
+    Claim,
+    Layer,
+    SuiteConfig,
+    claims_of_layers,
+    parse_layer,
+    read_config_octets,
+    shown_place,
+)
+from pdsuite.scripts.unused_tables import unused_table_lines
 
 # The lines of the claims that the program refuses.
 QueryRefused = Callable[[Iterable[Claim]], list[str]]
@@ -41,7 +50,7 @@ class SettingsFiles:
             line
             for path, it in sorted(self._good.items())
             if it is not None and it.tables
-            for line in unused_tables(
+            for line in unused_table_lines(
                 it, str(path.parent), {name for folder, name in held if folder == str(path.parent)}
             )
         ]
@@ -54,7 +63,7 @@ class SettingsFiles:
 
     def look(self) -> tuple[bool, bool]:
         """Reads again what isn't surely as it was: whether a layer changed, and whether a file is still written."""
-        known = [path for path, it in self._read.items() if not is_as_read(it, path)]
+        known = [path for path, it in self._read.items() if not is_unchanged_since_read(it, path)]
         changed = [self._look(path) for path in known]
         return any(changed), any(self._read[path].is_torn for path in known)
 
@@ -93,7 +102,7 @@ class SettingsFiles:
     def _octets(self, path: Path) -> bytes | str | None:
         """The octets of a file if it is there, or the line that says why it can't be read."""
         try:
-            return read_octets(path)
+            return read_config_octets(path)
         except Fault as fault:
             return str(fault)
 
@@ -102,7 +111,7 @@ class SettingsFiles:
             return None
         if isinstance(octets, str):
             raise Fault(octets)
-        layer = layer_of(place_of(path), octets)
-        if lines := self._refused(claims_of([layer])):
+        layer = parse_layer(shown_place(path), octets)
+        if lines := self._refused(claims_of_layers([layer])):
             raise Fault("; ".join(lines))
         return layer

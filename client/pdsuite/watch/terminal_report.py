@@ -6,10 +6,10 @@ from collections.abc import Callable, Mapping, Sequence
 from dataclasses import replace
 
 from pdsuite.compare.comparison import ComparedScript
-from pdsuite.output.fitting import columns_of, fitting, wrapped
-from pdsuite.output.octets import shown_path
+from pdsuite.output.fitting import fit_to_columns, usable_columns, wrap_line
+from pdsuite.output.octets import printable_path
 from pdsuite.output.styled_text import StyledText
-from pdsuite.reports.plain import PlainFormatter, style_of
+from pdsuite.reports.plain import PlainFormatter, totals_style
 from pdsuite.watch.change_report import ChangeReport, changed, entries, gone, gone_row, newly_explained, totals_of
 from pdsuite.watch.folder_moves import Move, Outcomes, moves_of
 from pdsuite.watch.plan_changes import WantedScript
@@ -51,8 +51,8 @@ class TerminalReport(ChangeReport):
             text.append_text(_moved(move, before, after))
         rows = changed(known, after)
         form = PlainFormatter(True)
-        text.append_text(_few([form.changed(it) for it in rows if not it.passes]))
-        text.append_text(_few([form.changed(it) for it in rows if it.passes]))
+        text.append_text(_few([form.row_and_warnings(it) for it in rows if not it.lets_run_pass]))
+        text.append_text(_few([form.row_and_warnings(it) for it in rows if it.lets_run_pass]))
         return text.append_text(_few(list(map(gone_row, gone(known, after)))))
 
     def blocks(self, before: Outcomes, after: Outcomes, moves: Sequence[Move]) -> StyledText:
@@ -71,21 +71,21 @@ class TerminalReport(ChangeReport):
     def foot(self, outcomes: Outcomes, seconds: float) -> StyledText:
         """The totals that aren't 0."""
         totals = totals_of(outcomes, self.is_unproved)
-        line = f"{totals.brief()} in {seconds:.2f} s{totals.mark}"
-        return StyledText([("\n".join(textwrap.wrap(line, self._columns())) + "\n", style_of(totals))])
+        line = f"{totals.nonzero_counts()} in {seconds:.2f} s{totals.unproved_mark}"
+        return StyledText([("\n".join(textwrap.wrap(line, self._columns())) + "\n", totals_style(totals))])
 
     def left(self, why: str) -> StyledText:
         """That the sender doesn't stand any more of which all rows are, and why, in lines that fit."""
         lines = super().left(why).plain.splitlines()
-        return StyledText([(f"{wrapped(line, self._columns())}\n", "dim") for line in lines])
+        return StyledText([(f"{wrap_line(line, self._columns())}\n", "dim") for line in lines])
 
     def _columns(self) -> int:
         """How long a line may be."""
-        return columns_of(self._width())
+        return usable_columns(self._width())
 
     def _fitting(self, text: StyledText) -> StyledText:
         """The text in lines that fit."""
-        return fitting(text, self._columns())
+        return fit_to_columns(text, self._columns())
 
 
 def _known(before: Outcomes, moves: Sequence[Move]) -> Outcomes:
@@ -102,7 +102,9 @@ def _moved(move: Move, before: Outcomes, after: Outcomes) -> StyledText:
     others = sum(before[old].row != after[new].row for old, new in move.scripts.items())
     verdicts = f"{others:,} with another row" if others else "same verdicts" if count > 1 else "same verdict"
     scripts = f"{count:,} {'scripts' if count > 1 else 'script'}"
-    return StyledText([(f"{shown_path(move.old)}/ moved to {shown_path(move.new)}/: {scripts}, {verdicts}\n", "")])
+    return StyledText(
+        [(f"{printable_path(move.old)}/ moved to {printable_path(move.new)}/: {scripts}, {verdicts}\n", "")]
+    )
 
 
 def _few(rows: Sequence[StyledText]) -> StyledText:

@@ -6,9 +6,9 @@ from pathlib import Path
 from typing import Protocol
 
 from pdsuite.compare.comparison import ComparedScript, ComparisonKind
-from pdsuite.compare.divergence import Divergence, divergence_of
+from pdsuite.compare.divergence import Divergence, first_divergence
 from pdsuite.programs.recorder import Recorder
-from pdsuite.run.batches import Script, batches_of
+from pdsuite.run.batches import Script, group_into_batches
 from pdsuite.run.explainer import EXPLAIN_FAILURES
 from pdsuite.run.local_mapper import local_mapper
 from pdsuite.run.outcomes import Outcome
@@ -80,7 +80,7 @@ class BaseSender:
             return wanted[script.path].text
 
         for step in local_mapper(self._programs[0], EXPLAIN_FAILURES, self._workers, self._stop, load)(
-            batches_of(scripts)
+            group_into_batches(scripts)
         ):
             if isinstance(step, SettledPiece):
                 yield from (outcome for _, outcome in step.outcomes)
@@ -119,5 +119,5 @@ def _turned(
 
 def _parting(path: str, wanted: WantedScript, recorders: Iterable[Recorder | None]) -> Divergence | None:
     """Where the recordings of a script part; None where one is missing."""
-    texts = [it.record(path, wanted.text.octets, wanted.settings).text for it in recorders if it is not None]
-    return divergence_of(*texts) if len(texts) == 2 and all(texts) else None
+    texts = [it.record_script(path, wanted.text.octets, wanted.settings).text for it in recorders if it is not None]
+    return first_divergence(*texts) if len(texts) == 2 and all(texts) else None

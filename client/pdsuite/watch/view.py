@@ -114,10 +114,10 @@ class View:
     def show_progress(self, doing: str) -> None:
         """Keeps at the bottom of a terminal how many scripts pass, and what is running."""
         totals = totals_of(self.outcomes)
-        passing = "" if self._status is None else f"{totals.passing:,} of {totals.scripts:,} pass"
+        passing = "" if self._status is None else f"{totals.passing_count:,} of {totals.script_count:,} pass"
         if passing and not (self._is_current and self._turn is None):
             passing += " by the sender before"
-        self._screen.bottom(", ".join(it for it in (passing, doing) if it))
+        self._screen.keep_bottom_line(", ".join(it for it in (passing, doing) if it))
 
     def _show(self, outcomes: Outcomes, wanted: Wanted, begin: float, check: Callable[[], None]) -> None:
         """Shows what changed: the rows at once, their explanations once these are there; at first all in one."""
@@ -191,10 +191,10 @@ class View:
                 foot = self._change_report.foot(after, time.monotonic() - begin)
                 self._screen.show(head.append_text(self._as_it_stands(blocks.append_text(foot))))
         if not after and (self.outcomes or self._status is None):
-            self._screen.note("pdsuite: no script found")
+            self._screen.print_note("pdsuite: no script found")
         self.outcomes = after
         self._turn = None
-        self._status = totals_of(after).status() if after else _NO_SCRIPT
+        self._status = totals_of(after).exit_status() if after else _NO_SCRIPT
         self.show_progress("")
 
     def _head(self) -> StyledText:
@@ -225,13 +225,17 @@ class View:
         old = self.outcomes.get(path)
         if old is None or self._turn is not None:
             return False
-        if (old.row, old.passes, old.expected) != (outcome.row, outcome.passes, outcome.expected):
+        if (old.row, old.lets_run_pass, old.expected) != (outcome.row, outcome.lets_run_pass, outcome.expected):
             return False
         return self._wanted.get(path) == wanted.get(path)
 
     def _needs_explanation(self, outcome: Outcome) -> bool:
         """Whether an outcome needs an explanation; of a known one nothing is shown but on the page."""
-        return outcome.row.line is not None and not outcome.block_lines and (self._of_known or not outcome.is_known)
+        return (
+            outcome.row.line is not None
+            and not outcome.block_lines
+            and (self._of_known or not outcome.is_known_failure)
+        )
 
     def _explained(self, outcomes: Iterable[Outcome], wanted: Wanted) -> Iterator[Outcome]:
         """Outcomes with explanations."""

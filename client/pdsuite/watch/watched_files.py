@@ -4,9 +4,9 @@ import os
 from collections.abc import Iterable, Mapping, Set
 from dataclasses import dataclass, replace
 
-from pdsuite.file_stamps import Stamp, StampedValue, is_as_read, read_stamped
+from pdsuite.file_stamps import Stamp, StampedValue, is_unchanged_since_read, read_stamped
 from pdsuite.run.batches import Script
-from pdsuite.run.run_batches import load
+from pdsuite.run.run_batches import load_script_text
 from pdsuite.scripts.discover import ScriptFile
 from pdsuite.scripts.text import Text
 
@@ -48,7 +48,7 @@ class Update:
 def watched_file(found: ScriptFile, before: WatchedFile | None, is_closed: bool) -> WatchedFile:
     """Reads a script's file. If nobody says that it was closed, who wrote it a moment ago may still be writing."""
     script = Script(0, found.path, (), found.fault)
-    file = read_stamped(found.path, lambda: load(script))
+    file = read_stamped(found.path, lambda: load_script_text(script))
     if file.is_fresh and not is_closed and (before is None or before.file.value != file.value):
         file = replace(file, is_torn=True)
     return WatchedFile(found, file)
@@ -97,7 +97,7 @@ def is_other(before: WatchedFiles, now: WatchedFiles) -> bool:
 
 
 def _as_before(found: ScriptFile, known: WatchedFile | None) -> WatchedFile | None:
-    is_same = known is not None and known.found == found and is_as_read(known.file, found.path)
+    is_same = known is not None and known.found == found and is_unchanged_since_read(known.file, found.path)
     return known if is_same else None
 
 
