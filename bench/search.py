@@ -31,11 +31,11 @@ from pdsuite.compare.senders import Sender  # noqa: E402
 from pdsuite.programs.verdict import Verdict  # noqa: E402
 from pdsuite.search.candidates import Candidates  # noqa: E402
 from pdsuite.search.find import DiffersTest, FailsTest  # noqa: E402
-from pdsuite.search.finished_script import finished_script  # noqa: E402
-from pdsuite.search.initial_inputs import initial_inputs, scripts_in  # noqa: E402
-from pdsuite.search.oracle import ConfiguredScript, ProgramOracle, SenderOracle, sizes  # noqa: E402
-from pdsuite.search.relevance import emphasis_of  # noqa: E402
-from pdsuite.search.save import save  # noqa: E402
+from pdsuite.search.finished_script import least_script_of_find  # noqa: E402
+from pdsuite.search.initial_inputs import record_initial_inputs, suite_scripts_of_tree  # noqa: E402
+from pdsuite.search.oracle import ConfiguredScript, ProgramOracle, SenderOracle, query_sizes  # noqa: E402
+from pdsuite.search.relevance import emphasis_of_changes  # noqa: E402
+from pdsuite.search.save import save_script_and_settings  # noqa: E402
 from pdsuite.search.search import Search  # noqa: E402
 from pdsuite.signals import Stop  # noqa: E402
 
@@ -69,19 +69,19 @@ class SearchBench:
         after = self._oracle(number, folder / "after")
         is_seen = any(it.verdict is not Verdict.PASS for it in after.rows(self.scripts))
         tree = copied(folder / "tree", mutant)
-        emphasis = emphasis_of(changed_names(self.base, tree), frozenset())
-        begun = initial_inputs(list(self.scripts), before, frozenset())
-        drawing = Candidates(self.options.seed, sizes(), emphasis, begun)
+        emphasis = emphasis_of_changes(changed_names(self.base, tree), frozenset())
+        begun = record_initial_inputs(list(self.scripts), before, frozenset())
+        drawing = Candidates(self.options.seed, query_sizes(), emphasis, begun)
         seconds = 0.0 if self.options.as_found else SECONDS
         search = Search(before, FailsTest(after), DiffersTest(after), drawing, seconds, self.options.inputs)
         searched = search.run(lambda inputs: None)
         found = "NOT FOUND"
         if searched.find is not None:
-            script = finished_script(searched.find, before, after).script
+            script = least_script_of_find(searched.find, before, after).script
             found = f"found, inputs {searched.coverage.inputs}, lines {script.octets.count(10)}"
             if self.options.save is not None:
                 self.options.save.mkdir(parents=True, exist_ok=True)
-                save(self.options.save / f"{mutant.name}.pkt", script.octets, script.settings)
+                save_script_and_settings(self.options.save / f"{mutant.name}.pkt", script.octets, script.settings)
         print(f"{mutant.name}: {'seen by the suite; ' if is_seen else ''}{found}", flush=True)
         return is_seen, searched.find is not None
 
@@ -116,7 +116,7 @@ def main() -> int:
             apply_all(mutants, tree)
             work.mkdir()
             shutil.copy(build(tree, work), program)
-        bench = SearchBench(base, scripts_in(base, stop), program, options, stop)
+        bench = SearchBench(base, suite_scripts_of_tree(base, stop), program, options, stop)
         found = []
         for number, mutant in enumerate(mutants, 1):
             if not options.names or mutant.name in options.names:

@@ -12,7 +12,7 @@ from typing import Any
 import pytest
 from pylsp_jsonrpc.streams import JsonRpcStreamReader, JsonRpcStreamWriter
 
-from pdsuite.lsp.documents import Document, position_in, uri_of
+from pdsuite.lsp.documents import Document, parse_position, uri_of_path
 from tests.helpers import HANGS, TOP
 from tests.lsp_scripts import ROOT
 
@@ -77,7 +77,7 @@ class LspClient:
         self._reader.start()
 
     def __enter__(self) -> "LspClient":
-        folders = [{"uri": uri_of(str(it)), "name": it.name} for it in self._roots]
+        folders = [{"uri": uri_of_path(str(it)), "name": it.name} for it in self._roots]
         params = {"processId": os.getpid(), "capabilities": self._can, "rootUri": None, "workspaceFolders": folders}
         self.offered = self.request("initialize", params)["capabilities"]
         self.notify("initialized", {})
@@ -136,7 +136,7 @@ class LspClient:
 
     def open(self, path: Path, text: str | None = None, version: int = 1) -> str:
         """Opens a file, with the text that it holds or another one; its URI."""
-        uri = uri_of(str(path))
+        uri = uri_of_path(str(path))
         document = Document(uri, version, path.read_bytes().decode() if text is None else text)
         self.documents[uri] = document
         item = {"uri": uri, "languageId": "packetdrill", "version": version, "text": document.text}
@@ -146,7 +146,7 @@ class LspClient:
     def change(self, uri: str, *changes: Json) -> None:
         """Changes a text, in one notification."""
         document = self.documents[uri]
-        self.documents[uri] = document.changed(document.version + 1, changes)
+        self.documents[uri] = document.with_changes(document.version + 1, changes)
         identifier = {"uri": uri, "version": document.version + 1}
         self.notify("textDocument/didChange", {"textDocument": identifier, "contentChanges": list(changes)})
 
@@ -187,9 +187,11 @@ class LspClient:
         document = self.documents[uri]
         assert change["textDocument"] == {"uri": uri, "version": document.version}
         edits = sorted(
-            change["edits"], key=lambda it: document.lines.offset(position_in(it["range"]["start"])), reverse=True
+            change["edits"], key=lambda it: document.lines.offset_of(parse_position(it["range"]["start"])), reverse=True
         )
-        return document.changed(document.version, [{"range": it["range"], "text": it["newText"]} for it in edits]).text
+        return document.with_changes(
+            document.version, [{"range": it["range"], "text": it["newText"]} for it in edits]
+        ).text
 
     # ---- what the server sends
 

@@ -7,13 +7,13 @@ import pytest
 
 from pdsuite.diagram.canvas import WIDE
 from pdsuite.diagram.failing_line import failing_line_of
-from pdsuite.diagram.labels import MOST_ROWS, Label, placed
-from pdsuite.diagram.pictures import for_page, png_file, svg_file
-from pdsuite.diagram.plot import figure_of
+from pdsuite.diagram.labels import MOST_ROWS, Label, place_in_rows
+from pdsuite.diagram.pictures import png_file, svg_file, svg_for_page
+from pdsuite.diagram.plot import draw_figure
 from pdsuite.diagram.timeline import timeline_of
 from pdsuite.diagram.timeline_parts import Arrival, ExpectedSegment, Flag, Note, SackBlock, Segment, SegmentKind, Stair
 from pdsuite.diagram.timeline_parts import Timeline
-from pdsuite.page.diagram_choice import DiagramChoice, Plot, plots_of
+from pdsuite.page.diagram_choice import DiagramChoice, Plot, choose_plots
 from pdsuite.programs.trace import traced_events_in
 from pdsuite.programs.verdict import Row, Verdict
 from pdsuite.run.outcomes import Outcome
@@ -52,14 +52,14 @@ def notes(found: Timeline) -> list[tuple[int, str]]:
 def test_a_diagram_is_as_high_as_a_window_that_is_not_far_above(edges: tuple[int | None, ...], most: int) -> None:
     """Up to 1.6 times the octets that are sent, which go to 8,002."""
     found = replace(strokes("timeout"), edge=tuple(Stair(200_000, it) for it in edges))
-    assert figure_of(found, WIDE).axes[0].get_ylim()[1] == pytest.approx(1.05 * most)
+    assert draw_figure(found, WIDE).axes[0].get_ylim()[1] == pytest.approx(1.05 * most)
 
 
 def test_each_row_of_words_has_its_room() -> None:
     """Words at one moment stand in rows, one above another."""
     found = strokes("timeout")
     notes = [tuple(Note(1_300_000, "w" * 20) for _ in range(count)) for count in range(4)]
-    heights = [figure_of(replace(found, notes=it), WIDE).get_size_inches()[1] for it in notes]
+    heights = [draw_figure(replace(found, notes=it), WIDE).get_size_inches()[1] for it in notes]
     steps = [after - before for before, after in zip(heights, heights[1:])]
     assert steps[0] > 0.1 and steps == pytest.approx([steps[0]] * 3)
 
@@ -77,7 +77,7 @@ def test_a_timeout() -> None:
     assert (1300, 1000) in stairs(found.cwnd)
     assert stairs(found.ssthresh) == [(1300, 2500)]
     assert stairs(found.acknowledged)[:4] == [(100, 0), (200, 1), (300, 1001), (3400, 2001)]
-    assert (found.spans, found.blocks, found.failure, found.has_later) == ((), (), None, False)
+    assert (found.spans, found.blocks, found.failure, found.has_later_events) == ((), (), None, False)
 
 
 def test_a_recovery_with_sack() -> None:
@@ -178,7 +178,7 @@ def test_a_fin_or_rst_that_is_dropped_is_marked_where_acknowledged_octets_end() 
 def test_what_is_dropped_is_drawn_just_above_the_stairs_and_raises_nothing() -> None:
     found = timeline_of(traced_events_in(FINS))
     assert found is not None
-    picture = figure_of(found, WIDE)
+    picture = draw_figure(found, WIDE)
     axes = picture.axes[0]
     low, high = axes.get_ylim()
     assert high < 2_000
@@ -223,7 +223,7 @@ def test_the_failing_packet_is_an_outline_and_what_was_sent_is_filled_and_what_c
     assert failing is not None
     assert (failing.inputs, failing.packets, failing.moment) == (9, 6, 310_000)
     found = timeline_of(traced_events_in((RECORDINGS / "fails.txt").read_text()), failing)
-    assert found is not None and found.failure is not None and found.has_later
+    assert found is not None and found.failure is not None and found.has_later_events
     assert found.failure.expected == ExpectedSegment(310_000, 310_000, 1, 1001)
     assert found.failure.actual == Segment(310_000, 5001, 6001, SegmentKind.NEW)
     assert "310 5001:6001 new" not in sent(found)
@@ -259,7 +259,7 @@ def test_a_call_that_fails_has_no_packet() -> None:
 
 def test_words_above_never_lie_over_each_other() -> None:
     labels = [Label(number, "timeout, RTO 1 s") for number in range(12)]
-    found = placed(labels, [number * 20.0 for number in range(12)], 6.0, 400.0)
+    found = place_in_rows(labels, [number * 20.0 for number in range(12)], 6.0, 400.0)
     rows: dict[int, float] = {}
     for it in found:
         if it.row is not None:
@@ -286,8 +286,8 @@ def test_a_name_is_a_text_in_files_whatever_it_is(name: str) -> None:
 
 
 def test_the_same_strokes_give_the_same_octets_with_classes_and_variables() -> None:
-    text = for_page(strokes("sack"))
-    assert text == for_page(strokes("sack"))
+    text = svg_for_page(strokes("sack"))
+    assert text == svg_for_page(strokes("sack"))
     assert text.count("<svg") == 2
     for name in ("new", "again", "sack", "ack", "cwnd", "ssthresh"):
         assert f'class="{name}"' in text and f"var(--diagram-{name})" in text
@@ -298,12 +298,18 @@ def test_the_same_strokes_give_the_same_octets_with_classes_and_variables() -> N
 def test_which_scripts_are_drawn() -> None:
     verdicts = [Verdict.FAIL, Verdict.PASS, Verdict.FAIL, Verdict.SYNTAX, Verdict.FAIL]
     outcomes = [Outcome(f"a/{number}.pkt", (), Row(it, 1)) for number, it in enumerate(verdicts)]
-    assert list(plots_of(outcomes, DiagramChoice(None, 2))) == [Plot.PAGE, Plot.NONE, Plot.PAGE, Plot.NONE, Plot.NONE]
-    assert list(plots_of(outcomes, DiagramChoice("1.pkt", 0))) == [
+    assert list(choose_plots(outcomes, DiagramChoice(None, 2))) == [
+        Plot.PAGE,
+        Plot.NONE,
+        Plot.PAGE,
+        Plot.NONE,
+        Plot.NONE,
+    ]
+    assert list(choose_plots(outcomes, DiagramChoice("1.pkt", 0))) == [
         Plot.NONE,
         Plot.FILES,
         Plot.NONE,
         Plot.NONE,
         Plot.NONE,
     ]
-    assert list(plots_of(outcomes, DiagramChoice("a/*", 50))) == [Plot.FILES] * 5
+    assert list(choose_plots(outcomes, DiagramChoice("a/*", 50))) == [Plot.FILES] * 5

@@ -76,7 +76,7 @@ def test_a_path_that_stays_away_is_gone(watched_folder: WatchFixture) -> None:
     watched_folder.wait(0.03)
     assert len(watched_folder.rows) == 1
     watched_folder.wait(0.03)
-    assert watched_folder.rows == {} and watched_folder.view.status == 2
+    assert watched_folder.rows == {} and watched_folder.view.exit_status == 2
     assert watched_folder.paper.notes == ["pdsuite: no script found"]
     path.write_bytes(b"one\n")
     watched_folder.wait(0)
@@ -119,7 +119,7 @@ def test_what_no_event_reports_the_next_walk_finds(watched_folder: WatchFixture)
     watched_folder.wait(0)
     for change in _SILENT:
         change(watched_folder.top)
-        watched_folder.watcher.read()
+        watched_folder.watcher.read_events()
         watched_folder.wait(1.9, [])
         watched_folder.wait(0.1, [])
         watched_folder.wait(0.05, [])
@@ -130,7 +130,7 @@ def test_half_a_second_after_the_last_event_all_is_looked_at(watched_folder: Wat
     (watched_folder.top / "a.pkt").write_bytes(b"one\n")
     watched_folder.wait(0)
     (watched_folder.top / "b.pkt").write_bytes(b"two\n")
-    watched_folder.watcher.read()
+    watched_folder.watcher.read_events()
     (watched_folder.top / "notes.txt").write_bytes(b"")
     watched_folder.wait(0.1)
     watched_folder.wait(0.3, [])
@@ -231,24 +231,24 @@ def test_the_more_a_look_takes_the_more_rarely_it_is_done(
 ) -> None:
     processor, costs = [0.0], iter([8.0, 0.5, 0.001, 3.0, 0.6])
     monkeypatch.setattr("pdsuite.watch.folders.process_time", lambda: processor[0])
-    walk = watched_folder.folders._walk_through
+    walk = watched_folder.folders._walk_folders
 
     def costly(closed: set[tuple[str, str]], now: float) -> bool:
         processor[0] += next(costs)
         return walk(closed, now)
 
-    monkeypatch.setattr(watched_folder.folders, "_walk_through", costly)
+    monkeypatch.setattr(watched_folder.folders, "_walk_folders", costly)
     (watched_folder.top / "a.pkt").write_bytes(b"one\n")
     periods = []
     for _ in range(3):
         watched_folder.wait(1_000.0, [])
-        periods.append(watched_folder.folders.due() - watched_folder.now)
+        periods.append(watched_folder.folders.next_look_moment() - watched_folder.now)
     assert periods == [2.0, pytest.approx(55.0), 2.0]
     (watched_folder.top / "b.pkt").write_bytes(b"one\n")
     watched_folder.wait(1_000.0, [])  # what it takes to read what is new counts for nothing
-    assert watched_folder.folders.due() - watched_folder.now == 2.0
+    assert watched_folder.folders.next_look_moment() - watched_folder.now == 2.0
     watched_folder.wait(3.0, [])
-    assert watched_folder.folders.due() - watched_folder.now == pytest.approx(66.0)
+    assert watched_folder.folders.next_look_moment() - watched_folder.now == pytest.approx(66.0)
 
 
 def test_after_a_report_all_is_looked_at_soon_however_rarely_it_is_else(watched_folder: WatchFixture) -> None:
@@ -259,9 +259,11 @@ def test_after_a_report_all_is_looked_at_soon_however_rarely_it_is_else(watched_
     (watched_folder.top / "far.pkt").write_bytes(b"two\n")  # of which no report comes
     saved = [FileEvent(FileEventKind.CLOSED, str(watched_folder.top), "a.pkt")]
     watched_folder.wait(30.0, saved)
-    assert watched_folder.folders.due() == watched_folder.now + 0.5
+    assert watched_folder.folders.next_look_moment() == watched_folder.now + 0.5
     for _ in range(4):
         watched_folder.wait(0.4, saved)
-    assert len(watched_folder.rows) == 1 and watched_folder.folders.due() == pytest.approx(watched_folder.now + 0.4)
+    assert len(watched_folder.rows) == 1 and watched_folder.folders.next_look_moment() == pytest.approx(
+        watched_folder.now + 0.4
+    )
     watched_folder.wait(0.4, saved)  # two seconds after the first report, though they go on
     assert len(watched_folder.rows) == 2

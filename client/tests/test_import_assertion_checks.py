@@ -5,7 +5,7 @@ from pathlib import Path
 
 import pytest
 
-from pdsuite.imports.assertion_checks import compare
+from pdsuite.imports.assertion_checks import check_assertions
 from tests.helpers import Call, write
 from tests.test_import_conversion import OPEN
 
@@ -22,7 +22,7 @@ def state(moment: str, more: str = "") -> str:
 def checked(recording: str, row_line: int | None = None, mss: int = 1460) -> list[tuple[int, bool | None]]:
     """The lines of the assertions of a recording, and whether they hold; its script is what is no line of a state."""
     script = "".join(it for it in recording.splitlines(keepends=True) if not it.startswith("//= "))
-    return [(it.line, it.holds) for it in compare(script, recording, row_line, mss)]
+    return [(it.line, it.holds) for it in check_assertions(script, recording, row_line, mss)]
 
 
 @pytest.mark.parametrize(
@@ -80,7 +80,7 @@ def test_a_row_of_a_later_line_leaves_assertions_compared() -> None:
 @pytest.mark.parametrize("recording", ["", "// asserts tcpi_unacked == 0\n", SYN + "// asserts tcpi_snd_cwnd == 4\n"])
 def test_without_its_recording_nothing_is_compared(recording: str) -> None:
     script = SYN + "// asserts tcpi_snd_cwnd == 4\n"
-    assert [(it.line, it.holds) for it in compare(script, recording, None, 1460)] == [(2, None)]
+    assert [(it.line, it.holds) for it in check_assertions(script, recording, None, 1460)] == [(2, None)]
 
 
 RECORDS = """#!/bin/sh

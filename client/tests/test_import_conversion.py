@@ -2,7 +2,7 @@
 
 import pytest
 
-from pdsuite.imports.conversion import ImportSource, Imported, NotImported, convert
+from pdsuite.imports.conversion import ImportSource, Imported, NotImported, convert_script
 from pdsuite.imports.findings import Heading
 from pdsuite.scripts.settings import Value
 from pdsuite.scripts.text import UnfitTextError
@@ -23,7 +23,7 @@ def came(text: str, own: dict[str, Value] | None = None, keep: bool = False) -> 
     def load(path: str) -> str:
         raise UnfitTextError("No such file or directory")
 
-    return convert(ImportSource(text, own, load), keep)
+    return convert_script(ImportSource(text, own, load), keep)
 
 
 def imported(text: str, own: dict[str, Value] | None = None, keep: bool = False) -> Imported:

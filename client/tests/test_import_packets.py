@@ -2,10 +2,20 @@
 
 import pytest
 
-from pdsuite.imports.assertions import Assertion, asserted, assertion_in, comment
-from pdsuite.imports.packets import CUT, PUSH, WINDOW, Sending, Write, as_sent, moments_of, smss_of, writes_of
+from pdsuite.imports.assertions import Assertion, assertion_comment, assertion_in_comment, parse_assertions
+from pdsuite.imports.packets import (
+    CUT,
+    PUSH,
+    WINDOW,
+    Sending,
+    Write,
+    moments_of,
+    packets_as_sent,
+    smss_of,
+    writes_before_items,
+)
 from pdsuite.packetdrill.items import Packet
-from pdsuite.packetdrill.reader import read
+from pdsuite.packetdrill.reader import read_items
 
 MS = 1_000
 # 2,500 octets at 0.1 s and 500 more at 0.2 s.
@@ -14,9 +24,9 @@ WRITES = (Write(2501, 100 * MS), Write(3001, 200 * MS))
 
 def sent(text: str, moment: int | None = 200 * MS, smss: int = 1000) -> tuple[list[str], tuple[str, ...]]:
     """The packets that come in the place of one, and what was changed."""
-    packet = read(f"0 {text}").items[0].what
+    packet = read_items(f"0 {text}").items[0].what
     assert isinstance(packet, Packet)
-    packets, changes = as_sent(packet, Sending(smss, moment, WRITES, 4 * MS))
+    packets, changes = packets_as_sent(packet, Sending(smss, moment, WRITES, 4 * MS))
     return [str(it) for it in packets], changes
 
 
@@ -68,7 +78,7 @@ def test_p_stands_on_the_last_octet_that_is_queued(text: str, ms: int | None, ex
 
 def test_smss_is_the_lesser_mss() -> None:
     def smss(options: str) -> int:
-        return smss_of(read(f"0 > . 1:1(0) <mss 5>\n0 < S 0:0(0) win 1 {options}").items, 1460)
+        return smss_of(read_items(f"0 > . 1:1(0) <mss 5>\n0 < S 0:0(0) win 1 {options}").items, 1460)
 
     assert [smss(it) for it in ("", "<mss 1000>", "<mss 9000>", "<nop,mss 7,mss 8>")] == [536, 1000, 1460, 7]
     assert smss("<eol,mss 1000>") == 536
@@ -78,12 +88,12 @@ def test_smss_is_the_lesser_mss() -> None:
 def test_moments_and_writes_are_counted_up() -> None:
     calls = "write(4, ..., 9) = 9", "write(4, ..., 9) = -1 EAGAIN", "write(4, ..., 9) = 5", "close(4) = 0"
     text = f"1 {calls[0]}\n+.5 {calls[1]}\n+0~+1 > . 1:1(0)\n+1 {calls[2]}\n3 {calls[3]}\n+0 `x`\n* > . 1:1(0)"
-    items = read(text).items
+    items = read_items(text).items
     moments = moments_of(items)
     assert moments == [1_000_000, 1_500_000, None, None, 3_000_000, 3_000_000, None]
     first = (Write(10, 1_000_000),)
     both = (*first, Write(15, None))
-    assert writes_of(items, moments) == [(), first, first, first, both, both, both]
+    assert writes_before_items(items, moments) == [(), first, first, first, both, both, both]
 
 
 ASSERTED: list[tuple[str, list[str], list[str]]] = [
@@ -115,14 +125,14 @@ ASSERTED: list[tuple[str, list[str], list[str]]] = [
 @pytest.mark.parametrize(("code", "compared", "others"), ASSERTED, ids=range(len(ASSERTED)))
 @pytest.mark.filterwarnings("error")
 def test_code_is_read_and_never_run(code: str, compared: list[str], others: list[str]) -> None:
-    found = asserted(code)
+    found = parse_assertions(code)
     assert ([str(it) for it in found.assertions], list(found.others)) == (compared, others)
 
 
 def test_an_assertion_becomes_a_comment_of_a_fixed_form_and_back() -> None:
     for name, value in (("tcpi_snd_cwnd", "10"), ("tcpi_unacked", "0"), ("tcpi_ca_state", "TCP_CA_Loss")):
         assertion = Assertion(name, value)
-        assert comment(assertion) == f"// asserts {name} == {value}"
-        assert assertion_in(f"\t {comment(assertion)}\r") == assertion
+        assert assertion_comment(assertion) == f"// asserts {name} == {value}"
+        assert assertion_in_comment(f"\t {assertion_comment(assertion)}\r") == assertion
     for line in ("// asserts tcpi_rto == 1", "// asserts tcpi_unacked == 1", "x // asserts tcpi_unacked == 0", ""):
-        assert assertion_in(line) is None
+        assert assertion_in_comment(line) is None

@@ -5,9 +5,16 @@ import re
 import pytest
 
 from pdsuite.imports.kernel import ALIKE, DROPPED_COMMANDS, FEATURES, REFUSED_COMMANDS, SETTINGS, Use
-from pdsuite.imports.kernel import command_meaning, meaning
-from pdsuite.imports.setup import CommandPlace, ParsedCommand, Setup, look_at, setup_of, shift_count
-from pdsuite.imports.shell import Defaults, Metric, Other, SetupCommand, Switch, commands_in
+from pdsuite.imports.kernel import meaning_of_command, meaning_of_switch
+from pdsuite.imports.setup import (
+    CommandPlace,
+    ParsedCommand,
+    Setup,
+    parse_command_text,
+    setup_from_lines,
+    shift_count_for_buffer,
+)
+from pdsuite.imports.shell import Defaults, Metric, Other, SetupCommand, Switch, setup_commands_in
 from pdsuite.scripts.settings import Value
 from pdsuite.scripts.text import UnfitTextError
 from tests.helpers import TOP
@@ -50,7 +57,7 @@ COMMANDS: list[tuple[str, list[SetupCommand]]] = [
 
 @pytest.mark.parametrize(("text", "commands"), COMMANDS, ids=[text[:30] for text, _ in COMMANDS])
 def test_of_commands_those_alone_are_read_that_say_settings(text: str, commands: list[SetupCommand]) -> None:
-    assert list(commands_in(text)) == commands
+    assert list(setup_commands_in(text)) == commands
 
 
 MEANINGS = [
@@ -68,7 +75,7 @@ MEANINGS = [
 
 @pytest.mark.parametrize(("name", "value", "use", "words"), MEANINGS)
 def test_a_switch_has_one_meaning(name: str, value: str, use: Use, words: str) -> None:
-    found = meaning(name, value)
+    found = meaning_of_switch(name, value)
     assert (found.use, found.words) == (use, words)
 
 
@@ -84,7 +91,7 @@ def test_a_switch_has_one_meaning(name: str, value: str, use: Use, words: str) -
     ],
 )
 def test_a_command_that_is_no_switch_may_be_known(words: str, use: Use, about: str) -> None:
-    found = command_meaning(tuple(words.split()))
+    found = meaning_of_command(tuple(words.split()))
     assert found is not None and (found.use, found.words) == (use, about)
 
 
@@ -98,12 +105,12 @@ def looked(text: str, place: CommandPlace = CommandPlace.SETUP, file: str | None
     def load(path: str) -> str:
         return no_file(path) if file is None else file
 
-    return look_at(text, 7, place, load)
+    return parse_command_text(text, 7, place, load)
 
 
 def came_of(text: str, own: dict[str, Value] | None = None, smss: int = 1000, file: str | None = None) -> Setup:
     """What a set-up comes to."""
-    return setup_of(looked(text, file=file).lines, smss, {}, own)
+    return setup_from_lines(looked(text, file=file).lines, smss, {}, own)
 
 
 KERNEL = {
@@ -134,12 +141,12 @@ def test_a_script_with_settings_of_its_own_has_none_of_a_kernel() -> None:
     [(0, 0), (1, 0), (65_535, 0), (65_536, 1), (6_291_456, 7), (8_388_607, 7), (8_388_608, 8), (15_728_640, 8)],
 )
 def test_the_shift_count_follows_the_greatest_buffer(octets: int, count: int) -> None:
-    assert shift_count(octets) == count
+    assert shift_count_for_buffer(octets) == count
 
 
 @pytest.mark.parametrize(("octets", "count"), [(2**28, 13), (2**29, 14), (2**30, 14), (2**62, 14)])
 def test_the_shift_count_is_at_most_14(octets: int, count: int) -> None:
-    assert shift_count(octets) == count
+    assert shift_count_for_buffer(octets) == count
 
 
 SETUPS: list[tuple[str, dict[str, Value]]] = [
@@ -207,7 +214,7 @@ def test_a_defaults_sh_is_read_in_the_place_of_its_name() -> None:
     assert came_of("./defaults.sh", file=file).settings["sack"] is False
     assert came_of("./defaults.sh\nsysctl net.ipv4.tcp_sack=1", file=file).settings["sack"] is True
     found = looked("./defaults.sh", file=file)
-    assert found.dropped == found.shared.features == ("metrics of earlier connections",)
+    assert found.dropped_words == found.shared.features == ("metrics of earlier connections",)
     assert [it.what for it in looked("./defaults.sh").reasons] == ["./defaults.sh (No such file or directory)"]
     assert [it.what for it in looked("./defaults.sh", file="./defaults.sh").reasons] == ["./defaults.sh"]
 
@@ -221,7 +228,7 @@ def test_a_comment_of_a_defaults_sh_does_not_go_on_in_the_next_line() -> None:
 def test_a_command_that_is_not_known_counts_in_set_up_and_is_dropped_in_the_midst() -> None:
     assert [it.words for it in looked("modprobe x").reasons] == ["a command of set-up"]
     assert looked("modprobe x", CommandPlace.MIDST).reasons == ()
-    assert looked("modprobe x", CommandPlace.MIDST).dropped == ("commands, which are never run",)
+    assert looked("modprobe x", CommandPlace.MIDST).dropped_words == ("commands, which are never run",)
 
 
 @pytest.mark.parametrize(

@@ -2,8 +2,8 @@
 
 import pytest
 
-from pdsuite.imports.slow_start import initial_window, limit_of
-from pdsuite.packetdrill.reader import read
+from pdsuite.imports.slow_start import greatest_fitting_abc_limit, initial_window_octets
+from pdsuite.packetdrill.reader import read_items
 from tests.test_import_conversion import OPEN, imported
 
 # Ten segments of 1,000 octets leave.
@@ -54,13 +54,13 @@ LIMITS = {
 
 @pytest.mark.parametrize(("text", "limit"), LIMITS.values(), ids=LIMITS)
 def test_the_limit_is_the_greatest_under_which_just_that_leaves(text: str, limit: int) -> None:
-    reading = read(text)
+    reading = read_items(text)
     assert reading.fault is None
-    assert limit_of(reading.items, 1_000, 10_000) == limit
+    assert greatest_fitting_abc_limit(reading.items, 1_000, 10_000) == limit
     assert dict(imported(text).settings)["abc_limit"] == limit
     assert imported(text, {"abc_limit": 5}).settings == (("abc_limit", 5),)
 
 
 def test_the_first_window_is_that_of_the_setting() -> None:
-    assert [initial_window("rfc5681", it) for it in (1_000, 1_460, 4_000)] == [4_000, 4_380, 8_000]
-    assert [initial_window("rfc6928", it) for it in (1_000, 1_460, 4_000)] == [10_000, 14_600, 14_600]
+    assert [initial_window_octets("rfc5681", it) for it in (1_000, 1_460, 4_000)] == [4_000, 4_380, 8_000]
+    assert [initial_window_octets("rfc6928", it) for it in (1_000, 1_460, 4_000)] == [10_000, 14_600, 14_600]

@@ -5,7 +5,7 @@ from pathlib import Path
 import pytest
 
 from pdsuite.packetdrill import alignment
-from pdsuite.packetdrill.alignment import Fields, aligned
+from pdsuite.packetdrill.alignment import Fields, align_packets
 from pdsuite.packetdrill.columns import Mark
 from pdsuite.programs.recorder import Recording
 from pdsuite.programs.verdict import Row, Verdict
@@ -50,7 +50,7 @@ def test_packets_that_cannot_meet_stand_apart_however_many_there_are(
 ) -> None:
     monkeypatch.setattr(alignment, "_MOST", most)
     each = [Fields(frozenset("."), (number, number + 1), 1, None, None) for number in range(3)]
-    assert aligned(each, each[:2], lambda one, other: one > 0) == {1: 1}
+    assert align_packets(each, each[:2], lambda one, other: one > 0) == {1: 1}
 
 
 def test_where_another_came_it_stands_below_and_the_fields_that_differ_are_marked() -> None:

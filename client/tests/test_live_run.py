@@ -62,7 +62,7 @@ def started(settings: Settings) -> Any:
 def carried_out(run: LiveRun, *acts: Act) -> int:
     """How many acts more a run has after these."""
     before = run.acts
-    run.carry_out(acts, RunContents((), {}))
+    run.carry_out_acts(acts, RunContents((), {}))
     return run.acts - before
 
 
@@ -84,13 +84,13 @@ def test_an_answer_is_found_however_reads_cut_it(octets: int, monkeypatch: pytes
 
 def test_what_is_told_stays_until_its_script_runs_again_or_goes() -> None:
     run = LiveRun((), started)
-    run.carry_out([AddScript("a", ONE), AddScript("b", ONE)], RunContents((), {}))
+    run.carry_out_acts([AddScript("a", ONE), AddScript("b", ONE)], RunContents((), {}))
     first = run.causes["a"]
     assert (list(run.causes), run.steps) == (["a", "b"], {"a": 3, "b": 3})
-    run.carry_out([RemoveScript("b"), AddScript("c", ONE)], RunContents((), {}))
+    run.carry_out_acts([RemoveScript("b"), AddScript("c", ONE)], RunContents((), {}))
     assert run.causes.keys() == {"a", "c"} and run.causes["a"] is first
     assert run.steps == {"c": 3}
-    run.carry_out([SetKey("mss", "100")], RunContents((), {}))
+    run.carry_out_acts([SetKey("mss", "100")], RunContents((), {}))
     assert run.causes["a"] is not first and run.steps == {"a": 3, "c": 3}
 
 
@@ -111,7 +111,9 @@ def test_a_text_is_asked_with_the_octets_that_an_editor_has(monkeypatch: pytest.
     monkeypatch.setattr(queries, "Program", lambda words, stop: program)
     sender = LiveSender(stamped_program(Path(__file__)), None)
     with Stop() as stop:
-        found = queries.ProgramQueries(sender, stop, lambda line: None).rows(["a\ud800", "\n" * 5_000, "b"], ())
+        found = queries.ProgramQueries(sender, stop, lambda line: None).rows_of_texts(
+            ["a\ud800", "\n" * 5_000, "b"], ()
+        )
     assert found == [Row(Verdict.PASS, 1), None, Row(Verdict.PASS, 1)]
     texts = make_text(b"a\xed\xa0\x80\n"), make_text(b"b\n")
     assert program.queries == [add_command(script_name(0), texts[0]) + add_command(script_name(2), texts[1]) + SETTLE]

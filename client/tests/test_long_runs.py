@@ -48,42 +48,42 @@ def wanted(number: int, settings: Settings = ()) -> dict[str, WantedScript]:
 
 
 def test_a_run_says_the_steps_of_its_last_change_alone(fleet: LivePool) -> None:
-    fleet.follow(wanted(0))
+    fleet.hold_wanted_scripts(wanted(0))
     (run,) = fleet.runs
     assert run.steps["a.pkt"] == 2
-    fleet.follow(wanted(1))
+    fleet.hold_wanted_scripts(wanted(1))
     assert run.steps == {"a.pkt": 2}
 
 
 def test_acts_are_counted_at_least_as_the_program_counts_them(fleet: LivePool) -> None:
     for number in range(20):
-        fleet.follow(wanted(number, MSS if number % 5 == 4 else ()))
+        fleet.hold_wanted_scripts(wanted(number, MSS if number % 5 == 4 else ()))
     (run,) = fleet.runs
     # An act, and the start and the end of each job that it leads to.
     assert run.acts >= 3 * (10 + 16) + 4 * (1 + 2 * 10)
 
 
 def test_a_run_with_a_long_history_gives_way_to_a_new_one_that_holds_the_same(fleet: LivePool, starts: Starts) -> None:
-    fleet.follow(wanted(0))
-    assert not fleet.renew(1_000) and len(starts.models) == 1
+    fleet.hold_wanted_scripts(wanted(0))
+    assert not fleet.renew_long_runs(1_000) and len(starts.models) == 1
     before = dict(fleet.rows())
-    assert fleet.renew(10)
+    assert fleet.renew_long_runs(10)
     old, new = starts.models
     assert old.is_closed and not new.is_closed and dict(fleet.rows()) == before
-    fleet.follow(wanted(1))
+    fleet.hold_wanted_scripts(wanted(1))
     assert len(starts.models) == 2 and new.texts[b"s0"] == [b"1", b"x"]
 
 
 def test_the_old_run_goes_on_where_no_new_one_begins(fleet: LivePool, starts: Starts) -> None:
-    fleet.follow(wanted(0))
+    fleet.hold_wanted_scripts(wanted(0))
     starts.is_dead = True
-    assert fleet.renew(10) and not starts.models[0].is_closed and len(dict(fleet.rows())) == 10
+    assert fleet.renew_long_runs(10) and not starts.models[0].is_closed and len(dict(fleet.rows())) == 10
 
 
 def test_what_no_program_ran_runs_once_one_begins_again(fleet: LivePool, starts: Starts) -> None:
     starts.is_dead = True
-    fleet.follow(wanted(0))
+    fleet.hold_wanted_scripts(wanted(0))
     assert {it.verdict for _, it in fleet.rows()} == {Verdict.ERROR} and not fleet.runs
     starts.is_dead = False
-    fleet.follow(wanted(0))
+    fleet.hold_wanted_scripts(wanted(0))
     assert Verdict.ERROR not in {it.verdict for _, it in fleet.rows()} and len(dict(fleet.rows())) == 10

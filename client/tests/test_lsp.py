@@ -8,7 +8,7 @@ from pathlib import Path
 import pytest
 
 from pdsuite.faults import Fault
-from pdsuite.lsp.documents import uri_of
+from pdsuite.lsp.documents import uri_of_path
 from pdsuite.lsp.features import SenderSession
 from pdsuite.lsp.server import Server
 from pdsuite.lsp.transport import CONTENT_MODIFIED
@@ -98,7 +98,7 @@ def test_untaken_packets_stand_where_they_left(client: LspClient, workspace: Pat
 def test_a_text_that_is_open_counts_in_place_of_its_file(client: LspClient, workspace: Path) -> None:
     (workspace / "a.pkt").write_text(PASSES)
     (workspace / "b.pkt").write_text("bad\n")
-    other = uri_of(str(workspace / "b.pkt"))
+    other = uri_of_path(str(workspace / "b.pkt"))
     client.wait_diagnostics(other, bool, "what is wrong with the file")
     uri = client.open(workspace / "a.pkt", "worse\n")
     assert client.settled(uri)[0]["code"] == "syntax"
@@ -115,9 +115,9 @@ def test_a_text_that_is_open_counts_in_place_of_its_file(client: LspClient, work
 def test_a_file_that_is_not_utf_8_is_what_a_run_says(client: LspClient, workspace: Path) -> None:
     (workspace / "a.pkt").write_bytes(b"// \xff\n" + PASSES.encode())
     (workspace / "b.pkt").write_bytes(b"/* \xff */ 0 \xfe() = 1\n")
-    (found,) = client.wait_diagnostics(uri_of(str(workspace / "b.pkt")), bool, "what is wrong with the file")
+    (found,) = client.wait_diagnostics(uri_of_path(str(workspace / "b.pkt")), bool, "what is wrong with the file")
     assert (found["code"], found["range"]["start"]) == ("syntax", {"line": 0, "character": 10})
-    assert uri_of(str(workspace / "a.pkt")) not in client.diagnostics
+    assert uri_of_path(str(workspace / "a.pkt")) not in client.diagnostics
 
 
 def test_settings_count_while_they_are_edited(client: LspClient, workspace: Path) -> None:
@@ -163,7 +163,7 @@ def test_what_a_run_warns_of_is_a_diagnostic(client: LspClient, workspace: Path)
     client.put(uri, "// One\n0 socket(..., SOCK_STREAM, IPPROTO_TCP) = 3\n")
     assert [it["message"] for it in client.settled(uri)] == ["passes, but awaits no packet (strict)"]
     (workspace / "b.pkt").write_text(blind)
-    other = uri_of(str(workspace / "b.pkt"))
+    other = uri_of_path(str(workspace / "b.pkt"))
     assert client.wait_diagnostics(other, bool, "the warning of a file")[0]["message"] == f"passes, but {left} (strict)"
     client.put(uri, PASSES)
     assert client.settled(uri) == []
@@ -175,8 +175,8 @@ def test_what_lies_in_a_folder_that_is_removed_is_told_of_no_more(client: LspCli
     (second / "b.pkt").write_text("bad\n")
     (second / "pdsuite.toml").write_text("mss = 10\n")
     opened = client.open(second / "open.pkt", "bad\n")
-    place = {"uri": uri_of(str(second)), "name": "second"}
-    script, settings = (uri_of(str(second / it)) for it in ("b.pkt", "pdsuite.toml"))
+    place = {"uri": uri_of_path(str(second)), "name": "second"}
+    script, settings = (uri_of_path(str(second / it)) for it in ("b.pkt", "pdsuite.toml"))
     client.notify("workspace/didChangeWorkspaceFolders", {"event": {"added": [place], "removed": []}})
     client.wait_diagnostics(script, bool, "what is wrong in the new folder")
     client.wait_diagnostics(settings, bool, "the fault of its settings")
@@ -207,7 +207,7 @@ def test_a_request_that_is_cancelled_is_dropped(client: LspClient, workspace: Pa
 
 
 def test_a_request_about_an_older_text_is_given_up() -> None:
-    handlers = Server(_no_programs).handlers()
+    handlers = Server(_no_programs).message_handlers()
     handlers["initialize"]({})
     handlers["textDocument/didOpen"]({"textDocument": {"uri": "file:///a.pkt", "version": 1, "text": PASSES}})
     waiting = [handlers["textDocument/hover"]({"textDocument": {"uri": f"file:///{it}.pkt"}}) for it in "ab"]
@@ -336,7 +336,7 @@ def test_watched_files_are_asked_for_where_the_client_has_them(recording_program
         client.wait(lambda: bool(client.requests), "a registration")
         assert client.requests[0]["method"] == "client/registerCapability"
         (workspace / "b.pkt").write_text("bad\n")
-        uri = uri_of(str(workspace / "b.pkt"))
+        uri = uri_of_path(str(workspace / "b.pkt"))
         client.notify("workspace/didChangeWatchedFiles", {"changes": [{"uri": uri, "type": 1}]})
         client.wait_diagnostics(uri, bool, "what is wrong with the file")
 

@@ -9,7 +9,7 @@ from typing import Any
 
 import pytest
 
-from pdsuite.lsp.documents import uri_of
+from pdsuite.lsp.documents import uri_of_path
 from tests.helpers import HANGS, TOP
 from tests.lsp_client import Json, LspClient, span
 from tests.lsp_scripts import HEAD, PASSES
@@ -43,7 +43,7 @@ def compare(client: LspClient, workspace: Path, programs: Path) -> None:
     )
     reported = rows(client)
     for script in json.loads(done.stdout)["scripts"]:
-        uri = uri_of(script["path"])
+        uri = uri_of_path(script["path"])
         if uri not in client.documents:
             continue
         found = reported.get(uri, [])

@@ -1,10 +1,10 @@
 """What the language server makes of comments, and what it says of settings, calls and flags by the documents."""
 
 from pdsuite.lsp import doc_lookup
-from pdsuite.lsp.comments import blocks_of, foldings_of, symbols_of
-from pdsuite.lsp.completion import items_of, keys_proposed, proposals, typed_before
+from pdsuite.lsp.comments import comment_blocks_of, comment_foldings_of, section_symbols_of
+from pdsuite.lsp.completion import completion_items, proposals_for_expected, setting_key_proposals, typed_word_start
 from pdsuite.lsp.positions import Lines
-from pdsuite.lsp.toml_positions import diagnostic_of, key_at
+from pdsuite.lsp.toml_positions import diagnostic_of_fault, key_at_line
 from pdsuite.scripts.defaults import KEYS
 
 SCRIPT = """// Sets up,
@@ -23,66 +23,75 @@ SCRIPT = """// Sets up,
 
 
 def test_blocks_are_comments_of_lines_of_their_own() -> None:
-    assert [(it.first, it.last) for it in blocks_of(Lines(SCRIPT))] == [(0, 1), (4, 5), (10, 11)]
+    assert [(it.first, it.last) for it in comment_blocks_of(Lines(SCRIPT))] == [(0, 1), (4, 5), (10, 11)]
 
 
 def test_a_section_goes_to_the_next_one() -> None:
-    found = symbols_of(Lines(SCRIPT))
+    found = section_symbols_of(Lines(SCRIPT))
     assert [it["name"] for it in found] == ["Sets up,", "The", "last"]
     assert [(it["range"]["start"]["line"], it["range"]["end"]["line"]) for it in found] == [(0, 3), (4, 9), (10, 12)]
-    assert symbols_of(Lines("0 a() = 1\n")) == [] and symbols_of(Lines("")) == []
+    assert section_symbols_of(Lines("0 a() = 1\n")) == [] and section_symbols_of(Lines("")) == []
 
 
 def test_only_several_lines_are_folded() -> None:
-    assert [(it["startLine"], it["endLine"]) for it in foldings_of(Lines(SCRIPT))] == [(0, 1), (4, 5), (10, 11)]
-    assert foldings_of(Lines("// one\n0 a() = 1\n// two\n")) == []
+    assert [(it["startLine"], it["endLine"]) for it in comment_foldings_of(Lines(SCRIPT))] == [(0, 1), (4, 5), (10, 11)]
+    assert comment_foldings_of(Lines("// one\n0 a() = 1\n// two\n")) == []
 
 
 def test_comments_stand_up_to_where_no_token_begins() -> None:
-    assert [(it.first, it.last) for it in blocks_of(Lines("// a\n\x01\n// b\n"))] == [(0, 0)]
-    assert blocks_of(Lines("/* never closed\n// x\n")) == []
+    assert [(it.first, it.last) for it in comment_blocks_of(Lines("// a\n\x01\n// b\n"))] == [(0, 0)]
+    assert comment_blocks_of(Lines("/* never closed\n// x\n")) == []
 
 
 def test_the_documents_have_each_key_call_and_field() -> None:
-    assert all(f"**{key}**" in doc_lookup.of_key(key) for key in KEYS)
-    assert "64 to 65,495 octets; 1,460" in doc_lookup.of_key("mss")
+    assert all(f"**{key}**" in doc_lookup.doc_of_setting(key) for key in KEYS)
+    assert "64 to 65,495 octets; 1,460" in doc_lookup.doc_of_setting("mss")
     for call in ("socket", "bind", "listen", "accept", "setsockopt", "fcntl", "write", "close"):
-        assert doc_lookup.of_call(call).startswith(f"`{call}(")
-    assert doc_lookup.of_call("setsockopt").count("`setsockopt(") == 2
-    assert all(doc_lookup.of_field(it) for it in ("flags", "seq", "ack", "win", "options", "header"))
-    assert doc_lookup.of_call("connect") == doc_lookup.of_field("time") == doc_lookup.of_key("root") == ""
+        assert doc_lookup.doc_of_call(call).startswith(f"`{call}(")
+    assert doc_lookup.doc_of_call("setsockopt").count("`setsockopt(") == 2
+    assert all(doc_lookup.doc_of_field(it) for it in ("flags", "seq", "ack", "win", "options", "header"))
+    assert (
+        doc_lookup.doc_of_call("connect") == doc_lookup.doc_of_field("time") == doc_lookup.doc_of_setting("root") == ""
+    )
 
 
 def test_what_is_expected_becomes_proposals() -> None:
-    labels = [it.label for it in proposals(["`ack`", "letters of flags", "the name of a call", "a time", "`<`"])]
+    labels = [
+        it.label for it in proposals_for_expected(["`ack`", "letters of flags", "the name of a call", "a time", "`<`"])
+    ]
     assert labels[0] == "ack" and labels[-1] == "<"
     assert {"S", "P.", "write", "+0", "handshake", "sack"} <= set(labels)
 
 
 def test_proposals_take_the_place_of_the_word_that_is_typed() -> None:
     lines = Lines("// \U0001f980 \n+0 wri")
-    assert typed_before(lines.text, len(lines.text)) == len(lines.text) - 3
+    assert typed_word_start(lines.text, len(lines.text)) == len(lines.text) - 3
     (item,) = [
-        it for it in items_of(list(proposals(["the name of a call"])), lines, 11, False) if it["label"] == "write"
+        it
+        for it in completion_items(list(proposals_for_expected(["the name of a call"])), lines, 11, False)
+        if it["label"] == "write"
     ]
     assert item["textEdit"]["range"]["start"] == {"line": 1, "character": 3}
     assert item["textEdit"]["newText"] == "write(4, ..., 1000) = 1000"
 
 
 def test_a_number_is_proposed_by_nothing() -> None:
-    assert items_of(list(proposals(["a whole number up to 4,294,967,295"])), Lines("x"), 1, True) == []
+    assert (
+        completion_items(list(proposals_for_expected(["a whole number up to 4,294,967,295"])), Lines("x"), 1, True)
+        == []
+    )
 
 
 def test_snippets_are_plain_where_the_client_has_none() -> None:
-    each = list(proposals(["a time"]))
-    with_stops, without = (items_of(each, Lines(""), 0, it, "\r\n") for it in (True, False))
+    each = list(proposals_for_expected(["a time"]))
+    with_stops, without = (completion_items(each, Lines(""), 0, it, "\r\n") for it in (True, False))
     assert "${1:32792}" in with_stops[0]["textEdit"]["newText"]
     assert all("$" not in it["textEdit"]["newText"] for it in without)
     assert without[0]["textEdit"]["newText"].startswith("0 socket(..., SOCK_STREAM, IPPROTO_TCP) = 3\r\n+0 bind")
 
 
 def test_keys_are_proposed_with_their_defaults() -> None:
-    assert [it.put for it in keys_proposed()][0] == "mss = ${1:1460}"
+    assert [it.put for it in setting_key_proposals()][0] == "mss = ${1:1460}"
 
 
 def test_the_place_of_a_fault_of_settings() -> None:
@@ -96,6 +105,6 @@ def test_the_place_of_a_fault_of_settings() -> None:
         "something else": "root = true",
     }
     for fault, words in places.items():
-        extent = diagnostic_of(fault, lines).extent
+        extent = diagnostic_of_fault(fault, lines).extent
         assert lines.text[extent.start : extent.end] == words, fault
-    assert [key_at(lines, it) for it in (0, 2, 3, 4)] == ["root", None, None, "sack"]
+    assert [key_at_line(lines, it) for it in (0, 2, 3, 4)] == ["root", None, None, "sack"]

@@ -4,15 +4,26 @@ from typing import Any
 
 import pytest
 
-from pdsuite.lsp.actions import Action, FailingScript, edits_to, leads_past
-from pdsuite.lsp.actions import recording_all, recording_from_here, switching_off, taking
-from pdsuite.lsp.diagnostics import Diagnostic, diagnostics_of, with_related
+from pdsuite.lsp.actions import Action, FailingScript, edits_to_text, leads_past_failing_line
+from pdsuite.lsp.actions import (
+    actual_taking_actions,
+    commenting_out_actions,
+    record_all_actions,
+    record_from_here_actions,
+)
+from pdsuite.lsp.diagnostics import Diagnostic, diagnostics_of, with_unmatched_packets
 from pdsuite.lsp.documents import Document
-from pdsuite.lsp.hover import hover_of, plain
-from pdsuite.lsp.packets_sent import as_lines, sent_in, sent_of
+from pdsuite.lsp.hover import hover_of_event, strip_markdown
+from pdsuite.lsp.packets_sent import event_lines_for_packets, parse_sent_packet, parse_sent_packets
 from pdsuite.lsp.positions import Lines
 from pdsuite.packetdrill.layout import layout_of
-from pdsuite.packetdrill.recorded import last_input_before, match_events, recorded_in, tolerance_of, without_trace
+from pdsuite.packetdrill.recorded import (
+    last_input_before,
+    match_events,
+    recorded_events_in,
+    strip_trace,
+    tolerance_of_script,
+)
 from pdsuite.programs.verdict import Row, Verdict
 from pdsuite.run.locate_row import character_at_shown_column
 from pdsuite.run.outcomes import Outcome
@@ -47,18 +58,20 @@ def failing(text: str, row: Row, **cause: Any) -> FailingScript:
 
 
 def test_packets_are_read_as_they_are_shown() -> None:
-    sent = sent_of("+0.1~+0.3 > S. 0:0(0) ack 1 win 65535 <mss 1460,nop> // 1.500000")
+    sent = parse_sent_packet("+0.1~+0.3 > S. 0:0(0) ack 1 win 65535 <mss 1460,nop> // 1.500000")
     assert sent is not None and (sent.options, sent.win, sent.moment) == ("<mss 1460,nop>", "win 65535", 1_500_000)
-    assert sent_of("* > - 0:0(0)") is None and sent_of(None) is None and sent_in("x") == []
-    one = sent_of("* > R 1:1(0) // 0.000001")
-    assert one is not None and one.event == "> R 1:1(0)"
+    assert (
+        parse_sent_packet("* > - 0:0(0)") is None and parse_sent_packet(None) is None and parse_sent_packets("x") == []
+    )
+    one = parse_sent_packet("* > R 1:1(0) // 0.000001")
+    assert one is not None and one.text_without_time == "> R 1:1(0)"
 
 
 def test_times_of_packets_count_from_one_another() -> None:
     shown = ["* > . 1:2(1) // 0.100000", "+0 > . 2:3(1) // 0.300000", "+0.2 > . 3:4(1) // 0.500000"]
-    lines = as_lines(sent_in(shown))
+    lines = event_lines_for_packets(parse_sent_packets(shown))
     assert [it.split(" >")[0] for it in lines] == ["*", "+0", "+0.2"]
-    assert [it.split(" >")[0] for it in as_lines(sent_in(shown[2:]))] == ["+0.2"]
+    assert [it.split(" >")[0] for it in event_lines_for_packets(parse_sent_packets(shown[2:]))] == ["+0.2"]
 
 
 @pytest.mark.parametrize(
@@ -71,14 +84,16 @@ def test_times_of_packets_count_from_one_another() -> None:
 )
 def test_only_written_fields_are_taken(event: str, after: str) -> None:
     text = f"// x\n{event} // y\n"
-    (action, *_) = taking(failing(text, Row(Verdict.FAIL, 2, "seq"), script_packet=event, actual_packet=SENT))
+    (action, *_) = actual_taking_actions(
+        failing(text, Row(Verdict.FAIL, 2, "seq"), script_packet=event, actual_packet=SENT)
+    )
     assert action.text == f"// x\n{after} // y\n"
 
 
 def test_options_that_are_lacking_are_added() -> None:
     sent = "+0 > S. 0:0(0) ack 1 win 9 <mss 1460> // 0.100000"
     event = "+0 > S. 0:0(0) ack 1"
-    (action, _) = taking(
+    (action, _) = actual_taking_actions(
         failing(f"{event}\n", Row(Verdict.FAIL, 1, "options"), script_packet=event, actual_packet=sent)
     )
     assert action.text == "+0 > S. 0:0(0) ack 1 <mss 1460>\n"
@@ -90,7 +105,7 @@ def test_the_time_alone_is_offered_where_nothing_else_differs() -> None:
         ("+0.1 > P. 1:1001(1000) ack 1", "Take the time at which it was sent", "+0 > P. 1:1001(1000) ack 1\n"),
         ("+0.1 > P. 1:501(500) ack 1", "Take the packet that was sent", "+0 > P. 1:1001(1000) ack 1\n"),
     ]:
-        (action, _) = taking(failing(f"{event}\n", row, script_packet=event, actual_packet=SENT))
+        (action, _) = actual_taking_actions(failing(f"{event}\n", row, script_packet=event, actual_packet=SENT))
         assert (action.title, action.text) == (title, after)
 
 
@@ -100,26 +115,28 @@ def test_packets_before_the_awaited_one_are_inserted() -> None:
     actual = "* > . 2001:3001(1000) ack 1 win 5 // 0.200000"
     text = f"0 a() = 1\r\n  {event}\r\n"
     cause_fields = {"script_packet": event, "actual_packet": actual, "untaken_packets": unmatched}
-    first, _ = taking(failing(text, Row(Verdict.FAIL, 2, "time"), unasked_packets=2, **cause_fields))
+    first, _ = actual_taking_actions(failing(text, Row(Verdict.FAIL, 2, "time"), unasked_packets=2, **cause_fields))
     assert (first.title, first.shift) == ("Insert 2 packets that were sent before it", 2)
     assert first.text.split("\r\n")[1:3] == [
         "  * > . 2001:3001(1000) ack 1 win 5",
         "  * > P. 3001:4001(1000) ack 1 win 5",
     ]
-    _, last = taking(failing(text, Row(Verdict.FAIL, 2, "time"), **cause_fields))
+    _, last = actual_taking_actions(failing(text, Row(Verdict.FAIL, 2, "time"), **cause_fields))
     assert (last.title, last.shift) == ("Insert 3 packets that were sent before it", 3)
 
 
 def test_before_an_event_that_follows_another_in_its_line_packets_are_inserted_without_an_indent() -> None:
     event = "+0 > P. 1001:2001(1000) ack 1"
     cause_fields = {"script_packet": event, "actual_packet": SENT, "untaken_packets": [], "unasked_packets": 1}
-    first, _ = taking(failing(f"  0 a() = 1 {event}\n", Row(Verdict.FAIL, 1, "seq"), **cause_fields))
+    first, _ = actual_taking_actions(failing(f"  0 a() = 1 {event}\n", Row(Verdict.FAIL, 1, "seq"), **cause_fields))
     assert first.text == f"  0 a() = 1 +0 > P. 1:1001(1000) ack 1 win 511\n{event}\n"
 
 
 def test_a_result_is_taken() -> None:
     text = "0 a() = 1 (note)\n"
-    (action,) = taking(failing(text, Row(Verdict.FAIL, 1, "result"), call=text[:-1], actual_result="-1 EINVAL"))
+    (action,) = actual_taking_actions(
+        failing(text, Row(Verdict.FAIL, 1, "result"), call=text[:-1], actual_result="-1 EINVAL")
+    )
     assert action.text == "0 a() = -1 EINVAL (note)\n"
 
 
@@ -134,20 +151,22 @@ def test_a_result_is_taken() -> None:
     ],
 )
 def test_a_line_is_switched_off(text: str, line: int, after: str) -> None:
-    assert [it.text for it in switching_off(failing(text, Row(Verdict.FAIL, line, "result")))] == [after]
+    assert [it.text for it in commenting_out_actions(failing(text, Row(Verdict.FAIL, line, "result")))] == [after]
 
 
 def test_an_action_leads_past_its_line() -> None:
     action, before = Action("", "", "", 2), Row(Verdict.FAIL, 5, "seq")
-    assert leads_past(action, before, Row(Verdict.PASS, 9)) and leads_past(action, before, Row(Verdict.LIMIT, 8))
-    assert not leads_past(action, before, Row(Verdict.SYNTAX, 8))
-    assert leads_past(action, Row(Verdict.SYNTAX, 5), Row(Verdict.SYNTAX, 8))
-    assert not leads_past(action, before, Row(Verdict.FAIL, 7, "seq"))
-    assert not leads_past(action, before, Row(Verdict.ERROR, word="x"))
+    assert leads_past_failing_line(action, before, Row(Verdict.PASS, 9)) and leads_past_failing_line(
+        action, before, Row(Verdict.LIMIT, 8)
+    )
+    assert not leads_past_failing_line(action, before, Row(Verdict.SYNTAX, 8))
+    assert leads_past_failing_line(action, Row(Verdict.SYNTAX, 5), Row(Verdict.SYNTAX, 8))
+    assert not leads_past_failing_line(action, before, Row(Verdict.FAIL, 7, "seq"))
+    assert not leads_past_failing_line(action, before, Row(Verdict.ERROR, word="x"))
 
 
 def test_a_recording_beside_its_script() -> None:
-    recorded = recorded_in(RECORDING)
+    recorded = recorded_events_in(RECORDING)
     events = layout_of(SCRIPT).events
     met = list(match_events(events, recorded, 4, 4_000))
     assert [None if it.recorded is None else it.recorded.moment for it in met] == [
@@ -159,12 +178,12 @@ def test_a_recording_beside_its_script() -> None:
         200_000,
     ]
     assert [it.after.state.name for it in met if it.after] == ["ESTABLISHED"] * 5 + ["FIN-WAIT-1"]
-    assert recorded_in("0 a() = 1\n") == () and recorded_in("") == ()
+    assert recorded_events_in("0 a() = 1\n") == () and recorded_events_in("") == ()
 
 
 def test_what_is_unmet_is_told_by_the_time_alone() -> None:
     events = layout_of(SCRIPT.replace("+0.1 > P. 1:2(1)", "* > P. 1:2(1)")).events
-    met = list(match_events(events, recorded_in(RECORDING), 4, 0))
+    met = list(match_events(events, recorded_events_in(RECORDING), 4, 0))
     assert met[4].recorded is None  # nothing left before the next input
     late = "0 a() = 1\n+0.1~+0.3 > . 1:2(1)\n+1 b() = 1\n"
     trace = "//= at {} CLOSED\n"
@@ -172,20 +191,20 @@ def test_what_is_unmet_is_told_by_the_time_alone() -> None:
         *(trace.format(it) for it in ("0.000000", "0.304000", "1.000000"))
     )
     for tolerance, is_met in [(4_000, True), (3_999, False)]:
-        found = list(match_events(layout_of(late).events, recorded_in(recording), 1, tolerance))
+        found = list(match_events(layout_of(late).events, recorded_events_in(recording), 1, tolerance))
         assert (found[1].recorded is not None) == is_met
 
 
 def test_the_tolerance_is_the_last_of_the_header() -> None:
-    assert tolerance_of(layout_of("--tolerance_usecs=5\n--tolerance_usecs=7\n").items, 9) == 7
-    assert tolerance_of(layout_of("--other=5\n0 a() = 1").items, 9) == 9
+    assert tolerance_of_script(layout_of("--tolerance_usecs=5\n--tolerance_usecs=7\n").items, 9) == 7
+    assert tolerance_of_script(layout_of("--other=5\n0 a() = 1").items, 9) == 9
 
 
 def test_an_untaken_packet_left_after_the_input_that_sent_it_or_the_last_one_before_the_timer_did() -> None:
     layout = layout_of(SCRIPT)
     sent = [{"line": 3}, {"timer_us": 150_000}, {"timer_us": 200_000}, {"timer_us": 200_001}, {"timer_us": 0}, None]
     cause = {"untaken_packets": [*"abcdef"], "untaken_sent_by": sent}
-    found = with_related(Diagnostic(layout.events[0].extent, 1, "", ""), layout, cause).related
+    found = with_unmatched_packets(Diagnostic(layout.events[0].extent, 1, "", ""), layout, cause).related
     lines = Lines(SCRIPT)
     places = [(lines.line_of(it.extent.start) + 1, it.message) for it in found]
     assert places == [
@@ -200,41 +219,41 @@ def test_an_untaken_packet_left_after_the_input_that_sent_it_or_the_last_one_bef
 def test_hover_says_what_the_timer_sent() -> None:
     expiry = "+1 > . 1:1001(1000) ack 1\n"
     trace = "//= at 1.000000 ESTABLISHED una:1 prr_delivered:0 prr_out:1000 recovery:RFC6675 sent_by:timer\n"
-    events, recorded = layout_of(expiry).events, recorded_in(expiry + trace)
+    events, recorded = layout_of(expiry).events, recorded_events_in(expiry + trace)
     met = list(match_events(events, recorded, 1, 4_000))
-    words = hover_of(events[0], 0, met, expiry + trace)
+    words = hover_of_event(events[0], 0, met, expiry + trace)
     assert "`> . 1:1001(1000) ack 1` was sent at 1.000000, by the timer\n" in words
     assert "prr_out        1000\n" in words
 
 
 def test_hover_has_what_changed() -> None:
-    recorded = recorded_in(RECORDING)
+    recorded = recorded_events_in(RECORDING)
     events = layout_of(SCRIPT).events
     met = list(match_events(events, recorded, 4, 4_000))
-    words = hover_of(events[2], events[2].item.start, met, RECORDING)
+    words = hover_of_event(events[2], events[2].item.start, met, RECORDING)
     assert "After it at 0.100000: ESTABLISHED\n```text\nuna   1001  was 1\nnext  1501  was 1001\n" in words
-    assert "`> P. 1001:1501(500) ack 1 win 511` was sent at 0.100000, by line 3" in hover_of(
+    assert "`> P. 1001:1501(500) ack 1 win 511` was sent at 0.100000, by line 3" in hover_of_event(
         events[3], 0, met, RECORDING
     )
-    assert "Nothing was sent for it." in hover_of(events[4], 0, met, RECORDING)
-    assert "FIN-WAIT-1, was ESTABLISHED" in hover_of(events[5], 0, met, RECORDING)
-    assert "expiry  1.2  new" in hover_of(events[5], 0, met, RECORDING)
-    assert "sent_by" not in hover_of(events[3], 0, met, RECORDING)
-    assert plain("`> P.` was\n```text\nuna  1\n```\n**x**") == "> P. was\nuna  1\nx"
+    assert "Nothing was sent for it." in hover_of_event(events[4], 0, met, RECORDING)
+    assert "FIN-WAIT-1, was ESTABLISHED" in hover_of_event(events[5], 0, met, RECORDING)
+    assert "expiry  1.2  new" in hover_of_event(events[5], 0, met, RECORDING)
+    assert "sent_by" not in hover_of_event(events[3], 0, met, RECORDING)
+    assert strip_markdown("`> P.` was\n```text\nuna  1\n```\n**x**") == "> P. was\nuna  1\nx"
 
 
 def test_a_script_is_recorded_from_a_line_on() -> None:
     row = Row(Verdict.FAIL, 5, "missing")
     packet = "+0.1 > P. 1:2(1) ack 1"
-    each = list(recording_from_here(failing(SCRIPT, row, script_packet=packet), RECORDING))
-    returned = recording_from_here(failing(SCRIPT.replace("\n", "\r\n"), row, script_packet=packet), RECORDING)
+    each = list(record_from_here_actions(failing(SCRIPT, row, script_packet=packet), RECORDING))
+    returned = record_from_here_actions(failing(SCRIPT.replace("\n", "\r\n"), row, script_packet=packet), RECORDING)
     assert [it.text for it in returned] == [it.text.replace("\n", "\r\n") for it in each]
     front = "".join(SCRIPT.splitlines(keepends=True)[:4])
     assert each[0].text == front + "+0.1 close(4) = 0\n+0 > F. 1501:1501(0) ack 1 win 511\n"
     assert each[1].text == front + "0.2 close(4) = 0\n+0 > F. 1501:1501(0) ack 1 win 511\n"
-    (whole,) = recording_all(failing(SCRIPT.replace("\n", "\r\n"), row), RECORDING)
+    (whole,) = record_all_actions(failing(SCRIPT.replace("\n", "\r\n"), row), RECORDING)
     assert "//=" not in whole.text and whole.text.count("\r\n") == 6
-    assert without_trace(RECORDING).count("\n") == 6
+    assert strip_trace(RECORDING).count("\n") == 6
 
 
 def test_packets_that_wait_come_first_in_a_recording_from_a_line_on() -> None:
@@ -243,14 +262,18 @@ def test_packets_that_wait_come_first_in_a_recording_from_a_line_on() -> None:
     recording = RECORDING.replace(
         "+0.1 < . 1:1(0) ack 1001 win 257\n//= at 0.100000 ESTABLISHED una:1001 next:1501 cwnd:5000\n", ""
     )
-    each = list(recording_from_here(failing(text, row, call="+0.1 close(4) = 1"), recording))
+    each = list(record_from_here_actions(failing(text, row, call="+0.1 close(4) = 1"), recording))
     assert each[0].text.startswith("0 write(4, ..., 1500) = 1500 // two\n+0 > . 1:1001(1000)")
 
 
 def test_nothing_is_recorded_from_the_first_event_on() -> None:
     row = Row(Verdict.FAIL, 1, "result")
-    assert list(recording_from_here(failing(SCRIPT, row), RECORDING)) == []
-    assert list(recording_from_here(failing(SCRIPT, row), "")) == list(recording_all(failing(SCRIPT, row), "")) == []
+    assert list(record_from_here_actions(failing(SCRIPT, row), RECORDING)) == []
+    assert (
+        list(record_from_here_actions(failing(SCRIPT, row), ""))
+        == list(record_all_actions(failing(SCRIPT, row), ""))
+        == []
+    )
 
 
 @pytest.mark.parametrize(
@@ -267,8 +290,8 @@ def test_nothing_is_recorded_from_the_first_event_on() -> None:
     ],
 )
 def test_an_edit_makes_the_other_text(old: str, new: str) -> None:
-    (edit,) = edits_to(Lines(old), new)
-    assert Document("", 1, old).changed(2, [{"range": edit["range"], "text": edit["newText"]}]).text == new
+    (edit,) = edits_to_text(Lines(old), new)
+    assert Document("", 1, old).with_changes(2, [{"range": edit["range"], "text": edit["newText"]}]).text == new
     assert edit["range"]["start"]["character"] == 0
 
 

@@ -2,7 +2,7 @@
 
 import pytest
 
-from pdsuite.lsp.documents import Document, opened, path_of, uri_of
+from pdsuite.lsp.documents import Document, document_from_item, path_of_uri, uri_of_path
 from pdsuite.lsp.json_values import MalformedMessageError
 from pdsuite.lsp.positions import Lines, Position
 from pdsuite.packetdrill.layout import layout_of
@@ -18,7 +18,7 @@ def change(start: tuple[int, int], end: tuple[int, int], text: str) -> dict[str,
 
 def changed(text: str, *changes: dict[str, object]) -> str:
     """A text after changes."""
-    return Document("file:///a.pkt", 1, text).changed(2, changes).text
+    return Document("file:///a.pkt", 1, text).with_changes(2, changes).text
 
 
 @pytest.mark.parametrize(
@@ -39,23 +39,23 @@ def changed(text: str, *changes: dict[str, object]) -> str:
 )
 def test_a_place_and_its_position(text: str, offset: int, position: tuple[int, int]) -> None:
     lines = Lines(text)
-    assert lines.position(offset) == Position(*position)
-    assert lines.offset(Position(*position)) == offset
+    assert lines.position_of(offset) == Position(*position)
+    assert lines.offset_of(Position(*position)) == offset
 
 
 def test_a_position_that_is_nowhere_is_the_nearest_one_before() -> None:
     lines = Lines(f"a{CRAB}b\r\ncd\n")
-    assert lines.offset(Position(0, 2)) == 1  # inside the crab
-    assert lines.offset(Position(0, 99)) == 3  # before the carriage return
-    assert lines.offset(Position(1, 99)) == 7
-    assert lines.offset(Position(9, 0)) == len(lines.text)
+    assert lines.offset_of(Position(0, 2)) == 1  # inside the crab
+    assert lines.offset_of(Position(0, 99)) == 3  # before the carriage return
+    assert lines.offset_of(Position(1, 99)) == 7
+    assert lines.offset_of(Position(9, 0)) == len(lines.text)
 
 
 def test_every_place_is_found_again() -> None:
     lines = Lines(f"0 a() = 1 // {CRAB}\u00fc\u2028\n\n{CRAB}{CRAB}\r\n+0 b() = 2")
     for offset in range(len(lines.text) + 1):
         is_inside = lines.text[offset - 1 : offset + 1] == "\r\n"  # which is no position
-        assert lines.offset(lines.position(offset)) == offset - is_inside
+        assert lines.offset_of(lines.position_of(offset)) == offset - is_inside
 
 
 def test_changes_apply_one_after_another() -> None:
@@ -86,24 +86,24 @@ def test_a_change_of_another_shape_is_refused(broken: dict[str, object]) -> None
 
 def test_a_text_counts_as_its_file_would() -> None:
     assert (
-        opened({"uri": "file:///a", "text": "0 a() = 1"}).script()
-        == opened({"uri": "", "text": "0 a() = 1\n"}).script()
+        document_from_item({"uri": "file:///a", "text": "0 a() = 1"}).script_or_reason()
+        == document_from_item({"uri": "", "text": "0 a() = 1\n"}).script_or_reason()
     )
-    assert Document("", 1, "\n" * 4_097).script() == "more than 4,096 lines"
-    assert Document("", 1, f"// {CRAB * 17_000}").script() == "more than 65,536 octets"
+    assert Document("", 1, "\n" * 4_097).script_or_reason() == "more than 4,096 lines"
+    assert Document("", 1, f"// {CRAB * 17_000}").script_or_reason() == "more than 65,536 octets"
     assert Document("", 1, "// \ud800\n").octets == b"// \xed\xa0\x80\n"
 
 
 @pytest.mark.parametrize("path", ["/a.pkt", "/a b/\u00e4%#?&.pkt", "/\udcff/x.pkt", "/'\"<>"])
 def test_a_path_and_its_uri(path: str) -> None:
-    assert path_of(uri_of(path)) == path
+    assert path_of_uri(uri_of_path(path)) == path
 
 
 @pytest.mark.parametrize(
     "uri", ["", "untitled:Untitled-1", "http://x/a", "file://elsewhere/a", "file:a", "file:///%00", "//["]
 )
 def test_what_names_no_file_has_no_path(uri: str) -> None:
-    assert path_of(uri) is None
+    assert path_of_uri(uri) is None
 
 
 def test_the_fields_of_events() -> None:
@@ -119,7 +119,7 @@ def test_the_fields_of_events() -> None:
         ]
     )
     layout = layout_of(text)
-    fields = [{name: text[it.start : it.end] for name, it in event.fields.items()} for event in layout.items]
+    fields = [{name: text[it.start : it.end] for name, it in event.field_extents.items()} for event in layout.items]
     assert fields == [
         {},
         {"time": "0", "call": "socket", "arguments": "(..., (a, [b]), X)", "result": "3"},
@@ -134,5 +134,10 @@ def test_the_fields_of_events() -> None:
 
 def test_the_event_of_a_line_is_the_one_that_is_shown() -> None:
     layout = layout_of("0 a() = 1 +0 b(\t2) = 2\n+0 c() = 3\n")
-    found = [layout.of_line(1, "+0 b(\\x092) = 2"), layout.of_line(1), layout.of_line(2), layout.of_line(3)]
+    found = [
+        layout.item_of_line(1, "+0 b(\\x092) = 2"),
+        layout.item_of_line(1),
+        layout.item_of_line(2),
+        layout.item_of_line(3),
+    ]
     assert [None if it is None else layout.text[it.item.start] for it in found] == ["+", "0", "+", None]

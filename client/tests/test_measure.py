@@ -12,11 +12,11 @@ import pytest
 from pdsuite.commands.measure import MeasureOptions, measure_senders
 from pdsuite.compare.senders import Sender
 from pdsuite.compare.sides import Side, make_side
-from pdsuite.measure.measurement import MeasureResult, MeasuredCase, Measurement, Pair, TransferCase, cases_of
-from pdsuite.measure.measurement import settings_for
-from pdsuite.measure.paths import NetworkPath, paths_of
-from pdsuite.measure.report import MeasureReport, cells_of, plain
-from pdsuite.measure.statistics import FIGURES, ChangeVerdict, FigureRow, FigureTable, _shown, tables_of
+from pdsuite.measure.measurement import MeasureResult, MeasuredCase, Measurement, Pair, TransferCase, cases_of_paths
+from pdsuite.measure.measurement import settings_for_path
+from pdsuite.measure.paths import NetworkPath, load_paths
+from pdsuite.measure.report import MeasureReport, cells_of_row, plain_report
+from pdsuite.measure.statistics import FIGURES, ChangeVerdict, FigureRow, FigureTable, _shown_by_holm, figure_tables_of
 from pdsuite.measure.transfer import Delivery
 from pdsuite.output.screen import Screen
 from pdsuite.signals import Stop
@@ -47,7 +47,7 @@ def delivery(time: float, again: int = 0) -> Delivery:
 
 
 def table(before: Sequence[float], after: Sequence[float], path: NetworkPath = PATH) -> FigureTable:
-    (found,) = tables_of([measured(before, after, path)])
+    (found,) = figure_tables_of([measured(before, after, path)])
     return found
 
 
@@ -91,7 +91,7 @@ def test_equal_senders_are_the_same_and_chance_alone_shows_nothing() -> None:
     equal = [draw.gauss(100_000, 20_000) for _ in range(50)]
     assert {it.verdict for it in table(equal, equal).rows} == {ChangeVerdict.SAME}
     cases = [measured(equal, draw.sample(equal, len(equal))) for _ in range(8)]
-    found = [it.verdict for one in tables_of(cases) for it in one.rows if it.figure.key == "time_median"]
+    found = [it.verdict for one in figure_tables_of(cases) for it in one.rows if it.figure.key == "time_median"]
     assert found.count(ChangeVerdict.UNSHOWN) >= 7
 
 
@@ -103,20 +103,20 @@ def test_few_runs_show_nothing_however_alike_they_are() -> None:
 
 def test_without_chance_one_run_has_all() -> None:
     exact = NetworkPath("rail", "a test", 8_000_000, 1_000, 10_000, (1_000, 2_000))
-    assert [it.runs for it in cases_of([exact, PATH], 30)] == [1, 1, 30]
+    assert [it.runs for it in cases_of_paths([exact, PATH], 30)] == [1, 1, 30]
     found = row(table([2_000.0], [1_999.0], exact), "time_median")
     assert (found.chance, found.verdict, found.low, found.high) == (None, ChangeVerdict.BETTER, -1, -1)
 
 
 def test_verdicts_hold_together_as_holm_has_it() -> None:
-    assert _shown([0.02, 0.01, 0.5, 0.03]) == [False, True, False, False]
-    assert _shown([0.001, None, 0.02, 0.04]) == [True, True, True, True]
-    assert _shown([0.04, 0.03]) == [False, False]
+    assert _shown_by_holm([0.02, 0.01, 0.5, 0.03]) == [False, True, False, False]
+    assert _shown_by_holm([0.001, None, 0.02, 0.04]) == [True, True, True, True]
+    assert _shown_by_holm([0.04, 0.03]) == [False, False]
 
 
 def test_a_report_has_a_title_each_figure_and_totals() -> None:
     report = MeasureReport([table([2_000.0] * 20, [1_000.0] * 20)], ("one", "other"), 7, 40, 1.5, True)
-    first, *rows, counts, total = plain(report).plain.splitlines()
+    first, *rows, counts, total = plain_report(report).plain.splitlines()
     assert first == "road, 1,000 octets: 20 runs" and len(rows) == len(FIGURES)
     assert rows[0].startswith(
         "  time to deliver, median           2.000 ms  1.000 ms  -1.000 ms  (-1.000 ms to -1.000 ms)"
@@ -128,13 +128,13 @@ def test_a_report_has_a_title_each_figure_and_totals() -> None:
 
 def test_times_of_some_microseconds_are_told_in_microseconds() -> None:
     queue = next(it for it in FIGURES if it.key == "queue")
-    assert cells_of(FigureRow(queue, 0.5, 1.75, 1, 1.5, 0.01))[1:] == (
+    assert cells_of_row(FigureRow(queue, 0.5, 1.75, 1, 1.5, 0.01))[1:] == (
         "0.500 us",
         "1.750 us",
         "+1.250 us",
         "(+1.000 us to +1.500 us)",
     )
-    assert cells_of(FigureRow(queue, 200, 201.25, 1, 1.5, None))[1:] == ("0.200 ms", "0.201 ms", "+0.001 ms", "")
+    assert cells_of_row(FigureRow(queue, 200, 201.25, 1, 1.5, None))[1:] == ("0.200 ms", "0.201 ms", "+0.001 ms", "")
 
 
 def test_a_narrow_terminal_has_the_numbers_of_a_figure_below_it() -> None:
@@ -142,12 +142,15 @@ def test_a_narrow_terminal_has_the_numbers_of_a_figure_below_it() -> None:
     slow = [draw.gauss(200_000_000, 20_000_000) for _ in range(40)]
     tables = [table(slow, [it - draw.gauss(10_000_000, 9_000_000) for it in slow])]
     broken = replace(tables[0], measured=replace(tables[0].measured, unfinished=("run 7, before: " + "because " * 20,)))
-    report = plain(MeasureReport([broken], ("one", "other"), 7, 80, 1.5, True), 79).plain.splitlines()
+    report = plain_report(MeasureReport([broken], ("one", "other"), 7, 80, 1.5, True), 79).plain.splitlines()
     assert max(map(len, report)) <= 79
     assert report[1] == f"  {'time to deliver, median':34}better"
     assert report[2].startswith("    20") and report[3].startswith("    (-") and report[3].endswith(" ms)")
     assert "    0.00  0.00  +0.00  (+0.00 to +0.00)" in report
-    assert plain(MeasureReport(tables, ("one", "other"), 7, 80, 1.5, True), 200).plain.count("\n") == len(FIGURES) + 3
+    assert (
+        plain_report(MeasureReport(tables, ("one", "other"), 7, 80, 1.5, True), 200).plain.count("\n")
+        == len(FIGURES) + 3
+    )
 
 
 # ---- playing
@@ -170,16 +173,16 @@ def test_a_signal_leaves_what_both_sides_have_played(programs: Path) -> None:
 
         found = measuring.run(stop, advance)
     (case,) = found.cases
-    assert found.status == 130 and 0 < len(case.pairs) < 400 and found.transfers == 2 * len(case.pairs)
+    assert found.status == 130 and 0 < len(case.pairs) < 400 and found.transfer_count == 2 * len(case.pairs)
     assert all(it.before == it.after for it in case.pairs)
 
 
 def test_segments_are_as_large_as_those_of_a_path_unless_the_mss_is_set() -> None:
     sender, large = Sender("a sender", None), replace(PATH, mss=8_960)
     side, own = (make_side(sender, it, "--base-settings") for it in ("", "mss = 500"))
-    assert settings_for(side, (), large) == (("mss", 8_960),)
-    assert settings_for(side, (("mss", 1_000),), large) == (("mss", 1_000),)
-    assert settings_for(own, (("mss", 1_000),), large) == (("mss", 500),)
+    assert settings_for_path(side, (), large) == (("mss", 8_960),)
+    assert settings_for_path(side, (("mss", 1_000),), large) == (("mss", 1_000),)
+    assert settings_for_path(own, (("mss", 1_000),), large) == (("mss", 500),)
 
 
 def test_a_transfer_that_comes_to_no_end_is_told_and_counts_on_neither_side(programs: Path) -> None:
@@ -190,7 +193,7 @@ def test_a_transfer_that_comes_to_no_end_is_told_and_counts_on_neither_side(prog
         found = measuring.run(stop, lambda done, count: None)
     broken, whole = found.cases
     assert broken.pairs == () and len(broken.unfinished) == 2 and len(whole.pairs) == 1
-    report = plain(MeasureReport(tables_of(found.cases), ("one", "other"), 1, 2, 0.0, False)).plain
+    report = plain_report(MeasureReport(figure_tables_of(found.cases), ("one", "other"), 1, 2, 0.0, False)).plain
     assert "not played: run 0, before: its packets don't fit into a script" in report and ", and 1 more" in report
 
 
@@ -275,7 +278,7 @@ def test_a_setting_or_a_path_that_is_refused_ends_it_first(call: Call, programs:
     refused = call(programs, *words, "--base-settings", "mss = 1")
     assert refused.status == 2 and "--base-settings: mss: BadValue" in refused.err
     unknown = call(programs, *words, "--only", "moon")
-    assert unknown.status == 2 and f"there are {', '.join(it.name for it in paths_of(None))}" in unknown.err
+    assert unknown.status == 2 and f"there are {', '.join(it.name for it in load_paths(None))}" in unknown.err
     (tmp_path / "paths.toml").write_text(PATHS.replace("[29_200]", "[14_600_000]"))
     large = call(programs, *words, "--paths", "paths.toml")
     assert large.status == 2 and "a script holds 900 segments" in large.err

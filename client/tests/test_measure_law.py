@@ -13,7 +13,7 @@ import pytest
 
 from pdsuite.measure.link import LossModel
 from pdsuite.measure.paths import NetworkPath
-from pdsuite.measure.transfer import Delivery, play
+from pdsuite.measure.transfer import Delivery, play_transfer
 from pdsuite.measure.transfer_batch import play_transfers
 from pdsuite.signals import Stop
 
@@ -30,7 +30,7 @@ PIECE = 16
 def since_first_loss(path: NetworkPath, seed: str, it: Delivery) -> tuple[int, int]:
     """How many octets are delivered in how many microseconds, from the moment at which the first packet was lost."""
     losses = LossModel(path, f"{seed} loss")
-    first = next(number for number in count() if losses.lose(0))
+    first = next(number for number in count() if losses.is_next_lost(0))
     if first >= len(it.departures):
         return 0, 0
     lost = it.departures[first]
@@ -50,7 +50,7 @@ def test_goodput_follows_the_square_root_law(programs: Path, share: float) -> No
         seeds = [f"{share} {number}" for number in range(begin, min(begin + PIECE, transfers))]
         with Stop(()) as stop:
             found = play_transfers(
-                [play(path, SIZE, it, 1_048_576) for it in seeds], programs / "pdregress", settings, stop
+                [play_transfer(path, SIZE, it, 1_048_576) for it in seeds], programs / "pdregress", settings, stop
             )
         for seed, it in zip(seeds, found):
             assert isinstance(it, Delivery), it

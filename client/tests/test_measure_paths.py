@@ -11,7 +11,7 @@ import pytest
 
 from pdsuite.faults import Fault
 from pdsuite.measure.link import CarriedPacket, Link, LossModel, PacketFate
-from pdsuite.measure.paths import FILE, HEADER, MOST_SEGMENTS, NetworkPath, paths_in, paths_of
+from pdsuite.measure.paths import FILE, HEADER, MOST_SEGMENTS, NetworkPath, load_paths, parse_paths
 from pdsuite.measure.receiver import Ack, OctetRange, Receiver
 
 PLAIN = NetworkPath("plain", "a test", rate=8_000_000, delay_us=10_000, queue=10_000, sizes=(14_600,))
@@ -22,16 +22,16 @@ TABLE = "[a]\nsource = 'a test'\nrate = 1_000_000\ndelay_us = 10\nqueue = 1\nsiz
 
 
 def test_the_paths_that_come_along_have_their_sources_and_cover_what_is_met() -> None:
-    paths = paths_of(None)
+    paths = load_paths(None)
     assert [it.name for it in paths] == ["lan", "dsl", "mobile", "long_fat", "datacentre", "satellite"]
     assert all(it.source for it in paths)
     assert any(it.burst_us for it in paths) and any(it.reorder for it in paths)
 
 
 def test_paths_are_chosen_by_patterns_of_their_names() -> None:
-    assert [it.name for it in paths_of(None, ["l*", "dsl"])] == ["lan", "dsl", "long_fat"]
+    assert [it.name for it in load_paths(None, ["l*", "dsl"])] == ["lan", "dsl", "long_fat"]
     with pytest.raises(Fault, match="no path has such a name; there are lan, dsl"):
-        paths_of(None, ["modem"])
+        load_paths(None, ["modem"])
 
 
 @pytest.mark.parametrize(
@@ -50,7 +50,7 @@ def test_paths_are_chosen_by_patterns_of_their_names() -> None:
 )
 def test_a_key_that_is_unknown_or_takes_something_else_is_refused_at_its_line(line: str, reason: str) -> None:
     with pytest.raises(Fault, match=f"^paths.toml:7: {reason}"):
-        list(paths_in("paths.toml", f"{TABLE}{line}\n".encode()))
+        list(parse_paths("paths.toml", f"{TABLE}{line}\n".encode()))
 
 
 @pytest.mark.parametrize(
@@ -66,36 +66,36 @@ def test_a_key_that_is_unknown_or_takes_something_else_is_refused_at_its_line(li
 )
 def test_a_text_that_names_no_path_is_refused(text: str, reason: str) -> None:
     with pytest.raises(Fault) as raised:
-        list(paths_in("paths.toml", text.encode()))
+        list(parse_paths("paths.toml", text.encode()))
     assert str(raised.value).startswith(reason)
 
 
 def test_a_transfer_that_no_script_holds_is_refused_unless_its_segments_are_larger() -> None:
     size = MOST_SEGMENTS * 1_460
     fits = TABLE.replace("[1]", f"[{size}]")
-    assert [it.sizes for it in paths_in("paths.toml", fits.encode())] == [(size,)]
+    assert [it.sizes for it in parse_paths("paths.toml", fits.encode())] == [(size,)]
     larger = fits.replace(str(size), str(size + 1))
     with pytest.raises(Fault, match="a script holds 900 segments, here 1,314,000 octets"):
-        list(paths_in("paths.toml", larger.encode()))
-    list(paths_in("paths.toml", f"{larger}mss = 8_960\n".encode()))
+        list(parse_paths("paths.toml", larger.encode()))
+    list(parse_paths("paths.toml", f"{larger}mss = 8_960\n".encode()))
     with pytest.raises(Fault, match="here 657,000 octets"):
-        list(paths_in("paths.toml", f"{fits}idle_us = 1\n".encode()))
+        list(parse_paths("paths.toml", f"{fits}idle_us = 1\n".encode()))
 
 
 def test_a_file_that_is_not_there_or_has_no_path_is_a_fault(tmp_path: Path) -> None:
     with pytest.raises(Fault, match="No such file"):
-        paths_of(tmp_path / "paths.toml")
+        load_paths(tmp_path / "paths.toml")
     (tmp_path / "empty.toml").write_text("")
     with pytest.raises(Fault, match="empty.toml: there is no path in it; each is a table"):
-        paths_of(tmp_path / "empty.toml")
+        load_paths(tmp_path / "empty.toml")
     assert FILE.is_file()
 
 
 def test_the_window_is_shifted_as_little_as_lets_its_field_hold_it() -> None:
     for window in (1_000, 65_535, 65_536, 1_048_576, 1_073_725_440):
         path = NetworkPath("a", "", 1, 1, 1, (1,), window=window)
-        assert path.field <= 65_535 and path.field << path.shift <= window
-        assert path.shift == 0 or window >> (path.shift - 1) > 65_535
+        assert path.window_field <= 65_535 and path.window_field << path.window_shift <= window
+        assert path.window_shift == 0 or window >> (path.window_shift - 1) > 65_535
 
 
 # ---- the link
@@ -131,31 +131,31 @@ def test_a_link_does_what_the_second_model_does(seed: int) -> None:
         at += draw.choice((0, 0, 0, 1, 12, 500, 3_000))
         packets.append((at, draw.choice((41, 576, 1_500))))
     link = Link(path, "seed")
-    assert [link.carry(*it) for it in packets] == second_model(path, packets)
+    assert [link.carry_packet(*it) for it in packets] == second_model(path, packets)
 
 
 def test_packets_leave_at_the_rate_and_wait_for_one_another() -> None:
     link = Link(PLAIN, "seed")
     # 1,000 octets take a millisecond.
-    assert [link.carry(0, 1_000) for _ in range(3)] == [
+    assert [link.carry_packet(0, 1_000) for _ in range(3)] == [
         CarriedPacket(PacketFate.ARRIVES, 11_000, 0),
         CarriedPacket(PacketFate.ARRIVES, 12_000, 1_000_000),
         CarriedPacket(PacketFate.ARRIVES, 13_000, 2_000_000),
     ]
-    assert link.earliest(0) == 13_041
+    assert link.earliest_arrival(0) == 13_041
 
 
 def test_the_queue_holds_so_many_octets_beside_the_packet_that_leaves() -> None:
     link = Link(PLAIN, "seed")
-    fates = [link.carry(0, 1_000).fate for _ in range(12)]
+    fates = [link.carry_packet(0, 1_000).fate for _ in range(12)]
     assert fates == [PacketFate.ARRIVES] * 11 + [PacketFate.OVERFLOW]
-    assert link.carry(999, 1_000).fate is PacketFate.OVERFLOW
-    assert link.carry(1_000, 1_000).fate is PacketFate.ARRIVES
+    assert link.carry_packet(999, 1_000).fate is PacketFate.OVERFLOW
+    assert link.carry_packet(1_000, 1_000).fate is PacketFate.ARRIVES
 
 
 def test_a_link_without_a_queue_takes_what_finds_it_idle() -> None:
     link = Link(NetworkPath("a", "", 8_000_000, 1, 0, (1,)), "seed")
-    assert [link.carry(at, 1_000).fate for at in (0, 999, 1_000)] == [
+    assert [link.carry_packet(at, 1_000).fate for at in (0, 999, 1_000)] == [
         PacketFate.ARRIVES,
         PacketFate.OVERFLOW,
         PacketFate.ARRIVES,
@@ -168,15 +168,15 @@ def test_nothing_arrives_before_what_the_link_says_is_the_earliest() -> None:
     at = 0
     for _ in range(500):
         at += draw.choice((0, 1, 700, 5_000))
-        earliest = link.earliest(at)
-        carried = link.carry(at, draw.choice((HEADER + 1, 700, 1_500)))
+        earliest = link.earliest_arrival(at)
+        carried = link.carry_packet(at, draw.choice((HEADER + 1, 700, 1_500)))
         assert not carried.arrives or carried.at >= earliest
 
 
 def test_a_late_packet_arrives_later_and_delays_no_other() -> None:
     late = NetworkPath("a", "", 8_000_000, 10_000, 10_000, (1,), reorder=1, reorder_us=500)
     link = Link(late, "seed")
-    assert [link.carry(at, 1_000) for at in (0, 1_000)] == [
+    assert [link.carry_packet(at, 1_000) for at in (0, 1_000)] == [
         CarriedPacket(PacketFate.LATE, 11_500),
         CarriedPacket(PacketFate.LATE, 12_500),
     ]
@@ -187,7 +187,7 @@ def test_a_late_packet_arrives_later_and_delays_no_other() -> None:
 
 def lost(path: NetworkPath, count: int, seed: str = "seed") -> list[bool]:
     losses = LossModel(path, seed)
-    return [losses.lose(0) for _ in range(count)]
+    return [losses.is_next_lost(0) for _ in range(count)]
 
 
 def test_random_losses_have_their_share_and_a_seed_makes_them_again() -> None:
@@ -200,7 +200,7 @@ def test_random_losses_have_their_share_and_a_seed_makes_them_again() -> None:
 def test_bursts_are_as_long_and_as_often_as_the_model_has_them() -> None:
     path = NetworkPath("a", "", 1, 1, 1, (1,), burst_us=4_000, burst_gap_us=36_000)
     losses = LossModel(path, "seed")
-    found = [losses.lose(at) for at in range(0, 80_000_000, 1_000)]
+    found = [losses.is_next_lost(at) for at in range(0, 80_000_000, 1_000)]
     bursts = [it for it in "".join("x" if it else " " for it in found).split(" ") if it]
     assert sum(found) / len(found) == pytest.approx(0.1, rel=0.1)
     # Of a burst that is seen each millisecond at all, so many milliseconds are lost on the average.
@@ -210,21 +210,21 @@ def test_bursts_are_as_long_and_as_often_as_the_model_has_them() -> None:
 def test_a_burst_comes_at_its_moment_however_many_packets_pass_before_and_a_share_of_it_is_lost() -> None:
     path = NetworkPath("a", "", 1, 1, 1, (1,), burst_us=4_000, burst_gap_us=36_000)
     dense, sparse = LossModel(path, "seed"), LossModel(path, "seed")
-    each = {at: dense.lose(at) for at in range(0, 2_000_000, 250)}
-    assert all(sparse.lose(at) is each[at] for at in range(0, 2_000_000, 5_000))
+    each = {at: dense.is_next_lost(at) for at in range(0, 2_000_000, 250)}
+    assert all(sparse.is_next_lost(at) is each[at] for at in range(0, 2_000_000, 5_000))
     halves = LossModel(replace(path, burst_loss=0.5), "seed")
-    lost_of_burst = [halves.lose(at) for at, is_lost in each.items() if is_lost]
+    lost_of_burst = [halves.is_next_lost(at) for at, is_lost in each.items() if is_lost]
     assert sum(lost_of_burst) / len(lost_of_burst) == pytest.approx(0.5, abs=0.1)
 
 
 def test_a_packet_is_lost_whatever_becomes_of_those_before() -> None:
     path = NetworkPath("a", "", 8_000_000, 10, 3_000, (1,), loss=0.3)
     together, apart = Link(path, "seed"), Link(path, "seed")
-    in_queue = [together.carry(0, 1_000).fate for _ in range(50)]
-    alone = [apart.carry(number * 10_000, 1_000).fate for number in range(50)]
+    in_queue = [together.carry_packet(0, 1_000).fate for _ in range(50)]
+    alone = [apart.carry_packet(number * 10_000, 1_000).fate for number in range(50)]
     assert in_queue[4:] == [PacketFate.OVERFLOW] * 46 or PacketFate.LOST in in_queue
     losses = LossModel(path, "seed loss")
-    assert [it is PacketFate.LOST for it in alone] == [losses.lose(0) for _ in range(50)]
+    assert [it is PacketFate.LOST for it in alone] == [losses.is_next_lost(0) for _ in range(50)]
     assert all(one is other for one, other in zip(in_queue, alone) if one is not PacketFate.OVERFLOW)
 
 
@@ -267,26 +267,26 @@ def test_the_peer_takes_what_the_second_model_takes(seed: int) -> None:
         had_gap = bool(plain.blocks())
         begin = plain.next
         plain.take(span)
-        at_once = receiver.take(span)
+        at_once = receiver.take_segment(span)
         assert at_once or not (had_gap or plain.blocks() or plain.next == begin)
-        blocks = receiver.acknowledge().blocks
+        blocks = receiver.make_ack().blocks
         assert receiver.next == plain.next and receiver.taken == plain.taken
         assert set(blocks) <= plain.blocks() and len(blocks) == min(3, len(plain.blocks()))
 
 
 def test_each_second_segment_in_order_is_acknowledged() -> None:
     receiver = Receiver(2, True)
-    assert [receiver.take((at, at + 1)) for at in (1, 2)] == [False, True]
-    assert receiver.acknowledge() == Ack(3)
-    assert receiver.take((3, 4)) is False
+    assert [receiver.take_segment((at, at + 1)) for at in (1, 2)] == [False, True]
+    assert receiver.make_ack() == Ack(3)
+    assert receiver.take_segment((3, 4)) is False
 
 
 def test_a_gap_is_told_at_once_with_the_newest_block_first_and_so_is_what_fills_it() -> None:
     receiver = Receiver(2, True)
     found = []
     for span in ((11, 21), (31, 41), (51, 61), (21, 31), (1, 11), (41, 51)):
-        assert receiver.take(span)
-        found.append(receiver.acknowledge())
+        assert receiver.take_segment(span)
+        found.append(receiver.make_ack())
     assert found == [
         Ack(1, ((11, 21),)),
         Ack(1, ((31, 41), (11, 21))),
@@ -299,7 +299,7 @@ def test_a_gap_is_told_at_once_with_the_newest_block_first_and_so_is_what_fills_
 
 def test_octets_that_came_before_are_acknowledged_at_once_and_not_taken_twice() -> None:
     receiver = Receiver(2, False)
-    receiver.take((1, 11))
-    receiver.take((11, 21))
-    receiver.acknowledge()
-    assert receiver.take((1, 11)) and receiver.acknowledge() == Ack(21) and receiver.taken == 20
+    receiver.take_segment((1, 11))
+    receiver.take_segment((11, 21))
+    receiver.make_ack()
+    assert receiver.take_segment((1, 11)) and receiver.make_ack() == Ack(21) and receiver.taken == 20

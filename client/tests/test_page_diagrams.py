@@ -6,7 +6,7 @@ from pathlib import Path
 
 import pytest
 
-from pdsuite.page.links import file_of, plot_files
+from pdsuite.page.links import page_file_of, plot_file_names
 from tests.helpers import PASSES, TOP, Call, write
 from tests.test_page import octets_in
 from tests.watch_process import Watching
@@ -35,7 +35,7 @@ def record(folder: Path, command: str, status: int = 0) -> None:
 
 
 def page(folder: Path, path: str) -> str:
-    return (folder / "scripts" / file_of(path)).read_text()
+    return (folder / "scripts" / page_file_of(path)).read_text()
 
 
 def test_the_first_that_fail_are_drawn_and_the_others_say_how_they_are(
@@ -63,14 +63,14 @@ def test_what_is_asked_for_is_drawn_also_as_files_and_the_same_run_gives_the_sam
     one = octets_in(tmp_path / "one")
     assert call(recorder, "run", "--html", "two", "--plot", "*", "in").status == 1
     assert octets_in(tmp_path / "two") == one
-    assert {f"plots/{it}" for name in ("a", "b", *NAMES) for it in plot_files(f"in/{name}.pkt")} <= set(one)
-    title = one[f"plots/{plot_files(f'in/{EVIL}.pkt')[0]}"].decode()
+    assert {f"plots/{it}" for name in ("a", "b", *NAMES) for it in plot_file_names(f"in/{name}.pkt")} <= set(one)
+    title = one[f"plots/{plot_file_names(f'in/{EVIL}.pkt')[0]}"].decode()
     assert "in/&lt;img src=x onerror=&quot;document.title=1&quot;&gt;.pkt</text>" in title
-    math = one[f"plots/{plot_files(f'in/{NAMES[0]}.pkt')[0]}"].decode()
+    math = one[f"plots/{plot_file_names(f'in/{NAMES[0]}.pkt')[0]}"].decode()
     assert "in/$\\\\frac{$.pkt</text>" in math
-    assert plot_files("in/a.pkt")[1] in page(tmp_path / "one", "in/a.pkt")
+    assert plot_file_names("in/a.pkt")[1] in page(tmp_path / "one", "in/a.pkt")
     assert call(recorder, "run", "--html", "two", "--plot", "b.pkt", "in").status == 1
-    assert {it.name for it in (tmp_path / "two/plots").iterdir()} == set(plot_files("in/b.pkt"))
+    assert {it.name for it in (tmp_path / "two/plots").iterdir()} == set(plot_file_names("in/b.pkt"))
 
 
 @pytest.mark.parametrize(
@@ -113,11 +113,11 @@ def test_diagrams_are_asked_for_with_a_page(
 
 def test_watch_draws_what_is_to_be_drawn_after_each_save(recorder: Path, tmp_path: Path) -> None:
     write(tmp_path / "in", a=PASSES, b=ROW)
-    files = [tmp_path / "out/plots" / name for name in plot_files("in/c.pkt")]
+    files = [tmp_path / "out/plots" / name for name in plot_file_names("in/c.pkt")]
 
     def await_page(name: str, words: str) -> None:
         """Waits until the page of a script has these words."""
-        path = tmp_path / "out/scripts" / file_of(f"in/{name}.pkt")
+        path = tmp_path / "out/scripts" / page_file_of(f"in/{name}.pkt")
         watching._await(lambda: path.exists() and words in path.read_text(), words)
 
     with Watching(tmp_path, recorder, "--html", "out", "--plots", "1", "--plot", "c.pkt", "in") as watching:

@@ -35,7 +35,7 @@ def test_what_is_held_already_takes_no_turn() -> None:
 def test_a_save_an_add_and_a_removal_are_one_act_each() -> None:
     (change,) = plan_changes([contents(NONE, a=ONE, b=ONE, c=ONE)], wanted(NONE, a=ONE, b=TWO, d=TWO))
     assert change.acts == (RemoveScript("c"), EditScript("b", Edit(1, 1, TWO)), AddScript("d", TWO))
-    assert (change.run, change.after, change.concerned) == (0, contents(NONE, a=ONE, b=TWO, d=TWO), ["b", "d"])
+    assert (change.run, change.after, change.rerun_paths) == (0, contents(NONE, a=ONE, b=TWO, d=TWO), ["b", "d"])
 
 
 def test_scripts_without_a_run_get_a_new_one_for_each_settings() -> None:
@@ -47,7 +47,7 @@ def test_scripts_without_a_run_get_a_new_one_for_each_settings() -> None:
 def test_settings_that_change_for_all_are_set_with_the_default_for_a_key_that_goes() -> None:
     (change,) = plan_changes([contents((("mss", 100), ("sack", False)), a=ONE, b=ONE)], wanted(PLAIN, a=ONE, b=TWO))
     assert change.acts == (SetKey("mss", "1460"), EditScript("b", Edit(1, 1, TWO)))
-    assert change.concerned == ["a", "b"]
+    assert change.rerun_paths == ["a", "b"]
 
 
 def test_a_run_whose_key_goes_and_has_no_known_default_ends() -> None:

@@ -114,7 +114,7 @@ def test_after_random_changes_the_last_report_is_that_of_a_run(seed: int, watche
         for _ in range(chance.choice((1, 1, 3, 10))):
             act(chance, watched_folder.top)
         if chance.random() < 0.1:
-            watched_folder.watcher.read()
+            watched_folder.watcher.read_events()
         watched_folder.wait(chance.choice((0.0, 0.01, 0.05, 0.6)))
     for toml in watched_folder.top.rglob("pdsuite.toml"):
         toml.write_text(re.sub("mss = 7$", "mss = 96", toml.read_text(), flags=re.M))

@@ -17,7 +17,7 @@ class Oracle:
     def __init__(self, *lacks: str) -> None:
         self.lacks = lacks
 
-    def refused(self, claims: list[Claim]) -> list[Refusal]:
+    def refusals_of_claims(self, claims: list[Claim]) -> list[Refusal]:
         return [Refusal(it, UNKNOWN_KEY) for it in claims if it.key in self.lacks]
 
 

@@ -9,15 +9,15 @@ import pytest
 from pdsuite.packetdrill.items import SECOND, Call, Packet, TcpOption
 from pdsuite.programs.recorder import Recording
 from pdsuite.programs.verdict import Row
-from pdsuite.search.continuations import continuations
+from pdsuite.search.continuations import continued_inputs_of_find
 from pdsuite.search.find import Find
-from pdsuite.search.inputs import Input, Inputs, call, packet
+from pdsuite.search.inputs import Input, Inputs, make_call, make_inbound_packet
 from pdsuite.search.oracle import ConfiguredScript
-from pdsuite.search.shrink import shrink
+from pdsuite.search.shrink import shrink_find
 from pdsuite.search.simulate import LONGEST_GAP, LONG_GAPS, TICK
 
-WRITE = call("write", 4, "...", 3_000)
-ACK = packet(".", 1, 1, 1_000)
+WRITE = make_call("write", 4, "...", 3_000)
+ACK = make_inbound_packet(".", 1, 1, 1_000)
 RECORDED = (
     "+0 > P. 1:1001(1000) ack 1\n//= at 0.000000 ESTABLISHED una:1 next:1001 top:1001\n"
     "+1 > P. 1001:3001(2000) ack 1\n//= at 1.000000 ESTABLISHED una:1 next:3001 top:3001\n"
@@ -47,13 +47,13 @@ class Finds:
     def __init__(self, is_good: Callable[[Inputs], bool]) -> None:
         self.is_good = is_good
 
-    def finds(self, inputs: Sequence[Inputs], recordings: Sequence[Recording]) -> list[Find | None]:
+    def finds_among(self, inputs: Sequence[Inputs], recordings: Sequence[Recording]) -> list[Find | None]:
         return [Find(it, "") if self.is_good(it) else None for it in inputs]
 
 
 def least(inputs: Inputs, is_good: Callable[[Inputs], bool]) -> Inputs:
     """The least inputs that are good."""
-    return shrink(Find(inputs, ""), Finds(is_good), RecordingSender(), 60).inputs
+    return shrink_find(Find(inputs, ""), Finds(is_good), RecordingSender(), 60).inputs
 
 
 def test_what_follows_an_event_that_goes_keeps_its_moment() -> None:
@@ -71,20 +71,24 @@ def test_what_follows_a_shorter_gap_moves_along() -> None:
 @pytest.mark.parametrize(
     ("what", "is_good", "wanted"),
     [
-        (WRITE, lambda it: True, call("write", 4, "...", 1)),
-        (call("write", 4, "...", 3_456), lambda it: int(it.arguments[-1]) >= 1_500, call("write", 4, "...", 2_000)),
-        (packet("F.", 1, 1, 257), lambda it: True, packet(".", 1, 1, 257)),
+        (WRITE, lambda it: True, make_call("write", 4, "...", 1)),
         (
-            packet(".", 1, 1, 257, (TcpOption("sack", (1, 2, 3, 4)),)),
+            make_call("write", 4, "...", 3_456),
+            lambda it: int(it.arguments[-1]) >= 1_500,
+            make_call("write", 4, "...", 2_000),
+        ),
+        (make_inbound_packet("F.", 1, 1, 257), lambda it: True, make_inbound_packet(".", 1, 1, 257)),
+        (
+            make_inbound_packet(".", 1, 1, 257, (TcpOption("sack", (1, 2, 3, 4)),)),
             lambda it: bool(it.options) and 3 in it.options[0].numbers,
-            packet(".", 1, 1, 257, (TcpOption("sack", (3, 4)),)),
+            make_inbound_packet(".", 1, 1, 257, (TcpOption("sack", (3, 4)),)),
         ),
         (
-            packet(".", 1, 1, 257, (TcpOption("sack", (1, 2, 3, 4, 5, 6)),)),
+            make_inbound_packet(".", 1, 1, 257, (TcpOption("sack", (1, 2, 3, 4, 5, 6)),)),
             lambda it: bool(it.options) and 1 in it.options[0].numbers,
-            packet(".", 1, 1, 257, (TcpOption("sack", (1, 2)),)),
+            make_inbound_packet(".", 1, 1, 257, (TcpOption("sack", (1, 2)),)),
         ),
-        (packet(".", 1, 1, 5_555), lambda it: it.win > 257, packet(".", 1, 1, 1_000)),
+        (make_inbound_packet(".", 1, 1, 5_555), lambda it: it.win > 257, make_inbound_packet(".", 1, 1, 1_000)),
     ],
 )
 def test_an_event_gets_simpler(what: Packet | Call, is_good: Callable[[Any], bool], wanted: Packet | Call) -> None:
@@ -94,17 +98,19 @@ def test_an_event_gets_simpler(what: Packet | Call, is_good: Callable[[Any], boo
 
 def test_a_whole_round_goes_with_the_numbers_that_it_moved() -> None:
     """Of four ACKs none goes by itself, since the last one has to acknowledge a segment more than the one before."""
-    acks = [packet(".", 1, number, 257) for number in (1, 1_001, 2_001, 3_001)]
+    acks = [make_inbound_packet(".", 1, number, 257) for number in (1, 1_001, 2_001, 3_001)]
     states = [(1, 1_001), (1_001, 2_001), (2_001, 3_001), (3_001, 4_001)]
     recording = "".join(
         f"+0 {it}\n//= at 0.000000 ESTABLISHED una:{una} top:{top} cwnd:4000\n" for it, (una, top) in zip(acks, states)
     )
     test = Finds(lambda it: [str(one.what) for one in it.events] == [str(one) for one in acks[:2]])
-    found = shrink(Find(inputs_of(*((0, it) for it in acks)), recording), test, RecordingSender(), 60)
+    found = shrink_find(Find(inputs_of(*((0, it) for it in acks)), recording), test, RecordingSender(), 60)
     assert [str(it.what) for it in found.inputs.events] == [str(it) for it in acks[:2]]
 
 
-@pytest.mark.parametrize(("last", "least_last"), [("write", call("write", 4, "...", 1)), ("close", call("close", 4))])
+@pytest.mark.parametrize(
+    ("last", "least_last"), [("write", make_call("write", 4, "...", 1)), ("close", make_call("close", 4))]
+)
 def test_another_call_shows_sooner_what_waits_show(last: str, least_last: Call) -> None:
     """Five waits show a find, of which none can go; so does a call in their place."""
 
@@ -123,7 +129,7 @@ def test_settings_and_exact_times_go_where_nothing_needs_them() -> None:
 
 
 def test_inputs_go_on_with_acks_of_all_that_was_sent_at_the_last_state() -> None:
-    endings = list(continuations(Find(inputs_of((0, TICK), (SECOND, WRITE)), RECORDED)))
+    endings = list(continued_inputs_of_find(Find(inputs_of((0, TICK), (SECOND, WRITE)), RECORDED)))
     acks = [it.events[2].what for it in endings if isinstance(it.events[2].what, Packet)]
     assert [(it.start, it.ack) for it in acks] == [(1, 3_001), (2, 3_001)]
     assert all(it.events[1] == Input(SECOND, WRITE) and it.events[2].at > SECOND for it in endings)
@@ -134,7 +140,7 @@ def test_inputs_go_on_with_acks_of_all_that_was_sent_at_the_last_state() -> None
 def test_inputs_without_a_state_go_on_with_the_first_number() -> None:
     acks = [
         it.what
-        for ending in continuations(Find(inputs_of(), ""))
+        for ending in continued_inputs_of_find(Find(inputs_of(), ""))
         for it in ending.events
         if isinstance(it.what, Packet)
     ]

@@ -20,7 +20,7 @@ from pdsuite.compare.divergence import Divergence, PlayedEvent
 from pdsuite.programs.verdict import Row, Verdict
 from pdsuite.run.outcomes import Outcome
 from pdsuite.scripts.text import make_text
-from pdsuite.watch.folder_moves import moves_of
+from pdsuite.watch.folder_moves import folder_moves_between
 from pdsuite.watch.plan_changes import WantedScript
 from pdsuite.watch.terminal_report import TerminalReport
 from tests.helpers import HANGS, PASSES, TOP, write
@@ -58,9 +58,9 @@ def live(width: int = 80) -> TerminalReport:
 def shown(before: Report, after: Report, width: int = 80) -> list[str]:
     """The lines of a report that follows another."""
     news = live(width)
-    moves = news.moves(before, after, texts_of(before), texts_of(after))
-    text = news.rows(before, after, moves).append_text(news.blocks(before, after, moves))
-    return text.append_text(news.foot(after, 0.01)).plain.splitlines()
+    moves = news.folder_moves(before, after, texts_of(before), texts_of(after))
+    text = news.changed_rows(before, after, moves).append_text(news.changed_explanations(before, after, moves))
+    return text.append_text(news.totals_line(after, 0.01)).plain.splitlines()
 
 
 def names(count: int, folder: str = "t") -> list[str]:
@@ -68,7 +68,7 @@ def names(count: int, folder: str = "t") -> list[str]:
 
 
 def test_a_state_is_broken_at_blanks_and_a_packet_is_not_broken() -> None:
-    lines = live().first(report(FAIL, "a.pkt"), False, 0.01).plain.splitlines()
+    lines = live().first_report(report(FAIL, "a.pkt"), False, 0.01).plain.splitlines()
     assert lines[0] == "a.pkt:2: fail seq: the packet has other octets"
     assert lines[1] == f"  {PACKET}"
     assert all(len(it) < 80 for it in lines[2:]) and len(lines) == 6
@@ -80,7 +80,7 @@ def test_a_reason_is_broken_at_blanks_and_a_short_line_stays() -> None:
     words = "reason: all that is queued was sent, up to 1001, and only the timer sends the oldest again (RFC 6298)"
     reported = (words, "rule: a command", f"{'x' * 100} y")
     outcome = Outcome("a.pkt", (), FAIL, None, "so it is", reported)
-    assert live().first({"a.pkt": outcome}, False, 0.01).plain.splitlines()[1:-1] == [
+    assert live().first_report({"a.pkt": outcome}, False, 0.01).plain.splitlines()[1:-1] == [
         "  reason: all that is queued was sent, up to 1001, and only the timer sends the",
         "    oldest again (RFC 6298)",
         "  rule: a command",
@@ -93,7 +93,11 @@ def test_the_states_of_two_senders_are_broken_at_blanks_and_packets_are_not() ->
     event = PlayedEvent(f"+0 > . 1:1001(1000) ack 1 <nop,nop,{'sack 1:2,' * 6}eol>", "0.310000", state)
     parting = Divergence(event, None, state, f"{state} recovery:none")
     outcome = Outcome("a.pkt", (), PASS, None, "", ())
-    lines = live().compared([ComparedScript(0, ComparisonKind.OTHERWISE, outcome, outcome, parting)]).plain.splitlines()
+    lines = (
+        live()
+        .turned_entries([ComparedScript(0, ComparisonKind.OTHERWISE, outcome, outcome, parting)])
+        .plain.splitlines()
+    )
     assert f"    before: {event}" in lines
     assert lines[-4:] == [
         "    state of the sender before: ESTABLISHED una:1 next:6001 top:6001 end:20001",
@@ -105,26 +109,26 @@ def test_the_states_of_two_senders_are_broken_at_blanks_and_packets_are_not() ->
 
 def test_totals_have_no_zeros_and_fit() -> None:
     outcomes = report(PASS, *names(123))
-    assert live().foot(outcomes, 0.5).plain == "total 123 pass 123 in 0.50 s\n"
+    assert live().totals_line(outcomes, 0.5).plain == "total 123 pass 123 in 0.50 s\n"
     verdicts: tuple[Verdict, ...] = tuple(Verdict)
     for number, verdict in enumerate(verdicts):
         outcomes |= report(Row(verdict, 1, "seq"), *names(100 + number, verdict.value))
-    assert live().foot(outcomes, 0.5).plain.splitlines() == [
+    assert live().totals_line(outcomes, 0.5).plain.splitlines() == [
         "total 844 pass 223 fail 101 syntax 102 unsupported 103 limit 104 error 105 not",
         "run 106 in 0.50 s",
     ]
-    assert live().foot(report(Row(Verdict.PASS, 0), "a.pkt"), 0).plain == "total 1 pass 1 warnings 1 in 0.00 s\n"
+    assert live().totals_line(report(Row(Verdict.PASS, 0), "a.pkt"), 0).plain == "total 1 pass 1 warnings 1 in 0.00 s\n"
 
 
 def test_a_rule_with_the_time_of_day_goes_across() -> None:
-    line = live(60).head().plain
+    line = live(60).report_head().plain
     assert re.fullmatch(r"\u2500\u2500 \d\d:\d\d:\d\d \u2500{47}\n", line)
 
 
 def test_a_terminal_without_columns_has_a_few() -> None:
     for width in (0, 1, 2):
-        lines = live(width).first(report(FAIL, "a.pkt"), False, 0.01).plain.splitlines()
-        assert lines[2] == "  state: ESTABLISHED" and len(live(width).head().plain) == 21
+        lines = live(width).first_report(report(FAIL, "a.pkt"), False, 0.01).plain.splitlines()
+        assert lines[2] == "  state: ESTABLISHED" and len(live(width).report_head().plain) == 21
 
 
 def test_of_many_that_turn_ten_are_shown_then_how_many_more_and_the_command() -> None:
@@ -183,15 +187,15 @@ MOVES = [
 @pytest.mark.parametrize(("old", "new", "wanted"), MOVES, ids=range(len(MOVES)))
 def test_which_folders_moved(old: list[str], new: list[str], wanted: list[tuple[str, str, int]]) -> None:
     before, after = report(PASS, *old), report(PASS, *new)
-    found = moves_of(before, after, texts_of(before), texts_of(after))
+    found = folder_moves_between(before, after, texts_of(before), texts_of(after))
     assert [(it.old, it.new, len(it.scripts)) for it in found] == wanted
 
 
 def test_a_folder_with_other_texts_did_not_move() -> None:
     before, after = report(PASS, "a/x"), report(PASS, "b/x")
-    assert moves_of(before, after, texts(a__x=b"one"), texts(b__x=b"two")) == []
-    assert len(moves_of(before, after, texts(a__x=b"one"), texts(b__x=b"one"))) == 1
-    assert len(moves_of(before, after, {}, {})) == 1
+    assert folder_moves_between(before, after, texts(a__x=b"one"), texts(b__x=b"two")) == []
+    assert len(folder_moves_between(before, after, texts(a__x=b"one"), texts(b__x=b"one"))) == 1
+    assert len(folder_moves_between(before, after, {}, {})) == 1
 
 
 class OnTerminal:

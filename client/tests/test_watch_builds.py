@@ -187,7 +187,7 @@ def test_a_base_runs_anew_what_was_edited_since(tmp_path: Path) -> None:
         base = BaseSender((program, None), 1, stop, print)
         for text in (SENDER, b"row fail 1 seq\n"):
             now = ShownScripts({}, {"a.pkt": WantedScript((), make_text(text))})
-            rows += [str(it.row.whole_text) for it in base.outcomes(now, now).values()]
+            rows += [str(it.row.whole_text) for it in base.outcomes_now(now, now).values()]
     assert rows == ["pass 7", "fail 1 seq"]
 
 

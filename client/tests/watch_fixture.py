@@ -19,7 +19,7 @@ from pdsuite.signals import Stop
 from pdsuite.watch.change_report import ChangeReport
 from pdsuite.watch.folders import Folders, WatchChoice
 from pdsuite.watch.live_pool import LivePool
-from pdsuite.watch.session import step
+from pdsuite.watch.session import rerun_changes_and_show
 from pdsuite.watch.settings_files import SettingsFiles
 from pdsuite.watch.view import View
 from pdsuite.watch.watcher import FileEvent, Watcher
@@ -76,7 +76,9 @@ class WatchFixture:
     def wait(self, seconds: float, events: list[FileEvent] | None = None) -> None:
         """Lets time pass, and then what has been reported be heeded."""
         self.now += seconds
-        step(self.folders, self.fleet, self.view, self.watcher.read() if events is None else events, self.now)
+        rerun_changes_and_show(
+            self.folders, self.fleet, self.view, self.watcher.read_events() if events is None else events, self.now
+        )
 
     def rest(self) -> None:
         """Waits until nothing more can come."""

@@ -10,7 +10,7 @@ from model.rules import Rules
 from model.sender import Segment, Sender, Start
 from model.spans import Span
 from pdsuite.packetdrill.items import SECOND, Call, Item, Packet
-from pdsuite.packetdrill.reader import read
+from pdsuite.packetdrill.reader import read_items
 
 TOLERANCE = 4_000
 NO_MSS = 536
@@ -137,7 +137,7 @@ def fault_of(path: Path) -> str:
     for table in reversed(list(tables_of(path))):
         settings |= table
     player = Player(settings)
-    for item in _events(read(path.read_text()).items):
+    for item in _events(read_items(path.read_text()).items):
         if fault := player.play(item):
             return f"{path}:{item.line}: {fault}"
     return ""

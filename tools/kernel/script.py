@@ -7,8 +7,8 @@ from collections.abc import Iterator
 from dataclasses import dataclass
 
 from pdsuite.packetdrill.items import SECOND, Call, Code, Command, HeaderOption, Item, Packet, Time
-from pdsuite.packetdrill.reader import read
-from pdsuite.packetdrill.tokens import line_of
+from pdsuite.packetdrill.reader import read_items
+from pdsuite.packetdrill.tokens import line_number_at
 
 NOT_RUN = frozenset("UEWC")
 
@@ -57,11 +57,11 @@ def read_script(text: str) -> tuple[TimedEvent, ...]:
     >>> read_script("0 listen(3, 1) = -1 EINVAL")[0].action
     Call(name='listen', arguments=('3', '1'), result=-1, error='EINVAL')
     """
-    reading = read(text)
+    reading = read_items(text)
     events = tuple(events_of(reading.items))
     if (fault := reading.fault) is not None:
         reason = f"{fault.words}: {fault.what}" if fault.what else fault.words
-        raise UnsupportedScript(line_of(text, fault.place), reason)
+        raise UnsupportedScript(line_number_at(text, fault.place), reason)
     return events
 
 

@@ -148,7 +148,7 @@ def _report_comparison(
     is_unproved = not all(it.is_proved for it in senders)
     names = (str(senders[0]), str(senders[1]))
     if page is not None:
-        page.write(compared, (before, after), names, is_unproved)
+        page.write_page(compared, (before, after), names, is_unproved)
     seconds = time.monotonic() - begin
     report = ComparisonReport(compared, affected, seconds, is_unproved, Quantity(options.sort), options.every)
     if options.is_markdown:

@@ -7,7 +7,7 @@ from pathlib import Path
 from pdsuite.commands.options import thread_count
 from pdsuite.faults import Fault
 from pdsuite.files import write_file_atomically
-from pdsuite.imports.tables import is_key
+from pdsuite.imports.tables import is_toml_key
 from pdsuite.output.octets import printable_path, printable_text
 from pdsuite.output.screen import Screen, print_error
 from pdsuite.output.styled_text import unstyled_text
@@ -157,7 +157,7 @@ def _why_unwritable(found: ScriptFile, outcome: Outcome) -> str:
         return str(outcome.row)
     if not found.name.endswith(SUFFIX):
         return f"its name doesn't end in {SUFFIX}, so no {CONFIG_FILE} has a table for it"
-    return "" if is_key(found.name) else f"its name isn't UTF-8, so no {CONFIG_FILE} has a table for it"
+    return "" if is_toml_key(found.name) else f"its name isn't UTF-8, so no {CONFIG_FILE} has a table for it"
 
 
 def _edited_files(changes: Iterable[ExpectationChange]) -> Iterator[tuple[Path, bytes]]:

@@ -8,10 +8,10 @@ from pathlib import Path
 from pdsuite.faults import Fault, FileFault
 from pdsuite.files import require_new_or_empty_folder, write_folder_atomically
 from pdsuite.imports.as_json import as_json
-from pdsuite.imports.conversion import ImportSource, Imported, NotImported, convert
+from pdsuite.imports.conversion import ImportSource, Imported, NotImported, convert_script
 from pdsuite.imports.findings import Reason
-from pdsuite.imports.listing import Listed, lines_of, status, summary
-from pdsuite.imports.tables import is_key, tables_of
+from pdsuite.imports.listing import Listed, exit_status, report_lines_of, summary_lines
+from pdsuite.imports.tables import is_toml_key, settings_files_of
 from pdsuite.output.octets import printable_path
 from pdsuite.output.screen import Screen
 from pdsuite.output.styled_text import unstyled_text
@@ -44,13 +44,13 @@ def import_scripts(source: Path, target: Path, keep_packets: bool, is_json: bool
         if any(isinstance(it.came, Imported) for it in scripts):
             write_folder_atomically(place, _files_to_write(source.parent if is_script else source, scripts, stop))
     screen.show(unstyled_text(as_json(scripts) if is_json else _listing_text(scripts)))
-    return status(scripts)
+    return exit_status(scripts)
 
 
 def _listing_text(scripts: Sequence[Listed]) -> str:
     """What people see."""
-    lines = [line for it in scripts for line in lines_of(it)]
-    return "".join(f"{line}\n" for line in [*lines, *summary(scripts)])
+    lines = [line for it in scripts for line in report_lines_of(it)]
+    return "".join(f"{line}\n" for line in [*lines, *summary_lines(scripts)])
 
 
 def _import_each(found: Sequence[ScriptFile], suite: SuiteConfig, keep_packets: bool, stop: Stop) -> Iterator[Listed]:
@@ -71,8 +71,8 @@ def _import_script(found: ScriptFile, suite: SuiteConfig, keep_packets: bool) ->
     except UnfitTextError as unfit:
         return NotImported((Reason(1, str(unfit)),))
     source = ImportSource(_decode_losslessly(octets), own, lambda path: _load_setup_file(found.path, path))
-    came = convert(source, keep_packets)
-    if isinstance(came, Imported) and came.settings and not is_key(os.path.basename(found.path)):
+    came = convert_script(source, keep_packets)
+    if isinstance(came, Imported) and came.settings and not is_toml_key(os.path.basename(found.path)):
         return NotImported((Reason(1, "a name that isn't UTF-8, which no pdsuite.toml can have"),))
     return came
 
@@ -102,4 +102,4 @@ def _files_to_write(source: Path, scripts: Sequence[Listed], stop: Stop) -> Iter
     for path, script in imported.items():
         stop.raise_if_stopped()
         yield path, script.text.encode("utf-8", "surrogateescape")
-    yield from tables_of({path: (it.settings, it.shared) for path, it in imported.items()})
+    yield from settings_files_of({path: (it.settings, it.shared) for path, it in imported.items()})

@@ -10,11 +10,11 @@ from pdsuite.compare.built_senders import build_missing_programs
 from pdsuite.compare.senders import current_sender, last_proved_sender, resolve_sender
 from pdsuite.compare.sides import Side, SideSettingsError, make_side, refuse_commonly_lacked_keys, report_lacking_keys
 from pdsuite.faults import Fault
-from pdsuite.measure.measurement import MeasureResult, Measurement, cases_of, program_of
+from pdsuite.measure.measurement import MeasureResult, Measurement, cases_of_paths, program_of
 from pdsuite.measure.page import MeasurePage
-from pdsuite.measure.paths import paths_of
-from pdsuite.measure.report import MeasureReport, as_json, plain, totals_of
-from pdsuite.measure.statistics import tables_of
+from pdsuite.measure.paths import load_paths
+from pdsuite.measure.report import MeasureReport, as_json, plain_report, total_lines
+from pdsuite.measure.statistics import figure_tables_of
 from pdsuite.measure.transfer_folder import TransferFolder
 from pdsuite.output.fitting import usable_columns
 from pdsuite.output.screen import Screen, print_error
@@ -51,7 +51,7 @@ class MeasureOptions:
 def measure_senders(options: MeasureOptions, screen: Screen) -> int:
     """Measures two senders, and answers the exit status: 2 where transfers came to no end."""
     begin = time.monotonic()
-    cases = cases_of(paths_of(options.paths, options.only), options.runs)
+    cases = cases_of_paths(load_paths(options.paths, options.only), options.runs)
     try:
         with Stop() as stop, TemporaryDirectory(prefix="pdsuite-") as room:
             named = _make_sides(options, Path(room))
@@ -66,7 +66,7 @@ def measure_senders(options: MeasureOptions, screen: Screen) -> int:
             steady.require_unchanged(_AGAIN)
             report = _make_report(measured, named, options.seed, time.monotonic() - begin)
             columns = None if screen.width is None else usable_columns(screen.width)
-            screen.show(as_json(report) if options.is_json else plain(report, columns))
+            screen.show(as_json(report) if options.is_json else plain_report(report, columns))
             if measured.status is not None:
                 # The signal was heeded; the next one ends the process at once.
                 with Stop(()) as unheeded:
@@ -110,10 +110,10 @@ def _adapt_to_sender(side: Side, claims: Sequence[Claim], stop: Stop) -> Side:
 def _make_report(measured: MeasureResult, sides: tuple[Side, Side], seed: int, seconds: float) -> MeasureReport:
     """The report of what was measured."""
     return MeasureReport(
-        tables_of(measured.cases),
+        figure_tables_of(measured.cases),
         (str(sides[0].sender), str(sides[1].sender)),
         seed,
-        measured.transfers,
+        measured.transfer_count,
         seconds,
         not all(it.sender.is_proved for it in sides),
         measured.status is not None,
@@ -131,6 +131,6 @@ class _MeasureOutputs:
 
     def write_page_and_scripts(self, report: MeasureReport, stop: Stop) -> None:
         if self._kept is not None:
-            self._kept.write([it.measured for it in report.tables], self._common, stop)
+            self._kept.write_all_transfers([it.measured for it in report.tables], self._common, stop)
         if self._page is not None:
-            self._page.write(report, totals_of(report), stop)
+            self._page.write_page(report, total_lines(report), stop)

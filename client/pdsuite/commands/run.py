@@ -15,7 +15,7 @@ from pdsuite.faults import CutShortError, Fault
 from pdsuite.files import append_to_file
 from pdsuite.output.screen import Screen, print_error
 from pdsuite.packages import require_module
-from pdsuite.page.diagram_choice import diagram_choice
+from pdsuite.page.diagram_choice import make_diagram_choice
 from pdsuite.programs.locate import BATCH_TOOL, RECORD, REGRESS, TOP, UnprovedError, locate_program, sha256_of
 from pdsuite.programs.lookup import CHANGED, ProgramLookup, SenderGuard, client_programs_lookup
 from pdsuite.programs.program import Program
@@ -217,7 +217,7 @@ def _make_page_updates(options: RunOptions, screen: Screen, is_unproved: bool) -
     # Only who requests a page pays for what draws it.
     from pdsuite.page.page_updates import PageUpdates
 
-    return PageUpdates(options.html, diagram_choice(options.plot, options.plots), screen.print_note, is_unproved)
+    return PageUpdates(options.html, make_diagram_choice(options.plot, options.plots), screen.print_note, is_unproved)
 
 
 def _keep_texts_and_causes(steps: Iterable[Step], texts: dict[int, Text], causes: dict[int, Cause]) -> Iterator[Step]:
@@ -376,8 +376,8 @@ def _draw_page(
     entries = [PageEntry(it, texts.get(index), cause=causes.get(index)) for index, it in enumerate(outcomes)]
     try:
         with page:
-            page.follow(entries)
-            page.finish(stop, lambda done, count: screen.show_progress(done, count, "pages drawn"))
+            page.queue_entries(entries)
+            page.wait_until_drawn(stop, lambda done, count: screen.show_progress(done, count, "pages drawn"))
     except StoppedError as stopped:
         return stopped
     finally:

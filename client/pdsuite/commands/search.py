@@ -21,14 +21,14 @@ from pdsuite.reports.search import find_text, offer_text, search_totals
 from pdsuite.scripts.config import Layer, claims_of_layers
 from pdsuite.scripts.settings import sorted_settings
 from pdsuite.search.candidates import Candidates
-from pdsuite.search.coverage import state_pattern
-from pdsuite.search.find import DiffersTest, FailsTest, Find, ReachesTest, script_of
-from pdsuite.search.finished_script import below, finished_script, with_head
+from pdsuite.search.coverage import parse_state_pattern
+from pdsuite.search.find import DiffersTest, FailsTest, Find, ReachesTest, configured_script_of
+from pdsuite.search.finished_script import least_script_of_find, prepend_comment_lines, with_head_comment
 from pdsuite.search.generate import KEYS
-from pdsuite.search.initial_inputs import initial_inputs, scripts_in
-from pdsuite.search.oracle import SettingsOracle, SideOracle, oracles_of, sizes
-from pdsuite.search.relevance import emphasis_of, offer
-from pdsuite.search.save import check_place, save
+from pdsuite.search.initial_inputs import record_initial_inputs, suite_scripts_of_tree
+from pdsuite.search.oracle import SettingsOracle, SideOracle, open_oracles, query_sizes
+from pdsuite.search.relevance import emphasis_of_changes, suggest_suite_script
+from pdsuite.search.save import check_save_path, save_script_and_settings
 from pdsuite.search.scenario import Emphasis
 from pdsuite.search.search import Search
 from pdsuite.signals import Stop, StoppedError
@@ -48,11 +48,11 @@ class SearchOptions:
 
 def search_state(text: str, word: str | None, options: SearchOptions, screen: Screen) -> int:
     """Searches for a state, and answers the exit status: 1 where no input reaches it."""
-    pattern = state_pattern(text)
+    pattern = parse_state_pattern(text)
     if pattern is None:
         raise Fault(f"--for: {printable_text(text)}: no facts as NAME:VALUE with blanks between them")
     if options.save is not None:
-        check_place(options.save)
+        check_save_path(options.save)
     try:
         with Stop() as stop, TemporaryDirectory(prefix="pdsuite-") as room:
             sender = current_sender() if word is None else resolve_sender(word, "--with", Path(room) / "sender")
@@ -61,9 +61,12 @@ def search_state(text: str, word: str | None, options: SearchOptions, screen: Sc
             if not sender.is_proved:
                 screen.print_note(f"pdsuite: {sender}")
             (sender,) = build_missing_programs([sender], "optimised", stop, screen)
-            with oracles_of([sender], stop) as (oracle,):
+            with open_oracles([sender], stop) as (oracle,):
                 drawing = Candidates(
-                    seed, sizes(), Emphasis(), initial_inputs(scripts_in(TOP, stop), oracle, frozenset())
+                    seed,
+                    query_sizes(),
+                    Emphasis(),
+                    record_initial_inputs(suite_scripts_of_tree(TOP, stop), oracle, frozenset()),
                 )
                 searched = Search(oracle, ReachesTest(pattern), None, drawing, options.seconds).run(
                     _progress_shower(screen)
@@ -76,7 +79,9 @@ def search_state(text: str, word: str | None, options: SearchOptions, screen: Sc
                 )
                 if options.save is not None:
                     head = [f"Reaches {printable_text(text)}.", f"Recorded by {sender}."]
-                    save(options.save, below(head, script_of(searched.find).octets), settings)
+                    save_script_and_settings(
+                        options.save, prepend_comment_lines(head, configured_script_of(searched.find).octets), settings
+                    )
             else:
                 screen.show(unstyled_text(f"no input reaches {printable_text(text)}\n"))
             screen.show(search_totals(searched, seed, not sender.is_proved))
@@ -99,17 +104,17 @@ def search_difference(
     they are known.
     """
     if options.save is not None:
-        check_place(options.save)
+        check_save_path(options.save)
     senders = [it.sender for it in sides]
     _require_recorders(senders)
     seed, steady = _choose_seed(options), SenderGuard(*(it.program_lookup for it in senders))
     senders = build_missing_programs(senders, "optimised", stop, screen)
-    with oracles_of(senders, stop) as oracles:
+    with open_oracles(senders, stop) as oracles:
         before, after = _side_oracles(oracles, sides, common, screen)
         changed = changed_names(*trees)
-        emphasis = emphasis_of(changed, _fixed_keys(before.side, after.side, common))
-        scripts = scripts_in(trees[0] or TOP, stop)
-        drawing = Candidates(seed, sizes(), emphasis, initial_inputs(scripts, before, emphasis.fixed))
+        emphasis = emphasis_of_changes(changed, _fixed_keys(before.side, after.side, common))
+        scripts = suite_scripts_of_tree(trees[0] or TOP, stop)
+        drawing = Candidates(seed, query_sizes(), emphasis, record_initial_inputs(scripts, before, emphasis.fixed))
         searched = Search(before, FailsTest(after), DiffersTest(after), drawing, options.seconds).run(
             _progress_shower(screen)
         )
@@ -117,7 +122,7 @@ def search_difference(
         find = searched.find or searched.unshown
         if find is not None:
             _show_and_save_find(find, before, after, options, screen)
-            screen.show(offer_text(offer(changed)))
+            screen.show(offer_text(suggest_suite_script(changed)))
     screen.show(search_totals(searched, seed, not all(it.is_proved for it in senders)))
     return 0 if find is None else 1
 
@@ -127,12 +132,12 @@ def _side_oracles(
 ) -> tuple[SideOracle, SideOracle]:
     """The oracle of each sender under the settings of its side, without keys that it lacks."""
     claims = list(claims_of_layers([common]))
-    found = [side.adapt_to_sender(claims, oracle.refused) for oracle, side in zip(oracles, sides)]
+    found = [side.adapt_to_sender(claims, oracle.refusals_of_claims) for oracle, side in zip(oracles, sides)]
     refuse_commonly_lacked_keys(found, claims)
     report_lacking_keys(found, screen.print_note)
     # An input sets no key that either of them lacks.
     drawn = list(claims_of_layers([replace(common, keys={key: values[0] for key, values in KEYS.items()})]))
-    known = [side.adapt_to_sender(drawn, oracle.refused) for oracle, side in zip(oracles, found)]
+    known = [side.adapt_to_sender(drawn, oracle.refusals_of_claims) for oracle, side in zip(oracles, found)]
     before, after = (SideOracle(oracle, side, sorted_settings(common.keys)) for oracle, side in zip(oracles, known))
     return before, after
 
@@ -146,11 +151,11 @@ def _show_and_save_find(
     find: Find, before: SideOracle, after: SideOracle, options: SearchOptions, screen: Screen
 ) -> None:
     """Shows what was found, as it is saved."""
-    script = finished_script(find, before, after)
+    script = least_script_of_find(find, before, after)
     if options.save is not None:
-        script = with_head(script, lambda row: _script_comment(row, before, after), after)
+        script = with_head_comment(script, lambda row: _script_comment(row, before, after), after)
     (other,) = after.recordings([find.inputs])
-    settings = [it.settings(find.inputs.settings) for it in (before, after)]
+    settings = [it.settings_on_side(find.inputs.settings) for it in (before, after)]
     if script.row is None:
         what = "recordings differ, and no script that was tried shows it: the senders' packets differ at the end alone"
         screen.show(find_text(find, what, settings, other.text, script.row, ()))
@@ -158,7 +163,7 @@ def _show_and_save_find(
         what = "a script fails under the sender after"
         screen.show(find_text(find, what, settings, other.text, script.row, after.explain(script.script)))
     if options.save is not None:
-        save(options.save, script.script.octets, before.settings(find.inputs.settings))
+        save_script_and_settings(options.save, script.script.octets, before.settings_on_side(find.inputs.settings))
 
 
 def _script_comment(row: Row | None, before: SideOracle, after: SideOracle) -> list[str]:

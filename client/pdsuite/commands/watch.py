@@ -13,7 +13,7 @@ from pdsuite.compare.senders import resolve_sender
 from pdsuite.faults import Fault
 from pdsuite.output.octets import printable_text
 from pdsuite.output.screen import Screen, print_error
-from pdsuite.page.diagram_choice import diagram_choice
+from pdsuite.page.diagram_choice import make_diagram_choice
 from pdsuite.programs.build import build_if_needed, find_kept_build
 from pdsuite.programs.locate import RECORD, REGRESS
 from pdsuite.programs.lookup import buildable_tree, client_programs_lookup
@@ -61,7 +61,7 @@ def watch_scripts(options: WatchOptions, screen: Screen) -> int:
         try:
             tree = buildable_tree()
             follower = held.enter_context(SenderFollower(client_programs_lookup(REGRESS, RECORD), (REGRESS,), tree))
-            follower.look(0.0)
+            follower.look_for_sender(0.0)
             if follower.sender is None:
                 _print_unproved_notice(follower, tree, screen)
             page = held.enter_context(_make_page_updates(options, screen))
@@ -69,11 +69,11 @@ def watch_scripts(options: WatchOptions, screen: Screen) -> int:
                 options, Path(held.enter_context(TemporaryDirectory(prefix="pdsuite-"))), screen, stop
             )
             watched = WatchedSuite(choice, option, base)
-            Session(watched, view, screen, follower, page, stop, held).follow()
+            Session(watched, view, screen, follower, page, stop, held).follow_changes()
         except SessionSettingsError as refused:
             lines = refused.lines
         except StoppedError as stopped:
-            return stopped.status if view.status is None else view.status
+            return stopped.status if view.exit_status is None else view.exit_status
     for line in lines:
         print_error(line)
     return 2
@@ -123,4 +123,4 @@ def _make_page_updates(options: WatchOptions, screen: Screen) -> "AbstractContex
         return nullcontext()
     from pdsuite.page.page_updates import PageUpdates
 
-    return PageUpdates(options.html, diagram_choice(options.plot, options.plots), screen.print_note)
+    return PageUpdates(options.html, make_diagram_choice(options.plot, options.plots), screen.print_note)

@@ -6,7 +6,7 @@ from itertools import zip_longest
 
 from pdsuite.compare.comparison import ComparedScript
 from pdsuite.compare.divergence import PlayedEvent, played_events
-from pdsuite.packetdrill.columns import Mark, columns
+from pdsuite.packetdrill.columns import Mark, columns_of_packets
 
 _LESS = "nothing more is played"
 _UNKNOWN = "no recording tells"
@@ -70,7 +70,7 @@ def _first_differing_field(one: PlayedEvent, other: PlayedEvent) -> str:
         return _CALL
     if one.line.split(" ", 2)[1:2] != other.line.split(" ", 2)[1:2]:
         return "what leaves"
-    parts, _ = columns(one.line, other.line, "")
+    parts, _ = columns_of_packets(one.line, other.line, "")
     names = dict(zip(("time", "flags", "seq", "ack", "win", "options"), parts))
     differing = [name for name, it in names.items() if it.mark is not Mark.NONE]
     return differing[0] if differing else _TIME

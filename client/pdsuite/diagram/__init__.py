@@ -4,7 +4,7 @@
 staircases of cwnd and of what is outstanding, notes, and the `FailedExpectation` of a script that fails
 (`failing_line`). `plot` draws that on a `Canvas`, and `pictures` turns the figure into SVG for a page, or into files.
 
-    recording --programs.trace--> TracedEvent .. --timeline_of--> Timeline --figure_of--> Figure --pictures--> SVG, PNG
+    recording --programs.trace--> TracedEvent --timeline_of--> Timeline --draw_figure--> Figure --pictures--> SVG, PNG
 
 - What is drawn is decided in `timeline` alone, as values that tests compare; `plot` and `canvas` know of no recording.
 - The same timeline gives the same octets: ids are numbered, and nothing of the time or of the machine is in a picture.

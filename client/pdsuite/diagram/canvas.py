@@ -45,12 +45,12 @@ class Size:
     ticks: int
 
     @property
-    def letter(self) -> float:
+    def letter_width(self) -> float:
         """How wide a letter is at most, on the average."""
         return self.letters * 0.6
 
     @property
-    def line(self) -> float:
+    def line_height(self) -> float:
         return self.letters * 1.5
 
 
@@ -73,18 +73,18 @@ class Canvas:
         # Where the axes stand is known once the legend is.
         self.figure = Figure(figsize=(size.width / _DPI, 1), dpi=_DPI)
         self.figure.patch.set_visible(False)
-        self.octets = self._axes(size.octets)
-        self.windows = self._axes(size.windows)
+        self.octets = self._add_axes(size.octets)
+        self.windows = self._add_axes(size.windows)
         self.octets.set_ylim(self.low, self.high)
-        self._name_axes(end >= _SECOND)
+        self._label_axes(end >= _SECOND)
 
-    def bars(self, role: str, bars: Iterable[tuple[int, int, int, bool]], wide: float, words: str) -> None:
+    def draw_bars(self, role: str, bars: Iterable[tuple[int, int, int, bool]], wide: float, words: str) -> None:
         """Strokes as bars, with a gap at both ends that tells neighbours apart."""
         boxes: dict[bool, list[Box]] = {False: [], True: []}
         for at, start, end, is_later in bars:
             gap = min(self.octet * 0.7, (end - start) / 4)
             low, high = start + gap, max(end - gap, start + gap + self.octet * 1.5)
-            boxes[is_later].append(box(at - wide / 2 * self.unit, at + wide / 2 * self.unit, low, high))
+            boxes[is_later].append(box_corners(at - wide / 2 * self.unit, at + wide / 2 * self.unit, low, high))
         for is_later, each in boxes.items():
             if each:
                 self.octets.add_collection(
@@ -96,7 +96,7 @@ class Canvas:
         if boxes[False] or boxes[True]:
             self.legend.append((Line2D([], [], color=LIGHT[role], linewidth=wide), words))
 
-    def points(
+    def draw_points(
         self,
         role: str,
         places: Sequence[tuple[int, float, bool]],
@@ -117,9 +117,9 @@ class Canvas:
         if places:
             self.legend.append((Line2D([], [], linestyle="none", **style), words))
 
-    def area(self, role: str, steps: Sequence[Stair], words: str) -> None:
+    def draw_area(self, role: str, steps: Sequence[Stair], words: str) -> None:
         """What is on the way, as an area below its staircase."""
-        for xs, ys, is_later in _runs(steps, self.end):
+        for xs, ys, is_later in _runs_of_stairs(steps, self.end):
             alpha = 0.3 * alpha_of(is_later)
             self.windows.fill_between(
                 xs, ys, step="post", color=LIGHT[role], alpha=alpha, linewidth=0, zorder=2, gid=role
@@ -127,11 +127,11 @@ class Canvas:
         if steps:
             self.legend.append((Patch(color=LIGHT[role], alpha=0.3, linewidth=0), words))
 
-    def stairs(
+    def draw_stairs(
         self, axes: Axes, role: str, steps: Sequence[Stair], words: str, wide: float, style: object = "-"
     ) -> None:
         """A staircase, pale from the failing line on."""
-        for xs, ys, is_later in _runs(steps, self.end):
+        for xs, ys, is_later in _runs_of_stairs(steps, self.end):
             axes.plot(
                 xs,
                 ys,
@@ -146,13 +146,13 @@ class Canvas:
         if steps:
             self.legend.append((Line2D([], [], color=LIGHT[role], linewidth=wide, linestyle=style), words))
 
-    def lay_out(self, title: str, labels: Sequence[PlacedLabel]) -> None:
+    def lay_out_figure(self, title: str, labels: Sequence[PlacedLabel]) -> None:
         """Gives each part its place, once all strokes are drawn: a title, words, octets, windows, the legend."""
         size = self.size
         rows = max((it.row + 1 for it in labels if it.row is not None), default=0)
-        below = (3.2 + 1.02 * -(-len(self.legend) // size.columns)) * size.line
-        above = 8 + rows * size.line + (1.7 * size.line if title else 0)
-        gap = 1.2 * size.line
+        below = (3.2 + 1.02 * -(-len(self.legend) // size.columns)) * size.line_height
+        above = 8 + rows * size.line_height + (1.7 * size.line_height if title else 0)
+        gap = 1.2 * size.line_height
         height = above + size.octets + gap + size.windows + below
         self.figure.set_size_inches(size.width / _DPI, height / _DPI)
         wide = (size.width - size.left - size.right) / size.width
@@ -162,12 +162,12 @@ class Canvas:
         ):
             axes.set_position((size.left / size.width, bottom / height, wide, high / height))
         if title:
-            place = (size.left / size.width, 1 - size.line * 0.4 / height)
+            place = (size.left / size.width, 1 - size.line_height * 0.4 / height)
             self.figure.text(*place, title, color=LIGHT["ink"], fontsize=size.letters * 1.1, va="top", parse_math=False)
-        self._draw_words(labels, below + size.windows + gap + size.octets, height)
+        self._draw_labels(labels, below + size.windows + gap + size.octets, height)
         self._draw_legend()
 
-    def _axes(self, high: float) -> Axes:
+    def _add_axes(self, high: float) -> Axes:
         axes = self.figure.add_axes((0, 0, 1, 1), label=str(high))
         axes.set_facecolor("none")
         axes.set_xlim(self.begin, self.end)
@@ -182,7 +182,7 @@ class Canvas:
             spine.set_visible(name in ("left", "bottom"))
         return axes
 
-    def _name_axes(self, in_seconds: bool) -> None:
+    def _label_axes(self, in_seconds: bool) -> None:
         size = self.size
         self.octets.tick_params(labelbottom=False)
         self.octets.set_ylabel("octets, as sequence numbers", color=LIGHT["ink"], fontsize=size.letters)
@@ -192,13 +192,13 @@ class Canvas:
         scale = _SECOND if in_seconds else 1_000
         self.windows.xaxis.set_major_formatter(FuncFormatter(lambda it, _: f"{it / scale:,.10g}"))
 
-    def _draw_words(self, labels: Sequence[PlacedLabel], bottom: float, height: float) -> None:
+    def _draw_labels(self, labels: Sequence[PlacedLabel], bottom: float, height: float) -> None:
         """The words, in rows above the octets."""
         size = self.size
         for it in labels:
             if it.row is not None:
-                place = ((size.left + it.left) / size.width, (bottom + 4 + it.row * size.line) / height)
-                style = {"color": LIGHT[color_of(it.label)], "fontsize": size.letters, "va": "bottom"}
+                place = ((size.left + it.left) / size.width, (bottom + 4 + it.row * size.line_height) / height)
+                style = {"color": LIGHT[color_name_of(it.label)], "fontsize": size.letters, "va": "bottom"}
                 alpha = 0.75 if it.label.is_later else 1.0
                 self.figure.text(*place, it.label.words, alpha=alpha, parse_math=False, **style)
 
@@ -221,12 +221,12 @@ class Canvas:
         legend.set_gid("legend")
 
 
-def box(left: float, right: float, low: float, high: float) -> Box:
+def box_corners(left: float, right: float, low: float, high: float) -> Box:
     """The corners of a box, in microseconds and octets."""
     return [(left, low), (right, low), (right, high), (left, high)]
 
 
-def at_least(low: float, high: float, least: float) -> tuple[float, float]:
+def widen_to_least(low: float, high: float, least: float) -> tuple[float, float]:
     """Both ends, apart by so much at least."""
     more = max(0.0, least - (high - low)) / 2
     return low - more, high + more
@@ -237,7 +237,7 @@ def alpha_of(is_later: bool) -> float:
     return _PALE if is_later else 1.0
 
 
-def _runs(steps: Sequence[Stair], end: float) -> Iterable[tuple[list[float], list[int], bool]]:
+def _runs_of_stairs(steps: Sequence[Stair], end: float) -> Iterable[tuple[list[float], list[int], bool]]:
     """The pieces of a staircase, each without gaps and of one paleness, up to the next piece or the end."""
     xs: list[float] = []
     ys: list[int] = []
@@ -255,6 +255,6 @@ def _runs(steps: Sequence[Stair], end: float) -> Iterable[tuple[list[float], lis
             xs, ys = (xs[-1:], ys[-1:]) if goes_on else ([], [])
 
 
-def color_of(label: Label) -> str:
+def color_name_of(label: Label) -> str:
     """The colour of a label, by its name in the palette."""
     return "again" if label.is_failure else "ink"

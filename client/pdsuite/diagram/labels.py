@@ -36,7 +36,7 @@ def labels_of(timeline: Timeline) -> list[Label]:
     return sorted(labels, key=lambda it: it.at)
 
 
-def placed(labels: Sequence[Label], places: Sequence[float], letter: float, width: float) -> list[PlacedLabel]:
+def place_in_rows(labels: Sequence[Label], places: Sequence[float], letter: float, width: float) -> list[PlacedLabel]:
     """The labels in rows, each in the lowest that has room. `places` are theirs, in a width of so many units."""
     ends = [-_GAP] * MOST_ROWS
     done = []

@@ -39,11 +39,11 @@ DARK = {
 }
 
 
-def rules(selector: str) -> str:
+def css_rules(selector: str) -> str:
     """CSS that gives an element the colours as variables, dark ones where the reader prefers them."""
-    light, dark = (_block(selector, it) for it in (LIGHT, DARK))
+    light, dark = (_css_block(selector, it) for it in (LIGHT, DARK))
     return f"{light}\n@media screen and (prefers-color-scheme: dark) {{ {dark} }}"
 
 
-def _block(selector: str, colors: dict[str, str]) -> str:
+def _css_block(selector: str, colors: dict[str, str]) -> str:
     return f"{selector} {{ {' '.join(f'--diagram-{name}: {color};' for name, color in colors.items())} }}"

@@ -8,8 +8,8 @@ from html import escape
 import matplotlib
 
 from pdsuite.diagram.canvas import NARROW, SETTINGS, WIDE, Size
-from pdsuite.diagram.palette import LIGHT, rules
-from pdsuite.diagram.plot import figure_of
+from pdsuite.diagram.palette import LIGHT, css_rules
+from pdsuite.diagram.plot import draw_figure
 from pdsuite.diagram.timeline_parts import Timeline
 
 _DPI = 144
@@ -27,34 +27,38 @@ _TITLE = "@title@"
 _LONGEST_TITLE = 120
 _NAMESPACES = 'xmlns="http://www.w3.org/2000/svg" xmlns:xlink="http://www.w3.org/1999/xlink"'
 _STYLE = (
-    f"{rules('svg')}\nsvg {{ background: var(--diagram-card); stroke-linejoin: round;"
+    f"{css_rules('svg')}\nsvg {{ background: var(--diagram-card); stroke-linejoin: round;"
     " font-family: 'DejaVu Sans', system-ui, sans-serif }"
 )
 
 
-def for_page(timeline: Timeline) -> str:
+def svg_for_page(timeline: Timeline) -> str:
     """Two pictures for a page, of which it shows the one that fits: for wide and for narrow windows."""
-    return _svg(timeline, WIDE, "wide") + _svg(timeline, NARROW, "narrow")
+    return _svg_picture(timeline, WIDE, "wide") + _svg_picture(timeline, NARROW, "narrow")
 
 
 def svg_file(timeline: Timeline, title: str) -> bytes:
     """A picture as a file of its own, dark where the reader prefers it."""
-    first, rest = _svg(timeline, WIDE, "wide", _TITLE).split(">", 1)
+    first, rest = _svg_picture(timeline, WIDE, "wide", _TITLE).split(">", 1)
     text = f"{first} {_NAMESPACES}><style>{_STYLE}</style>{rest}"
-    return text.replace(_TITLE, escape(_cut(title))).encode("utf-8", "replace")
+    return text.replace(_TITLE, escape(_shorten_title(title))).encode("utf-8", "replace")
 
 
 def png_file(timeline: Timeline, title: str) -> bytes:
     """A picture as dots, on white."""
-    return _saved(timeline, WIDE, _cut(title), "png", dpi=_DPI, facecolor="white", metadata={"Software": None})
+    return _save_figure(
+        timeline, WIDE, _shorten_title(title), "png", dpi=_DPI, facecolor="white", metadata={"Software": None}
+    )
 
 
-def _svg(timeline: Timeline, size: Size, name: str, title: str = "") -> str:
+def _svg_picture(timeline: Timeline, size: Size, name: str, title: str = "") -> str:
     """A picture as SVG that stands in another text: with classes, and colours by variables."""
-    return in_page(_saved(timeline, size, title, "svg", metadata={"Date": None}).decode(), name, _WORDS)
+    return clean_svg_for_page(
+        _save_figure(timeline, size, title, "svg", metadata={"Date": None}).decode(), name, _WORDS
+    )
 
 
-def in_page(text: str, name: str, words: str) -> str:
+def clean_svg_for_page(text: str, name: str, words: str) -> str:
     """A picture that matplotlib wrote, as it stands in a page: of a class, with words for who can't see it."""
     text = _HEAD.sub("", text)
     text = _SIZE.sub(rf'<svg class="{name}" role="img" aria-label="{words}" viewBox="\1">', text)
@@ -63,16 +67,16 @@ def in_page(text: str, name: str, words: str) -> str:
     return _FONT.sub(r"font-size: \1px", text)
 
 
-def _saved(timeline: Timeline, size: Size, title: str, form: str, **words: object) -> bytes:
+def _save_figure(timeline: Timeline, size: Size, title: str, form: str, **words: object) -> bytes:
     octets = io.BytesIO()
     # Neither the user's own settings nor letters that a font hasn't make a difference.
     with matplotlib.rc_context(), warnings.catch_warnings():
         warnings.simplefilter("ignore")
         matplotlib.rcdefaults()
         matplotlib.rcParams.update(SETTINGS)
-        figure_of(timeline, size, title).savefig(octets, format=form, **words)
+        draw_figure(timeline, size, title).savefig(octets, format=form, **words)
     return octets.getvalue()
 
 
-def _cut(title: str) -> str:
+def _shorten_title(title: str) -> str:
     return title if len(title) <= _LONGEST_TITLE else f"...{title[3 - _LONGEST_TITLE:]}"

@@ -31,31 +31,33 @@ def timeline_of(events: Sequence[TracedEvent], failing: FailingLine | None = Non
     if first is None:
         return None
     moments = [
-        _Moment(it.moment, it, is_later) for it, is_later in zip(events, _later(events, failing)) if it.moment >= first
+        _Moment(it.moment, it, is_later)
+        for it, is_later in zip(events, _later_flags(events, failing))
+        if it.moment >= first
     ]
-    failure = None if failing is None else _failure(failing, moments, first)
+    failure = None if failing is None else _failed_expectation(failing, moments, first)
     ends = [moments[-1].at]
     if failure is not None and failure.expected is not None:
         ends.append(failure.expected.last)
     return Timeline(
         begin=first,
         end=max(ends),
-        segments=tuple(_segments(moments, failing)),
+        segments=tuple(_segments_less_failing(moments, failing)),
         arrivals=tuple(_arrivals(moments)),
-        blocks=tuple(_blocks(moments)),
-        acknowledged=_stairs(moments, lambda it: it.numeric_fact("una")),
-        edge=_stairs(moments, _edge),
-        cwnd=_stairs(moments, lambda it: it.numeric_fact("cwnd")),
-        ssthresh=_stairs(moments, _threshold),
-        flight_size=_stairs(moments, _flight_size),
-        pipe=_stairs(moments, lambda it: it.numeric_fact("pipe")),
-        spans=tuple(_spans(moments)),
+        blocks=tuple(_sack_blocks(moments)),
+        acknowledged=_stairs_of(moments, lambda it: it.numeric_fact("una")),
+        edge=_stairs_of(moments, _window_edge),
+        cwnd=_stairs_of(moments, lambda it: it.numeric_fact("cwnd")),
+        ssthresh=_stairs_of(moments, _finite_ssthresh),
+        flight_size=_stairs_of(moments, _flight_size_without_pipe),
+        pipe=_stairs_of(moments, lambda it: it.numeric_fact("pipe")),
+        spans=tuple(_recovery_spans(moments)),
         notes=_notes(moments),
         failure=failure,
     )
 
 
-def _later(events: Sequence[TracedEvent], failing: FailingLine | None) -> Iterator[bool]:
+def _later_flags(events: Sequence[TracedEvent], failing: FailingLine | None) -> Iterator[bool]:
     """Of each event, whether it comes after the failing line: it belongs to a later input, or to an expiry after it."""
     inputs = packets = 0
     is_past = False
@@ -75,31 +77,31 @@ def _later(events: Sequence[TracedEvent], failing: FailingLine | None) -> Iterat
 # ---- octets
 
 
-def _sent(moments: Sequence[_Moment]) -> Iterator[Segment]:
+def _sent_segments(moments: Sequence[_Moment]) -> Iterator[Segment]:
     """All segments that leave."""
     top = 0
     for it in moments:
         packet = it.event.what
         if isinstance(packet, Packet) and not packet.is_inbound:
-            start, end = _extent(packet)
+            start, end = _sequence_range(packet)
             kind = SegmentKind.EMPTY if start == end else SegmentKind.AGAIN if start < top else SegmentKind.NEW
             top = max(top, end)
-            yield Segment(it.at, start, end, kind, _flag(packet), it.is_later)
+            yield Segment(it.at, start, end, kind, _marked_flag(packet), it.is_later)
 
 
-def _segments(moments: Sequence[_Moment], failing: FailingLine | None) -> Iterator[Segment]:
+def _segments_less_failing(moments: Sequence[_Moment], failing: FailingLine | None) -> Iterator[Segment]:
     """The segments that leave, but for the one on which the script fails."""
-    for number, segment in enumerate(_sent(moments)):
+    for number, segment in enumerate(_sent_segments(moments)):
         if failing is None or failing.actual is None or number != failing.packets:
             yield segment
 
 
-def _extent(packet: Packet) -> tuple[int, int]:
+def _sequence_range(packet: Packet) -> tuple[int, int]:
     """The first octet and the number after the last one; SYN and FIN count as one octet each (RFC 9293)."""
     return packet.start, packet.end + len({"S", "F"} & set(packet.flags))
 
 
-def _flag(packet: Packet) -> Flag:
+def _marked_flag(packet: Packet) -> Flag:
     return next((it for it in (Flag.RST, Flag.SYN, Flag.FIN) if it.value[0] in packet.flags), Flag.NONE)
 
 
@@ -108,14 +110,16 @@ def _arrivals(moments: Sequence[_Moment]) -> Iterator[Arrival]:
     for it in moments:
         packet = it.event.what
         if isinstance(packet, Packet) and packet.is_inbound:
-            flag = _flag(packet)
-            is_duplicate = _is_duplicate(packet, before, it.event)
+            flag = _marked_flag(packet)
+            is_duplicate = _is_duplicate_ack(packet, before, it.event)
             is_dropped = before is not None and _is_dropped(flag, before, it.event)
-            yield Arrival(it.at, _octet(packet, before, it.event), flag, is_duplicate, it.is_later, is_dropped)
+            yield Arrival(
+                it.at, _acknowledged_octet(packet, before, it.event), flag, is_duplicate, it.is_later, is_dropped
+            )
         before = it.event
 
 
-def _octet(packet: Packet, before: TracedEvent | None, after: TracedEvent) -> int:
+def _acknowledged_octet(packet: Packet, before: TracedEvent | None, after: TracedEvent) -> int:
     """What a segment acknowledges, where that was sent and wasn't acknowledged before."""
     numbers = after if before is None or before.numeric_fact("una") is None else before
     una, top = numbers.numeric_fact("una") or 0, numbers.numeric_fact("top") or 0
@@ -133,7 +137,7 @@ def _is_reset(event: TracedEvent) -> bool:
     return event.facts.get("connection") == "reset"
 
 
-def _is_duplicate(packet: Packet, before: TracedEvent | None, after: TracedEvent) -> bool:
+def _is_duplicate_ack(packet: Packet, before: TracedEvent | None, after: TracedEvent) -> bool:
     """Whether an ACK acknowledges nothing new while octets are outstanding, with the same window (RFC 5681)."""
     if before is None or packet.flags != ".":
         return False
@@ -145,7 +149,7 @@ def _is_duplicate(packet: Packet, before: TracedEvent | None, after: TracedEvent
     )
 
 
-def _blocks(moments: Sequence[_Moment]) -> Iterator[SackBlock]:
+def _sack_blocks(moments: Sequence[_Moment]) -> Iterator[SackBlock]:
     for it in moments:
         packet = it.event.what
         if isinstance(packet, Packet) and packet.is_inbound:
@@ -158,7 +162,7 @@ def _blocks(moments: Sequence[_Moment]) -> Iterator[SackBlock]:
 # ---- stairs
 
 
-def _stairs(moments: Sequence[_Moment], value_of: Callable[[TracedEvent], int | None]) -> tuple[Stair, ...]:
+def _stairs_of(moments: Sequence[_Moment], value_of: Callable[[TracedEvent], int | None]) -> tuple[Stair, ...]:
     """A value after each event, where it isn't what it was before; of one moment the last counts."""
     steps: list[Stair] = []
     for it in moments:
@@ -173,18 +177,18 @@ def _stairs(moments: Sequence[_Moment], value_of: Callable[[TracedEvent], int | 
     return tuple(steps)
 
 
-def _edge(event: TracedEvent) -> int | None:
+def _window_edge(event: TracedEvent) -> int | None:
     """The number after the last octet that the peer's window lets leave."""
     una, window = event.numeric_fact("una"), event.numeric_fact("rwnd")
     return None if una is None or window is None else una + window
 
 
-def _threshold(event: TracedEvent) -> int | None:
+def _finite_ssthresh(event: TracedEvent) -> int | None:
     value = event.numeric_fact("ssthresh")
     return None if value is None or value >= _NO_THRESHOLD else value
 
 
-def _flight_size(event: TracedEvent) -> int | None:
+def _flight_size_without_pipe(event: TracedEvent) -> int | None:
     """Once the connection is established, and where no pipe counts in its place."""
     return event.numeric_fact("FlightSize") if "cwnd" in event.facts and "pipe" not in event.facts else None
 
@@ -193,33 +197,33 @@ def _flight_size(event: TracedEvent) -> int | None:
 
 
 def _notes(moments: Sequence[_Moment]) -> tuple[Note, ...]:
-    found = (*_timeouts(moments), *_losses(moments), *_drops(moments), *_ends(moments))
+    found = (*_timeout_notes(moments), *_recovery_notes(moments), *_drop_notes(moments), *_reset_notes(moments))
     return tuple(sorted(found, key=lambda it: it.at))
 
 
-def _drops(moments: Sequence[_Moment]) -> Iterator[Note]:
+def _drop_notes(moments: Sequence[_Moment]) -> Iterator[Note]:
     """What arrives with a flag and isn't taken."""
     for it in _arrivals(moments):
         if it.is_dropped:
             yield Note(it.at, f"{it.flag.value} dropped", it.is_later)
 
 
-def _timeouts(moments: Sequence[_Moment]) -> Iterator[Note]:
+def _timeout_notes(moments: Sequence[_Moment]) -> Iterator[Note]:
     """The expiries of the retransmission timer: a packet leaves at a moment that neither an input nor another has."""
     last: _Moment | None = None
     for it in moments:
         if not it.event.is_input and (last is None or it.at > last.at):
             rto = "" if last is None else last.event.facts.get("RTO", "")
-            yield Note(it.at, f"timeout, RTO {_seconds(rto)}" if rto else "timeout", it.is_later)
+            yield Note(it.at, f"timeout, RTO {_short_seconds(rto)}" if rto else "timeout", it.is_later)
         last = it
 
 
-def _losses(moments: Sequence[_Moment]) -> Iterator[Note]:
+def _recovery_notes(moments: Sequence[_Moment]) -> Iterator[Note]:
     for begin, _ in _recoveries(moments):
         yield Note(begin.at, _RECOVERY[begin.event.facts["recovery"]], begin.is_later)
 
 
-def _spans(moments: Sequence[_Moment]) -> Iterator[RecoverySpan]:
+def _recovery_spans(moments: Sequence[_Moment]) -> Iterator[RecoverySpan]:
     for begin, end in _recoveries(moments):
         yield RecoverySpan(begin.at, end.at, begin.is_later)
 
@@ -238,14 +242,14 @@ def _recoveries(moments: Sequence[_Moment]) -> Iterator[tuple[_Moment, _Moment]]
         yield begin, moments[-1]
 
 
-def _ends(moments: Sequence[_Moment]) -> Iterator[Note]:
+def _reset_notes(moments: Sequence[_Moment]) -> Iterator[Note]:
     """Where an RST has ended the connection."""
     found = next((it for it in moments if _is_reset(it.event)), None)
     if found is not None:
         yield Note(found.at, "reset", found.is_later)
 
 
-def _seconds(text: str) -> str:
+def _short_seconds(text: str) -> str:
     """Seconds without the zeros at their end."""
     return f"{text.rstrip('0').rstrip('.')} s"
 
@@ -253,25 +257,27 @@ def _seconds(text: str) -> str:
 # ---- the failing line
 
 
-def _failure(failing: FailingLine, moments: Sequence[_Moment], first: int) -> FailedExpectation:
+def _failed_expectation(failing: FailingLine, moments: Sequence[_Moment], first: int) -> FailedExpectation:
     done = [it.at for it in moments if not it.is_later]
     at = max(done, default=first) if failing.moment is None else max(first, failing.moment)
-    return FailedExpectation(failing.line, at, _expected(failing, at, first), _actual(failing, moments, at))
+    return FailedExpectation(
+        failing.line, at, _expected_segment(failing, at, first), _actual_segment(failing, moments, at)
+    )
 
 
-def _expected(failing: FailingLine, at: int, first: int) -> ExpectedSegment | None:
+def _expected_segment(failing: FailingLine, at: int, first: int) -> ExpectedSegment | None:
     awaited = failing.expected
     if awaited is None:
         return None
     begin = at if awaited.first is None else max(first, awaited.first)
     end = begin if awaited.last is None else max(begin, awaited.last)
-    return ExpectedSegment(begin, end, *_extent(awaited.packet))
+    return ExpectedSegment(begin, end, *_sequence_range(awaited.packet))
 
 
-def _actual(failing: FailingLine, moments: Sequence[_Moment], at: int) -> Segment | None:
+def _actual_segment(failing: FailingLine, moments: Sequence[_Moment], at: int) -> Segment | None:
     if failing.actual is None:
         return None
-    sent = list(_sent(moments))[failing.packets : failing.packets + 1]
-    start, end = _extent(failing.actual)
+    sent = list(_sent_segments(moments))[failing.packets : failing.packets + 1]
+    start, end = _sequence_range(failing.actual)
     kind = sent[0].kind if sent else SegmentKind.NEW
-    return Segment(at, start, end, kind, _flag(failing.actual))
+    return Segment(at, start, end, kind, _marked_flag(failing.actual))

@@ -125,6 +125,6 @@ class Timeline:
     failure: FailedExpectation | None = None
 
     @property
-    def has_later(self) -> bool:
+    def has_later_events(self) -> bool:
         """Whether anything happens after the failing line."""
         return any(it.is_later for it in self.segments) or any(it.is_later for it in self.arrivals)

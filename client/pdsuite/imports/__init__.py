@@ -1,12 +1,12 @@
 """Scripts of the kernel's self-tests as scripts of this profile: functions over texts, which start nothing.
 
-`convert` reads an `ImportSource` and gives an `Imported` script with its settings, or `NotImported` with each
+`convert_script` reads an `ImportSource` and gives an `Imported` script with its settings, or `NotImported` with each
 `Reason`. `setup` and `shell` read what the set-up says, `kernel` knows what each switch means here, `packets` cuts
 packets as this sender sends them, `calls` and `profile` know what this profile doesn't run, and `rewrite` puts it all
 into the text.
 
-    text --read--> items --setup, kernel--> settings, or Reason
-                     '---calls, packets, profile--> Rewrite --rewritten--> text; Finding for each that is counted
+    text --read_items--> items --setup, kernel--> settings, or Reason
+                           '---calls, packets, profile--> Rewrite --apply_rewrites--> text; Finding for each counted
 
 - Nothing of a script is run: shell commands and code are read as text, and what isn't understood is a reason.
 - What is dropped stays in the text as a comment, and says why. So the script shows what its test was about, and

@@ -4,9 +4,9 @@ import re
 from collections.abc import Iterator, Mapping, Sequence
 from dataclasses import dataclass
 
-from pdsuite.imports.assertions import Assertion, assertion_in
+from pdsuite.imports.assertions import Assertion, assertion_in_comment
 from pdsuite.imports.packets import LEAST_SMSS, smss_of
-from pdsuite.packetdrill.reader import read
+from pdsuite.packetdrill.reader import read_items
 from pdsuite.programs.trace import TracedEvent, traced_events_in
 
 _LINE = re.compile(r"^.*$", re.MULTILINE)
@@ -44,31 +44,31 @@ class _Input:
 
 def assertions_in(script: str) -> list[tuple[int, Assertion]]:
     """The assertions of an imported script, with their lines."""
-    return [(line, found) for line, text in enumerate(script.split("\n"), 1) if (found := assertion_in(text))]
+    return [(line, found) for line, text in enumerate(script.split("\n"), 1) if (found := assertion_in_comment(text))]
 
 
-def compare(script: str, recording: str, row_line: int | None, mss: int) -> list[CheckedAssertion]:
+def check_assertions(script: str, recording: str, row_line: int | None, mss: int) -> list[CheckedAssertion]:
     """The assertions of a script, each beside the state after the last input before it.
 
     Not compared are those after the line of the script's row, and those beside an expiry.
     """
     asserted = assertions_in(script)
-    places = [(it.start(), found) for it in _LINE.finditer(recording) if (found := assertion_in(it[0]))]
+    places = [(it.start(), found) for it in _LINE.finditer(recording) if (found := assertion_in_comment(it[0]))]
     if [it for _, it in asserted] != [it for _, it in places]:
         return [CheckedAssertion(line, it, None) for line, it in asserted]
-    smss = smss_of(read(script).items, mss)
-    inputs = list(_inputs(recording))
+    smss = smss_of(read_items(script).items, mss)
+    inputs = list(_inputs_with_states(recording))
     compared = []
     for (line, assertion), (place, _) in zip(asserted, places):
         before = [it for it in inputs if it.end <= place]
         if not before or before[-1].expires or (row_line is not None and row_line <= line):
             compared.append(CheckedAssertion(line, assertion, None))
         else:
-            compared.append(_beside(line, assertion, before[-1].state, smss))
+            compared.append(_check_by_state(line, assertion, before[-1].state, smss))
     return compared
 
 
-def _beside(line: int, assertion: Assertion, state: CheckedState, smss: int) -> CheckedAssertion:
+def _check_by_state(line: int, assertion: Assertion, state: CheckedState, smss: int) -> CheckedAssertion:
     facts = state.facts
     if "cwnd" not in facts or smss < LEAST_SMSS:
         return CheckedAssertion(line, assertion, None)
@@ -82,10 +82,10 @@ def _beside(line: int, assertion: Assertion, state: CheckedState, smss: int) -> 
     return CheckedAssertion(line, assertion, is_in == assertion.value, f"it is in {is_in}")
 
 
-def _inputs(recording: str) -> Iterator[_Input]:
+def _inputs_with_states(recording: str) -> Iterator[_Input]:
     """The inputs of a recording, with the state after each."""
     events = traced_events_in(recording)
-    lossy = list(_losses(events))
+    lossy = list(_expiry_repair_flags(events))
     acts = [number for number, it in enumerate(events) if it.is_input]
     for number, after in zip(acts, [*acts[1:], len(events)]):
         event = events[number]
@@ -93,7 +93,7 @@ def _inputs(recording: str) -> Iterator[_Input]:
         yield _Input(event.end, CheckedState(event.facts, lossy[number]), expires)
 
 
-def _losses(events: Sequence[TracedEvent]) -> Iterator[bool]:
+def _expiry_repair_flags(events: Sequence[TracedEvent]) -> Iterator[bool]:
     """Whether the sender repairs what an expiry lost, after each event; a moment that no input has is an expiry's."""
     lost: int | None = None
     moment = 0

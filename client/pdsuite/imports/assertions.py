@@ -39,31 +39,31 @@ class ParsedAssertions:
     others: tuple[str, ...]
 
 
-def asserted(code: str) -> ParsedAssertions:
+def parse_assertions(code: str) -> ParsedAssertions:
     """What a code asserts. It is read, and never run."""
     assertions: list[Assertion] = []
     others: list[str] = []
-    for statement in _statements(code):
-        found = None if statement is None else _compared(statement)
+    for statement in _parse_statements(code):
+        found = None if statement is None else _assertion_of_statement(statement)
         if found is not None:
             assertions.append(found)
         else:
-            others.append(_words(statement))
+            others.append(_words_of_uncompared(statement))
     return ParsedAssertions(tuple(assertions), tuple(others))
 
 
-def comment(assertion: Assertion) -> str:
+def assertion_comment(assertion: Assertion) -> str:
     """The comment that stands for an assertion in an imported script."""
     return f"// asserts {assertion}"
 
 
-def assertion_in(line: str) -> Assertion | None:
+def assertion_in_comment(line: str) -> Assertion | None:
     """The assertion that a line of an imported script has as a comment."""
     found = _COMMENT.fullmatch(line)
-    return None if found is None else _assertion(found[1], found[2])
+    return None if found is None else _assertion_if_compared(found[1], found[2])
 
 
-def _statements(code: str) -> Iterator[ast.stmt | None]:
+def _parse_statements(code: str) -> Iterator[ast.stmt | None]:
     """The statements of a code, or None where it isn't read."""
     try:
         with warnings.catch_warnings():
@@ -73,17 +73,17 @@ def _statements(code: str) -> Iterator[ast.stmt | None]:
         yield None
 
 
-def _compared(statement: ast.stmt) -> Assertion | None:
+def _assertion_of_statement(statement: ast.stmt) -> Assertion | None:
     """The assertion of a statement `assert NAME == VALUE`, with a message or without, where it is compared."""
     match statement:
         case ast.Assert(ast.Compare(ast.Name(name), [ast.Eq()], [ast.Constant(int(number))])):
-            return _assertion(name, str(number)) if not isinstance(number, bool) else None
+            return _assertion_if_compared(name, str(number)) if not isinstance(number, bool) else None
         case ast.Assert(ast.Compare(ast.Name(name), [ast.Eq()], [ast.Name(value)])):
-            return _assertion(name, value)
+            return _assertion_if_compared(name, value)
     return None
 
 
-def _assertion(name: str, value: str) -> Assertion | None:
+def _assertion_if_compared(name: str, value: str) -> Assertion | None:
     match name:
         case "tcpi_snd_cwnd" if _NUMBER.fullmatch(value):
             return Assertion(name, value)
@@ -94,7 +94,7 @@ def _assertion(name: str, value: str) -> Assertion | None:
     return None
 
 
-def _words(statement: ast.stmt | None) -> str:
+def _words_of_uncompared(statement: ast.stmt | None) -> str:
     """What isn't compared: the names that a statement reads."""
     if not isinstance(statement, ast.Assert):
         return "other code"

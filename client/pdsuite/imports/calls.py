@@ -40,16 +40,16 @@ def spelling_of(call: Call) -> Spelling | None:
                 arguments = (domain, _STREAM, protocol)
                 return Spelling(replace(call, arguments=arguments), f"{_NONBLOCKING} is dropped: no call blocks here")
         case "send", (descriptor, buffer, count, flags):
-            return _write(call, descriptor, buffer, count, flags)
+            return _spell_as_write(call, descriptor, buffer, count, flags)
         case "sendto", (descriptor, buffer, count, flags, "..." | "NULL", "..." | "0"):
-            return _write(call, descriptor, buffer, count, flags)
+            return _spell_as_write(call, descriptor, buffer, count, flags)
         case "sendmsg", (descriptor, message, flags):
             if found := _ONE_BUFFER.fullmatch(re.sub(r"\s", "", message)):
-                return _write(call, descriptor, found[1], found[2], flags)
+                return _spell_as_write(call, descriptor, found[1], found[2], flags)
     return None
 
 
-def _write(call: Call, descriptor: str, buffer: str, count: str, flags: str) -> Spelling | None:
+def _spell_as_write(call: Call, descriptor: str, buffer: str, count: str, flags: str) -> Spelling | None:
     """A call that sends one buffer, as `write` where it has no flags."""
     if not _NO_FLAGS.fullmatch(flags):
         return None
@@ -57,7 +57,7 @@ def _write(call: Call, descriptor: str, buffer: str, count: str, flags: str) -> 
     return Spelling(replace(call, name="write", arguments=arguments), f"{call.name} without flags is written as write")
 
 
-def spelled(text: str, call: Call) -> str:
+def rewrite_call_text(text: str, call: Call) -> str:
     """The text of a call with the name and the arguments of another one; its result stays as it is written."""
     depth = 0
     for token in tokens_of(text):
@@ -67,34 +67,34 @@ def spelled(text: str, call: Call) -> str:
     return text
 
 
-def is_run(call: Call) -> bool:
+def is_run_by_profile(call: Call) -> bool:
     """Whether a call is one of the table's, in name and shape."""
     match call.name, call.arguments:
         case "socket", (_, "SOCK_STREAM", protocol):
             return protocol in ("IPPROTO_TCP", "0")
         case ("bind" | "accept"), (_, _, _):
-            return _is_descriptor(call)
+            return _has_descriptor(call)
         case "listen", (_, _):
-            return _is_descriptor(call)
+            return _has_descriptor(call)
         case "close", (_,):
-            return _is_descriptor(call)
+            return _has_descriptor(call)
         case "write", (_, _, count):
-            return _is_descriptor(call) and _WHOLE.fullmatch(count) is not None
+            return _has_descriptor(call) and _WHOLE.fullmatch(count) is not None
         case "fcntl", (_, "F_SETFL", _):
-            return _is_descriptor(call)
+            return _has_descriptor(call)
         case "setsockopt", (_, "SOL_SOCKET", "SO_REUSEADDR", _, _):
-            return _is_descriptor(call)
+            return _has_descriptor(call)
         case "setsockopt", (_, ("SOL_TCP" | "IPPROTO_TCP"), "TCP_NODELAY", value, _):
-            return _is_descriptor(call) and _SWITCH.fullmatch(value) is not None
+            return _has_descriptor(call) and _SWITCH.fullmatch(value) is not None
     return False
 
 
-def is_buffer(call: Call) -> bool:
+def sets_send_buffer(call: Call) -> bool:
     """Whether a call sets the size of the send buffer."""
     return call.name == "setsockopt" and call.arguments[1:3] == ("SOL_SOCKET", "SO_SNDBUF") and call.result == 0
 
 
-def written(call: Call) -> int:
+def octets_to_write(call: Call) -> int:
     """How many octets a call is to write."""
     if call.name != "write" or len(call.arguments) != 3 or not _WHOLE.fullmatch(call.arguments[2]):
         return 0
@@ -102,7 +102,7 @@ def written(call: Call) -> int:
     return int(digits or "0") if len(digits) <= 18 else 10**18
 
 
-def about(call: Call) -> str:
+def subject_of_call(call: Call) -> str:
     """What a call that isn't run is about, in words that are counted."""
     for word, words in _ABOUT:
         if any(map(word.search, call.arguments)):
@@ -121,5 +121,5 @@ def about(call: Call) -> str:
     return f"the call {call.name}"
 
 
-def _is_descriptor(call: Call) -> bool:
+def _has_descriptor(call: Call) -> bool:
     return _WHOLE.fullmatch(call.arguments[0]) is not None

@@ -4,18 +4,27 @@ import re
 from collections.abc import Iterator, Mapping, Sequence
 from dataclasses import dataclass, replace
 
-from pdsuite.imports.assertions import asserted, comment
-from pdsuite.imports.calls import Spelling, is_buffer, spelled, spelling_of, written
+from pdsuite.imports.assertions import assertion_comment, parse_assertions
+from pdsuite.imports.calls import Spelling, octets_to_write, rewrite_call_text, sets_send_buffer, spelling_of
 from pdsuite.imports.findings import Finding, Heading, Reason
-from pdsuite.imports.packets import Sending, as_sent, count_of_pieces, moments_of, smss_of, writes_of
-from pdsuite.imports.profile import MSS, header_settings, is_place, tolerance_of, unsupported_reasons
-from pdsuite.imports.rewrite import Rewrite, kept, rewritten
+from pdsuite.imports.packets import Sending, count_of_pieces, moments_of, packets_as_sent, smss_of, writes_before_items
+from pdsuite.imports.profile import MSS, header_settings, header_tolerance, is_dropped_option, unsupported_reasons
+from pdsuite.imports.rewrite import Rewrite, apply_rewrites, keeping_comments
 from pdsuite.imports.setup import ABC_LIMIT, RUN
-from pdsuite.imports.setup import CommandPlace, LoadSetup, ParsedCommand, Setup, SetupWords, joined, look_at, setup_of
-from pdsuite.imports.slow_start import initial_window, limit_of
+from pdsuite.imports.setup import (
+    CommandPlace,
+    LoadSetup,
+    ParsedCommand,
+    Setup,
+    SetupWords,
+    join_setup_words,
+    parse_command_text,
+    setup_from_lines,
+)
+from pdsuite.imports.slow_start import greatest_fitting_abc_limit, initial_window_octets
 from pdsuite.packetdrill.items import Call, Code, Command, HeaderOption, Item, Packet, Time
-from pdsuite.packetdrill.reader import Reading, read
-from pdsuite.packetdrill.tokens import line_of
+from pdsuite.packetdrill.reader import Reading, read_items
+from pdsuite.packetdrill.tokens import line_number_at
 from pdsuite.scripts.defaults import DEFAULTS
 from pdsuite.scripts.settings import Settings, Value, sorted_settings
 from pdsuite.scripts.text import LINES, UnfitTextError, make_text
@@ -55,85 +64,94 @@ class NotImported:
     reasons: tuple[Reason, ...]
 
 
-def convert(source: ImportSource, keep_packets: bool) -> Imported | NotImported:
+def convert_script(source: ImportSource, keep_packets: bool) -> Imported | NotImported:
     """Imports a script. With `keep_packets`, and where a pdsuite.toml has settings for it, packets stay as they are."""
-    reading = read(source.text)
-    spellings = _spellings(reading.items)
+    reading = read_items(source.text)
+    spellings = _spellings_by_place(reading.items)
     items = [replace(it, what=spellings[n].call) if n in spellings else it for n, it in enumerate(reading.items)]
-    looked = _looked(items, source.load)
+    looked = _parse_commands(items, source.load)
     header = header_settings(items)
-    smss = smss_of(items, _number({**DEFAULTS, **header, **(source.own or {})}, MSS))
-    first = _first_act(items)
+    smss = smss_of(items, _number_or_default({**DEFAULTS, **header, **(source.own or {})}, MSS))
+    first = _place_of_first_act(items)
     lines = [lines for number in range(first) if number in looked for lines in looked[number].lines]
-    setup = setup_of(lines, max(smss, 1), header, source.own)
-    reasons = [*_reasons(items, setup, looked), *_syntax_reasons(reading, source.text)]
+    setup = setup_from_lines(lines, max(smss, 1), header, source.own)
+    reasons = [*_reasons_against_import(items, setup, looked), *_syntax_reasons(reading, source.text)]
     keeps = keep_packets or source.own is not None
     if not keeps:
-        reasons.extend(_long(items, smss))
+        reasons.extend(_too_many_events_reasons(items, smss))
     if reasons:
-        return NotImported(_in_order(reasons))
-    tolerance = tolerance_of(items)
+        return NotImported(_first_reasons_by_line(reasons))
+    tolerance = header_tolerance(items)
     if tolerance is None:
-        tolerance = _number({**DEFAULTS, **setup.settings}, "tolerance_us")
+        tolerance = _number_or_default({**DEFAULTS, **setup.settings}, "tolerance_us")
     known = _Known(looked, spellings, None if keeps else smss, tolerance)
-    rewrites = list(_rewrites(source.text, items, known))
-    text = rewritten(source.text, [it for it, _ in rewrites])
+    rewrites = list(_rewrites_of_items(source.text, items, known))
+    text = apply_rewrites(source.text, [it for it, _ in rewrites])
     findings = tuple(finding for _, them in rewrites for finding in them)
     changed = sum(any(it.heading is Heading.CHANGED for it in them) for _, them in rewrites)
-    shared = joined(it.shared for it in looked.values())
-    settings = sorted_settings(setup.settings if source.own is not None else _limited(setup.settings, items, smss))
-    return _within_limits(text) or Imported(text, settings, findings, changed, source.own is not None, shared)
+    shared = join_setup_words(it.shared for it in looked.values())
+    settings = sorted_settings(
+        setup.settings if source.own is not None else _with_abc_limit(setup.settings, items, smss)
+    )
+    return _reasons_over_limits(text) or Imported(text, settings, findings, changed, source.own is not None, shared)
 
 
-def _limited(settings: Mapping[str, Value], items: Sequence[Item], smss: int) -> dict[str, Value]:
+def _with_abc_limit(settings: Mapping[str, Value], items: Sequence[Item], smss: int) -> dict[str, Value]:
     """A kernel's settings, with the limit of cwnd's growth that a script needs."""
-    return {**settings, ABC_LIMIT: limit_of(items, smss, initial_window(settings["initial_window"], smss))}
+    return {
+        **settings,
+        ABC_LIMIT: greatest_fitting_abc_limit(items, smss, initial_window_octets(settings["initial_window"], smss)),
+    }
 
 
-def _reasons(items: Sequence[Item], setup: Setup, looked: Mapping[int, ParsedCommand]) -> Iterator[Reason]:
+def _reasons_against_import(
+    items: Sequence[Item], setup: Setup, looked: Mapping[int, ParsedCommand]
+) -> Iterator[Reason]:
     """Why a script isn't imported, as its items and its set-up say."""
     yield from setup.reasons
     yield from unsupported_reasons(items, setup.has_timestamps)
-    yield from _unshifted(items)
+    yield from _lost_time_reasons(items)
     yield from (reason for it in looked.values() for reason in it.reasons)
-    yield from _buffer(items, _number({**DEFAULTS, **setup.settings}, "sndbuf"))
+    yield from _send_buffer_reasons(items, _number_or_default({**DEFAULTS, **setup.settings}, "sndbuf"))
 
 
 def _syntax_reasons(reading: Reading, text: str) -> Iterator[Reason]:
     """Where the text is no script's, if it isn't."""
     if reading.fault is not None:
-        yield Reason(line_of(text, reading.fault.place), reading.fault.words, reading.fault.what)
+        yield Reason(line_number_at(text, reading.fault.place), reading.fault.words, reading.fault.what)
 
 
-def _number(settings: Mapping[str, Value], key: str) -> int:
+def _number_or_default(settings: Mapping[str, Value], key: str) -> int:
     """A setting that is a number, or its default where a pdsuite.toml has anything else."""
     value = settings[key]
-    return value if isinstance(value, int) else _number(DEFAULTS, key)
+    return value if isinstance(value, int) else _number_or_default(DEFAULTS, key)
 
 
-def _first_act(items: Sequence[Item]) -> int:
+def _place_of_first_act(items: Sequence[Item]) -> int:
     """The place of the first packet or call: what stands before it is set-up."""
     acts = (number for number, it in enumerate(items) if isinstance(it.what, Packet | Call))
     return next(acts, len(items))
 
 
-def _spellings(items: Sequence[Item]) -> dict[int, Spelling]:
+def _spellings_by_place(items: Sequence[Item]) -> dict[int, Spelling]:
     """The calls that others stand for, by the places of the items."""
     found = {number: spelling_of(it.what) for number, it in enumerate(items) if isinstance(it.what, Call)}
     return {number: it for number, it in found.items() if it is not None}
 
 
-def _looked(items: Sequence[Item], load: LoadSetup) -> dict[int, ParsedCommand]:
+def _parse_commands(items: Sequence[Item], load: LoadSetup) -> dict[int, ParsedCommand]:
     """What each command says, by the places of the items."""
-    first = _first_act(items)
+    first = _place_of_first_act(items)
     return {
-        number: look_at(it.what.text, it.line, CommandPlace.SETUP if number < first else CommandPlace.MIDST, load)
+        number: parse_command_text(
+            it.what.text, it.line, CommandPlace.SETUP if number < first else CommandPlace.MIDST, load
+        )
         for number, it in enumerate(items)
         if isinstance(it.what, Command)
     }
 
 
-def _in_order(reasons: Sequence[Reason]) -> tuple[Reason, ...]:
+def _first_reasons_by_line(reasons: Sequence[Reason]) -> tuple[Reason, ...]:
     """The first reason of each kind, in the order of lines."""
     first: dict[str, Reason] = {}
     for reason in sorted(reasons, key=lambda it: it.line):
@@ -141,17 +159,17 @@ def _in_order(reasons: Sequence[Reason]) -> tuple[Reason, ...]:
     return tuple(first.values())
 
 
-def _buffer(items: Sequence[Item], sndbuf: int) -> Iterator[Reason]:
+def _send_buffer_reasons(items: Sequence[Item], sndbuf: int) -> Iterator[Reason]:
     """A send buffer that the default can't stand for, since more is written."""
-    written_octets = sum(written(it.what) for it in items if isinstance(it.what, Call))
+    written_octets = sum(octets_to_write(it.what) for it in items if isinstance(it.what, Call))
     for item in items:
-        if isinstance(item.what, Call) and is_buffer(item.what) and written_octets > sndbuf:
+        if isinstance(item.what, Call) and sets_send_buffer(item.what) and written_octets > sndbuf:
             yield Reason(
                 item.line, "SO_SNDBUF, where more is written than the default holds", f"{written_octets} octets"
             )
 
 
-def _long(items: Sequence[Item], smss: int) -> Iterator[Reason]:
+def _too_many_events_reasons(items: Sequence[Item], smss: int) -> Iterator[Reason]:
     """Packets that become more than a script may hold."""
     count = 0
     for item in items:
@@ -162,14 +180,14 @@ def _long(items: Sequence[Item], smss: int) -> Iterator[Reason]:
                 return
 
 
-def _within_limits(text: str) -> NotImported | None:
+def _reasons_over_limits(text: str) -> NotImported | None:
     """Why the text of an import is no script's, if it isn't."""
     octets = text.encode("utf-8", "surrogateescape")
     try:
         make_text(octets)
     except UnfitTextError as unfit:
         return NotImported((Reason(min(octets.count(b"\n"), LINES), str(unfit)),))
-    events = sum(it.time is not None for it in read(text).items)
+    events = sum(it.time is not None for it in read_items(text).items)
     return NotImported((Reason(LINES, "more than 4,096 events"),)) if events > MOST_EVENTS else None
 
 
@@ -177,10 +195,10 @@ def _within_limits(text: str) -> NotImported | None:
 
 
 def _is_dropped(what: object) -> bool:
-    return isinstance(what, Command | Code) or (isinstance(what, Call) and is_buffer(what))
+    return isinstance(what, Command | Code) or (isinstance(what, Call) and sets_send_buffer(what))
 
 
-def _shifted(carried: Time, time: Time) -> Time | None:
+def _add_carried_time(carried: Time, time: Time) -> Time | None:
     """A time after another one that is dropped; None where it can't be written."""
     if carried == _NOW or (time.first is not None and not time.is_relative):
         return time
@@ -190,13 +208,13 @@ def _shifted(carried: Time, time: Time) -> Time | None:
     return Time(carried.first + time.first, last, carried.is_relative)
 
 
-def _unshifted(items: Sequence[Item]) -> Iterator[Reason]:
+def _lost_time_reasons(items: Sequence[Item]) -> Iterator[Reason]:
     """Times of what is dropped that can't go to the event after it."""
     carried = _NOW
     for item in items:
         if item.time is None:
             continue
-        shifted = _shifted(carried, item.time)
+        shifted = _add_carried_time(carried, item.time)
         if shifted is None or (_is_dropped(item.what) and not shifted.is_fixed):
             yield Reason(item.line, "a time of a command that no event can take")
             return
@@ -221,46 +239,46 @@ class _Known:
     tolerance: int
 
 
-def _rewrites(text: str, items: Sequence[Item], known: _Known) -> Iterator[Rewritten]:
+def _rewrites_of_items(text: str, items: Sequence[Item], known: _Known) -> Iterator[Rewritten]:
     """What comes in the place of the items that don't stay as they are."""
     moments = moments_of(items)
-    writes = writes_of(items, moments)
-    first = _first_act(items)
+    writes = writes_before_items(items, moments)
+    first = _place_of_first_act(items)
     carried = _NOW
     for number, item in enumerate(items):
         old = text[item.start : item.end]
-        time = None if item.time is None else _shifted(carried, item.time)
+        time = None if item.time is None else _add_carried_time(carried, item.time)
         match item.what:
             case HeaderOption():
-                if is_place(item.what):
+                if is_dropped_option(item.what):
                     words = "where packets are sent"
-                    yield _dropped(item, old, [words], [Finding(Heading.DROPPED, words)])
+                    yield _drop_item(item, old, [words], [Finding(Heading.DROPPED, words)])
                 elif item.what.name == MSS:
-                    yield _dropped(item, old, [f"{_SETTINGS}{MSS}"], [])
+                    yield _drop_item(item, old, [f"{_SETTINGS}{MSS}"], [])
             case Command():
-                yield _command(item, old, known.looked[number], number < first)
+                yield _drop_command(item, old, known.looked[number], number < first)
             case Code():
-                yield _code(item, old, item.what)
-            case Call() if is_buffer(item.what):
+                yield _drop_code(item, old, item.what)
+            case Call() if sets_send_buffer(item.what):
                 words = "SO_SNDBUF: the default holds all that is written"
-                yield _dropped(item, old, [words], [Finding(Heading.DROPPED, "SO_SNDBUF")])
+                yield _drop_item(item, old, [words], [Finding(Heading.DROPPED, "SO_SNDBUF")])
             case Call() if number in known.spellings:
-                yield _spelled(text, item, old, time or _NOW, known.spellings[number])
+                yield _respell_call(text, item, old, time or _NOW, known.spellings[number])
             case Packet() if not item.what.is_inbound and known.smss is not None:
                 sending = Sending(known.smss, moments[number], writes[number], known.tolerance)
-                if found := _packet(item, old, item.what, time or _NOW, sending):
+                if found := _change_packet(item, old, item.what, time or _NOW, sending):
                     yield found
             case Packet() | Call() if time is not None and time != item.time:
-                yield _moved(text, item, old, time)
+                yield _move_time(text, item, old, time)
         if time is not None:
             carried = time if _is_dropped(item.what) else _NOW
 
 
-def _dropped(item: Item, old: str, reasons: Sequence[str], findings: Sequence[Finding]) -> Rewritten:
-    return Rewrite(item.start, item.end, (), kept("dropped", old, reasons)), tuple(findings)
+def _drop_item(item: Item, old: str, reasons: Sequence[str], findings: Sequence[Finding]) -> Rewritten:
+    return Rewrite(item.start, item.end, (), keeping_comments("dropped", old, reasons)), tuple(findings)
 
 
-def _command(item: Item, old: str, looked: ParsedCommand, is_setup: bool) -> Rewritten:
+def _drop_command(item: Item, old: str, looked: ParsedCommand, is_setup: bool) -> Rewritten:
     reasons = [SETUP] if is_setup else []
     if looked.shared != SetupWords():
         reasons.append("what the file says stands in pdsuite.toml")
@@ -272,15 +290,15 @@ def _command(item: Item, old: str, looked: ParsedCommand, is_setup: bool) -> Rew
         if words:
             reasons.append(begin + ", ".join(words))
     heading = Heading.SETUP if is_setup else Heading.DROPPED
-    findings = [Finding(heading, it) for it in looked.dropped]
-    return _dropped(item, old, reasons or [RUN], findings or ([] if is_setup else [Finding(heading, RUN)]))
+    findings = [Finding(heading, it) for it in looked.dropped_words]
+    return _drop_item(item, old, reasons or [RUN], findings or ([] if is_setup else [Finding(heading, RUN)]))
 
 
-def _code(item: Item, old: str, code: Code) -> Rewritten:
-    found = asserted(code.text)
-    comments = [*kept("dropped", old, ())]
+def _drop_code(item: Item, old: str, code: Code) -> Rewritten:
+    found = parse_assertions(code.text)
+    comments = [*keeping_comments("dropped", old, ())]
     comments.extend(f"// not compared: {it}" for it in found.others)
-    comments.extend(map(comment, found.assertions))
+    comments.extend(map(assertion_comment, found.assertions))
     findings = [Finding(Heading.NOT_COMPARED, it) for it in found.others]
     findings.extend(Finding(Heading.ASSERTED, it.name) for it in found.assertions)
     return Rewrite(item.start, item.end, (), tuple(comments)), tuple(findings)
@@ -290,35 +308,35 @@ _MOVED = "the time of what was dropped before it"
 _TIME = re.compile(r"[0-9.+~*]+")
 
 
-def _packet(item: Item, old: str, packet: Packet, time: Time, sending: Sending) -> Rewritten | None:
+def _change_packet(item: Item, old: str, packet: Packet, time: Time, sending: Sending) -> Rewritten | None:
     """The packets that come in the place of one, where it doesn't stay as it is."""
-    sent, changes = as_sent(packet, sending)
+    sent, changes = packets_as_sent(packet, sending)
     reasons = [*changes, *([_MOVED] if time != item.time else [])]
     if not reasons:
         return None
-    begin = _begin(item, old, time)
+    begin = _time_as_written(item, old, time)
     # After a moment the others leave at once; at any time each leaves at any.
     after = "*" if time.first is None else "+0".rjust(len(begin))
     lines = [f"{begin} {sent[0]}", *(f"{after} {it}" for it in sent[1:])]
     findings = tuple(Finding(Heading.CHANGED, it) for it in changes)
-    return Rewrite(item.start, item.end, tuple(lines), kept("changed", old, ["; ".join(reasons)])), findings
+    return Rewrite(item.start, item.end, tuple(lines), keeping_comments("changed", old, ["; ".join(reasons)])), findings
 
 
-def _spelled(text: str, item: Item, old: str, time: Time, spelling: Spelling) -> Rewritten:
+def _respell_call(text: str, item: Item, old: str, time: Time, spelling: Spelling) -> Rewritten:
     """A call in the place of one that this profile hasn't."""
     reasons = [spelling.words, *([_MOVED] if time != item.time else [])]
-    line = f"{_begin(item, old, time)} {spelled(text[item.action:item.end], spelling.call)}"
+    line = f"{_time_as_written(item, old, time)} {rewrite_call_text(text[item.action:item.end], spelling.call)}"
     finding = Finding(Heading.CALLS, spelling.words)
-    return Rewrite(item.start, item.end, (line,), kept("changed", old, ["; ".join(reasons)])), (finding,)
+    return Rewrite(item.start, item.end, (line,), keeping_comments("changed", old, ["; ".join(reasons)])), (finding,)
 
 
-def _begin(item: Item, old: str, time: Time) -> str:
+def _time_as_written(item: Item, old: str, time: Time) -> str:
     """The time of an event, as it is written where it stays."""
     as_written = old[: item.action - item.start].rstrip()
     return as_written if time == item.time and _TIME.fullmatch(as_written) else str(time)
 
 
-def _moved(text: str, item: Item, old: str, time: Time) -> Rewritten:
+def _move_time(text: str, item: Item, old: str, time: Time) -> Rewritten:
     line = f"{time} {text[item.action:item.end]}"
     finding = Finding(Heading.DROPPED, "times, which the next event takes")
-    return Rewrite(item.start, item.end, (line,), kept("changed", old, [_MOVED])), (finding,)
+    return Rewrite(item.start, item.end, (line,), keeping_comments("changed", old, [_MOVED])), (finding,)

@@ -36,24 +36,24 @@ def acting_feature(events: Sequence[Event], place: int, kind: str, is_early: boo
         return _DSACK if any(it.name == "sack" for it in packet.options) else None
     past = _History()
     for before in events[:place]:
-        past.take(before)
-    is_paced = is_early and packet.start >= past.top and not past.has_lost
-    return _PACING if is_paced else _of_data(packet, past, _waits(event))
+        past.take_event(before)
+    is_paced = is_early and packet.start >= past.top and not past.is_repairing_loss
+    return _PACING if is_paced else _feature_sending_data(packet, past, _has_later_time(event))
 
 
-def _of_data(packet: Packet, past: "_History", waits: bool) -> str | None:
+def _feature_sending_data(packet: Packet, past: "_History", waits: bool) -> str | None:
     """What lets octets leave: again or new ones, after a wait or at an input."""
     is_again = packet.start < past.top
     if waits and past.una < past.top:
         return _TLP if packet.end >= past.top else _RACK
-    if is_again and not past.has_lost:
+    if is_again and not past.is_repairing_loss:
         return _RACK if max(past.duplicates, past.blocks) < _DUPLICATES else _CONTROL
     if past.has_expired and not is_again:
         return _FRTO
-    return _CONTROL if past.has_lost else None
+    return _CONTROL if past.is_repairing_loss else None
 
 
-def _waits(event: Event) -> bool:
+def _has_later_time(event: Event) -> bool:
     """Whether an event comes later than the one before it."""
     time = event.item.time
     return time is not None and time.is_relative and (time.first is None or time.first > 0)
@@ -71,28 +71,28 @@ class _History:
     has_expired: bool = False
 
     @property
-    def has_lost(self) -> bool:
+    def is_repairing_loss(self) -> bool:
         """Whether a loss is repaired."""
         return self.una < self.lost
 
-    def take(self, event: Event) -> None:
+    def take_event(self, event: Event) -> None:
         """Takes the next event."""
         packet = event.item.what
         if not isinstance(packet, Packet) or "S" in packet.flags:
             return
         if packet.is_inbound:
-            self._arrives(packet)
+            self._take_peer_packet(packet)
         elif packet.length and packet.start < self.top:
-            self.has_expired = self.has_expired or (_waits(event) and packet.start == self.una)
+            self.has_expired = self.has_expired or (_has_later_time(event) and packet.start == self.una)
             self.lost = self.top
         elif packet.length:
             self.top = packet.end
 
-    def _arrives(self, packet: Packet) -> None:
+    def _take_peer_packet(self, packet: Packet) -> None:
         """Takes a packet of the peer."""
         self.blocks = sum(len(it.numbers) // 2 for it in packet.options if it.name == "sack")
         if packet.ack is None or packet.ack <= self.una:
             self.duplicates += self.una < self.top
             return
         self.una, self.duplicates = packet.ack, 0
-        self.has_expired = self.has_expired and self.has_lost
+        self.has_expired = self.has_expired and self.is_repairing_loss

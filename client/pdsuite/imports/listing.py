@@ -21,7 +21,7 @@ class Listed:
     came: Imported | NotImported | str
 
 
-def lines_of(listed: Listed) -> Iterator[str]:
+def report_lines_of(listed: Listed) -> Iterator[str]:
     """The line of a script, and what stands below it."""
     path = printable_path(listed.path)
     match listed.came:
@@ -30,23 +30,23 @@ def lines_of(listed: Listed) -> Iterator[str]:
         case Imported(changed=0):
             yield f"{path}: imported, packets kept"
         case Imported(changed=changed):
-            yield f"{path}: imported, changed to this profile: {_counted(changed, 'packet')}"
+            yield f"{path}: imported, changed to this profile: {_count_with_noun(changed, 'packet')}"
         case NotImported(reasons):
             yield f"{path}: not imported"
-            yield from map(_reason, reasons)
+            yield from map(_reason_line, reasons)
 
 
-def summary(scripts: Sequence[Listed]) -> Iterator[str]:
+def summary_lines(scripts: Sequence[Listed]) -> Iterator[str]:
     """The list by kind and count, and the totals."""
     imported = [it.came for it in scripts if isinstance(it.came, Imported)]
     left = [it.came for it in scripts if isinstance(it.came, NotImported)]
     findings = [finding for it in imported for finding in it.findings]
-    yield from _table("not imported, scripts", (reason.words for it in left for reason in it.reasons))
-    yield from _table("not imported for this alone, scripts", alone_in(left))
+    yield from _count_table("not imported, scripts", (reason.words for it in left for reason in it.reasons))
+    yield from _count_table("not imported for this alone, scripts", sole_reasons_in(left))
     for heading in Heading:
-        yield from _table(heading.value, _words(findings, heading))
+        yield from _count_table(heading.value, _words_under_heading(findings, heading))
     settings = (f"{key} = {value_as_toml(value)}" for script in imported for key, value in script.settings)
-    yield from _table("settings, scripts", settings)
+    yield from _count_table("settings, scripts", settings)
     if not all(it.is_own for it in imported):
         yield _FLOOR
     kept = sum(not it.changed for it in imported)
@@ -57,39 +57,39 @@ def summary(scripts: Sequence[Listed]) -> Iterator[str]:
     )
 
 
-def alone_in(left: Iterable[NotImported]) -> Iterator[str]:
+def sole_reasons_in(left: Iterable[NotImported]) -> Iterator[str]:
     """The reason of each script that has no other."""
     return (it.reasons[0].words for it in left if len(it.reasons) == 1)
 
 
-def status(scripts: Sequence[Listed]) -> int:
+def exit_status(scripts: Sequence[Listed]) -> int:
     """The exit status: 0 where each script is imported, 2 where one couldn't be read, else 1."""
     if any(isinstance(it.came, str) for it in scripts):
         return 2
     return 0 if all(isinstance(it.came, Imported) for it in scripts) else 1
 
 
-def _reason(reason: Reason) -> str:
-    what = f": {_shown(reason.what)}" if reason.what else ""
-    return f"  line {reason.line}: {_shown(reason.words)}{what}"
+def _reason_line(reason: Reason) -> str:
+    what = f": {_shorten_text(reason.what)}" if reason.what else ""
+    return f"  line {reason.line}: {_shorten_text(reason.words)}{what}"
 
 
-def _shown(text: str) -> str:
+def _shorten_text(text: str) -> str:
     return printable_text(text, _MOST)
 
 
-def _table(heading: str, words: Iterable[str]) -> Iterator[str]:
+def _count_table(heading: str, words: Iterable[str]) -> Iterator[str]:
     """The words below a heading, each with its count, the most frequent first."""
     counts = Counter(words)
     if counts:
         yield f"{heading}:"
         for word, count in sorted(counts.items(), key=lambda it: (-it[1], it[0])):
-            yield f"  {count:5} {_shown(word)}"
+            yield f"  {count:5} {_shorten_text(word)}"
 
 
-def _words(findings: Iterable[Finding], heading: Heading) -> Iterator[str]:
+def _words_under_heading(findings: Iterable[Finding], heading: Heading) -> Iterator[str]:
     return (it.words for it in findings if it.heading is heading)
 
 
-def _counted(count: int, noun: str) -> str:
+def _count_with_noun(count: int, noun: str) -> str:
     return f"{count} {noun}" if count == 1 else f"{count} {noun}s"

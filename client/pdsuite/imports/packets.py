@@ -3,7 +3,7 @@
 from collections.abc import Iterable, Sequence
 from dataclasses import dataclass, replace
 
-from pdsuite.imports.calls import written
+from pdsuite.imports.calls import octets_to_write
 from pdsuite.packetdrill.items import Call, Item, Packet
 
 NO_MSS = 536
@@ -37,7 +37,7 @@ def smss_of(items: Iterable[Item], mss: int) -> int:
     """The lesser of the sender's MSS and the peer's, by the first SYN (RFC 9293, section 3.7.1)."""
     for item in items:
         if isinstance(item.what, Packet) and item.what.is_inbound:
-            return min(mss, peer_mss(item.what))
+            return min(mss, mss_of_syn(item.what))
     return mss
 
 
@@ -58,28 +58,28 @@ def moments_of(items: Sequence[Item]) -> list[int | None]:
     return moments
 
 
-def writes_of(items: Sequence[Item], moments: Sequence[int | None]) -> list[tuple[Write, ...]]:
+def writes_before_items(items: Sequence[Item], moments: Sequence[int | None]) -> list[tuple[Write, ...]]:
     """The writes before each item, as far as their calls took octets."""
     writes: tuple[Write, ...] = ()
     before = []
     for item, moment in zip(items, moments):
         before.append(writes)
-        if isinstance(item.what, Call) and written(item.what) and item.what.result > 0:
+        if isinstance(item.what, Call) and octets_to_write(item.what) and item.what.result > 0:
             end = (writes[-1].end if writes else 1) + item.what.result
             writes = (*writes, Write(end, moment))
     return before
 
 
-def as_sent(packet: Packet, sending: Sending) -> tuple[tuple[Packet, ...], tuple[str, ...]]:
+def packets_as_sent(packet: Packet, sending: Sending) -> tuple[tuple[Packet, ...], tuple[str, ...]]:
     """The packets that this profile sends in the place of an expected one, and what was changed."""
     changes = []
     bare = replace(packet, win=None)
     if packet.win is not None:
         changes.append(WINDOW)
-    pieces = _cut(bare, sending)
+    pieces = _cut_at_smss(bare, sending)
     if len(pieces) > 1:
         changes.append(CUT)
-    pushed = tuple(_with_push(it, sending) for it in pieces)
+    pushed = tuple(_with_own_push_flag(it, sending) for it in pieces)
     if any(one.flags != other.flags for one, other in zip(pieces, pushed)):
         changes.append(PUSH)
     return pushed, tuple(changes)
@@ -92,7 +92,7 @@ def count_of_pieces(packet: Packet, smss: int) -> int:
     return -(-packet.length // smss)
 
 
-def _cut(packet: Packet, sending: Sending) -> list[Packet]:
+def _cut_at_smss(packet: Packet, sending: Sending) -> list[Packet]:
     """The pieces of a packet; the last one alone keeps F and P."""
     if count_of_pieces(packet, sending.smss) == 1:
         return [packet]
@@ -102,10 +102,10 @@ def _cut(packet: Packet, sending: Sending) -> list[Packet]:
     return [*pieces[:-1], replace(pieces[-1], end=packet.end, flags=packet.flags)]
 
 
-def _with_push(packet: Packet, sending: Sending) -> Packet:
+def _with_own_push_flag(packet: Packet, sending: Sending) -> Packet:
     if not set(packet.flags).isdisjoint("SR"):
         return packet
-    is_pushed = _is_pushed(packet, sending)
+    is_pushed = _has_last_queued_octet(packet, sending)
     if is_pushed is None or is_pushed == ("P" in packet.flags):
         return packet
     letters = [it for it in packet.flags if it != "P"]
@@ -115,7 +115,7 @@ def _with_push(packet: Packet, sending: Sending) -> Packet:
     return replace(packet, flags="".join(letters))
 
 
-def _is_pushed(packet: Packet, sending: Sending) -> bool | None:
+def _has_last_queued_octet(packet: Packet, sending: Sending) -> bool | None:
     """Whether the packet has the last octet that is queued when it leaves.
 
     None where its last octet is that of an earlier write, and nothing says whether it left before the next one.
@@ -134,7 +134,7 @@ def _is_pushed(packet: Packet, sending: Sending) -> bool | None:
     return False
 
 
-def peer_mss(syn: Packet) -> int:
+def mss_of_syn(syn: Packet) -> int:
     """The MSS that a SYN has: the first that counts (docs/SENDER.md)."""
     for option in syn.options:
         if option.name == "eol":

@@ -18,7 +18,7 @@ class Rewrite:
     comments: tuple[str, ...]
 
 
-def rewritten(text: str, rewrites: Iterable[Rewrite]) -> str:
+def apply_rewrites(text: str, rewrites: Iterable[Rewrite]) -> str:
     """The text with all pieces replaced; they stand in the order of their places."""
     parts: list[str] = []
     place = 0
@@ -41,6 +41,6 @@ def indent_of(text: str, place: int) -> str:
     return found[0] if found and found.end() == place else ""
 
 
-def kept(mark: str, old: str, reasons: Sequence[str]) -> tuple[str, ...]:
+def keeping_comments(mark: str, old: str, reasons: Sequence[str]) -> tuple[str, ...]:
     """Comments that keep a piece, line by line, and then say why."""
     return (*(f"// {mark}: {line}" for line in old.split("\n")), *(f"// why: {it}" for it in reasons))

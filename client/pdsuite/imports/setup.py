@@ -6,8 +6,8 @@ from dataclasses import dataclass
 from enum import Enum, auto
 
 from pdsuite.imports.findings import Reason
-from pdsuite.imports.kernel import Meaning, Use, command_meaning, meaning
-from pdsuite.imports.shell import Defaults, Metric, Other, SetupCommand, Switch, commands_in
+from pdsuite.imports.kernel import Meaning, Use, meaning_of_command, meaning_of_switch
+from pdsuite.imports.shell import Defaults, Metric, Other, SetupCommand, Switch, setup_commands_in
 from pdsuite.scripts.defaults import KEYS
 from pdsuite.scripts.settings import Value
 from pdsuite.scripts.text import UnfitTextError
@@ -85,34 +85,34 @@ class ParsedCommand:
     reasons: tuple[Reason, ...]
 
     @property
-    def dropped(self) -> tuple[str, ...]:
+    def dropped_words(self) -> tuple[str, ...]:
         """What it says of all that no setting stands for."""
         own, shared = self.own, self.shared
         return tuple(dict.fromkeys((*own.features, *shared.features, *own.alike, *shared.alike)))
 
 
-def look_at(text: str, line: int, place: CommandPlace, load: LoadSetup) -> ParsedCommand:
+def parse_command_text(text: str, line: int, place: CommandPlace, load: LoadSetup) -> ParsedCommand:
     """What the commands of a text mean, each by itself."""
-    lines = tuple(_lines_of(text, line, load))
-    found = [(it, _meaning(it.command, place)) for it in lines]
+    lines = tuple(_setup_lines_of(text, line, load))
+    found = [(it, _meaning_of_setup_command(it.command, place)) for it in lines]
     reasons: list[Reason] = []
     for it, meant in found:
         if meant.use is Use.SETTING and place is CommandPlace.MIDST:
-            reasons.append(Reason(line, "a setting in the midst", _shown(it.command)))
+            reasons.append(Reason(line, "a setting in the midst", _shown_command(it.command)))
         elif meant.use is Use.REFUSED and (place is CommandPlace.MIDST or not isinstance(it.command, Switch)):
-            reasons.append(Reason(line, meant.words, _shown(it.command)))
+            reasons.append(Reason(line, meant.words, _shown_command(it.command)))
     own = [meant for it, meant in found if not it.is_shared]
     shared = [meant for it, meant in found if it.is_shared]
-    return ParsedCommand(lines, _words(own), _words(shared), tuple(reasons))
+    return ParsedCommand(lines, _words_of_meanings(own), _words_of_meanings(shared), tuple(reasons))
 
 
-def _words(meanings: Sequence[Meaning]) -> SetupWords:
+def _words_of_meanings(meanings: Sequence[Meaning]) -> SetupWords:
     """What meanings say in words."""
     words = {use: tuple(dict.fromkeys(it.words for it in meanings if it.use is use)) for use in Use}
     return SetupWords(words[Use.SETTING], words[Use.FEATURE], words[Use.ALIKE])
 
 
-def joined(each: Iterable[SetupWords]) -> SetupWords:
+def join_setup_words(each: Iterable[SetupWords]) -> SetupWords:
     """What several say together."""
     words = list(each)
     return SetupWords(
@@ -122,21 +122,21 @@ def joined(each: Iterable[SetupWords]) -> SetupWords:
     )
 
 
-def _meaning(command: SetupCommand, place: CommandPlace) -> Meaning:
+def _meaning_of_setup_command(command: SetupCommand, place: CommandPlace) -> Meaning:
     """What a command comes to. Of the switches of set-up the last one counts, so they are refused later."""
     match command:
         case Switch(name, value):
-            return meaning(name, value)
+            return meaning_of_switch(name, value)
         case Metric(name):
             return Meaning(Use.SETTING, "initial_window" if name == "initcwnd" else "min_rto_us")
-        case Other(words) if known := command_meaning(words):
+        case Other(words) if known := meaning_of_command(words):
             return known
     if place is CommandPlace.MIDST:
         return Meaning(Use.FEATURE, RUN)
     return Meaning(Use.REFUSED, "a command of set-up")
 
 
-def _shown(command: SetupCommand) -> str:
+def _shown_command(command: SetupCommand) -> str:
     match command:
         case Switch(name, value):
             return f"{name}={value}"
@@ -148,7 +148,7 @@ def _shown(command: SetupCommand) -> str:
             return " ".join(words)
 
 
-def setup_of(
+def setup_from_lines(
     lines: Iterable[SetupLine], smss: int, header: Mapping[str, Value], own: Mapping[str, Value] | None
 ) -> Setup:
     """The settings that commands lead to, one after another, after those of the header.
@@ -164,7 +164,7 @@ def setup_of(
             metrics[it.command.name] = it.command.value, it.line
     settings: dict[str, Value] = {**({} if own is not None else KERNEL), **header}
     reasons: list[Reason] = []
-    for found in (*_of_switches(switches, own is None), *_of_metrics(metrics, smss)):
+    for found in (*_settings_of_switches(switches, own is None), *_settings_of_metrics(metrics, smss)):
         if isinstance(found, Reason):
             reasons.append(found)
         else:
@@ -173,9 +173,9 @@ def setup_of(
     return Setup({**settings, **(own or {})}, has_timestamps, tuple(reasons))
 
 
-def _lines_of(text: str, line: int, load: LoadSetup) -> Iterator[SetupLine]:
+def _setup_lines_of(text: str, line: int, load: LoadSetup) -> Iterator[SetupLine]:
     """The commands of a text, those of a `defaults.sh` in the place of its name."""
-    for command in commands_in(text):
+    for command in setup_commands_in(text):
         if not isinstance(command, Defaults):
             yield SetupLine(line, command)
             continue
@@ -184,7 +184,7 @@ def _lines_of(text: str, line: int, load: LoadSetup) -> Iterator[SetupLine]:
         except UnfitTextError as unfit:
             yield SetupLine(line, Other((command.path, f"({unfit})")))
             continue
-        for other in commands_in(_without_comments(inside)):
+        for other in setup_commands_in(_without_comments(inside)):
             yield SetupLine(line, other, is_shared=True)
 
 
@@ -195,21 +195,21 @@ def _without_comments(text: str) -> str:
 Setting = tuple[str, Value]
 
 
-def _of_switches(switches: Mapping[str, tuple[str, int]], is_kernel: bool) -> Iterator[Setting | Reason]:
+def _settings_of_switches(switches: Mapping[str, tuple[str, int]], is_kernel: bool) -> Iterator[Setting | Reason]:
     """What the switches that are set last say."""
     for name, (value, line) in switches.items():
-        found = meaning(name, value)
+        found = meaning_of_switch(name, value)
         if found.use is Use.REFUSED:
             yield Reason(line, found.words, f"{name}={value}")
         elif name in _TRUTHS:
-            yield (found.words, value == "1") if value in ("0", "1") else _unclear(name, value, line)
+            yield (found.words, value == "1") if value in ("0", "1") else _unread_value_reason(name, value, line)
         elif found.use is Use.SETTING and found.words != "wscale":
             factor = 1_000 if name.endswith("_ms") else 1
-            yield _ranged(found.words, _scaled(value, factor), f"{name}={value}", line)
-    yield from _wscale(switches, is_kernel)
+            yield _setting_in_range(found.words, _parse_scaled(value, factor), f"{name}={value}", line)
+    yield from _wscale_of_buffers(switches, is_kernel)
 
 
-def _wscale(switches: Mapping[str, tuple[str, int]], is_kernel: bool) -> Iterator[Setting | Reason]:
+def _wscale_of_buffers(switches: Mapping[str, tuple[str, int]], is_kernel: bool) -> Iterator[Setting | Reason]:
     """The shift count that a kernel's buffers lead to."""
     greatest = [USUAL_RMEM] if _RMEM not in switches else []
     for name, least in ((_RMEM, 3), (_RMEM_MAX, 1)):
@@ -217,35 +217,35 @@ def _wscale(switches: Mapping[str, tuple[str, int]], is_kernel: bool) -> Iterato
             value, line = switches[name]
             numbers = value.split()
             if len(numbers) != least or not all(map(_NUMBER.fullmatch, numbers)):
-                yield _unclear(name, value, line)
+                yield _unread_value_reason(name, value, line)
                 return
             greatest.append(int(numbers[-1]))
     if is_kernel or _RMEM in switches or _RMEM_MAX in switches:
-        yield "wscale", shift_count(max(greatest))
+        yield "wscale", shift_count_for_buffer(max(greatest))
 
 
-def shift_count(octets: int) -> int:
+def shift_count_for_buffer(octets: int) -> int:
     """The shift count of a kernel whose greatest buffer has so many octets."""
     return min(MOST_WSCALE, max(0, octets.bit_length() - 1 - 15))
 
 
-def _of_metrics(metrics: Mapping[str, tuple[str, int]], smss: int) -> Iterator[Setting | Reason]:
+def _settings_of_metrics(metrics: Mapping[str, tuple[str, int]], smss: int) -> Iterator[Setting | Reason]:
     """What the metrics of a route say of connections whose segments have so many octets."""
     for name, (value, line) in metrics.items():
         if name == "initcwnd":
-            word = _window_word(value, smss)
+            word = _initial_window_word(value, smss)
             yield Reason(line, "another initial window", f"{name} {value}") if word is None else (
                 "initial_window",
                 word,
             )
         elif found := _TIME.fullmatch(value):
             factor = 1_000 if found[2].startswith("m") else 1_000_000
-            yield _ranged("min_rto_us", int(found[1]) * factor, f"{name} {value}", line)
+            yield _setting_in_range("min_rto_us", int(found[1]) * factor, f"{name} {value}", line)
         else:
-            yield _unclear(name, value, line)
+            yield _unread_value_reason(name, value, line)
 
 
-def _window_word(value: str, smss: int) -> str | None:
+def _initial_window_word(value: str, smss: int) -> str | None:
     """The initial window that has so many segments (RFC 6928, section 2; RFC 5681, section 3.1)."""
     segments = int(value) if _NUMBER.fullmatch(value) else 0
     if segments == min(10, max(2, 14_600 // smss)):
@@ -253,15 +253,15 @@ def _window_word(value: str, smss: int) -> str | None:
     return "rfc5681" if segments == (2 if smss > 2_190 else 3 if smss > 1_095 else 4) else None
 
 
-def _scaled(value: str, factor: int) -> int | None:
+def _parse_scaled(value: str, factor: int) -> int | None:
     return int(value) * factor if _NUMBER.fullmatch(value) else None
 
 
-def _ranged(key: str, number: int | None, what: str, line: int) -> Setting | Reason:
+def _setting_in_range(key: str, number: int | None, what: str, line: int) -> Setting | Reason:
     if number is None or number not in _RANGES[key]:
         return Reason(line, f"no value of {key}, which takes {KEYS[key].accepted_values}", what)
     return key, number
 
 
-def _unclear(name: str, value: str, line: int) -> Reason:
+def _unread_value_reason(name: str, value: str, line: int) -> Reason:
     return Reason(line, "a value that isn't read", f"{name}={value}")

@@ -58,27 +58,27 @@ _WHERE = ("via", "dev", "proto", "scope", "src", "metric", "table")
 _METRICS = ("initcwnd", "rto_min")
 
 
-def commands_in(text: str) -> Iterator[SetupCommand]:
+def setup_commands_in(text: str) -> Iterator[SetupCommand]:
     """The commands of a text for the shell, one after another."""
     for line in _GOES_ON.sub(" ", text).split("\n"):
-        for words in _split(line):
-            yield from _read(words)
+        for words in _split_into_commands(line):
+            yield from _parse_command(words)
 
 
-def _product(factors: str) -> int:
+def _multiply_factors(factors: str) -> int:
     result = 1
     for factor in factors.split("*"):
         result *= int(factor)
     return result
 
 
-def _split(line: str) -> Iterator[tuple[str, ...]]:
+def _split_into_commands(line: str) -> Iterator[tuple[str, ...]]:
     """The words of each command of a line, without what sends output to nowhere."""
     # Within such quotes the shell takes a `$` for no more than itself.
     if "'" in line and "$" in line:
         yield (line.strip(),)
         return
-    products = _PRODUCT.sub(lambda found: str(_product(found[1])), line)
+    products = _PRODUCT.sub(lambda found: str(_multiply_factors(found[1])), line)
     lexer = shlex.shlex(products, posix=True, punctuation_chars=_SIGNS)
     lexer.whitespace_split = True
     try:
@@ -114,28 +114,28 @@ def _without_redirections(words: list[str]) -> list[str]:
     return kept
 
 
-def _read(words: tuple[str, ...]) -> Iterator[SetupCommand]:
+def _parse_command(words: tuple[str, ...]) -> Iterator[SetupCommand]:
     """What a command says, where it is one of those that are read and all of its words are."""
     name, *rest = words
     commands: list[SetupCommand] | None = None
     if not any(map(_UNREAD.search, words)):
         if name in _SYSCTL:
-            commands = _switches([it for it in rest if it not in _SYSCTL_FLAGS])
+            commands = _parse_switches([it for it in rest if it not in _SYSCTL_FLAGS])
         elif PurePosixPath(name).name == "set_sysctls.py":
-            commands = _switches(rest) if all(it.startswith(_PROC) for it in rest) else None
+            commands = _parse_switches(rest) if all(it.startswith(_PROC) for it in rest) else None
         elif name in _IP and rest[:1] in (["route"], ["ro"], ["r"]):
-            commands = _metrics(rest[1:])
+            commands = _parse_route_metrics(rest[1:])
         elif PurePosixPath(name).name == _FILE and not rest and not name.startswith("/"):
             commands = [Defaults(name)]
     yield from commands or [Other(words)]
 
 
-def _switches(words: list[str]) -> list[SetupCommand] | None:
+def _parse_switches(words: list[str]) -> list[SetupCommand] | None:
     found = [_ASSIGNED.fullmatch(it) for it in words]
-    return [Switch(_dotted(it[1]), " ".join(it[2].split())) for it in found if it] if all(found) else None
+    return [Switch(_dotted_switch_name(it[1]), " ".join(it[2].split())) for it in found if it] if all(found) else None
 
 
-def _dotted(name: str) -> str:
+def _dotted_switch_name(name: str) -> str:
     """The name of a switch with points, from a path of /proc/sys or one with slashes, where a point is a slash."""
     if name.startswith(_PROC):
         return name.removeprefix(_PROC).replace("/", ".")
@@ -145,7 +145,7 @@ def _dotted(name: str) -> str:
     return name
 
 
-def _metrics(words: list[str]) -> list[SetupCommand] | None:
+def _parse_route_metrics(words: list[str]) -> list[SetupCommand] | None:
     """The metrics of a route, where it has one that is read and none that isn't."""
     if not words or words[0] not in _ROUTE_VERBS:
         return None

@@ -3,8 +3,8 @@
 from collections.abc import Iterable
 from dataclasses import dataclass
 
-from pdsuite.imports.assertions import Assertion, asserted
-from pdsuite.imports.calls import written
+from pdsuite.imports.assertions import Assertion, parse_assertions
+from pdsuite.imports.calls import octets_to_write
 from pdsuite.packetdrill.items import SECOND, Call, Code, Item, Packet
 
 # The limits that are tried, in segments; a kernel has none, and so the greatest counts first.
@@ -15,17 +15,17 @@ _DUPLICATES = 3
 _CWND = "tcpi_snd_cwnd"
 
 
-def limit_of(items: Iterable[Item], smss: int, initial_window: int) -> int:
+def greatest_fitting_abc_limit(items: Iterable[Item], smss: int, initial_window: int) -> int:
     """The greatest limit under which just the packets leave that a script has; where there is none, the greatest."""
     play = _SlowStart(smss, dict.fromkeys(LIMITS, initial_window))
     for item in items:
-        if not play.takes(item):
+        if not play.play_item(item):
             break
-    play.settle()
+    play.drop_unfitting_limits()
     return next(iter(play.windows), LIMITS[0])
 
 
-def initial_window(word: object, smss: int) -> int:
+def initial_window_octets(word: object, smss: int) -> int:
     """The octets of cwnd at first (RFC 6928, section 2; RFC 5681, section 3.1)."""
     if word == "rfc6928":
         return min(10 * smss, max(2 * smss, 14_600))
@@ -46,25 +46,25 @@ class _SlowStart:
     shift: int = 0
     has_sent: bool = False  # since the last input
 
-    def takes(self, item: Item) -> bool:
+    def play_item(self, item: Item) -> bool:
         """Plays an item; whether the play goes on after it."""
         if item.time is not None and (item.time.first is None or item.time.is_relative and item.time.first > _LONG):
             return False
         match item.what:
             case Packet() as packet if packet.is_inbound:
-                self.settle()
-                return self._arrives(packet)
+                self.drop_unfitting_limits()
+                return self._play_inbound_packet(packet)
             case Packet() as packet:
-                return self._leaves(packet)
+                return self._play_sent_packet(packet)
             case Call() as call:
-                self.settle()
-                self.queued += max(0, call.result) if written(call) else 0
+                self.drop_unfitting_limits()
+                self.queued += max(0, call.result) if octets_to_write(call) else 0
                 return call.name != "close"
             case Code() as code:
-                self._hold(asserted(code.text).assertions)
+                self._keep_limits_asserted(parse_assertions(code.text).assertions)
         return True
 
-    def settle(self) -> None:
+    def drop_unfitting_limits(self) -> None:
         """Leaves out limits under which something else would have left after the last input."""
         flight = self.top - self.una
         size = min(self.smss, self.queued - self.top)
@@ -75,7 +75,7 @@ class _SlowStart:
                 del self.windows[limit]
         self.has_sent = False
 
-    def _arrives(self, packet: Packet) -> bool:
+    def _play_inbound_packet(self, packet: Packet) -> bool:
         """Takes a packet of the peer, up to a loss or to one that no sender of data is sent."""
         if "S" in packet.flags:
             scales = [it.numbers[0] for it in packet.options if it.name == "wscale"]
@@ -94,7 +94,7 @@ class _SlowStart:
         sacked = sum(end - begin for it in blocks for begin, end in zip(it[::2], it[1::2]))
         return self.duplicates < _DUPLICATES and sacked < _DUPLICATES * self.smss
 
-    def _leaves(self, packet: Packet) -> bool:
+    def _play_sent_packet(self, packet: Packet) -> bool:
         """Takes a packet of the sender, up to one that is sent again."""
         if packet.length and "S" not in packet.flags:
             if packet.start < self.top:
@@ -102,7 +102,7 @@ class _SlowStart:
             self.top, self.has_sent = packet.end, True
         return True
 
-    def _hold(self, assertions: Iterable[Assertion]) -> None:
+    def _keep_limits_asserted(self, assertions: Iterable[Assertion]) -> None:
         """Leaves out limits under which cwnd isn't what code asserts."""
         for it in assertions:
             if it.name == _CWND:

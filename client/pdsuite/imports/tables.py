@@ -5,7 +5,7 @@ import os
 import textwrap
 from collections.abc import Iterator, Mapping, Sequence
 
-from pdsuite.imports.setup import SetupWords, joined
+from pdsuite.imports.setup import SetupWords, join_setup_words
 from pdsuite.scripts.config import CONFIG_FILE
 from pdsuite.scripts.settings import Settings, settings_as_toml
 
@@ -14,7 +14,7 @@ _ROOT = "root = true\n"
 _WIDTH = 100
 
 
-def tables_of(scripts: Mapping[str, tuple[Settings, SetupWords]]) -> Iterator[tuple[str, bytes]]:
+def settings_files_of(scripts: Mapping[str, tuple[Settings, SetupWords]]) -> Iterator[tuple[str, bytes]]:
     """The files, by their paths from the top, for scripts by theirs. The one in the top lets no other in above it.
 
     What the set-up says that scripts of a folder share stands once, in the head.
@@ -25,26 +25,26 @@ def tables_of(scripts: Mapping[str, tuple[Settings, SetupWords]]) -> Iterator[tu
         if settings:
             folders.setdefault(folder, []).append((name, settings, shared))
     for folder, tables in folders.items():
-        head = _HEAD + _setup_comments(joined(it for _, _, it in tables)) + ("" if folder else _ROOT)
-        text = head + "".join(table(name, settings) for name, settings, _ in tables)
+        head = _HEAD + _setup_comments(join_setup_words(it for _, _, it in tables)) + ("" if folder else _ROOT)
+        text = head + "".join(table_of_script(name, settings) for name, settings, _ in tables)
         yield os.path.join(folder, CONFIG_FILE), text.encode()
 
 
 def _setup_comments(shared: SetupWords) -> str:
     """What a set-up says of all that no setting stands for, as comments."""
-    return _comment("Of what defaults.sh says, this sender hasn't: ", shared.features) + _comment(
+    return _wrap_comment("Of what defaults.sh says, this sender hasn't: ", shared.features) + _wrap_comment(
         "As defaults.sh says, this sender has: ", shared.alike
     )
 
 
-def _comment(begin: str, words: Sequence[str]) -> str:
+def _wrap_comment(begin: str, words: Sequence[str]) -> str:
     if not words:
         return ""
     lines = textwrap.wrap(begin + ", ".join(words), _WIDTH, initial_indent="# ", subsequent_indent="#   ")
     return "".join(f"{line}\n" for line in lines)
 
 
-def is_key(name: str) -> bool:
+def is_toml_key(name: str) -> bool:
     """Whether TOML can have a name as a key: it is UTF-8."""
     try:
         name.encode()
@@ -53,7 +53,7 @@ def is_key(name: str) -> bool:
     return True
 
 
-def table(name: str, settings: Settings) -> str:
+def table_of_script(name: str, settings: Settings) -> str:
     """The table of a script with these settings."""
     # What JSON escapes TOML escapes alike, but for one octet.
     key = json.dumps(name, ensure_ascii=False).replace("\x7f", "\\u007f")

@@ -5,14 +5,20 @@ from dataclasses import dataclass
 
 
 from pdsuite.lsp.comments import comments_of
-from pdsuite.lsp.documents import text_edit
+from pdsuite.lsp.documents import text_edit_json
 from pdsuite.lsp.json_values import Json
-from pdsuite.lsp.packets_sent import SentPacket, as_lines, sent_in, sent_of, with_sent_packet
+from pdsuite.lsp.packets_sent import (
+    SentPacket,
+    event_lines_for_packets,
+    parse_sent_packet,
+    parse_sent_packets,
+    replace_by_sent_packet,
+)
 from pdsuite.lsp.positions import Lines
 from pdsuite.packetdrill.items import SECOND
 from pdsuite.packetdrill.layout import Event, Layout
 from pdsuite.packetdrill.lines import Extent
-from pdsuite.packetdrill.recorded import RecordedEvent, recorded_in, without_trace
+from pdsuite.packetdrill.recorded import RecordedEvent, recorded_events_in, strip_trace
 from pdsuite.packetdrill.tokens import ScriptSyntaxError, tokens_of
 from pdsuite.programs.protocol import Cause
 from pdsuite.programs.verdict import Row, Verdict
@@ -53,7 +59,7 @@ class FailingScript:
         return "\r\n" if "\r\n" in self.lines.text else "\n"
 
 
-def leads_past(action: Action, before: Row, after: Row) -> bool:
+def leads_past_failing_line(action: Action, before: Row, after: Row) -> bool:
     """Whether a script's new row is past the line that failed. A text that was a script stays one."""
     if after.verdict is Verdict.PASS:
         return True
@@ -62,85 +68,85 @@ def leads_past(action: Action, before: Row, after: Row) -> bool:
     return after.line is not None and before.line is not None and after.line > before.line + action.shift
 
 
-def taking(failing: FailingScript) -> Iterator[Action]:
+def actual_taking_actions(failing: FailingScript) -> Iterator[Action]:
     """What takes over what was sent or answered, in place of what the line says, or before it; best first."""
     event = failing.event
     if event is None:
         return
-    sent = sent_of(failing.cause.get("actual_packet"))
-    unmatched = sent_in(failing.cause.get("untaken_packets"))
+    sent = parse_sent_packet(failing.cause.get("actual_packet"))
+    unmatched = parse_sent_packets(failing.cause.get("untaken_packets"))
     if sent is not None and failing.row.word in _PACKET_KINDS:
         packets = [sent, *unmatched]
         count = failing.cause.get("unasked_packets")
         unexpected = packets[:count] if isinstance(count, int) else packets
-        each = [_inserting(failing, event, unexpected), _taking_packet(failing, event, sent)]
+        each = [_action_inserting_packets(failing, event, unexpected), _action_taking_packet(failing, event, sent)]
         yield from each if count else reversed(each)
     result = failing.cause.get("actual_result")
-    if isinstance(result, str) and "result" in event.fields:
-        place = event.fields["result"]
-        yield Action(f"Take the result {result}", QUICK, _put(failing.lines.text, place, result))
+    if isinstance(result, str) and "result" in event.field_extents:
+        place = event.field_extents["result"]
+        yield Action(f"Take the result {result}", QUICK, _replace_extent(failing.lines.text, place, result))
 
 
-def _taking_packet(failing: FailingScript, event: Event, sent: SentPacket) -> Action:
+def _action_taking_packet(failing: FailingScript, event: Event, sent: SentPacket) -> Action:
     text = failing.lines.text
     with_time = failing.row.word == "time"
-    packet = with_sent_packet(text, event, sent, with_time)
-    time = event.fields["time"]
-    is_time_alone = _put(text, time, sent.time)[event.item.start :].startswith(packet)
+    packet = replace_by_sent_packet(text, event, sent, with_time)
+    time = event.field_extents["time"]
+    is_time_alone = _replace_extent(text, time, sent.time)[event.item.start :].startswith(packet)
     title = "Take the time at which it was sent" if with_time and is_time_alone else "Take the packet that was sent"
-    return Action(title, QUICK, _put(text, event.extent, packet))
+    return Action(title, QUICK, _replace_extent(text, event.extent, packet))
 
 
-def _inserting(failing: FailingScript, event: Event, packets: Sequence[SentPacket]) -> Action:
+def _action_inserting_packets(failing: FailingScript, event: Event, packets: Sequence[SentPacket]) -> Action:
     """Before the line come packets that no line takes."""
     text = failing.lines.text
     start = event.item.start
-    indent = text[failing.lines.start(failing.lines.line_of(start)) : start]
+    indent = text[failing.lines.line_start(failing.lines.line_of(start)) : start]
     between = failing.newline + (indent if not indent.strip() else "")
-    put = "".join(line + between for line in as_lines(packets))
+    put = "".join(line + between for line in event_lines_for_packets(packets))
     what = "a packet that was sent" if len(packets) == 1 else f"{len(packets)} packets that were sent"
     return Action(f"Insert {what} before it", QUICK, text[:start] + put + text[start:], len(packets))
 
 
-def switching_off(failing: FailingScript) -> Iterator[Action]:
+def commenting_out_actions(failing: FailingScript) -> Iterator[Action]:
     """The event as a comment, with all that stands in its lines; one between other events in a comment of its own."""
     line = failing.row.line
     if line is None:
         return
     lines, event = failing.lines, failing.event
-    first = min(line, lines.count) - 1
-    begun = _begun(failing)
+    first = min(line, lines.line_count) - 1
+    begun = _broken_event_line(failing)
     if begun < first:
-        yield _as_comment(lines, begun, first - 1, begun - first)
-        yield _as_comment(lines, begun, first)
+        yield _action_commenting_lines(lines, begun, first - 1, begun - first)
+        yield _action_commenting_lines(lines, begun, first)
     last = first if event is None else max(first, lines.line_of(event.item.end))
-    if event is not None and _has_others(failing, event, first, last):
+    if event is not None and _needs_inline_comment(failing, event, first, last):
         inside = lines.text[event.item.start : event.item.end]
-        yield Action("Switch it off as a comment", QUICK, _put(lines.text, event.extent, f"/* {inside} */"))
+        yield Action("Switch it off as a comment", QUICK, _replace_extent(lines.text, event.extent, f"/* {inside} */"))
         return
-    yield _as_comment(lines, first, last)
+    yield _action_commenting_lines(lines, first, last)
 
 
-def _as_comment(lines: Lines, first: int, last: int, shift: int = 0) -> Action:
+def _action_commenting_lines(lines: Lines, first: int, last: int, shift: int = 0) -> Action:
     text = lines.text
-    for number in range(min(last, lines.count - 1), first - 1, -1):
-        start = lines.start(number)
+    for number in range(min(last, lines.line_count - 1), first - 1, -1):
+        start = lines.line_start(number)
         text = f"{text[:start]}// {text[start:]}"
     title = "Switch the line off as a comment" if first == last else "Switch the lines off as comments"
     return Action(title, QUICK, text, shift)
 
 
-def _begun(failing: FailingScript) -> int:
+def _broken_event_line(failing: FailingScript) -> int:
     """The line in which the event begins that the text breaks off in; a large number where it isn't that."""
     if failing.row.verdict is not Verdict.SYNTAX:
-        return failing.lines.count
+        return failing.lines.line_count
     text = failing.lines.text
     end = failing.layout.items[-1].item.end if failing.layout.items else 0
-    token = next(_tokens(text, end), None)
-    return failing.lines.count if token is None else failing.lines.line_of(token)
+    token = next(_token_starts(text, end), None)
+    return failing.lines.line_count if token is None else failing.lines.line_of(token)
 
 
-def _tokens(text: str, start: int) -> Iterator[int]:
+def _token_starts(text: str, start: int) -> Iterator[int]:
     """Where the tokens of a text begin from a place on, up to where none does."""
     try:
         yield from (start + it.start for it in tokens_of(text[start:]))
@@ -148,52 +154,52 @@ def _tokens(text: str, start: int) -> Iterator[int]:
         return
 
 
-def _has_others(failing: FailingScript, event: Event, first: int, last: int) -> bool:
+def _needs_inline_comment(failing: FailingScript, event: Event, first: int, last: int) -> bool:
     """Whether other items begin or end in these lines, and this one can stand in a comment of its own."""
     lines = failing.lines
-    begin, end = lines.start(first), lines.end(last)
+    begin, end = lines.line_start(first), lines.line_end(last)
     others = [it for it in failing.layout.items if it is not event]
     is_shared = any(it.item.start < end and it.item.end > begin for it in others)
     has_comment = any(event.item.start <= it.start < event.item.end for it in comments_of(lines.text))
     return is_shared and not has_comment
 
 
-def mending_all(failing: FailingScript, mended: str) -> Iterator[Action]:
+def mend_all_actions(failing: FailingScript, mended: str) -> Iterator[Action]:
     """The script with as little changed as makes it pass."""
     if mended:
-        yield Action("Mend each line that fails", REWRITE, _ended(failing, mended))
+        yield Action("Mend each line that fails", REWRITE, _with_script_newlines(failing, mended))
 
 
-def recording_all(failing: FailingScript, recording: str) -> Iterator[Action]:
+def record_all_actions(failing: FailingScript, recording: str) -> Iterator[Action]:
     """The whole script as it is recorded."""
     if recording:
-        yield Action("Record the whole script", REWRITE, _ended(failing, without_trace(recording)))
+        yield Action("Record the whole script", REWRITE, _with_script_newlines(failing, strip_trace(recording)))
 
 
-def recording_what_leaves(failing: FailingScript, mended: str, recording: str) -> Iterator[Action]:
+def record_outputs_actions(failing: FailingScript, mended: str, recording: str) -> Iterator[Action]:
     """A script that passes, with a line for each packet that it leaves: as it stands but for these, or recorded."""
-    outputs = sum(not it.is_input for it in recorded_in(recording))
+    outputs = sum(not it.is_input for it in recorded_events_in(recording))
     if outputs <= sum(it.is_expected for it in failing.layout.events):
         return
-    added = _ended(failing, mended)
+    added = _with_script_newlines(failing, mended)
     if added in ("", failing.lines.text):
-        added = _ended(failing, without_trace(recording))
+        added = _with_script_newlines(failing, strip_trace(recording))
     yield Action("Record what leaves", QUICK, added)
-    yield from recording_all(failing, recording)
+    yield from record_all_actions(failing, recording)
 
 
-def recording_from_here(failing: FailingScript, recording: str) -> Iterator[Action]:
+def record_from_here_actions(failing: FailingScript, recording: str) -> Iterator[Action]:
     """What stands before the event, and from it on the recording: by its times, or by moments where those don't fit."""
     event, events = failing.event, failing.layout.events
-    recorded = recorded_in(recording)
+    recorded = recorded_events_in(recording)
     if event is None or event not in events or not recorded:
         return
     passed = events[: events.index(event)]
     if not passed:
         return
-    front = _front(failing, passed[-1])
+    front = _text_through_event_line(failing, passed[-1])
     outputs = sum(not it.is_input for it in passed)
-    place = _place_after(recorded, len(passed) - outputs, outputs)
+    place = _place_after_counts(recorded, len(passed) - outputs, outputs)
     unmatched = [it for it in recorded[:place] if not it.is_input][outputs:]
     stars = [f"* {recording[it.action : it.end]}\n" for it in unmatched]
     begin = recorded[place - 1].after if place else 0
@@ -205,11 +211,11 @@ def recording_from_here(failing: FailingScript, recording: str) -> Iterator[Acti
         times += [] if it.is_input else ["*"]
         rests += [f"{recording[begin : it.start]}{time} {recording[it.action :]}" for time in times]
     for rest in rests[1:] if unmatched and len(rests) > 1 else rests:
-        text = front + _ended(failing, "".join(stars) + without_trace(rest))
+        text = front + _with_script_newlines(failing, "".join(stars) + strip_trace(rest))
         yield Action("Record from here to the end", QUICK, text)
 
 
-def _place_after(recorded: Sequence[RecordedEvent], inputs: int, outputs: int) -> int:
+def _place_after_counts(recorded: Sequence[RecordedEvent], inputs: int, outputs: int) -> int:
     """The place after so many inputs and so many packets that left."""
     place = 0
     for it in recorded:
@@ -221,27 +227,27 @@ def _place_after(recorded: Sequence[RecordedEvent], inputs: int, outputs: int) -
     return place
 
 
-def _front(failing: FailingScript, last: Event) -> str:
+def _text_through_event_line(failing: FailingScript, last: Event) -> str:
     """The text up to the end of the line in which the last event that stays ends."""
     lines = failing.lines
     line = lines.line_of(last.item.end)
-    end = lines.end(line)
+    end = lines.line_end(line)
     following = [it for it in failing.layout.items if it.item.start >= last.item.end]
     if following and following[0].item.start < end:
         return lines.text[: last.item.end] + failing.newline
     return lines.text[:end].removesuffix("\r") + failing.newline
 
 
-def _ended(failing: FailingScript, text: str) -> str:
+def _with_script_newlines(failing: FailingScript, text: str) -> str:
     """A recording with the ends of lines that the script has."""
     return text.replace("\n", failing.newline)
 
 
-def _put(text: str, place: Extent, put: str) -> str:
+def _replace_extent(text: str, place: Extent, put: str) -> str:
     return text[: place.start] + put + text[place.end :]
 
 
-def edits_to(lines: Lines, text: str) -> list[Json]:
+def edits_to_text(lines: Lines, text: str) -> list[Json]:
     """The edit that makes another text: what lies between equal first and equal last characters, in whole lines."""
     old = lines.text
     most = min(len(old), len(text))
@@ -249,11 +255,11 @@ def edits_to(lines: Lines, text: str) -> list[Json]:
     front = old.rfind("\n", 0, front) + 1
     most -= front
     back = next((it for it in range(most) if old[-1 - it] != text[-1 - it]), most)
-    back -= _part_of_line(old, text, len(old) - back)
-    return [text_edit(lines, front, len(old) - back, text[front : len(text) - back])]
+    back -= _equal_end_in_line(old, text, len(old) - back)
+    return [text_edit_json(lines, front, len(old) - back, text[front : len(text) - back])]
 
 
-def _part_of_line(old: str, text: str, end: int) -> int:
+def _equal_end_in_line(old: str, text: str, end: int) -> int:
     """How much of what is equal at the end belongs to a line that isn't."""
     if end == 0 or old[end - 1 : end] == "\n":
         return 0

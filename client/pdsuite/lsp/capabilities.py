@@ -4,9 +4,9 @@ import os
 from dataclasses import dataclass
 from pathlib import Path
 
-from pdsuite.lsp.documents import path_of
+from pdsuite.lsp.documents import path_of_uri
 from pdsuite.lsp.features import DRAW
-from pdsuite.lsp.json_values import Json, optional
+from pdsuite.lsp.json_values import Json, nested_member_or_none
 
 _INCREMENTAL = 2
 _WATCHED = "workspace/didChangeWatchedFiles"
@@ -49,31 +49,37 @@ class ClientCapabilities:
     takes_progress: bool = False
 
 
-def client_of(params: object) -> ClientCapabilities:
+def client_capabilities_of(params: object) -> ClientCapabilities:
     """The client that initializes the server with these."""
-    can = optional(params, "capabilities")
+    can = nested_member_or_none(params, "capabilities")
     return ClientCapabilities(
-        roots=tuple(_roots(params)),
-        watches=optional(can, "workspace", "didChangeWatchedFiles", "dynamicRegistration") is True,
-        has_related=optional(can, "textDocument", "publishDiagnostics", "relatedInformation") is True,
-        has_tags=optional(can, "textDocument", "publishDiagnostics", "tagSupport") is not None,
-        takes_snippets=optional(can, "textDocument", "completion", "completionItem", "snippetSupport") is True,
-        takes_versions=optional(can, "workspace", "workspaceEdit", "documentChanges") is True,
-        takes_markdown="markdown" in (optional(can, "textDocument", "hover", "contentFormat") or ["markdown"]),
-        shows_documents=optional(can, "window", "showDocument", "support") is True,
-        takes_progress=optional(can, "window", "workDoneProgress") is True,
-        refreshes_lenses=optional(can, "workspace", "codeLens", "refreshSupport") is True,
+        roots=tuple(_root_folders(params)),
+        watches=nested_member_or_none(can, "workspace", "didChangeWatchedFiles", "dynamicRegistration") is True,
+        has_related=nested_member_or_none(can, "textDocument", "publishDiagnostics", "relatedInformation") is True,
+        has_tags=nested_member_or_none(can, "textDocument", "publishDiagnostics", "tagSupport") is not None,
+        takes_snippets=nested_member_or_none(can, "textDocument", "completion", "completionItem", "snippetSupport")
+        is True,
+        takes_versions=nested_member_or_none(can, "workspace", "workspaceEdit", "documentChanges") is True,
+        takes_markdown="markdown"
+        in (nested_member_or_none(can, "textDocument", "hover", "contentFormat") or ["markdown"]),
+        shows_documents=nested_member_or_none(can, "window", "showDocument", "support") is True,
+        takes_progress=nested_member_or_none(can, "window", "workDoneProgress") is True,
+        refreshes_lenses=nested_member_or_none(can, "workspace", "codeLens", "refreshSupport") is True,
     )
 
 
-def _roots(params: object) -> list[Path]:
-    folders = optional(params, "workspaceFolders")
-    uris = [optional(it, "uri") for it in folders] if isinstance(folders, list) else [optional(params, "rootUri")]
-    return folders_of([it for it in uris if isinstance(it, str)])
+def _root_folders(params: object) -> list[Path]:
+    folders = nested_member_or_none(params, "workspaceFolders")
+    uris = (
+        [nested_member_or_none(it, "uri") for it in folders]
+        if isinstance(folders, list)
+        else [nested_member_or_none(params, "rootUri")]
+    )
+    return folders_of_uris([it for it in uris if isinstance(it, str)])
 
 
-def folders_of(uris: list[str]) -> list[Path]:
+def folders_of_uris(uris: list[str]) -> list[Path]:
     """The folders that these name, without those in which everything lies."""
-    paths = [Path(path) for it in uris if (path := path_of(it)) is not None]
+    paths = [Path(path) for it in uris if (path := path_of_uri(it)) is not None]
     too_wide = ("/", os.path.realpath(os.path.expanduser("~")))
     return [it for it in dict.fromkeys(paths) if os.path.realpath(it) not in too_wide]

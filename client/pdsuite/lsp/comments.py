@@ -29,23 +29,23 @@ def comments_of(text: str) -> Iterator[Extent]:
     end = 0
     try:
         for token in tokens_of(text):
-            yield from _between(text, end, token.start)
+            yield from _comments_between(text, end, token.start)
             end = token.end
-        yield from _between(text, end, len(text))
+        yield from _comments_between(text, end, len(text))
     except ScriptSyntaxError as unread:
-        yield from _between(text, end, unread.place)
+        yield from _comments_between(text, end, unread.place)
 
 
-def _between(text: str, start: int, end: int) -> Iterator[Extent]:
+def _comments_between(text: str, start: int, end: int) -> Iterator[Extent]:
     return (Extent(it.start(), it.end()) for it in _COMMENT.finditer(text, start, end))
 
 
-def blocks_of(lines: Lines) -> list[CommentBlock]:
+def comment_blocks_of(lines: Lines) -> list[CommentBlock]:
     """The blocks of comments that have lines of their own."""
     blocks: list[CommentBlock] = []
     for comment in comments_of(lines.text):
         first, last = lines.line_of(comment.start), lines.line_of(comment.end)
-        if not _is_alone(lines, comment):
+        if not _is_alone_in_lines(lines, comment):
             continue
         if blocks and blocks[-1].last + 1 == first:
             blocks[-1] = CommentBlock(blocks[-1].first, last)
@@ -54,43 +54,43 @@ def blocks_of(lines: Lines) -> list[CommentBlock]:
     return blocks
 
 
-def _is_alone(lines: Lines, comment: Extent) -> bool:
+def _is_alone_in_lines(lines: Lines, comment: Extent) -> bool:
     """Whether nothing else stands in a comment's lines."""
-    before = lines.text[lines.start(lines.line_of(comment.start)) : comment.start]
-    after = lines.text[comment.end : lines.end(lines.line_of(comment.end))]
+    before = lines.text[lines.line_start(lines.line_of(comment.start)) : comment.start]
+    after = lines.text[comment.end : lines.line_end(lines.line_of(comment.end))]
     return not before.strip() and not after.strip()
 
 
-def symbols_of(lines: Lines) -> list[Json]:
+def section_symbols_of(lines: Lines) -> list[Json]:
     """The sections of a script: each begins with a block of comments, and is named by its first line with words."""
-    blocks = blocks_of(lines)
-    ends = [lines.end(it.first - 1) for it in blocks[1:]] + [len(lines.text)]
+    blocks = comment_blocks_of(lines)
+    ends = [lines.line_end(it.first - 1) for it in blocks[1:]] + [len(lines.text)]
     return [
         {
             "name": name,
             "kind": _NAMESPACE,
-            "range": lines.range(Extent(lines.start(block.first), max(end, lines.end(block.last)))),
-            "selectionRange": lines.range(lines.whole_line(block.first)),
+            "range": lines.range_json(Extent(lines.line_start(block.first), max(end, lines.line_end(block.last)))),
+            "selectionRange": lines.range_json(lines.trimmed_line_extent(block.first)),
         }
         for block, end in zip(blocks, ends)
-        if (name := _name(lines, block))
+        if (name := _section_name(lines, block))
     ]
 
 
-def _name(lines: Lines, block: CommentBlock) -> str:
-    names = (_MARKS.sub("", lines.content(line).strip()) for line in range(block.first, block.last + 1))
+def _section_name(lines: Lines, block: CommentBlock) -> str:
+    names = (_MARKS.sub("", lines.line_content(line).strip()) for line in range(block.first, block.last + 1))
     return next((it for it in names if it), "")[:_LONGEST_NAME]
 
 
-def foldings_of(lines: Lines) -> list[Json]:
+def comment_foldings_of(lines: Lines) -> list[Json]:
     """The blocks of comments that have more than one line."""
     return [
-        {"startLine": _shown_line(lines, it.first), "endLine": _shown_line(lines, it.last), "kind": "comment"}
-        for it in blocks_of(lines)
+        {"startLine": _protocol_line(lines, it.first), "endLine": _protocol_line(lines, it.last), "kind": "comment"}
+        for it in comment_blocks_of(lines)
         if it.first < it.last
     ]
 
 
-def _shown_line(lines: Lines, line: int) -> int:
+def _protocol_line(lines: Lines, line: int) -> int:
     """The line of the protocol in which a line of a script begins."""
-    return lines.position(lines.start(line)).line
+    return lines.position_of(lines.line_start(line)).line

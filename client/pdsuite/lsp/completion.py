@@ -4,7 +4,7 @@ import re
 from collections.abc import Iterator, Sequence
 from dataclasses import dataclass
 
-from pdsuite.lsp.documents import text_edit
+from pdsuite.lsp.documents import text_edit_json
 from pdsuite.lsp.json_values import Json
 from pdsuite.lsp.positions import Lines
 from pdsuite.scripts.defaults import KEYS, Number
@@ -66,13 +66,13 @@ class Proposal:
     detail: str = ""
 
 
-def typed_before(text: str, offset: int) -> int:
+def typed_word_start(text: str, offset: int) -> int:
     """Where the word begins that is typed at a place."""
     found = _TYPED.search(text[:offset])
     return offset if found is None else found.start()
 
 
-def proposals(expected: Sequence[str]) -> Iterator[Proposal]:
+def proposals_for_expected(expected: Sequence[str]) -> Iterator[Proposal]:
     """What may stand where the program expects these."""
     for words in expected:
         if words == _A_TIME:
@@ -90,11 +90,11 @@ def proposals(expected: Sequence[str]) -> Iterator[Proposal]:
             yield Proposal(words, _VALUE, "", words)
 
 
-def items_of(
+def completion_items(
     each: Sequence[Proposal], lines: Lines, offset: int, takes_snippets: bool, newline: str = "\n"
 ) -> list[Json]:
     """Proposals as the protocol has them, in place of the word that is typed; those that put nothing are left out."""
-    start = typed_before(lines.text, offset)
+    start = typed_word_start(lines.text, offset)
     return [
         {
             "label": it.label,
@@ -103,18 +103,18 @@ def items_of(
             "filterText": it.label,
             "sortText": f"{number:03}",
             "insertTextFormat": _TABSTOPS if takes_snippets else _PLAIN,
-            "textEdit": text_edit(lines, start, offset, _put(it.put, takes_snippets, newline)),
+            "textEdit": text_edit_json(lines, start, offset, _insert_text(it.put, takes_snippets, newline)),
         }
         for number, it in enumerate(each)
         if it.put
     ]
 
 
-def _put(put: str, takes_snippets: bool, newline: str) -> str:
+def _insert_text(put: str, takes_snippets: bool, newline: str) -> str:
     return (put if takes_snippets else _TABSTOP.sub(lambda it: it[1] or "", put)).replace("\n", newline)
 
 
-def keys_proposed() -> Iterator[Proposal]:
+def setting_key_proposals() -> Iterator[Proposal]:
     """The settings, each with its default."""
     for key, it in KEYS.items():
         value = value_as_toml(it.default)

@@ -52,7 +52,7 @@ class Diagnostic:
     def as_json(self, uri: str, lines: Lines, has_related: bool) -> Json:
         """The diagnostic as the protocol has it."""
         found: Json = {
-            "range": lines.range(self.extent),
+            "range": lines.range_json(self.extent),
             "severity": self.severity,
             "code": self.code,
             "source": SOURCE,
@@ -60,7 +60,7 @@ class Diagnostic:
         }
         if has_related and self.related:
             found["relatedInformation"] = [
-                {"location": {"uri": uri, "range": lines.range(it.extent)}, "message": it.message}
+                {"location": {"uri": uri, "range": lines.range_json(it.extent)}, "message": it.message}
                 for it in self.related
             ]
         return found
@@ -76,20 +76,20 @@ def diagnostics_of(outcome: Outcome, cause: Cause | None, layout: Layout, lines:
             locate_row(row, cause, layout, lines).extent,
             _severity(outcome),
             row.word or row.verdict.value,
-            _message(outcome, cause),
+            _diagnostic_message(outcome, cause),
         )
     for words in warning_texts(outcome):
-        yield Diagnostic(lines.whole_line(0), ERROR if outcome.is_strict else WARNING, "warning", words)
+        yield Diagnostic(lines.trimmed_line_extent(0), ERROR if outcome.is_strict else WARNING, "warning", words)
 
 
-def with_related(diagnostic: Diagnostic, layout: Layout, cause: Cause) -> Diagnostic:
+def with_unmatched_packets(diagnostic: Diagnostic, layout: Layout, cause: Cause) -> Diagnostic:
     """The diagnostic with the packets that stay unmatched, each at the event after which it left."""
-    found = [(_sending(it, layout), packet) for packet, it in unmatched_packets(cause)]
+    found = [(_sending_event(it, layout), packet) for packet, it in unmatched_packets(cause)]
     related = [Related(event.extent, f"untaken packet: {packet}") for event, packet in found if event is not None]
     return replace(diagnostic, related=tuple(related))
 
 
-def _sending(origin: object, layout: Layout) -> Event | None:
+def _sending_event(origin: object, layout: Layout) -> Event | None:
     """The event that sent a packet; of one that the timer sent, the last input before that, as far as times say."""
     match origin:
         case {"line": int(line)}:
@@ -103,15 +103,15 @@ def _severity(outcome: Outcome) -> int:
     return HINT if outcome.is_known_failure else _SEVERITY.get(outcome.row.verdict, ERROR)
 
 
-def _message(outcome: Outcome, cause: Cause | None) -> str:
+def _diagnostic_message(outcome: Outcome, cause: Cause | None) -> str:
     words = row_text(outcome)
     if outcome.row.verdict is Verdict.ERROR:
         words = outcome.row.word if outcome.expected is None else words
-    first = f"{words}: {_what(cause)}" if cause is not None and "what" in cause else words
-    return "\n".join([first, *_facts(cause or {})])
+    first = f"{words}: {_meaning_words(cause)}" if cause is not None and "what" in cause else words
+    return "\n".join([first, *_fact_lines(cause or {})])
 
 
-def _what(cause: Mapping[str, object]) -> str:
+def _meaning_words(cause: Mapping[str, object]) -> str:
     """What a row means, or of a text that is no script, what it lacks, as `run` says it."""
     match cause.get("expected"):
         case [*before, last]:
@@ -121,10 +121,10 @@ def _what(cause: Mapping[str, object]) -> str:
     return str(cause["what"])
 
 
-def _facts(cause: Mapping[str, object]) -> Iterator[str]:
+def _fact_lines(cause: Mapping[str, object]) -> Iterator[str]:
     for key, words in {**WORDS, **_MORE}.items():
         if key in cause and key not in _LEFT_OUT:
-            value = _shown(key, cause[key])
+            value = _shown_value(key, cause[key])
             yield f"{words}: {packet_with_sender(value, cause.get('sent_by')) if key == 'actual_packet' else value}"
     for it in dropped_segments(cause):
         yield f"dropped: {it}"
@@ -135,7 +135,7 @@ def _facts(cause: Mapping[str, object]) -> Iterator[str]:
         yield f"untaken packets: {count}"
 
 
-def _shown(key: str, value: object) -> str:
+def _shown_value(key: str, value: object) -> str:
     if isinstance(value, list):
         return ", ".join(map(str, value))
     return _HIDDEN.sub(" ", value_in_words(key, value))

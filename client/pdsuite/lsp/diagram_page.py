@@ -7,10 +7,10 @@ from pdsuite.lsp.workspace import Result
 from pdsuite.packages import missing_module_message
 from pdsuite.page.diagram_choice import Plot
 from pdsuite.page.draw_process import FAULT
-from pdsuite.page.folder import prepare
+from pdsuite.page.folder import prepare_page_folder
 from pdsuite.page.jobs import Job
-from pdsuite.page.links import FOLDER, file_of, plot_files
-from pdsuite.page.view_model import PageEntry, table_row
+from pdsuite.page.links import FOLDER, page_file_of, plot_file_names
+from pdsuite.page.view_model import PageEntry, table_row_of
 from pdsuite.programs.child_process import ChildProcess
 from pdsuite.reports.report_cache import cache_folder
 from pdsuite.watch.sender import LiveSender
@@ -26,13 +26,13 @@ class DiagramPage:
     def __init__(self, result: Result, sender: LiveSender) -> None:
         path = result.file.path
         folder = cache_folder() / _FOLDER / hashlib.sha256(os.fsencode(path)).hexdigest()[:_DIGITS]
-        prepare(folder)
-        self.page = folder / FOLDER / file_of(path)
+        prepare_page_folder(folder)
+        self.page = folder / FOLDER / page_file_of(path)
         self.fault = missing_module_message("matplotlib")
         entry = PageEntry(result.outcome, result.text, Plot.NONE if self.fault else Plot.FILES, result.cause)
-        regress, record = sender.paths
-        rows = (table_row(result.outcome),)
-        job = Job(folder, rows, plot_files(path), (entry,), not sender.is_proved, regress, record)
+        regress, record = sender.program_paths
+        rows = (table_row_of(result.outcome),)
+        job = Job(folder, rows, plot_file_names(path), (entry,), not sender.is_proved, regress, record)
         self._worker = ChildProcess(_DRAWER, job)
 
     def fileno(self) -> int:

@@ -23,7 +23,7 @@ _CELL = re.compile(r"(?<!\\)\|")
 
 
 @cache
-def _page(name: str) -> str:
+def _read_doc_page(name: str) -> str:
     folder = _PACKED_DOCS if PACKAGE_VERSION.exists() else TOP / "docs"
     try:
         return (folder / name).read_text(encoding="utf-8")
@@ -31,35 +31,35 @@ def _page(name: str) -> str:
         return ""
 
 
-def of_field(name: str) -> str:
+def doc_of_field(name: str) -> str:
     """What SCRIPTS.md says of a field of a packet, or of the header."""
     begin = _FIELDS.get(name)
-    found = [it for it in _page("SCRIPTS.md").splitlines() if begin and it.startswith(begin)]
-    return _plain(found[0].removeprefix("- ")) if found else ""
+    found = [it for it in _read_doc_page("SCRIPTS.md").splitlines() if begin and it.startswith(begin)]
+    return _without_links(found[0].removeprefix("- ")) if found else ""
 
 
-def of_call(name: str) -> str:
+def doc_of_call(name: str) -> str:
     """What SENDER.md says of a call: the rows of its table."""
-    rows = [row for row in _rows("SENDER.md") if row[0].partition("(")[0] == name]
-    return "\n\n".join(f"`{call}`: {_plain(cells[0])}" for call, *cells in rows)
+    rows = [row for row in _table_rows("SENDER.md") if row[0].partition("(")[0] == name]
+    return "\n\n".join(f"`{call}`: {_without_links(cells[0])}" for call, *cells in rows)
 
 
-def of_key(key: str) -> str:
+def doc_of_setting(key: str) -> str:
     """What SETTINGS.md says of a key, with the kind of its values."""
-    for name, *cells in _rows("SETTINGS.md"):
+    for name, *cells in _table_rows("SETTINGS.md"):
         if name == key and len(cells) >= 5:
             unit, takes, default, _, changes = cells[:5]
             words = f"{takes} {unit}".strip()
-            return f"**{key}**: {words}; {default} if nothing is said. {_plain(changes)}"
+            return f"**{key}**: {words}; {default} if nothing is said. {_without_links(changes)}"
     return ""
 
 
-def _rows(name: str) -> Iterator[list[str]]:
+def _table_rows(name: str) -> Iterator[list[str]]:
     """The rows of a page's tables: what stands between the first backquotes, and the cells after it."""
-    for found in _ROW.finditer(_page(name)):
+    for found in _ROW.finditer(_read_doc_page(name)):
         yield [found[1], *(it.strip() for it in _CELL.split(found[0])[2:-1])]
 
 
-def _plain(text: str) -> str:
+def _without_links(text: str) -> str:
     """A text without links."""
     return _LINK.sub(r"\1", text)

@@ -5,7 +5,14 @@ from collections.abc import Iterable
 from dataclasses import dataclass, field
 from urllib.parse import quote, unquote_to_bytes, urlsplit
 
-from pdsuite.lsp.json_values import Json, MalformedMessageError, member, number_in, optional, text_in
+from pdsuite.lsp.json_values import (
+    Json,
+    MalformedMessageError,
+    nested_member_or_none,
+    require_member,
+    require_number,
+    require_text,
+)
 from pdsuite.lsp.positions import Lines, Position
 from pdsuite.scripts.text import Text, UnfitTextError, make_text
 
@@ -30,44 +37,44 @@ class Document:
         """The text as a file would hold it."""
         return self.text.encode("utf-8", "surrogatepass")
 
-    def script(self) -> Text | str:
+    def script_or_reason(self) -> Text | str:
         """The text as a script, or why it can't be run."""
         try:
             return make_text(self.octets)
         except UnfitTextError as unfit:
             return str(unfit)
 
-    def changed(self, version: int, changes: Iterable[object]) -> "Document":
+    def with_changes(self, version: int, changes: Iterable[object]) -> "Document":
         """The text after changes, each of which counts from what those before it left."""
         lines = self.lines
         for change in changes:
-            lines = Lines(_applied(lines, change))
+            lines = Lines(_apply_change(lines, change))
         return Document(self.uri, version, lines.text)
 
 
-def opened(item: object) -> Document:
+def document_from_item(item: object) -> Document:
     """The document that a client opens."""
-    version = optional(item, "version")
-    return Document(text_in(item, "uri"), version if isinstance(version, int) else 0, text_in(item, "text"))
+    version = nested_member_or_none(item, "version")
+    return Document(require_text(item, "uri"), version if isinstance(version, int) else 0, require_text(item, "text"))
 
 
-def position_in(value: object) -> Position:
+def parse_position(value: object) -> Position:
     """A position of the protocol."""
-    return Position(number_in(value, "line"), number_in(value, "character"))
+    return Position(require_number(value, "line"), require_number(value, "character"))
 
 
-def _applied(lines: Lines, change: object) -> str:
-    put = text_in(change, "text")
-    span = optional(change, "range")
+def _apply_change(lines: Lines, change: object) -> str:
+    put = require_text(change, "text")
+    span = nested_member_or_none(change, "range")
     if span is None:
         return put
-    start, end = (lines.offset(position_in(member(span, name))) for name in ("start", "end"))
+    start, end = (lines.offset_of(parse_position(require_member(span, name))) for name in ("start", "end"))
     if end < start:
         raise MalformedMessageError("a range ends before it begins")
     return lines.text[:start] + put + lines.text[end:]
 
 
-def path_of(uri: str) -> str | None:
+def path_of_uri(uri: str) -> str | None:
     """The path of a file that a URI names; None where it names something else."""
     try:
         parts = urlsplit(uri)
@@ -79,14 +86,14 @@ def path_of(uri: str) -> str | None:
     return path if path.startswith("/") and "\0" not in path else None
 
 
-def uri_of(path: str) -> str:
+def uri_of_path(path: str) -> str:
     """The URI of a file."""
     return f"{_FILE}://{quote(os.fsencode(os.path.abspath(path)), safe=_SAFE)}"
 
 
-def text_edit(lines: Lines, start: int, end: int, put: str) -> Json:
+def text_edit_json(lines: Lines, start: int, end: int, put: str) -> Json:
     """An edit of a text as the protocol has it."""
     return {
-        "range": {"start": lines.position(start).as_json(), "end": lines.position(end).as_json()},
+        "range": {"start": lines.position_of(start).as_json(), "end": lines.position_of(end).as_json()},
         "newText": put,
     }

@@ -13,29 +13,29 @@ _FIELDS = ("flags", "options", "ack", "win", "seq")
 _TIMER = "timer"
 
 
-def hover_of(event: Event, offset: int, met: Sequence[MatchedEvent], recording: str) -> str:
+def hover_of_event(event: Event, offset: int, met: Sequence[MatchedEvent], recording: str) -> str:
     """What is shown of an event, in Markdown; `met` is what the recording has of the script's events."""
-    parts = [_sent(event, met, recording), _states(event, met), _documented(event, offset)]
+    parts = [_sent_packet_words(event, met, recording), _state_words(event, met), _doc_of_place(event, offset)]
     return "\n\n".join(it for it in parts if it)
 
 
-def _of(event: Event, met: Sequence[MatchedEvent]) -> int | None:
+def _place_of_event(event: Event, met: Sequence[MatchedEvent]) -> int | None:
     return next((place for place, it in enumerate(met) if it.event is event), None)
 
 
-def _sent(event: Event, met: Sequence[MatchedEvent], recording: str) -> str:
+def _sent_packet_words(event: Event, met: Sequence[MatchedEvent], recording: str) -> str:
     """The packet that an expected one met, with its moment."""
-    place = _of(event, met)
+    place = _place_of_event(event, met)
     if place is None or not event.is_expected:
         return ""
     recorded = met[place].recorded
     if recorded is None:
         return "Nothing was sent for it."
-    packet = f"`{recording[recorded.action : recorded.end]}` was sent at {seconds(recorded.moment)}"
-    return f"{packet}{_by(place, met)}"
+    packet = f"`{recording[recorded.action : recorded.end]}` was sent at {seconds_text(recorded.moment)}"
+    return f"{packet}{_sent_by_words(place, met)}"
 
 
-def _by(place: int, met: Sequence[MatchedEvent]) -> str:
+def _sent_by_words(place: int, met: Sequence[MatchedEvent]) -> str:
     """What let a packet go: the timer, or the last input before it, by its line in the script."""
     recorded = met[place].recorded
     if recorded is None or recorded.sent_by is None:
@@ -46,27 +46,27 @@ def _by(place: int, met: Sequence[MatchedEvent]) -> str:
     return f", by line {inputs[-1].event.item.line}" if inputs else ""
 
 
-def _states(event: Event, met: Sequence[MatchedEvent]) -> str:
+def _state_words(event: Event, met: Sequence[MatchedEvent]) -> str:
     """How the sender stands after an event, with what was otherwise after the event before."""
-    place = _of(event, met)
+    place = _place_of_event(event, met)
     if place is None or (after := met[place].after) is None:
         return ""
     before = met[place - 1].after if place else None
-    moment = "" if event.is_expected else f" at {seconds(after.moment)}"
-    facts = "\n".join(_facts(after.state, _state(before)))
-    return f"After it{moment}: {_name(after.state, _state(before))}\n```text\n{facts}\n```"
+    moment = "" if event.is_expected else f" at {seconds_text(after.moment)}"
+    facts = "\n".join(_facts_with_changes(after.state, _state_or_none(before)))
+    return f"After it{moment}: {_name_with_change(after.state, _state_or_none(before))}\n```text\n{facts}\n```"
 
 
-def _state(recorded: RecordedEvent | None) -> SenderState | None:
+def _state_or_none(recorded: RecordedEvent | None) -> SenderState | None:
     return None if recorded is None else recorded.state
 
 
-def _name(after: SenderState, before: SenderState | None) -> str:
+def _name_with_change(after: SenderState, before: SenderState | None) -> str:
     was = f", was {before.name}" if before is not None and before.name != after.name else ""
     return f"{after.name}{was}"
 
 
-def _facts(after: SenderState, before: SenderState | None) -> Iterator[str]:
+def _facts_with_changes(after: SenderState, before: SenderState | None) -> Iterator[str]:
     old: Mapping[str, str] = {} if before is None else before.facts
     width = max(map(len, after.facts), default=0)
     for name, value in after.facts.items():
@@ -75,21 +75,28 @@ def _facts(after: SenderState, before: SenderState | None) -> Iterator[str]:
         yield f"{name:<{width}}  {value}{was}{new}"
 
 
-def _documented(event: Event, offset: int) -> str:
+def _doc_of_place(event: Event, offset: int) -> str:
     """What the documents say of what stands at a place."""
     what = event.item.what
     if isinstance(what, HeaderOption):
-        return doc_lookup.of_field("header")
+        return doc_lookup.doc_of_field("header")
     if isinstance(what, Call):
-        return doc_lookup.of_call(what.name) if offset in event.fields["call"] else ""
-    return next((doc_lookup.of_field(it) for it in _FIELDS if it in event.fields and offset in event.fields[it]), "")
+        return doc_lookup.doc_of_call(what.name) if offset in event.field_extents["call"] else ""
+    return next(
+        (
+            doc_lookup.doc_of_field(it)
+            for it in _FIELDS
+            if it in event.field_extents and offset in event.field_extents[it]
+        ),
+        "",
+    )
 
 
-def plain(words: str) -> str:
+def strip_markdown(words: str) -> str:
     """The same without the marks of Markdown."""
     return _MARKS.sub("", words)
 
 
-def seconds(microseconds: int) -> str:
+def seconds_text(microseconds: int) -> str:
     """A moment as the programs show it."""
     return f"{microseconds // SECOND}.{microseconds % SECOND:06}"

@@ -11,14 +11,14 @@ class MalformedMessageError(Exception):
     """That a message lacks something, or has another value there."""
 
 
-def member(value: object, name: str) -> Any:
+def require_member(value: object, name: str) -> Any:
     """What an object has under a name, which it has to have."""
     if not isinstance(value, Mapping) or name not in value:
         raise MalformedMessageError(f"no {name}")
     return value[name]
 
 
-def optional(value: object, *names: str) -> Any:
+def nested_member_or_none(value: object, *names: str) -> Any:
     """What an object has under a name, and that under the next one; None where it hasn't."""
     for name in names:
         if not isinstance(value, Mapping):
@@ -27,25 +27,25 @@ def optional(value: object, *names: str) -> Any:
     return value
 
 
-def text_in(value: object, name: str) -> str:
+def require_text(value: object, name: str) -> str:
     """A text under a name."""
-    found = member(value, name)
+    found = require_member(value, name)
     if not isinstance(found, str):
         raise MalformedMessageError(f"{name} is no text")
     return found
 
 
-def list_in(value: object, name: str) -> list[Any]:
+def require_list(value: object, name: str) -> list[Any]:
     """A list under a name."""
-    found = member(value, name)
+    found = require_member(value, name)
     if not isinstance(found, list):
         raise MalformedMessageError(f"{name} is no list")
     return found
 
 
-def number_in(value: object, name: str) -> int:
+def require_number(value: object, name: str) -> int:
     """A whole number under a name, which isn't negative."""
-    found = member(value, name)
+    found = require_member(value, name)
     if not isinstance(found, int) or isinstance(found, bool) or not 0 <= found <= _MOST:
         raise MalformedMessageError(f"{name} is no number of this kind")
     return found

@@ -14,7 +14,7 @@ from pdsuite.faults import Fault
 from pdsuite.lsp.features import LanguageFeatures, SenderSession
 from pdsuite.lsp.open_settings import OpenSettings
 from pdsuite.lsp.queries import ProgramQueries
-from pdsuite.lsp.server import FAILED, Server, home_of
+from pdsuite.lsp.server import FAILED, Server, home_folder_of
 from pdsuite.lsp.transport import Transport
 from pdsuite.lsp.workspace import Workspace
 from pdsuite.programs.locate import RECORD, REGRESS
@@ -48,7 +48,7 @@ class EventLoop:
         self._stop = stop
         self._held = ExitStack()
         self._watcher: Watcher | None = None
-        self._server = Server(self._run)
+        self._server = Server(self._start_session)
         self._follower = SenderFollower(client_programs_lookup(REGRESS, RECORD), (REGRESS, RECORD), buildable_tree())
         self._sources = Watcher()
         self._proof = RefusedProof(self._follower.tree)
@@ -56,21 +56,21 @@ class EventLoop:
 
     def serve(self, source: BinaryIO, target: BinaryIO) -> int:
         """Serves until the client says `exit` or goes away; the exit status."""
-        transport = Transport(source, target, self._server.handlers())
-        self._server.attach(transport)
+        transport = Transport(source, target, self._server.message_handlers())
+        self._server.attach_transport(transport)
         try:
             while True:
-                transport.take()
+                transport.take_messages()
                 if self._server.status is not None:
                     return self._server.status
                 if transport.is_at_end:
                     return FAILED
                 try:
-                    self._step()
+                    self._do_due_work()
                 except SenderChangedError:
                     self._looked_at = -inf
                     continue  # the next look says what stands
-                self._wait(transport)
+                self._wait_or_rest(transport)
                 self._stop.raise_if_stopped()
         finally:
             for drawn in self._server.pages.values():
@@ -78,38 +78,38 @@ class EventLoop:
             self._held.close()
             self._follower.close()
 
-    def _look(self) -> None:
+    def _look_for_sender(self) -> None:
         """Looks at which sender stands, where a file of it may have changed: as reported, and from time to time."""
-        events, now = self._sources.read(), time.monotonic()
+        events, now = self._sources.read_events(), time.monotonic()
         server, follower = self._server, self._follower
-        is_due = now >= self._look_due(now) or self._has_build_output()
+        is_due = now >= self._next_sender_look(now) or self._has_build_output()
         if not server.is_ready or not (events or is_due):
             return
         self._looked_at = now
-        has_changed = follower.look(now)
-        self._sources.watch(follower.folders())
+        has_changed = follower.look_for_sender(now)
+        self._sources.watch_folders(follower.folders_to_watch())
         if server.session is None or has_changed and follower.sender != server.session.sender:
-            self._go_over()
-        self._proof.look()
-        server.sender_status.look(follower, self._proof.lines, server.session is not None)
+            self._switch_sender()
+        self._proof.reread_lines()
+        server.sender_status.show_changes(follower, self._proof.lines, server.session is not None)
 
-    def _go_over(self) -> None:
+    def _switch_sender(self) -> None:
         """Begins with the sender that answers now; where none does and one can be built, waits for that."""
         if self._follower.sender is None and self._follower.tree is not None:
-            self._server.await_sender(self._why_none())
+            self._server.await_sender(self._reason_without_sender())
         else:
-            self._server.begin()
+            self._server.begin_session()
 
-    def _why_none(self) -> str:
+    def _reason_without_sender(self) -> str:
         """Why no sender answers."""
         if self._follower.tree is None:
             return self._follower.reason
         return _NOT_BUILT if self._follower.failure else _BUILT_NOW
 
-    def _look_due(self, now: float) -> float:
+    def _next_sender_look(self, now: float) -> float:
         """The moment of the next look, whatever is reported."""
         period = _AGAIN if self._server.session is None else _LOOK
-        return min(self._looked_at + period, max(self._follower.due(self._looked_at), self._looked_at))
+        return min(self._looked_at + period, max(self._follower.next_look_moment(self._looked_at), self._looked_at))
 
     def _has_build_output(self) -> bool:
         """Whether a build has something to say."""
@@ -118,35 +118,37 @@ class EventLoop:
             poll.register(file, select.POLLIN)
         return bool(poll.poll(0))
 
-    def _step(self) -> None:
+    def _do_due_work(self) -> None:
         """Does what is due: runs, answers and pages."""
         server = self._server
-        self._look()
+        self._look_for_sender()
         now = time.monotonic()
-        server.settle([] if self._watcher is None else self._watcher.read(), now, now >= self._due())
-        server.look_at_pages()
-        while not (server.transport.is_waiting or server.is_behind) and server.answer():
+        server.rerun_and_publish(
+            [] if self._watcher is None else self._watcher.read_events(), now, now >= self._next_folder_look()
+        )
+        server.open_drawn_pages()
+        while not (server.transport.has_messages or server.is_behind) and server.answer_next_request():
             pass
 
-    def _wait(self, transport: Transport) -> None:
+    def _wait_or_rest(self, transport: Transport) -> None:
         """Waits until there is something to do; at rest, does what can wait."""
         session = self._server.session
-        if self._poll(transport, min(self._due(), time.monotonic() + _QUIET)) or session is None:
+        if self._poll_until(transport, min(self._next_folder_look(), time.monotonic() + _QUIET)) or session is None:
             return
-        session.workspace.rest()
+        session.workspace.renew_long_runs()
         if gc.get_count()[0] > _MANY:
             gc.collect()
-        self._poll(transport, session.workspace.due())
+        self._poll_until(transport, session.workspace.next_look_moment())
 
-    def _due(self) -> float:
+    def _next_folder_look(self) -> float:
         """When folders are looked at, or programs: a look takes longer than an answer may, so it waits for a pause."""
         session = self._server.session
         if session is None:
-            return self._look_due(time.monotonic())
-        due = session.workspace.due()
+            return self._next_sender_look(time.monotonic())
+        due = session.workspace.next_look_moment()
         return max(due, min(self._server.transport.received_at + _QUIET, due + _PATIENCE))
 
-    def _poll(self, transport: Transport, until: float) -> bool:
+    def _poll_until(self, transport: Transport, until: float) -> bool:
         poll = select.poll()
         watcher = None if self._watcher is None else self._watcher.fileno()
         program_files = [] if self._server.session is None else self._server.session.workspace.filenos()
@@ -155,39 +157,41 @@ class EventLoop:
         for file in (transport.fileno(), watcher, *ours, *program_files, *drawn):
             if file is not None:
                 poll.register(file, select.POLLIN)
-        if transport.is_waiting or self._server.is_behind:
+        if transport.has_messages or self._server.is_behind:
             return True
         return bool(poll.poll(max(0.0, until - time.monotonic()) * 1_000))
 
-    def _run(self, server: Server) -> SenderSession:
+    def _start_session(self, server: Server) -> SenderSession:
         """Starts what serves by the sender in place of what did; a fault where none is there."""
         self._held.close()
-        self._follower.look(time.monotonic())
+        self._follower.look_for_sender(time.monotonic())
         if (sender := self._follower.sender) is None:
-            raise Fault(self._why_none())
-        queries = ProgramQueries(sender, self._stop, server.log)
+            raise Fault(self._reason_without_sender())
+        queries = ProgramQueries(sender, self._stop, server.log_line)
         option = layer_of_option(self._settings)
-        if lines := queries.refused(list(claims_of_layers([option]))):
+        if lines := queries.refusal_lines(list(claims_of_layers([option]))):
             raise Fault("; ".join(lines))
         self._watcher = self._held.enter_context(_Unwatched() if server.client.watches else Watcher())
-        settings = OpenSettings(option, lambda claims: queries.refused(list(claims)))
-        pool = self._held.enter_context(LivePool(queries.start, server.log, lambda doing: None))
-        folders = Folders(WatchChoice(server.client.roots, ()), settings, self._watcher, self._stop, server.log)
-        home = home_of(server.client)
-        return SenderSession(Workspace(folders, settings, pool, home, sender.check), LanguageFeatures(queries), sender)
+        settings = OpenSettings(option, lambda claims: queries.refusal_lines(list(claims)))
+        pool = self._held.enter_context(LivePool(queries.start_live_run, server.log_line, lambda doing: None))
+        folders = Folders(WatchChoice(server.client.roots, ()), settings, self._watcher, self._stop, server.log_line)
+        home = home_folder_of(server.client)
+        return SenderSession(
+            Workspace(folders, settings, pool, home, sender.require_unchanged), LanguageFeatures(queries), sender
+        )
 
 
 class _Unwatched(Watcher):
     """Watches nothing, where the client says what changes; what it doesn't say is found by looking."""
 
-    def watch(self, folders: object) -> None:
+    def watch_folders(self, folders: object) -> None:
         """Nothing."""
 
 
 def serve(settings: str) -> int:
     """Serves a client, and answers the exit status."""
     gc.disable()
-    with Stop() as stop, _streams() as (source, target):
+    with Stop() as stop, _standard_streams() as (source, target):
         try:
             return EventLoop(settings, stop).serve(source, target)
         except StoppedError as stopped:
@@ -195,7 +199,7 @@ def serve(settings: str) -> int:
 
 
 @contextmanager
-def _streams() -> Iterator[tuple[BinaryIO, BinaryIO]]:
+def _standard_streams() -> Iterator[tuple[BinaryIO, BinaryIO]]:
     """Standard input and output; whatever else is printed goes to standard error."""
     sys.stdout.flush()
     target = os.fdopen(os.dup(1), "wb")

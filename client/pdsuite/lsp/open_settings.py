@@ -12,64 +12,64 @@ class OpenSettings(SettingsFiles):
     """What each file holds, or the text that is open of it. Faults are kept by the files that they are about."""
 
     def __init__(self, option: Layer, refused: Callable[[Iterable[Claim]], list[str]]) -> None:
-        super().__init__(option, refused, self._note_fault)
+        super().__init__(option, refused, self._ignore_fault_line)
         self.scripts: Set[tuple[str, str]] = frozenset()  # by folder and name, those that are open
         self._texts: dict[Path, bytes] = {}
         self._others: set[Path] = set()
         self._faults: dict[Path, list[str]] = {}
         self._unused: dict[Path, list[str]] = {}
 
-    def open(self, path: Path, octets: bytes | None) -> None:
+    def set_open_text(self, path: Path, octets: bytes | None) -> None:
         """Takes a text in place of a file, or the file again."""
         if octets is None:
             self._texts.pop(path, None)
         else:
             self._texts[path] = octets
         self._others.add(path)
-        self.layer(path)
+        self.layer_of_file(path)
 
-    def faults(self) -> Mapping[Path, list[str]]:
+    def faults_by_file(self) -> Mapping[Path, list[str]]:
         """The faults of each file, in the words of a run, without the file's place."""
         known = {path: list(lines) for path, lines in self._faults.items()}
         for path, lines in self._unused.items():
             known.setdefault(path, []).extend(lines)
         return {path: lines for path, lines in known.items() if lines}
 
-    def unused(self, held: Set[tuple[str, str]]) -> list[str]:
+    def unused_table_warnings(self, held: Set[tuple[str, str]]) -> list[str]:
         """No line: tables whose scripts aren't there are among the faults."""
         self._unused = {}
-        for line in super().unused(held | self.scripts):
+        for line in super().unused_table_warnings(held | self.scripts):
             for path in self._good:
-                if found := _place(path).match(line):
+                if found := _file_prefix_pattern(path).match(line):
                     self._unused.setdefault(path, []).append(line[found.end() :])
                     break
         return []
 
-    def look(self) -> tuple[bool, bool]:
+    def reread_changed_files(self) -> tuple[bool, bool]:
         """Reads again what isn't surely as it was, and of what another text counts since it was read."""
-        has_changed, is_torn = super().look()
-        changed = [self._look(path) for path in self._others]
+        has_changed, is_torn = super().reread_changed_files()
+        changed = [self._reread_file(path) for path in self._others]
         self._others.clear()
         return has_changed or any(changed), is_torn
 
-    def _octets(self, path: Path) -> bytes | str | None:
+    def _octets_or_fault(self, path: Path) -> bytes | str | None:
         text = self._texts.get(path)
         if text is None:
-            return super()._octets(path)
+            return super()._octets_or_fault(path)
         return text if len(text) <= LONGEST else f"{shown_place(path)}: more than {LONGEST:,} octets"
 
-    def _checked(self, path: Path, octets: bytes | str | None) -> Layer | None:
+    def _parse_and_check(self, path: Path, octets: bytes | str | None) -> Layer | None:
         self._faults.pop(path, None)
-        return super()._checked(path, octets)
+        return super()._parse_and_check(path, octets)
 
-    def _note_fault(self, line: str) -> None:
-        """Nothing: `_refuse` keeps it with its file."""
+    def _ignore_fault_line(self, line: str) -> None:
+        """Nothing: `_report_fault` keeps it with its file."""
 
-    def _refuse(self, path: Path, fault: str) -> None:
-        place = _place(path)
+    def _report_fault(self, path: Path, fault: str) -> None:
+        place = _file_prefix_pattern(path)
         self._faults[path] = [place.sub("", it, 1) for it in re.split(f"; (?={place.pattern})", fault)]
 
 
-def _place(path: Path) -> "re.Pattern[str]":
+def _file_prefix_pattern(path: Path) -> "re.Pattern[str]":
     """What a line begins with that is about a file: its place, with a line of it or without."""
     return re.compile(rf"{re.escape(shown_place(path))}(?::\d+)?: ")

@@ -31,16 +31,16 @@ class SentPacket:
     moment: int
 
     @property
-    def event(self) -> str:
+    def text_without_time(self) -> str:
         """The packet without its time."""
         return " ".join(["> " + self.flags, self.seq, *(it for it in (self.ack, self.win, self.options) if it)])
 
-    def field(self, name: str) -> str:
+    def field_text(self, name: str) -> str:
         """A field as an event has it; nothing where the packet hasn't any."""
         return {"ack": self.ack, "win": self.win, "options": self.options, "flags": self.flags, "seq": self.seq}[name]
 
 
-def sent_of(shown: object) -> SentPacket | None:
+def parse_sent_packet(shown: object) -> SentPacket | None:
     """A packet that the program shows."""
     found = _SHOWN.fullmatch(shown) if isinstance(shown, str) else None
     if found is None:
@@ -50,17 +50,21 @@ def sent_of(shown: object) -> SentPacket | None:
     return SentPacket(found["time"], found["flags"], found["seq"], ack, win, found["options"] or "", moment)
 
 
-def sent_in(shown: object) -> list[SentPacket]:
+def parse_sent_packets(shown: object) -> list[SentPacket]:
     """The packets of a list that the program shows."""
     each = shown if isinstance(shown, list) else []
-    return [it for it in map(sent_of, each) if it is not None]
+    return [it for it in map(parse_sent_packet, each) if it is not None]
 
 
-def with_sent_packet(text: str, event: Event, sent: SentPacket, with_time: bool) -> str:
+def replace_by_sent_packet(text: str, event: Event, sent: SentPacket, with_time: bool) -> str:
     """The event with what was sent in place of what it says: only fields that it writes, and options that it lacks."""
-    put = [it for name in ("flags", "seq", *_LEFT_OUT) for it in _field(text, event, name, sent.field(name))]
+    put = [
+        it
+        for name in ("flags", "seq", *_LEFT_OUT)
+        for it in _field_replacements(text, event, name, sent.field_text(name))
+    ]
     if with_time:
-        place = event.fields["time"]
+        place = event.field_extents["time"]
         put.append((place.start, place.end, sent.time))
     begin = event.item.start
     words = text[begin : event.item.end]
@@ -69,9 +73,9 @@ def with_sent_packet(text: str, event: Event, sent: SentPacket, with_time: bool)
     return words
 
 
-def _field(text: str, event: Event, name: str, value: str) -> list[tuple[int, int, str]]:
+def _field_replacements(text: str, event: Event, name: str, value: str) -> list[tuple[int, int, str]]:
     """What is put where for a field, if anything is."""
-    place = event.fields.get(name)
+    place = event.field_extents.get(name)
     if place is None:
         end = event.item.end
         return [(end, end, f" {value}")] if name == "options" and value else []
@@ -86,7 +90,7 @@ def _field(text: str, event: Event, name: str, value: str) -> list[tuple[int, in
     return [(start, place.end, value)]
 
 
-def as_lines(sents: Sequence[SentPacket]) -> list[str]:
+def event_lines_for_packets(sents: Sequence[SentPacket]) -> list[str]:
     """Events that take packets one after another, each time counted from what the one before it left as the base.
 
     A packet that left before the base has any time, which leaves the base as it is.
@@ -95,20 +99,20 @@ def as_lines(sents: Sequence[SentPacket]) -> list[str]:
     lines = []
     for it in sents:
         if it.time == _ANY_TIME:
-            lines.append(f"{_ANY_TIME} {it.event}")
+            lines.append(f"{_ANY_TIME} {it.text_without_time}")
             continue
         if base is None:
-            base = it.moment - _age(it.time)
-        lines.append(f"+{_seconds(it.moment - base)} {it.event}")
+            base = it.moment - _parse_age(it.time)
+        lines.append(f"+{_seconds_text(it.moment - base)} {it.text_without_time}")
         base = it.moment
     return lines
 
 
-def _age(time: str) -> int:
+def _parse_age(time: str) -> int:
     found = _AGE.fullmatch(time)
     return int(found[1]) * SECOND + int((found[2] or "0").ljust(6, "0")) if found else 0
 
 
-def _seconds(microseconds: int) -> str:
+def _seconds_text(microseconds: int) -> str:
     whole, part = divmod(microseconds, SECOND)
     return f"{whole}.{part:06}".rstrip("0") if part else str(whole)

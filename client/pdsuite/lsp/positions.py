@@ -35,7 +35,7 @@ class Lines(TextLines):
         self._begins = [0, *(it.end() for it in ends)]
         self._closes = [*(it.start() for it in ends), len(text)]
 
-    def offset(self, position: Position) -> int:
+    def offset_of(self, position: Position) -> int:
         """The place at a position; one past the end of its line is that end, one inside a character its begin."""
         if position.line >= len(self._begins):
             return len(self.text)
@@ -49,13 +49,13 @@ class Lines(TextLines):
                 return offset
         return end
 
-    def position(self, offset: int) -> Position:
+    def position_of(self, offset: int) -> Position:
         """The position of a place; that of one inside of a line's end is before that."""
         line = bisect_right(self._begins, offset) - 1
         before = self.text[self._begins[line] : min(offset, self._closes[line])]
         wide = 0 if self._is_narrow else sum(it >= _BEYOND for it in before)
         return Position(line, len(before) + wide)
 
-    def range(self, extent: Extent) -> Json:
+    def range_json(self, extent: Extent) -> Json:
         """A part of the text as the protocol has it."""
-        return {"start": self.position(extent.start).as_json(), "end": self.position(extent.end).as_json()}
+        return {"start": self.position_of(extent.start).as_json(), "end": self.position_of(extent.end).as_json()}

@@ -4,12 +4,12 @@ from collections.abc import Callable, Iterable, Mapping, Sequence
 from pathlib import Path
 
 from pdsuite.lsp.diagnostics import ERROR, Diagnostic, diagnostics_of
-from pdsuite.lsp.documents import Document, path_of, uri_of
+from pdsuite.lsp.documents import Document, path_of_uri, uri_of_path
 from pdsuite.lsp.features import SenderSession
 from pdsuite.lsp.json_values import Json
 from pdsuite.lsp.positions import Lines
-from pdsuite.lsp.toml_positions import diagnostic_of
-from pdsuite.lsp.workspace import Result, settings_path
+from pdsuite.lsp.toml_positions import diagnostic_of_fault
+from pdsuite.lsp.workspace import Result, settings_path_of_uri
 from pdsuite.packetdrill.layout import layout_of
 from pdsuite.packetdrill.lines import Extent
 from pdsuite.scripts.config import LONGEST
@@ -38,85 +38,89 @@ class Publisher:
         self._faulty: set[str] = set()  # the settings files that have faults
         self._session: SenderSession | None = None
 
-    def publish(self, session: SenderSession, changed: Iterable[str], mark: str = "") -> None:
+    def publish_results(self, session: SenderSession, changed: Iterable[str], mark: str = "") -> None:
         """Sends what came of scripts that changed, with a mark if there is one, and the faults of settings files."""
         self._mark = mark
-        for path in dict.fromkeys([*changed, *self._left_by(session)]):
+        for path in dict.fromkeys([*changed, *self._paths_left_behind(session)]):
             result = session.workspace.results.get(path)
-            uri = session.workspace.uri(path) or _uri(path)
+            uri = session.workspace.open_uri_of(path) or _uri_of_script(path)
             before = self._uris.pop(path, uri)
             if before != uri:
-                self._send(before, [], None)
+                self._send_if_changed(before, [], None)
             if result is None:
-                self._send(uri, [], None)
+                self._send_if_changed(uri, [], None)
                 continue
             self._uris[path] = uri
             if uri in self._documents:
-                self._publish_open(session, self._documents[uri], result)
+                self._publish_open_script(session, self._documents[uri], result)
             else:
-                self._publish_file(uri, result)
-        self._publish_settings(session.workspace.faults(), session.workspace.settings_uris)
+                self._publish_script_file(uri, result)
+        self._publish_settings_faults(session.workspace.settings_faults(), session.workspace.settings_uris)
 
-    def _left_by(self, session: SenderSession) -> list[str]:
+    def _paths_left_behind(self, session: SenderSession) -> list[str]:
         """The scripts of what ran before, where that is something else, which this doesn't follow."""
         if session is self._session:
             return []
         self._session = session
         return [path for path in self._uris if path not in session.workspace.results]
 
-    def publish_unproved(self, reason: str) -> None:
+    def publish_syntax_faults(self, reason: str) -> None:
         """Sends the faults of open texts that are no scripts, as far as the client's own reader knows."""
         for uri, document in self._documents.items():
-            fault = None if settings_path(uri) else layout_of(document.text).fault
+            fault = None if settings_path_of_uri(uri) else layout_of(document.text).fault
             found = (
                 []
                 if fault is None
                 else [_syntax_diagnostic(document, fault.place, f"{fault.words}; nothing was run: {reason}")]
             )
-            self._send(uri, [self._json(uri, document.lines, it) for it in found], document.version)
+            self._send_if_changed(
+                uri, [self._diagnostic_json(uri, document.lines, it) for it in found], document.version
+            )
 
-    def close(self, uri: str, has_file: bool) -> None:
+    def clear_closed_document(self, uri: str, has_file: bool) -> None:
         """Takes back the diagnostics of a text that is closed, unless its file has that URI and comes next."""
-        path = path_of(uri)
-        if path is None or uri_of(path) != uri or not has_file:
-            self._send(uri, [], None)
+        path = path_of_uri(uri)
+        if path is None or uri_of_path(path) != uri or not has_file:
+            self._send_if_changed(uri, [], None)
 
-    def _publish_open(self, session: SenderSession, document: Document, result: Result) -> None:
+    def _publish_open_script(self, session: SenderSession, document: Document, result: Result) -> None:
         if result.version != document.version:
             return  # the next one comes at once
         found = session.features.diagnostics(document, result)
-        diagnostics = [self._marked(self._json(document.uri, document.lines, it)) for it in found]
+        diagnostics = [self._mark_diagnostic(self._diagnostic_json(document.uri, document.lines, it)) for it in found]
         self._published[document.uri] = diagnostics
         self._notify(_METHOD, {"uri": document.uri, "version": document.version, "diagnostics": diagnostics})
 
-    def _publish_file(self, uri: str, result: Result) -> None:
+    def _publish_script_file(self, uri: str, result: Result) -> None:
         octets = b"" if result.text is None else result.text.octets
         text = octets.decode("utf-8", "surrogateescape")
         lines = Lines(text)
         found = diagnostics_of(result.outcome, result.cause, layout_of(text), lines) if result.has_diagnostics else ()
-        self._send(uri, [self._marked(self._json(uri, lines, it)) for it in found], None)
+        self._send_if_changed(uri, [self._mark_diagnostic(self._diagnostic_json(uri, lines, it)) for it in found], None)
 
-    def _marked(self, diagnostic: Json) -> Json:
+    def _mark_diagnostic(self, diagnostic: Json) -> Json:
         """A diagnostic that says first whose it is, where its sender doesn't stand; dimmed where the client can."""
         if not self._mark:
             return diagnostic
         marked = {**diagnostic, "message": f"{self._mark.strip()} {diagnostic['message']}"}
         return {**marked, "tags": [_UNNECESSARY]} if self.has_tags else marked
 
-    def _publish_settings(self, faults: Mapping[Path, Sequence[str]], places: Mapping[Path, str]) -> None:
-        by_uri = {places.get(path) or uri_of(str(path)): (path, lines) for path, lines in faults.items()}
+    def _publish_settings_faults(self, faults: Mapping[Path, Sequence[str]], places: Mapping[Path, str]) -> None:
+        by_uri = {places.get(path) or uri_of_path(str(path)): (path, lines) for path, lines in faults.items()}
         for uri in [*by_uri, *(self._faulty - by_uri.keys())]:
             path, fault_lines = by_uri.get(uri, (Path(), ()))
             document = self._documents.get(uri)
-            lines = document.lines if document is not None else Lines(_read(path) if fault_lines else "")
+            lines = document.lines if document is not None else Lines(_read_settings_text(path) if fault_lines else "")
             version = None if document is None else document.version
-            self._send(uri, [self._json(uri, lines, diagnostic_of(it, lines)) for it in fault_lines], version)
+            self._send_if_changed(
+                uri, [self._diagnostic_json(uri, lines, diagnostic_of_fault(it, lines)) for it in fault_lines], version
+            )
         self._faulty = set(by_uri)
 
-    def _json(self, uri: str, lines: Lines, it: Diagnostic) -> Json:
+    def _diagnostic_json(self, uri: str, lines: Lines, it: Diagnostic) -> Json:
         return it.as_json(uri, lines, self.has_related)
 
-    def _send(self, uri: str, found: list[Json], version: int | None) -> None:
+    def _send_if_changed(self, uri: str, found: list[Json], version: int | None) -> None:
         """Sends the diagnostics of a text, where they are others."""
         if self._published.get(uri, []) == found:
             return
@@ -128,12 +132,12 @@ class Publisher:
         self._notify(_METHOD, params if version is None else {**params, "version": version})
 
 
-def _uri(path: str) -> str:
+def _uri_of_script(path: str) -> str:
     """The URI of a script's path, which is one itself where the script has no file."""
-    return uri_of(path) if path.startswith("/") else path
+    return uri_of_path(path) if path.startswith("/") else path
 
 
-def _read(path: Path) -> str:
+def _read_settings_text(path: Path) -> str:
     try:
         return read_regular_file(path, LONGEST).decode("utf-8", "replace")
     except UnfitTextError:
@@ -142,5 +146,5 @@ def _read(path: Path) -> str:
 
 def _syntax_diagnostic(document: Document, place: int, words: str) -> Diagnostic:
     line = document.lines.line_of(min(place, len(document.text)))
-    end = max(place, document.lines.end(line))
+    end = max(place, document.lines.line_end(line))
     return Diagnostic(Extent(min(place, len(document.text)), end), ERROR, "syntax", words)

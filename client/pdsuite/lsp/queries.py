@@ -29,44 +29,44 @@ class ProgramQueries:
 
     def __init__(self, sender: LiveSender, stop: Stop, note: Callable[[str], None]) -> None:
         self.sender = sender
-        self._regress, record = sender.paths
+        self._regress, record = sender.program_paths
         self.stop = stop
         self.note = note
         self._recorder = Recorder(stop, note, record)
         self._recordings: dict[tuple[bytes, Settings], Recording] = {}
 
-    def start(self, settings: Settings) -> Program:
+    def start_live_run(self, settings: Settings) -> Program:
         """Starts a run that stays up and explains; SenderChangedError where another file lies at the program's path."""
-        return self._started(settings, STEPS, EXPLAIN, LEFTOVERS, JSON, "--cache", str(BATCH_SIZE))
+        return self._start_program(settings, STEPS, EXPLAIN, LEFTOVERS, JSON, "--cache", str(BATCH_SIZE))
 
-    def refused(self, claims: Sequence[Claim]) -> list[str]:
+    def refusal_lines(self, claims: Sequence[Claim]) -> list[str]:
         """The lines of the settings that are refused."""
         return refusal_lines(claims, lambda: Program([self._regress], self.stop))
 
-    def recording(self, text: str, settings: Settings) -> Recording:
+    def recording_of_script(self, text: str, settings: Settings) -> Recording:
         """The recording of a script with its trace; that of the same script is kept for a while."""
         octets = text.encode("utf-8", "surrogatepass")
         key = octets, settings
         if key not in self._recordings:
             while len(self._recordings) >= _KEPT:
                 del self._recordings[next(iter(self._recordings))]
-            self.sender.check()
+            self.sender.require_unchanged()
             self._recordings[key] = self._recorder.record_script("the script", octets, settings)
         return self._recordings[key]
 
-    def mended(self, text: str, settings: Settings) -> str:
+    def mend_script(self, text: str, settings: Settings) -> str:
         """A script with the least change with which it passes; empty where there is none."""
-        self.sender.check()
+        self.sender.require_unchanged()
         return self._recorder.record_script("the script", text.encode("utf-8", "surrogatepass"), settings, MINIMAL).text
 
-    def rows(self, texts: Sequence[str], settings: Settings) -> list[Row | None]:
+    def rows_of_texts(self, texts: Sequence[str], settings: Settings) -> list[Row | None]:
         """The rows of these texts; None of one that can't be a script."""
-        fit = [_text(it) for it in texts]
+        fit = [_text_or_none(it) for it in texts]
         names = [script_name(number) for number, it in enumerate(fit) if it is not None]
         commands = b"".join(add_command(script_name(number), it) for number, it in enumerate(fit) if it is not None)
         if not names:
             return [None for _ in texts]
-        with self._started(settings, "--cache", "1") as program:
+        with self._start_program(settings, "--cache", "1") as program:
             answer = program.query(commands + SETTLE, LONGEST_LINE * (len(names) + 2))
         try:
             rows = iter(parse_new_rows(answer, b"", names, len(names)))
@@ -74,26 +74,26 @@ class ProgramQueries:
             raise ProgramEndedError(f"{REGRESS}: {unexpected}") from unexpected
         return [None if it is None else next(rows) for it in fit]
 
-    def expected(self, before: str, settings: Settings) -> list[str]:
+    def expected_after_text(self, before: str, settings: Settings) -> list[str]:
         """What may stand after a text; nothing where no script begins so."""
-        text = _text(before + PROBE)
+        text = _text_or_none(before + PROBE)
         if text is None:
             return []
-        with self._started(settings, EXPLAIN, JSON, "--cache", "1") as program:
+        with self._start_program(settings, EXPLAIN, JSON, "--cache", "1") as program:
             errors = program.finish_and_read_errors(add_command(script_name(0), text), 2 * LONGEST_CAUSE)
         try:
             cause = next(iter(parse_causes(errors).values()), None)
         except UnexpectedAnswerError as unexpected:
             raise ProgramEndedError(f"{REGRESS}: {unexpected}") from unexpected
-        return _words(cause, before)
+        return _expected_at_probe(cause, before)
 
-    def _started(self, settings: Settings, *words: str) -> Program:
-        self.sender.check()
+    def _start_program(self, settings: Settings, *words: str) -> Program:
+        self.sender.require_unchanged()
         text = settings_as_toml(settings)
         return Program([self._regress, *words, *(["--settings", text] if text else [])], self.stop)
 
 
-def _words(cause: Cause | None, before: str) -> list[str]:
+def _expected_at_probe(cause: Cause | None, before: str) -> list[str]:
     """What is expected in the place of the probe, where the script breaks off there."""
     match cause:
         case {"verdict": "syntax", "line": int(line), "column": int(column), "expected": list(expected)}:
@@ -107,7 +107,7 @@ def _shown_length(text: str) -> int:
     return sum(1 if 0x20 <= it <= 0x7E else 4 for it in octets)
 
 
-def _text(text: str) -> Text | None:
+def _text_or_none(text: str) -> Text | None:
     try:
         return make_text(text.encode("utf-8", "surrogatepass"))
     except UnfitTextError:

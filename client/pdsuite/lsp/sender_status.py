@@ -40,21 +40,21 @@ class SenderStatus:
         self._was_first_shown = False
 
     @property
-    def mark(self) -> str:
+    def result_mark(self) -> str:
         """What is shown beside every result, where its sender isn't proved, or doesn't stand any more."""
         return self._mark
 
     @property
-    def is_of_before(self) -> bool:
+    def is_of_sender_before(self) -> bool:
         """Whether all results are of a sender that doesn't stand any more."""
         return self._mark == BEFORE
 
-    def is_anew(self) -> bool:
+    def take_resend_flag(self) -> bool:
         """Whether all has to be sent again, since something else is shown beside it; true at one call alone."""
         was, self._is_anew = self._is_anew, False
         return was
 
-    def look(self, follower: SenderFollower, proof: Sequence[str], is_running: bool) -> None:
+    def show_changes(self, follower: SenderFollower, proof: Sequence[str], is_running: bool) -> None:
         """Shows what is other than it was shown last; `proof` has the lines of a refused proof."""
         mark = ""
         if follower.sender is not None:
@@ -62,27 +62,27 @@ class SenderStatus:
         if mark != self._mark:
             self._mark, self._is_anew = mark, True
             if mark == BEFORE and is_running:
-                self._show(_WARNING, _LEFT)
-        if follower.phase and not self._was_first_shown and not is_running:
+                self._show_message(_WARNING, _LEFT)
+        if follower.build_phase and not self._was_first_shown and not is_running:
             self._was_first_shown = True
-            self._show(_INFO, _FIRST)
-        self._show_build(follower.phase)
+            self._show_message(_INFO, _FIRST)
+        self._show_build_progress(follower.build_phase)
         self._show_refusals((follower.failure, tuple(proof)))
 
-    def show_turned(self, scripts: Sequence[ComparedScript]) -> None:
+    def show_turned_scripts(self, scripts: Sequence[ComparedScript]) -> None:
         """Shows which scripts another sender turned: their names at once, and in the log all of it."""
         if not scripts:
             return
         names = ", ".join(printable_path(PurePath(it.path).name) for it in scripts[:_MOST])
         more = f" and {len(scripts) - _MOST} more" if len(scripts) > _MOST else ""
-        self._show(_INFO, f"the sender turned {names}{more}")
+        self._show_message(_INFO, f"the sender turned {names}{more}")
         for it in scripts:
             words = "\n".join(
                 [f"{printable_path(it.path)}: {it.kind}", *(f"  {line}" for line in compared_script_lines(it))]
             )
             self._notify("window/logMessage", {"type": _INFO, "message": words})
 
-    def _show_build(self, phase: str) -> None:
+    def _show_build_progress(self, phase: str) -> None:
         """Shows what is built as work that goes on, where the client does."""
         if phase == self._phase:
             return
@@ -104,11 +104,11 @@ class SenderStatus:
         if refusals == self._refusals:
             return
         before, self._refusals = self._refusals, refusals
-        self._faults.publish([line for each in refusals for line in each])
+        self._faults.publish_lines([line for each in refusals for line in each])
         for it in refusals:
             if it and it not in before:
-                self._show(_WARNING, "\n".join(it[:_FIRST_LINES]))
+                self._show_message(_WARNING, "\n".join(it[:_FIRST_LINES]))
                 self._notify("window/logMessage", {"type": _WARNING, "message": "\n".join(it)})
 
-    def _show(self, kind: int, words: str) -> None:
+    def _show_message(self, kind: int, words: str) -> None:
         self._notify("window/showMessage", {"type": kind, "message": f"pdsuite: {words}"})

@@ -9,13 +9,20 @@ from typing import Any
 
 from pdsuite.compare.comparison import ComparedScript
 from pdsuite.faults import Fault
-from pdsuite.lsp.capabilities import OFFERED, REGISTRATION, ClientCapabilities, client_of, folders_of
-from pdsuite.lsp.comments import foldings_of, symbols_of
+from pdsuite.lsp.capabilities import OFFERED, REGISTRATION, ClientCapabilities, client_capabilities_of, folders_of_uris
+from pdsuite.lsp.comments import comment_foldings_of, section_symbols_of
 from pdsuite.lsp.diagram_page import DiagramPage
-from pdsuite.lsp.documents import Document, opened, path_of, position_in, uri_of
-from pdsuite.lsp.features import DRAW, SenderSession, lenses, turned_between
-from pdsuite.lsp.hover import plain
-from pdsuite.lsp.json_values import Json, MalformedMessageError, list_in, member, optional, text_in
+from pdsuite.lsp.documents import Document, document_from_item, parse_position, path_of_uri, uri_of_path
+from pdsuite.lsp.features import DRAW, SenderSession, code_lenses, turned_scripts_between
+from pdsuite.lsp.hover import strip_markdown
+from pdsuite.lsp.json_values import (
+    Json,
+    MalformedMessageError,
+    nested_member_or_none,
+    require_list,
+    require_member,
+    require_text,
+)
 from pdsuite.lsp.publisher import Publisher
 from pdsuite.lsp.sender_status import SenderStatus
 from pdsuite.lsp.transport import CONTENT_MODIFIED, INTERNAL_ERROR, INVALID_PARAMS, INVALID_REQUEST, NOT_INITIALIZED
@@ -73,7 +80,7 @@ class Server:
         """Whether a client has begun, and not ended."""
         return self._is_ready and not self._is_shut_down
 
-    def attach(self, transport: Transport) -> None:
+    def attach_transport(self, transport: Transport) -> None:
         """Takes the transport that its messages come by."""
         self._transport = transport
         self._publisher = Publisher(transport.notify, self.documents)
@@ -91,26 +98,26 @@ class Server:
         assert self._transport is not None
         return self._transport
 
-    def handlers(self) -> Mapping[str, Callable[[Any], Any]]:
+    def message_handlers(self) -> Mapping[str, Callable[[Any], Any]]:
         """What is done at each message."""
         requests: dict[str, Callable[[Any], Any]] = {
-            method: self._later(method) for method in (*_ANSWERS, "workspace/executeCommand")
+            method: self._defer_request(method) for method in (*_ANSWERS, "workspace/executeCommand")
         }
         return {
             **requests,
             "initialize": self._initialize,
-            "initialized": self._initialized,
+            "initialized": self._note_initialized,
             "shutdown": self._shut_down,
-            "exit": self._exit,
-            "textDocument/didOpen": self._open,
-            "textDocument/didChange": self._change,
-            "textDocument/didSave": self._save,
-            "textDocument/didClose": self._close,
-            "workspace/didChangeWatchedFiles": self._files_changed,
-            "workspace/didChangeWorkspaceFolders": self._change_folders,
+            "exit": self._note_exit,
+            "textDocument/didOpen": self._open_document,
+            "textDocument/didChange": self._change_document,
+            "textDocument/didSave": self._begin_at_save,
+            "textDocument/didClose": self._close_document,
+            "workspace/didChangeWatchedFiles": self._note_changed_files,
+            "workspace/didChangeWorkspaceFolders": self._change_root_folders,
         }
 
-    def begin(self) -> None:
+    def begin_session(self) -> None:
         """Looks for the programs, and begins with what is open; where they aren't there, says so once."""
         before, self.session = self.session, None
         self._is_awaiting = False
@@ -119,70 +126,70 @@ class Server:
         except Fault as fault:
             if self._shown_fault != str(fault):
                 self._shown_fault = str(fault)
-                self.show(_ERROR, f"pdsuite: {fault}")
-                self.publish_unproved()
+                self.show_message(_ERROR, f"pdsuite: {fault}")
+                self.publish_syntax_faults()
             return
         for document in self.documents.values():
-            self.session.workspace.put(document)
-        self._turned = None if before is None else partial(turned_between, before, self.session)
+            self.session.workspace.put_document(document)
+        self._turned = None if before is None else partial(turned_scripts_between, before, self.session)
 
     def await_sender(self, reason: str) -> None:
         """Sends what is known without a sender, while one is built or can't be."""
         self.session, self._is_awaiting = None, True
         if self._shown_fault != reason:
             self._shown_fault = reason
-            self.publish_unproved()
+            self.publish_syntax_faults()
 
     @property
     def is_behind(self) -> bool:
         """Whether a text has changed since its results were worked out."""
         return self.session is not None and self.session.workspace.is_behind
 
-    def settle(self, events: list[FileEvent], now: float, is_at_rest: bool) -> None:
+    def rerun_and_publish(self, events: list[FileEvent], now: float, is_at_rest: bool) -> None:
         """Has run again what changed, and sends the client what came of it."""
         if self.session is None or self._publisher is None:
             return
         reported, self.events = [*events, *self.events], []
-        changed = self.session.workspace.settle(reported, now, is_at_rest)
-        if changed and self.transport.is_waiting:
-            self.transport.take()
-        if self.sender_status.is_anew():
+        changed = self.session.workspace.rerun_changes(reported, now, is_at_rest)
+        if changed and self.transport.has_messages:
+            self.transport.take_messages()
+        if self.sender_status.take_resend_flag():
             changed = list(dict.fromkeys([*changed, *self.session.workspace.results]))
-        self._publisher.publish(self.session, changed, BEFORE if self.sender_status.is_of_before else "")
+        self._publisher.publish_results(self.session, changed, BEFORE if self.sender_status.is_of_sender_before else "")
         if self._turned is not None:
             turned, self._turned = self._turned, None
-            self.sender_status.show_turned(turned())
+            self.sender_status.show_turned_scripts(turned())
         if changed and self.client.refreshes_lenses:
             self.transport.request("workspace/codeLens/refresh", None)
 
-    def answer(self) -> bool:
+    def answer_next_request(self) -> bool:
         """Answers the request that waits longest; whether one did."""
         while self._pending:
             request = self._pending.pop(0)
             if not request.promise.done():
-                self._answer(request)
+                self._answer_request(request)
                 return True
         return False
 
-    def look_at_pages(self) -> None:
+    def open_drawn_pages(self) -> None:
         """Has pages opened that are drawn."""
         for uri, it in list(self.pages.items()):
             if it.has_ended():
                 del self.pages[uri]
-                self._show_page(it)
+                self._show_drawn_page(it)
 
-    def log(self, line: str) -> None:
+    def log_line(self, line: str) -> None:
         """Logs something that people may look up."""
         self.transport.notify("window/logMessage", {"type": _WARNING, "message": line})
 
-    def show(self, kind: int, line: str) -> None:
+    def show_message(self, kind: int, line: str) -> None:
         """Shows people something at once."""
         self.transport.notify("window/showMessage", {"type": kind, "message": line})
 
-    def publish_unproved(self) -> None:
+    def publish_syntax_faults(self) -> None:
         """Sends the faults of texts that are no scripts, as far as that is known without a program."""
         if self._publisher is not None:
-            self._publisher.publish_unproved(self._shown_fault)
+            self._publisher.publish_syntax_faults(self._shown_fault)
 
     # ---- the client's life
 
@@ -190,7 +197,7 @@ class Server:
         if self._is_initialized:
             raise RequestError("it is initialized already", INVALID_REQUEST)
         self._is_initialized = True
-        self.client = client_of(params)
+        self.client = client_capabilities_of(params)
         if self._publisher is not None:
             self._publisher.has_related = self.client.has_related
             self._publisher.has_tags = self.client.has_tags
@@ -198,7 +205,7 @@ class Server:
             self._sender_status.takes_progress = self.client.takes_progress
         return {"capabilities": OFFERED, "serverInfo": {"name": "pdsuite", "version": client_commit()}}
 
-    def _initialized(self, params: object) -> None:
+    def _note_initialized(self, params: object) -> None:
         self._is_ready = True
         if self.client.watches:
             self.transport.request("client/registerCapability", REGISTRATION)
@@ -206,94 +213,96 @@ class Server:
     def _shut_down(self, params: object) -> None:
         self._is_shut_down = True
 
-    def _exit(self, params: object) -> None:
+    def _note_exit(self, params: object) -> None:
         self.status = DONE if self._is_shut_down else FAILED
 
     # ---- texts
 
-    def _open(self, params: object) -> None:
-        self._put(opened(member(params, "textDocument")))
+    def _open_document(self, params: object) -> None:
+        self._put_document(document_from_item(require_member(params, "textDocument")))
 
-    def _change(self, params: object) -> None:
-        item = member(params, "textDocument")
-        document = self._document(text_in(item, "uri"))
-        version = optional(item, "version")
-        changes = list_in(params, "contentChanges")
-        self._put(document.changed(version if isinstance(version, int) else document.version + 1, changes))
+    def _change_document(self, params: object) -> None:
+        item = require_member(params, "textDocument")
+        document = self._require_document(require_text(item, "uri"))
+        version = nested_member_or_none(item, "version")
+        changes = require_list(params, "contentChanges")
+        self._put_document(
+            document.with_changes(version if isinstance(version, int) else document.version + 1, changes)
+        )
 
-    def _put(self, document: Document) -> None:
-        self._give_up(document.uri)
+    def _put_document(self, document: Document) -> None:
+        self._refuse_requests_about(document.uri)
         self.documents[document.uri] = document
         if self.session is not None:
-            self.session.workspace.put(document)
+            self.session.workspace.put_document(document)
         elif self._shown_fault:
-            self.publish_unproved()
+            self.publish_syntax_faults()
 
-    def _save(self, params: object) -> None:
+    def _begin_at_save(self, params: object) -> None:
         if self.session is None and self._is_initialized and not self._is_awaiting:
-            self.begin()
+            self.begin_session()
 
-    def _close(self, params: object) -> None:
-        uri = text_in(member(params, "textDocument"), "uri")
-        self._give_up(uri)
+    def _close_document(self, params: object) -> None:
+        uri = require_text(require_member(params, "textDocument"), "uri")
+        self._refuse_requests_about(uri)
         if self.documents.pop(uri, None) is not None and self.session is not None:
-            self.session.workspace.close(uri)
-            self.session.features.forget(uri)
+            self.session.workspace.close_document(uri)
+            self.session.features.forget_document(uri)
         if self._publisher is not None:
-            self._publisher.close(uri, has_file=self.session is not None)
+            self._publisher.clear_closed_document(uri, has_file=self.session is not None)
 
-    def _give_up(self, uri: str) -> None:
+    def _refuse_requests_about(self, uri: str) -> None:
         """Gives up requests about a text that is another now."""
         for request in self._pending:
             if request.uri == uri:
                 request.promise.refuse(CONTENT_MODIFIED, "the text has changed")
 
-    def _document(self, uri: str) -> Document:
+    def _require_document(self, uri: str) -> Document:
         if uri not in self.documents:
             raise MalformedMessageError(f"{uri} isn't open")
         return self.documents[uri]
 
-    def _files_changed(self, params: object) -> None:
-        for change in list_in(params, "changes"):
-            path = path_of(text_in(change, "uri"))
+    def _note_changed_files(self, params: object) -> None:
+        for change in require_list(params, "changes"):
+            path = path_of_uri(require_text(change, "uri"))
             if path is not None:
                 folder, name = os.path.split(path)
-                kind = FileEventKind.GONE if optional(change, "type") == _DELETED else FileEventKind.CLOSED
+                kind = FileEventKind.GONE if nested_member_or_none(change, "type") == _DELETED else FileEventKind.CLOSED
                 self.events.append(FileEvent(kind, os.path.realpath(folder), name))
 
-    def _change_folders(self, params: object) -> None:
-        event = member(params, "event")
-        gone = folders_of([text_in(it, "uri") for it in optional(event, "removed") or []])
-        new = folders_of([text_in(it, "uri") for it in optional(event, "added") or []])
+    def _change_root_folders(self, params: object) -> None:
+        event = require_member(params, "event")
+        gone = folders_of_uris([require_text(it, "uri") for it in nested_member_or_none(event, "removed") or []])
+        new = folders_of_uris([require_text(it, "uri") for it in nested_member_or_none(event, "added") or []])
         roots = dict.fromkeys([*(it for it in self.client.roots if it not in gone), *new])
         self.client = replace(self.client, roots=tuple(roots))
         if self.session is not None:
-            self.begin()
+            self.begin_session()
 
     # ---- requests
 
-    def _later(self, method: str) -> Callable[[Any], Any]:
+    def _defer_request(self, method: str) -> Callable[[Any], Any]:
         def wait(params: object) -> Promise:
             if not self._is_initialized or self._is_shut_down:
                 code = INVALID_REQUEST if self._is_initialized else NOT_INITIALIZED
                 raise RequestError("it isn't initialized, or shut down", code)
             promise = Promise()
-            uri = optional(params, "textDocument", "uri")
+            uri = nested_member_or_none(params, "textDocument", "uri")
             self._pending.append(Request(promise, method, params, uri if isinstance(uri, str) else None))
             return promise
 
         return wait
 
-    def _answer(self, request: Request) -> None:
+    def _answer_request(self, request: Request) -> None:
         try:
             if request.method == "workspace/executeCommand":
-                self._execute(request.params)
+                self._start_drawing(request.params)
                 request.promise.answer(None)
             else:
-                document = self._document(text_in(member(request.params, "textDocument"), "uri"))
+                document = self._require_document(require_text(require_member(request.params, "textDocument"), "uri"))
                 found = _ANSWERS[request.method](self, document, request.params)
                 if self.session is not None:
-                    self.session.sender.check()
+                    self.session.sender.require_unchanged()
                 request.promise.answer(found)
         except SenderChangedError:
             request.promise.refuse(CONTENT_MODIFIED, "the sender has changed")
@@ -307,105 +316,107 @@ class Server:
         except Exception as error:
             request.promise.refuse(INTERNAL_ERROR, f"{type(error).__name__}: {error}")
 
-    def _hover(self, document: Document, params: object) -> Json | None:
+    def _answer_hover(self, document: Document, params: object) -> Json | None:
         if self.session is None:
             return None
-        result = self.session.workspace.result(document.uri)
-        found = self.session.features.hover(document, result, position_in(member(params, "position")))
+        result = self.session.workspace.current_result_of(document.uri)
+        found = self.session.features.hover(document, result, parse_position(require_member(params, "position")))
         if found is None:
             return None
         words, extent = found
-        words += f"\n\n{self.sender_status.mark.strip(' ()')}" if self.sender_status.mark else ""
+        words += f"\n\n{self.sender_status.result_mark.strip(' ()')}" if self.sender_status.result_mark else ""
         kind = "markdown" if self.client.takes_markdown else "plaintext"
-        shown = words if self.client.takes_markdown else plain(words)
-        return {"contents": {"kind": kind, "value": shown}, "range": document.lines.range(extent)}
+        shown = words if self.client.takes_markdown else strip_markdown(words)
+        return {"contents": {"kind": kind, "value": shown}, "range": document.lines.range_json(extent)}
 
-    def _actions(self, document: Document, params: object) -> list[Json]:
-        span = member(params, "range")
-        start, end = (document.lines.offset(position_in(member(span, it))) for it in ("start", "end"))
-        if self.session is None or (result := self.session.workspace.result(document.uri)) is None:
+    def _answer_code_actions(self, document: Document, params: object) -> list[Json]:
+        span = require_member(params, "range")
+        start, end = (document.lines.offset_of(parse_position(require_member(span, it))) for it in ("start", "end"))
+        if self.session is None or (result := self.session.workspace.current_result_of(document.uri)) is None:
             return []
-        only = optional(params, "context", "only")
-        offers = self.session.features.actions(document, result, Extent(start, end))
-        found = optional(params, "context", "diagnostics")
+        only = nested_member_or_none(params, "context", "only")
+        offers = self.session.features.working_actions(document, result, Extent(start, end))
+        found = nested_member_or_none(params, "context", "diagnostics")
         return [
             {
-                "title": f"{it.action.title}{BEFORE if self.sender_status.is_of_before else ''}",
+                "title": f"{it.action.title}{BEFORE if self.sender_status.is_of_sender_before else ''}",
                 "kind": it.action.kind,
                 "diagnostics": found if isinstance(found, list) else [],
                 "isPreferred": number == 0,
-                "edit": self._edit(document, it.edits),
+                "edit": self._workspace_edit(document, it.edits),
             }
             for number, it in enumerate(offers)
-            if not isinstance(only, list) or any(_is_kind(it.action.kind, kind) for kind in only)
+            if not isinstance(only, list) or any(_is_action_kind_within(it.action.kind, kind) for kind in only)
         ]
 
-    def _edit(self, document: Document, edits: list[Json]) -> Json:
+    def _workspace_edit(self, document: Document, edits: list[Json]) -> Json:
         if not self.client.takes_versions:
             return {"changes": {document.uri: edits}}
         text = {"uri": document.uri, "version": document.version}
         return {"documentChanges": [{"textDocument": text, "edits": edits}]}
 
-    def _lenses(self, document: Document, params: object) -> list[Json]:
+    def _answer_lenses(self, document: Document, params: object) -> list[Json]:
         if self.session is None:
             return []
-        if self.session.workspace.path(document.uri) is None:
+        if self.session.workspace.result_path_of(document.uri) is None:
             return []
-        return lenses(document.uri, self.session.workspace.result(document.uri), self.sender_status.mark)
+        return code_lenses(
+            document.uri, self.session.workspace.current_result_of(document.uri), self.sender_status.result_mark
+        )
 
-    def _symbols(self, document: Document, params: object) -> list[Json]:
-        return symbols_of(document.lines)
+    def _answer_symbols(self, document: Document, params: object) -> list[Json]:
+        return section_symbols_of(document.lines)
 
-    def _foldings(self, document: Document, params: object) -> list[Json]:
-        return foldings_of(document.lines)
+    def _answer_foldings(self, document: Document, params: object) -> list[Json]:
+        return comment_foldings_of(document.lines)
 
-    def _completion(self, document: Document, params: object) -> list[Json]:
+    def _answer_completion(self, document: Document, params: object) -> list[Json]:
         if self.session is None:
             return []
-        result = self.session.workspace.result(document.uri)
-        position = position_in(member(params, "position"))
+        result = self.session.workspace.current_result_of(document.uri)
+        position = parse_position(require_member(params, "position"))
         return self.session.features.completion(document, result, position, self.client.takes_snippets)
 
     # ---- drawing
 
-    def _execute(self, params: object) -> None:
-        command, words = text_in(params, "command"), optional(params, "arguments")
+    def _start_drawing(self, params: object) -> None:
+        command, words = require_text(params, "command"), nested_member_or_none(params, "arguments")
         if command != DRAW or not isinstance(words, list) or len(words) != 1 or not isinstance(words[0], str):
             raise MalformedMessageError(f"{DRAW} takes a URI")
-        document = self._document(words[0])
-        result = None if self.session is None else self.session.workspace.result(document.uri)
+        document = self._require_document(words[0])
+        result = None if self.session is None else self.session.workspace.current_result_of(document.uri)
         if self.session is None or result is None or result.text is None:
             raise Fault("nothing was run that could be drawn")
-        if self.sender_status.is_of_before:
+        if self.sender_status.is_of_sender_before:
             raise Fault("the sender has changed: what would be drawn is of the one before")
         if document.uri in self.pages:
             self.pages.pop(document.uri).close()
         self.pages[document.uri] = DiagramPage(result, self.session.sender)
 
-    def _show_page(self, drawn: DiagramPage) -> None:
+    def _show_drawn_page(self, drawn: DiagramPage) -> None:
         if drawn.fault:
-            self.show(_WARNING, f"pdsuite: {drawn.fault}")
+            self.show_message(_WARNING, f"pdsuite: {drawn.fault}")
         if drawn.page.exists():
             if self.client.shows_documents:
-                self.transport.request("window/showDocument", {"uri": uri_of(str(drawn.page)), "external": True})
+                self.transport.request("window/showDocument", {"uri": uri_of_path(str(drawn.page)), "external": True})
             else:
-                self.show(_INFO, f"pdsuite: drawn in {drawn.page}")
+                self.show_message(_INFO, f"pdsuite: drawn in {drawn.page}")
 
 
-def _is_kind(kind: str, wanted: object) -> bool:
+def _is_action_kind_within(kind: str, wanted: object) -> bool:
     return isinstance(wanted, str) and (wanted == "" or kind == wanted or kind.startswith(f"{wanted}."))
 
 
-def home_of(client: ClientCapabilities) -> Path:
+def home_folder_of(client: ClientCapabilities) -> Path:
     """The folder in which texts count that have no file."""
     return client.roots[0] if client.roots else Path.cwd()
 
 
 _ANSWERS: Mapping[str, Callable[[Server, Document, object], Any]] = {
-    "textDocument/hover": Server._hover,
-    "textDocument/codeAction": Server._actions,
-    "textDocument/codeLens": Server._lenses,
-    "textDocument/documentSymbol": Server._symbols,
-    "textDocument/foldingRange": Server._foldings,
-    "textDocument/completion": Server._completion,
+    "textDocument/hover": Server._answer_hover,
+    "textDocument/codeAction": Server._answer_code_actions,
+    "textDocument/codeLens": Server._answer_lenses,
+    "textDocument/documentSymbol": Server._answer_symbols,
+    "textDocument/foldingRange": Server._answer_foldings,
+    "textDocument/completion": Server._answer_completion,
 }

@@ -4,7 +4,7 @@ import re
 from collections.abc import Callable, Mapping, Sequence
 
 from pdsuite.lsp.diagnostics import ERROR, SOURCE
-from pdsuite.lsp.documents import uri_of
+from pdsuite.lsp.documents import uri_of_path
 from pdsuite.lsp.json_values import Json
 
 # A line about a place; columns count from 1.
@@ -20,23 +20,23 @@ class SourceDiagnostics:
         self._notify = notify
         self._published: Mapping[str, list[Json]] = {}
 
-    def publish(self, lines: Sequence[str]) -> None:
+    def publish_lines(self, lines: Sequence[str]) -> None:
         """Publishes these lines, where they are others."""
-        found = places_of(lines)
+        found = diagnostics_by_source(lines)
         for uri in dict.fromkeys([*found, *self._published]):
             if found.get(uri) != self._published.get(uri):
                 self._notify("textDocument/publishDiagnostics", {"uri": uri, "diagnostics": found.get(uri, [])})
         self._published = found
 
 
-def places_of(lines: Sequence[str]) -> Mapping[str, list[Json]]:
+def diagnostics_by_source(lines: Sequence[str]) -> Mapping[str, list[Json]]:
     """The diagnostics of lines, by the URIs of sources; a line without a place is of the one above."""
     found: dict[str, list[Json]] = {}
     last: Json | None = None
     for line in lines:
         if placed := _PLACED.fullmatch(line.strip()):
-            last = _diagnostic(int(placed["line"]), int(placed["column"]), placed["said"])
-            found.setdefault(uri_of(placed["path"]), []).append(last)
+            last = _diagnostic_to_line_end(int(placed["line"]), int(placed["column"]), placed["said"])
+            found.setdefault(uri_of_path(placed["path"]), []).append(last)
         elif line.startswith(_OF_CRATE):
             last = None
         elif last is not None:
@@ -44,7 +44,7 @@ def places_of(lines: Sequence[str]) -> Mapping[str, list[Json]]:
     return found
 
 
-def _diagnostic(line: int, column: int, message: str) -> Json:
+def _diagnostic_to_line_end(line: int, column: int, message: str) -> Json:
     """A diagnostic from a place to the end of its line."""
     row = max(0, line - 1)
     span = {"start": {"line": row, "character": max(0, column - 1)}, "end": {"line": row + 1, "character": 0}}

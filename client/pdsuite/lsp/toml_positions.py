@@ -13,28 +13,28 @@ _NAMED = re.compile(r'(?P<key>[^:\[\]]+): .*?(?:\(\["(?P<table>.*?)"\]\)|$)', re
 _TABLE_NAMED = re.compile(r'\["?(?P<table>.*?)"?\]: ')
 
 
-def diagnostic_of(fault: str, lines: Lines) -> Diagnostic:
+def diagnostic_of_fault(fault: str, lines: Lines) -> Diagnostic:
     """The diagnostic of a fault, whose words are those of a run without the file's name."""
-    return Diagnostic(_extent(fault, lines), ERROR, "settings", fault)
+    return Diagnostic(_extent_of_fault(fault, lines), ERROR, "settings", fault)
 
 
-def key_at(lines: Lines, line: int) -> str | None:
+def key_at_line(lines: Lines, line: int) -> str | None:
     """The key that a line gives a value."""
-    return key_on_line(lines.content(line))
+    return key_on_line(lines.line_content(line))
 
 
-def _extent(fault: str, lines: Lines) -> Extent:
+def _extent_of_fault(fault: str, lines: Lines) -> Extent:
     if found := _AT.search(fault):
-        line = min(int(found[1]), lines.count) - 1
-        start = min(lines.start(line) + int(found[2]) - 1, lines.end(line))
-        return Extent(start, lines.end(line)) if start < lines.end(line) else lines.whole_line(line)
+        line = min(int(found[1]), lines.line_count) - 1
+        start = min(lines.line_start(line) + int(found[2]) - 1, lines.line_end(line))
+        return Extent(start, lines.line_end(line)) if start < lines.line_end(line) else lines.trimmed_line_extent(line)
     if found := _TABLE_NAMED.match(fault):
-        return _line_of(found["table"], "", lines)
+        return _line_of_table_or_key(found["table"], "", lines)
     if found := _NAMED.match(fault):
-        return _line_of(found["table"] or "", found["key"], lines)
-    return lines.whole_line(0)
+        return _line_of_table_or_key(found["table"] or "", found["key"], lines)
+    return lines.trimmed_line_extent(0)
 
 
-def _line_of(table: str, key: str, lines: Lines) -> Extent:
+def _line_of_table_or_key(table: str, key: str, lines: Lines) -> Extent:
     """The line that begins a table or gives its key a value; the first where none does."""
-    return lines.whole_line((find_toml_places("", lines.text).line_of(table, key) or 1) - 1)
+    return lines.trimmed_line_extent((find_toml_places("", lines.text).line_of(table, key) or 1) - 1)

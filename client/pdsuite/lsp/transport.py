@@ -53,7 +53,7 @@ class Promise(Future[Any]):
             self.set_exception(RequestError(message, code))
 
 
-def _bodies(file: BinaryIO) -> Iterator[bytes]:
+def _read_message_bodies(file: BinaryIO) -> Iterator[bytes]:
     """The octets of each message, which a line with their number precedes; lines that say none are left out."""
     length: int | None = None
     while line := file.readline(_LONGEST_HEAD):
@@ -69,7 +69,7 @@ def _bodies(file: BinaryIO) -> Iterator[bytes]:
             length = None
 
 
-def _message(body: bytes) -> object:
+def _parse_message(body: bytes) -> object:
     """The message that octets hold, or the answer to some that hold no JSON."""
     try:
         return json.loads(body)
@@ -99,11 +99,11 @@ class Transport:
         return self._wake_reader
 
     @property
-    def is_waiting(self) -> bool:
+    def has_messages(self) -> bool:
         """Whether there are messages that weren't taken."""
         return not self._messages.empty()
 
-    def take(self) -> None:
+    def take_messages(self) -> None:
         """Takes all messages that have come, in their order."""
         with suppress(BlockingIOError):
             while os.read(self._wake_reader, 4_096):
@@ -113,12 +113,14 @@ class Transport:
             if message is _END:
                 self.is_at_end = True
             elif isinstance(message, RequestError):
-                self._refuse(message)
-            elif _is_message(message):
+                self._answer_unreadable(message)
+            elif _is_valid_message(message):
                 self.received_at = time.monotonic()
                 self._endpoint.consume(message)
             else:
-                self._refuse(RequestError("neither a request, nor a notification, nor an answer", INVALID_REQUEST))
+                self._answer_unreadable(
+                    RequestError("neither a request, nor a notification, nor an answer", INVALID_REQUEST)
+                )
 
     def notify(self, method: str, params: object) -> None:
         """Notifies the client of something."""
@@ -128,24 +130,24 @@ class Transport:
         """Requests something of the client, whatever it answers."""
         self._endpoint.request(method, params)
 
-    def _refuse(self, why: RequestError) -> None:
+    def _answer_unreadable(self, why: RequestError) -> None:
         """Answers what can't be read as a message, and so has no number."""
         self._writer.write({"jsonrpc": VERSION, "id": None, "error": why.to_dict()})
 
     def _listen(self) -> None:
         try:
-            for body in _bodies(self._source):
-                self._receive(_message(body))
+            for body in _read_message_bodies(self._source):
+                self._queue_message(_parse_message(body))
         finally:
-            self._receive(_END)
+            self._queue_message(_END)
 
-    def _receive(self, message: object) -> None:
+    def _queue_message(self, message: object) -> None:
         self._messages.put(message)
         with suppress(OSError):
             os.write(self._wake_writer, b"x")
 
 
-def _is_message(message: object) -> bool:
+def _is_valid_message(message: object) -> bool:
     """Whether this is a message: a request or notification by its name, or an answer to a request."""
     if not isinstance(message, dict) or message.get("jsonrpc") != VERSION:
         return False

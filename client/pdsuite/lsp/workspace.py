@@ -5,7 +5,7 @@ from collections.abc import Callable, Mapping, Sequence
 from dataclasses import dataclass, replace
 from pathlib import Path
 
-from pdsuite.lsp.documents import Document, path_of
+from pdsuite.lsp.documents import Document, path_of_uri
 from pdsuite.lsp.open_settings import OpenSettings
 from pdsuite.programs.protocol import Cause
 from pdsuite.programs.verdict import Row, Verdict
@@ -86,87 +86,87 @@ class Workspace:
         """The settings files that are open, each with its URI."""
         return self._settings_uris
 
-    def faults(self) -> Mapping[Path, list[str]]:
+    def settings_faults(self) -> Mapping[Path, list[str]]:
         """The faults of settings files."""
-        return self._settings.faults()
+        return self._settings.faults_by_file()
 
-    def put(self, document: Document) -> None:
+    def put_document(self, document: Document) -> None:
         """Takes a text that was opened or changed."""
         known = self._open.get(document.uri)
         self._documents[document.uri] = document
-        if path := settings_path(document.uri):
-            self._settings.open(path, document.octets)
+        if path := settings_path_of_uri(document.uri):
+            self._settings.set_open_text(path, document.octets)
             self._settings_uris[path] = document.uri
             self._events.append(FileEvent(FileEventKind.CLOSED, str(path.parent), CONFIG_FILE))
         else:
-            file = self._script_file(document.uri) if known is None else known.file
-            self._open[document.uri] = OpenScript(document, file, document.script())
+            file = self._script_file_of_uri(document.uri) if known is None else known.file
+            self._open[document.uri] = OpenScript(document, file, document.script_or_reason())
             if known is None:
-                self._look_for_tables()
+                self._tell_settings_open_scripts()
         self._is_dirty = True
 
-    def close(self, uri: str) -> None:
+    def close_document(self, uri: str) -> None:
         """Takes a text's file again."""
         if self._documents.pop(uri, None) is None:
             return
         self._open.pop(uri, None)
-        self._look_for_tables()
-        if path := settings_path(uri):
-            self._settings.open(path, None)
+        self._tell_settings_open_scripts()
+        if path := settings_path_of_uri(uri):
+            self._settings.set_open_text(path, None)
             self._settings_uris.pop(path, None)
             self._events.append(FileEvent(FileEventKind.CLOSED, str(path.parent), CONFIG_FILE))
         self._is_dirty = True
 
-    def path(self, uri: str) -> str | None:
+    def result_path_of(self, uri: str) -> str | None:
         """The path under which an open script stands among the results."""
         return self._paths.get(uri)
 
-    def uri(self, path: str) -> str | None:
+    def open_uri_of(self, path: str) -> str | None:
         """The URI under which a script is open that stands under this path."""
         return self._uris.get(path)
 
-    def result(self, uri: str) -> Result | None:
+    def current_result_of(self, uri: str) -> Result | None:
         """What came of an open script, where that is of its present text."""
         found = self.results.get(self._paths.get(uri, ""))
         document = self._documents.get(uri)
         return found if document is not None and found is not None and found.version == document.version else None
 
-    def settle(self, events: Sequence[FileEvent], now: float, is_at_rest: bool = True) -> list[str]:
+    def rerun_changes(self, events: Sequence[FileEvent], now: float, is_at_rest: bool = True) -> list[str]:
         """Looks at what is reported or, at rest, due, and has run again what that changes: the paths whose results are
         others."""
         reported = [*events, *self._events]
         self._events = []
-        has_changed = bool(is_at_rest or reported) and self._folders.look(reported, now)
+        has_changed = bool(is_at_rest or reported) and self._folders.take_in_events(reported, now)
         if has_changed:
-            self._seen = self._folders.wanted()
-        has_ended = self._pool.mend()
+            self._seen = self._folders.wanted_and_unfit()
+        has_ended = self._pool.restart_ended_runs()
         if not (has_changed or has_ended or self._is_dirty):
             return []
         self._is_dirty = False
         files = {path: it.found for path, it in self._folders.files.items()}
         wanted, unfit = dict(self._seen[0]), dict(self._seen[1])
-        versions = self._lay_open(files, wanted, unfit)
-        self._pool.renew(SPENT)
-        self._pool.follow(wanted)
-        return self._take_results(files, wanted, unfit, versions)
+        versions = self._put_open_over_files(files, wanted, unfit)
+        self._pool.renew_long_runs(SPENT)
+        self._pool.hold_wanted_scripts(wanted)
+        return self._update_results(files, wanted, unfit, versions)
 
-    def rest(self) -> None:
+    def renew_long_runs(self) -> None:
         """Does what can wait: starts new runs in place of those whose histories are long."""
-        self._pool.renew(WORN)
+        self._pool.renew_long_runs(WORN)
 
-    def due(self) -> float:
+    def next_look_moment(self) -> float:
         """The moment at which something has to be looked at, whatever is reported."""
-        return self._folders.due()
+        return self._folders.next_look_moment()
 
     def filenos(self) -> list[int]:
         """What can be read once a program has ended by itself."""
         return [it.program.fileno() for it in self._pool.runs]
 
-    def _look_for_tables(self) -> None:
+    def _tell_settings_open_scripts(self) -> None:
         """Says which scripts tables may be about though no file is there."""
         self._settings.scripts = {(it.file.folder, it.file.name) for it in self._open.values()}
 
-    def _lay_open(
+    def _put_open_over_files(
         self, files: dict[str, ScriptFile], wanted: dict[str, WantedScript], unfit: dict[str, str]
     ) -> dict[str, int]:
         """Puts what is open in place of files; the versions of open scripts, by their paths."""
@@ -185,44 +185,44 @@ class Workspace:
             if isinstance(it.text, str):
                 unfit[path] = it.text
             else:
-                wanted[path] = WantedScript(self._rules(files[path]).settings, it.text)
+                wanted[path] = WantedScript(self._rules_of_file(files[path]).settings, it.text)
         return versions
 
-    def _script_file(self, uri: str) -> ScriptFile:
-        path = path_of(uri)
+    def _script_file_of_uri(self, uri: str) -> ScriptFile:
+        path = path_of_uri(uri)
         if path is None:
             return ScriptFile(uri, str(self._home), uri.rpartition("/")[2])
         folder, name = os.path.split(os.path.realpath(path))
         return ScriptFile(path, folder, name)
 
-    def _rules(self, file: ScriptFile) -> ScriptRules:
+    def _rules_of_file(self, file: ScriptFile) -> ScriptRules:
         return self._folders.suite.rules_of_script(file)
 
-    def _take_results(
+    def _update_results(
         self,
         files: Mapping[str, ScriptFile],
         wanted: Mapping[str, WantedScript],
         unfit: Mapping[str, str],
         versions: Mapping[str, int],
     ) -> list[str]:
-        rows, causes, steps = dict(self._pool.rows()), self._pool.causes(), self._pool.steps()
+        rows, causes, steps = dict(self._pool.rows()), self._pool.causes_by_path(), self._pool.steps_by_path()
         before, results, changed = self.results, {}, []
         for path, file in files.items():
             row = rows.get(path) if path in wanted else Row(Verdict.ERROR, word=unfit.get(path, ""))
             if row is None:
                 continue
-            new_result = self._result(file, row, wanted.get(path), causes.get(path))
+            new_result = self._make_result(file, row, wanted.get(path), causes.get(path))
             result = replace(new_result, version=versions.get(path), steps=steps.get(path))
             old = before.get(path)
-            results[path] = kept = _merged(old, result)
+            results[path] = kept = _keep_old_if_same(old, result)
             if kept is not old:
                 changed.append(path)
         self._check()
         self.results = results
         return [*changed, *(path for path in before if path not in results)]
 
-    def _result(self, file: ScriptFile, row: Row, wanted: WantedScript | None, cause: Cause | None) -> Result:
-        rules = self._rules(file)
+    def _make_result(self, file: ScriptFile, row: Row, wanted: WantedScript | None, cause: Cause | None) -> Result:
+        rules = self._rules_of_file(file)
         text = None if wanted is None else wanted.text
         line = None if text is None or row.line is None else text.line(row.line)
         settings = () if wanted is None else wanted.settings
@@ -232,15 +232,15 @@ class Workspace:
         return Result(file, outcome, text, cause if row.line is not None else None)
 
 
-def settings_path(uri: str) -> Path | None:
+def settings_path_of_uri(uri: str) -> Path | None:
     """The file pdsuite.toml that a URI names, without links; None where it names another."""
-    path = path_of(uri)
+    path = path_of_uri(uri)
     if path is None or os.path.basename(path) != CONFIG_FILE:
         return None
     return Path(os.path.realpath(os.path.dirname(path)), CONFIG_FILE)
 
 
-def _merged(old: Result | None, new: Result) -> Result:
+def _keep_old_if_same(old: Result | None, new: Result) -> Result:
     """The old result where the new one says the same."""
     if old is None or old.text is not new.text and old.text != new.text:
         return new

@@ -48,7 +48,7 @@ class LossModel:
         self._is_bad = True
         self._until = 0.0
 
-    def lose(self, at: int) -> bool:
+    def is_next_lost(self, at: int) -> bool:
         """Whether the next packet is lost, which passes at a moment in microseconds, no sooner than the last."""
         path = self._path
         while path.burst_us and self._until <= at:
@@ -70,16 +70,16 @@ class Link:
         self._waiting: deque[tuple[int, int]] = deque()
         self._queued = 0
 
-    def carry(self, at: int, octets: int) -> CarriedPacket:
+    def carry_packet(self, at: int, octets: int) -> CarriedPacket:
         """What becomes of a packet with so many octets, headers too, that leaves at a moment in microseconds."""
         now = at * _MICROSECOND
-        is_lost = self._losses.lose(max(now, self._free) // _MICROSECOND)
+        is_lost = self._losses.is_next_lost(max(now, self._free) // _MICROSECOND)
         is_late = self._late.random() < self._path.reorder
-        self._let_out(now)
+        self._empty_queue_until(now)
         if now < self._free and self._queued + octets > self._path.queue:
             return CarriedPacket(PacketFate.OVERFLOW)
         begin = max(now, self._free)
-        self._free = begin + self._takes(octets)
+        self._free = begin + self._nanoseconds_to_send(octets)
         if begin > now:
             self._waiting.append((begin, octets))
             self._queued += octets
@@ -89,16 +89,16 @@ class Link:
         arrival = -(-self._free // _MICROSECOND) + self._path.delay_us + more
         return CarriedPacket(PacketFate.LATE if is_late else PacketFate.ARRIVES, arrival, begin - now)
 
-    def earliest(self, at: int) -> int:
+    def earliest_arrival(self, at: int) -> int:
         """A moment before which nothing that leaves from this one on reaches the peer, in microseconds."""
         begin = max(at * _MICROSECOND, self._free)
-        return (begin + self._takes(HEADER + 1)) // _MICROSECOND + self._path.delay_us
+        return (begin + self._nanoseconds_to_send(HEADER + 1)) // _MICROSECOND + self._path.delay_us
 
-    def _takes(self, octets: int) -> int:
+    def _nanoseconds_to_send(self, octets: int) -> int:
         """How long it takes until so many octets have left, in nanoseconds."""
         return -(-octets * _OCTET // self._path.rate)
 
-    def _let_out(self, now: int) -> None:
+    def _empty_queue_until(self, now: int) -> None:
         """Takes out of the queue what has begun to leave."""
         while self._waiting and self._waiting[0][0] <= now:
             self._queued -= self._waiting.popleft()[1]

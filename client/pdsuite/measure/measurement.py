@@ -8,7 +8,7 @@ from pathlib import Path
 
 from pdsuite.compare.sides import Side
 from pdsuite.measure.paths import NetworkPath
-from pdsuite.measure.transfer import Delivery, play
+from pdsuite.measure.transfer import Delivery, play_transfer
 from pdsuite.measure.transfer_batch import TransferOutcome, UnfinishedTransferError, play_transfers
 from pdsuite.programs.locate import REGRESS
 from pdsuite.scripts.defaults import DEFAULTS
@@ -28,7 +28,7 @@ class TransferCase:
     size: int
     runs: int
 
-    def seed(self, seed: int, run: int) -> str:
+    def seed_of_run(self, seed: int, run: int) -> str:
         """What chance is drawn by in a run, the same for both senders."""
         return f"{seed} {self.path.name} {self.size} {run}"
 
@@ -63,7 +63,7 @@ class MeasureResult:
     status: int | None = None
 
     @property
-    def transfers(self) -> int:
+    def transfer_count(self) -> int:
         """How many transfers were played."""
         return 2 * sum(len(it.pairs) for it in self.cases)
 
@@ -77,12 +77,12 @@ class _Piece:
     runs: range
 
 
-def cases_of(paths: Sequence[NetworkPath], runs: int) -> list[TransferCase]:
+def cases_of_paths(paths: Sequence[NetworkPath], runs: int) -> list[TransferCase]:
     """The cases of paths. Where chance has no part in a path, one run has all."""
     return [TransferCase(path, size, runs if path.has_chance else 1) for path in paths for size in path.sizes]
 
 
-def settings_for(side: Side, common: Settings, path: NetworkPath) -> Settings:
+def settings_for_path(side: Side, common: Settings, path: NetworkPath) -> Settings:
     """The settings of a side over a path: the sender's segments are as large as the path's, unless it is set."""
     own = {_MSS: path.mss} if path.mss != DEFAULTS[_MSS] else {}
     return side.effective_settings(sorted_settings({**own, **dict(common)}))
@@ -99,14 +99,14 @@ class Measurement:
 
     def run(self, stop: Stop, advance: Callable[[int, int], None]) -> MeasureResult:
         """Plays all. `advance` gets how many transfers are played, and of how many. A signal leaves what there is."""
-        pieces = list(self._pieces())
+        pieces = list(self._pieces_round_robin())
         count = sum(len(it.runs) for it in pieces)
         found: dict[tuple[int, int], dict[int, TransferOutcome]] = {}
         status: int | None = None
         done = 0
         with ThreadPoolExecutor(len(os.sched_getaffinity(0))) as pool:
             futures: dict[Future[list[TransferOutcome]], _Piece] = {
-                pool.submit(self._play, it, stop): it for it in pieces
+                pool.submit(self._play_piece, it, stop): it for it in pieces
             }
             try:
                 for future in as_completed(futures):
@@ -118,9 +118,9 @@ class Measurement:
             except StoppedError as stopped:
                 status = stopped.status
                 pool.shutdown(cancel_futures=True)
-        return MeasureResult(tuple(self._measured(number, found) for number in range(len(self.cases))), status)
+        return MeasureResult(tuple(self._pair_outcomes(number, found) for number in range(len(self.cases))), status)
 
-    def _pieces(self) -> Iterator[_Piece]:
+    def _pieces_round_robin(self) -> Iterator[_Piece]:
         """The pieces, the first runs of all cases before others, so that a signal leaves something of each."""
         most = max((it.runs for it in self.cases), default=0)
         for begin in range(0, most, _PIECE):
@@ -128,14 +128,16 @@ class Measurement:
                 if runs := range(begin, min(begin + _PIECE, case.runs)):
                     yield from (_Piece(number, side, runs) for side in (0, 1))
 
-    def _play(self, piece: _Piece, stop: Stop) -> list[TransferOutcome]:
+    def _play_piece(self, piece: _Piece, stop: Stop) -> list[TransferOutcome]:
         case, side = self.cases[piece.case], self.sides[piece.side]
-        settings = settings_for(side, self.common, case.path)
+        settings = settings_for_path(side, self.common, case.path)
         room = int(str(dict(settings).get(_ROOM, DEFAULTS[_ROOM])))
-        games = [play(case.path, case.size, case.seed(self.seed, run), room) for run in piece.runs]
+        games = [play_transfer(case.path, case.size, case.seed_of_run(self.seed, run), room) for run in piece.runs]
         return play_transfers(games, program_of(side, REGRESS), settings, stop)
 
-    def _measured(self, number: int, found: Mapping[tuple[int, int], Mapping[int, TransferOutcome]]) -> MeasuredCase:
+    def _pair_outcomes(
+        self, number: int, found: Mapping[tuple[int, int], Mapping[int, TransferOutcome]]
+    ) -> MeasuredCase:
         before, after = (found.get((number, side), {}) for side in (0, 1))
         pairs = []
         unplayed = []

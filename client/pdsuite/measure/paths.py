@@ -63,16 +63,16 @@ class NetworkPath:
         return any((self.loss, self.burst_us, self.reorder, self.ack_loss))
 
     @property
-    def shift(self) -> int:
+    def window_shift(self) -> int:
         """By how many bits the peer's window is shifted in its field."""
         return next((it for it in range(_MOST_SHIFT) if self.window >> it <= _MOST_FIELD), _MOST_SHIFT)
 
     @property
-    def field(self) -> int:
+    def window_field(self) -> int:
         """The field of the peer's window in its segments after the SYN."""
-        return min(self.window >> self.shift, _MOST_FIELD)
+        return min(self.window >> self.window_shift, _MOST_FIELD)
 
-    def total(self, size: int) -> int:
+    def octets_written(self, size: int) -> int:
         """How much a transfer of this size writes: twice as much where an idle time parts two."""
         return 2 * size if self.idle_us else size
 
@@ -109,13 +109,13 @@ _KINDS: Mapping[object, tuple[tuple[type, ...], str]] = {
 _FIELDS = {it.name: it for it in fields(NetworkPath) if it.name != "name"}
 
 
-def paths_of(file: Path | None, patterns: Sequence[str] = ()) -> list[NetworkPath]:
+def load_paths(file: Path | None, patterns: Sequence[str] = ()) -> list[NetworkPath]:
     """The paths of a file, or those that come with the client: all, or those whose names fit a pattern."""
     place = FILE if file is None else file
     octets = read_config_octets(place)
     if octets is None:
         raise Fault(f"{shown_place(place)}: {os.strerror(2)}")
-    paths = list(paths_in(shown_place(place), octets))
+    paths = list(parse_paths(shown_place(place), octets))
     if not paths:
         raise Fault(f"{shown_place(place)}: there is no path in it; each is a table")
     chosen = [it for it in paths if not patterns or any(fnmatchcase(it.name, pattern) for pattern in patterns)]
@@ -124,7 +124,7 @@ def paths_of(file: Path | None, patterns: Sequence[str] = ()) -> list[NetworkPat
     return chosen
 
 
-def paths_in(file: str, octets: bytes) -> Iterator[NetworkPath]:
+def parse_paths(file: str, octets: bytes) -> Iterator[NetworkPath]:
     """The paths of a text, one for each table."""
     import tomllib
 
@@ -139,7 +139,7 @@ def paths_in(file: str, octets: bytes) -> Iterator[NetworkPath]:
             raise Fault(
                 f"{places.file_and_line('', name)}: {printable_text(name)} stands in no table; each path is one"
             )
-        yield _Reading(places, name, table).path()
+        yield _Reading(places, name, table).read_path()
 
 
 @dataclass(frozen=True)
@@ -150,61 +150,63 @@ class _Reading:
     name: str
     table: Mapping[str, object]
 
-    def path(self) -> NetworkPath:
-        if not self._is_name():
-            raise self._fault("", f"no name of a path: it is 1 to {_NAME_LENGTH} letters, digits, - and _")
+    def read_path(self) -> NetworkPath:
+        if not self._has_valid_name():
+            raise self._fault_at_key("", f"no name of a path: it is 1 to {_NAME_LENGTH} letters, digits, - and _")
         for key in self.table:
             if key not in _FIELDS:
                 near = nearest_word(key, _FIELDS)
-                raise self._fault(key, "there is no such key" + (f"; the nearest is {near}" if near else ""))
-        values: dict[str, Any] = {key: self._value(key) for key in _FIELDS if key in self.table}
+                raise self._fault_at_key(key, "there is no such key" + (f"; the nearest is {near}" if near else ""))
+        values: dict[str, Any] = {key: self._read_value(key) for key in _FIELDS if key in self.table}
         for key, it in _FIELDS.items():
             if key not in values and it.default is MISSING:
-                raise self._fault("", f"it has no {key}")
+                raise self._fault_at_key("", f"it has no {key}")
         path = NetworkPath(name=self.name, **values)
-        self._check(path)
+        self._refuse_contradictions(path)
         return path
 
-    def _is_name(self) -> bool:
+    def _has_valid_name(self) -> bool:
         return 0 < len(self.name) <= _NAME_LENGTH and all(
             it.isascii() and (it.isalnum() or it in "-_") for it in self.name
         )
 
-    def _value(self, key: str) -> object:
+    def _read_value(self, key: str) -> object:
         value = self.table[key]
         if key == _SIZES:
-            return self._sizes(value)
+            return self._read_sizes(value)
         kind: object = _FIELDS[key].type
         types, words = _KINDS[kind]
         if not isinstance(value, types) or (isinstance(value, bool) and kind is not bool):
-            raise self._fault(key, f"it takes {words}")
+            raise self._fault_at_key(key, f"it takes {words}")
         if key in _RANGES and isinstance(value, int | float):
             least, most = _RANGES[key]
             if not least <= value <= most:
-                raise self._fault(key, f"it takes {least:,} to {most:,}")
+                raise self._fault_at_key(key, f"it takes {least:,} to {most:,}")
         return value
 
-    def _sizes(self, value: object) -> tuple[int, ...]:
+    def _read_sizes(self, value: object) -> tuple[int, ...]:
         sizes = value if isinstance(value, list) else []
         if not sizes or any(isinstance(it, bool) or not isinstance(it, int) or it < 1 for it in sizes):
-            raise self._fault(_SIZES, "it takes a list of numbers of octets, [14600, 146000]")
+            raise self._fault_at_key(_SIZES, "it takes a list of numbers of octets, [14600, 146000]")
         return tuple(sizes)
 
-    def _check(self, path: NetworkPath) -> None:
+    def _refuse_contradictions(self, path: NetworkPath) -> None:
         """Refuses what doesn't go together."""
         for size in path.sizes:
-            if path.total(size) > MOST_SEGMENTS * path.mss:
-                most = MOST_SEGMENTS * path.mss // path.total(1)
-                raise self._fault(
+            if path.octets_written(size) > MOST_SEGMENTS * path.mss:
+                most = MOST_SEGMENTS * path.mss // path.octets_written(1)
+                raise self._fault_at_key(
                     _SIZES, f"a script holds {MOST_SEGMENTS} segments, here {most:,} octets; a larger mss allows more"
                 )
         if path.reorder and not path.reorder_us:
-            raise self._fault("reorder", "without reorder_us nothing is late")
+            raise self._fault_at_key("reorder", "without reorder_us nothing is late")
         if bool(path.burst_us) is not bool(path.burst_gap_us):
-            raise self._fault("burst_us", "bursts have burst_us and burst_gap_us, how long they last and are apart")
+            raise self._fault_at_key(
+                "burst_us", "bursts have burst_us and burst_gap_us, how long they last and are apart"
+            )
         if path.write_every_us and not path.write:
-            raise self._fault("write_every_us", "without write all is written at once")
+            raise self._fault_at_key("write_every_us", "without write all is written at once")
 
-    def _fault(self, key: str, reason: str) -> Fault:
+    def _fault_at_key(self, key: str, reason: str) -> Fault:
         what = f"{self.name}.{key}" if key else self.name
         return Fault(f"{self.places.file_and_line(self.name, key)}: {printable_text(what)}: {reason}")

@@ -38,82 +38,82 @@ class MeasureReport:
     is_cut: bool = False  # a signal ended it early
 
     @property
-    def verdicts(self) -> Counter[ChangeVerdict]:
+    def verdict_counts(self) -> Counter[ChangeVerdict]:
         """How many rows have which verdict."""
         return Counter(row.verdict for table in self.tables for row in table.rows)
 
 
-def title_of(case: TransferCase, runs: int) -> str:
+def title_of_case(case: TransferCase, runs: int) -> str:
     """A case in words."""
-    twice = f", twice, {number_of(Unit.TIME, case.path.idle_us)} apart" if case.path.idle_us else ""
+    twice = f", twice, {number_with_unit(Unit.TIME, case.path.idle_us)} apart" if case.path.idle_us else ""
     count = "1 run, without chance" if not case.path.has_chance else f"{runs:,} run{'s' * (runs != 1)}"
     return f"{case.path.name}, {case.size:,} octets{twice}: {count}"
 
 
-def plain(report: MeasureReport, columns: int | None = None) -> StyledText:
+def plain_report(report: MeasureReport, columns: int | None = None) -> StyledText:
     """A table of each case, and the totals, in lines of so many columns at most where that is given."""
     text = StyledText()
     for table in report.tables:
-        text.append(f"{title_of(table.measured.case, len(table.measured.pairs))}\n", "bold")
-        for line, verdict, below in lines_of(table, columns):
+        text.append(f"{title_of_case(table.measured.case, len(table.measured.pairs))}\n", "bold")
+        for line, verdict, below in rows_in_lines(table, columns):
             text.append(f"{_INDENT}{line}  ").append(verdict, _STYLES[verdict]).append("\n")
             text.append("".join(f"{2 * _INDENT}{it}\n" for it in below))
         if table.measured.unfinished:
-            text.append(f"{_fitted(f'{_INDENT}{unplayed_of(table)}', columns)}\n", "bold red")
-    return text.append("".join(f"{_fitted(line, columns)}\n" for line in totals_of(report)))
+            text.append(f"{_wrap_line(f'{_INDENT}{unplayed_words(table)}', columns)}\n", "bold red")
+    return text.append("".join(f"{_wrap_line(line, columns)}\n" for line in total_lines(report)))
 
 
-def _fitted(line: str, columns: int | None) -> str:
+def _wrap_line(line: str, columns: int | None) -> str:
     return line if columns is None else wrap_line(line, columns, 2 * _INDENT)
 
 
-def totals_of(report: MeasureReport) -> tuple[str, str]:
+def total_lines(report: MeasureReport) -> tuple[str, str]:
     """The last lines: how many figures show what, and how many transfers were played."""
     mark = f" {UNPROVED}" if report.is_unproved else ""
     cut = " until a signal came" if report.is_cut else ""
-    counts = ", ".join(f"{report.verdicts[it]} {it}" for it in ChangeVerdict)
+    counts = ", ".join(f"{report.verdict_counts[it]} {it}" for it in ChangeVerdict)
     return counts, f"total {report.transfers:,} transfers in {report.seconds:.2f} s{cut}, seed {report.seed}{mark}"
 
 
-def unplayed_of(table: FigureTable) -> str:
+def unplayed_words(table: FigureTable) -> str:
     """How many transfers came to no end, and why the first didn't."""
     first, *more = table.measured.unfinished
     return f"not played: {printable_text(first)}" + (f", and {len(more)} more" if more else "")
 
 
-def lines_of(table: FigureTable, columns: int | None) -> Iterator[tuple[str, ChangeVerdict, Sequence[str]]]:
+def rows_in_lines(table: FigureTable, columns: int | None) -> Iterator[tuple[str, ChangeVerdict, Sequence[str]]]:
     """The rows of a case, each with its verdict: in columns, or where these don't fit with their numbers below."""
-    cells = [cells_of(it) for it in table.rows]
+    cells = [cells_of_row(it) for it in table.rows]
     widths = [max(len(row[column]) for row in cells) for column in range(len(cells[0]))] if cells else []
-    rows = [(row.verdict, _in_columns(it, widths)) for row, it in zip(table.rows, cells)]
+    rows = [(row.verdict, _align_in_columns(it, widths)) for row, it in zip(table.rows, cells)]
     if columns is None or all(len(f"{_INDENT}{line}  {verdict}") <= columns for verdict, line in rows):
         yield from ((line, verdict, ()) for verdict, line in rows)
         return
     for row, (name, *numbers) in zip(table.rows, cells):
-        yield name.ljust(widths[0]), row.verdict, _below(numbers, columns)
+        yield name.ljust(widths[0]), row.verdict, _numbers_below(numbers, columns)
 
 
-def _in_columns(cells: Sequence[str], widths: Sequence[int]) -> str:
+def _align_in_columns(cells: Sequence[str], widths: Sequence[int]) -> str:
     name, *numbers = cells
     return "  ".join([name.ljust(widths[0]), *(it.rjust(width) for it, width in zip(numbers, widths[1:]))])
 
 
-def _below(numbers: Sequence[str], columns: int) -> Sequence[str]:
+def _numbers_below(numbers: Sequence[str], columns: int) -> Sequence[str]:
     """Numbers in a line; where it doesn't fit the last, which says where a difference lies, has one of its own."""
     line = "  ".join(it for it in numbers if it)
     return [line] if len(f"{2 * _INDENT}{line}") <= columns else ["  ".join(numbers[:-1]), numbers[-1]]
 
 
-def cells_of(row: FigureRow) -> tuple[str, ...]:
+def cells_of_row(row: FigureRow) -> tuple[str, ...]:
     """A row in words: its name, both sides, the difference, and where that lies."""
     unit = row.figure.unit
     is_short = max(row.before, row.after) < _SHORT
-    before, after = number_of(unit, row.before, "", is_short), number_of(unit, row.after, "", is_short)
-    difference, low, high = (number_of(unit, it, "+", is_short) for it in (row.difference, row.low, row.high))
+    before, after = number_with_unit(unit, row.before, "", is_short), number_with_unit(unit, row.after, "", is_short)
+    difference, low, high = (number_with_unit(unit, it, "+", is_short) for it in (row.difference, row.low, row.high))
     return row.figure.words, before, after, difference, f"({low} to {high})" if row.chance is not None else ""
 
 
-def number_of(unit: Unit, value: float, sign: str = "", is_short: bool = False) -> str:
+def number_with_unit(unit: Unit, value: float, sign: str = "", is_short: bool = False) -> str:
     """A number with its unit; a time in milliseconds, or beside short times in microseconds."""
     if unit is Unit.TIME and is_short:
         return f"{value:{sign},.3f} us"
@@ -131,8 +131,8 @@ def as_json(report: MeasureReport) -> StyledText:
         "before": report.names[0],
         "after": report.names[1],
         "seed": report.seed,
-        "cases": [_case(it) for it in report.tables],
-        "verdicts": {it.value: report.verdicts[it] for it in ChangeVerdict},
+        "cases": [_case_object(it) for it in report.tables],
+        "verdicts": {it.value: report.verdict_counts[it] for it in ChangeVerdict},
         "transfers": report.transfers,
         "seconds": round(report.seconds, 2),
     }
@@ -143,13 +143,13 @@ def as_json(report: MeasureReport) -> StyledText:
     return unstyled_text(json.dumps(whole, ensure_ascii=False, indent=1) + "\n")
 
 
-def _case(table: FigureTable) -> dict[str, object]:
+def _case_object(table: FigureTable) -> dict[str, object]:
     measured = table.measured
     case: dict[str, object] = {
         "path": measured.case.path.name,
         "octets": measured.case.size,
         "chance": measured.case.path.has_chance,
-        "figures": {it.figure.key: _row(it) for it in table.rows},
+        "figures": {it.figure.key: _row_object(it) for it in table.rows},
         "runs": [{"run": it.run, "before_us": it.before.time, "after_us": it.after.time} for it in measured.pairs],
     }
     if measured.unfinished:
@@ -157,19 +157,19 @@ def _case(table: FigureTable) -> dict[str, object]:
     return case
 
 
-def _row(row: FigureRow) -> dict[str, object]:
+def _row_object(row: FigureRow) -> dict[str, object]:
     return {
         "words": row.figure.words,
         "unit": row.figure.unit.value,
-        "before": _rounded(row.before),
-        "after": _rounded(row.after),
-        "difference": _rounded(row.difference),
-        "low": _rounded(row.low),
-        "high": _rounded(row.high),
-        "chance": None if row.chance is None else _rounded(row.chance),
+        "before": _round_to_six(row.before),
+        "after": _round_to_six(row.after),
+        "difference": _round_to_six(row.difference),
+        "low": _round_to_six(row.low),
+        "high": _round_to_six(row.high),
+        "chance": None if row.chance is None else _round_to_six(row.chance),
         "verdict": row.verdict.value,
     }
 
 
-def _rounded(value: float) -> float:
+def _round_to_six(value: float) -> float:
     return round(value, 6)

@@ -104,51 +104,58 @@ def goodput(it: Delivery, rate: int) -> float:
     return it.octets * 8_000_000 / it.time / rate
 
 
-def tables_of(cases: Sequence[MeasuredCase]) -> list[FigureTable]:
+def figure_tables_of(cases: Sequence[MeasuredCase]) -> list[FigureTable]:
     """The tables of all cases, with verdicts that hold together."""
-    tables = [FigureTable(it, tuple(_rows(it)) if it.pairs else ()) for it in cases]
-    shown = _shown([row.chance for table in tables for row in table.rows])
+    tables = [FigureTable(it, tuple(_figure_rows(it)) if it.pairs else ()) for it in cases]
+    shown = _shown_by_holm([row.chance for table in tables for row in table.rows])
     verdicts = iter(shown)
     return [
-        replace(table, rows=tuple(replace(row, verdict=_verdict(row, next(verdicts))) for row in table.rows))
+        replace(table, rows=tuple(replace(row, verdict=_verdict_of_row(row, next(verdicts))) for row in table.rows))
         for table in tables
     ]
 
 
-def _rows(it: MeasuredCase) -> Iterator[FigureRow]:
+def _figure_rows(it: MeasuredCase) -> Iterator[FigureRow]:
     """The figures of a case, whose verdicts are open. All are of the same samples of runs."""
     rate = it.case.path.rate
     count = len(it.pairs)
     for figure in FIGURES:
         sides = [numpy.array([figure.of(pair.sides[side], rate) for pair in it.pairs], float) for side in (0, 1)]
-        before, after = (float(_estimates(each, numpy.ones((1, count)), figure.share)[0]) for each in sides)
+        before, after = (float(_estimate_per_sample(each, numpy.ones((1, count)), figure.share)[0]) for each in sides)
         if not it.case.path.has_chance:
             yield FigureRow(figure, before, after, after - before, after - before, None)
         elif (sides[0] == sides[1]).all():
             yield FigureRow(figure, before, after, 0.0, 0.0, 1.0)
         else:
-            differences = _differences(sides, figure.share)
+            differences = _bootstrap_differences(sides, figure.share)
             low, high = numpy.quantile(differences, (LEVEL / 2, 1 - LEVEL / 2))
             yield FigureRow(
-                figure, before, after, float(low), float(high), _chance(differences, int((sides[0] != sides[1]).sum()))
+                figure,
+                before,
+                after,
+                float(low),
+                float(high),
+                _chance_of_difference(differences, int((sides[0] != sides[1]).sum())),
             )
 
 
-def _differences(sides: Sequence[Array], share: float | None) -> Array:
+def _bootstrap_differences(sides: Sequence[Array], share: float | None) -> Array:
     """The difference of both sides in each sample of the pairs."""
-    counts = _samples(len(sides[0]))
+    counts = _bootstrap_counts(len(sides[0]))
     blocks = [counts[begin : begin + _BLOCK] for begin in range(0, _SAMPLES, _BLOCK)]
-    return numpy.concatenate([_estimates(sides[1], it, share) - _estimates(sides[0], it, share) for it in blocks])
+    return numpy.concatenate(
+        [_estimate_per_sample(sides[1], it, share) - _estimate_per_sample(sides[0], it, share) for it in blocks]
+    )
 
 
 @lru_cache(maxsize=1)
-def _samples(count: int) -> Array:
+def _bootstrap_counts(count: int) -> Array:
     """How often each of so many pairs is in each sample, the same at each call."""
     draw = numpy.random.default_rng(_SEED)
     return draw.multinomial(count, [1 / count] * count, _SAMPLES).astype(numpy.int16)
 
 
-def _estimates(values: Array, counts: Array, share: float | None) -> Array:
+def _estimate_per_sample(values: Array, counts: Array, share: float | None) -> Array:
     """A figure of each sample: the mean, or the least value that such a share of it doesn't exceed."""
     count = len(values)
     if share is None:
@@ -158,13 +165,13 @@ def _estimates(values: Array, counts: Array, share: float | None) -> Array:
     return values[order][reached.argmax(axis=1)]
 
 
-def _chance(differences: Array, unequal: int) -> float:
+def _chance_of_difference(differences: Array, unequal: int) -> float:
     """How often chance alone would make such a difference: both tails, and no less than a test of signs allows."""
     tail = min(int((differences <= 0).sum()), int((differences >= 0).sum()))
     return min(1.0, max(2 * (tail + 1) / (len(differences) + 1), 2.0 ** (1 - unequal)))
 
 
-def _shown(chances: Sequence[float | None]) -> list[bool]:
+def _shown_by_holm(chances: Sequence[float | None]) -> list[bool]:
     """Which differences are shown, so that all of them are with the same certainty (Holm)."""
     tested = sorted((it, place) for place, it in enumerate(chances) if it is not None)
     shown = [it is None for it in chances]
@@ -175,7 +182,7 @@ def _shown(chances: Sequence[float | None]) -> list[bool]:
     return shown
 
 
-def _verdict(row: FigureRow, is_shown: bool) -> ChangeVerdict:
+def _verdict_of_row(row: FigureRow, is_shown: bool) -> ChangeVerdict:
     if row.low == row.high == row.difference == 0:
         return ChangeVerdict.SAME
     if not is_shown or row.difference == 0:

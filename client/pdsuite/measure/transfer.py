@@ -66,12 +66,12 @@ class Delivery:
     lines: tuple[str, ...] = field(repr=False)  # of its inputs
     departures: tuple[Departure, ...] = field(repr=False)
 
-    def script(self) -> bytes:
+    def script_octets(self) -> bytes:
         """The script of its inputs alone."""
         return "".join(f"{it}\n" for it in self.lines).encode()
 
     @property
-    def packets(self) -> tuple[Departure, ...]:
+    def departures_without_cause(self) -> tuple[Departure, ...]:
         """The segments that left, whatever sent them."""
         return tuple(Departure(it.at, it.start, it.end) for it in self.departures)
 
@@ -84,7 +84,7 @@ class StalledTransferError(Exception):
 TransferSteps = Generator[Sequence[str], SenderReply, Delivery]
 
 
-def play(path: NetworkPath, size: int, seed: str, room: int) -> TransferSteps:
+def play_transfer(path: NetworkPath, size: int, seed: str, room: int) -> TransferSteps:
     """Plays a transfer of so many octets; the sender's buffer has this room."""
     return (yield from Transfer(path, size, seed, room).play())
 
@@ -113,54 +113,54 @@ class Transfer:
         self._fates = {it: 0 for it in PacketFate}
 
     def play(self) -> TransferSteps:
-        reply = yield self._handshake()
-        self._carry(reply)
+        reply = yield self._handshake_lines()
+        self._carry_departures(reply)
         while not self._writer.is_over:
-            reply = yield self._inputs(reply.expiry)
-            self._carry(reply)
-        return self._delivery()
+            reply = yield self._next_inputs(reply.expiry)
+            self._carry_departures(reply)
+        return self._make_delivery()
 
     # ---- the sender
 
-    def _handshake(self) -> list[str]:
+    def _handshake_lines(self) -> list[str]:
         """The lines up to the first write. No packet of the handshake is lost, and none waits."""
         path = self._path
         sack = ",sackOK" if path.sack else ""
-        scale = f",nop,wscale {path.shift}" if path.shift else ""
+        scale = f",nop,wscale {path.window_shift}" if path.window_shift else ""
         window = min(path.window, 65_535)
         self._lines += _HEADER_LINES
-        self._put(SYN_AT, f"< S 0:0(0) win {window} <mss {path.mss}{sack}{scale}>")
-        at = self._link.earliest(SYN_AT) + path.delay_us
-        self._put(at, f"< . 1:1(0) ack 1 win {path.field}")
-        self._put(at, "accept(3, ..., ...) = 4")
-        self._write(at)
+        self._put_line(SYN_AT, f"< S 0:0(0) win {window} <mss {path.mss}{sack}{scale}>")
+        at = self._link.earliest_arrival(SYN_AT) + path.delay_us
+        self._put_line(at, f"< . 1:1(0) ack 1 win {path.window_field}")
+        self._put_line(at, "accept(3, ..., ...) = 4")
+        self._put_due_writes(at)
         return list(self._lines)
 
-    def _inputs(self, expiry: int | None) -> list[str]:
+    def _next_inputs(self, expiry: int | None) -> list[str]:
         """What is put in before the sender could be answered again, once all of that is known."""
         begin = len(self._lines)
         while len(self._lines) == begin:
-            first = self._first(expiry)
+            first = self._first_due_moment(expiry)
             if first is None:
                 raise StalledTransferError(
                     f"nothing is due, and {self._receiver.taken:,} of {self._writer.total:,} octets arrived"
                 )
-            horizon = self.horizon(first)
+            horizon = self.earliest_arrival_from(first)
             is_delivered = self._deliver_to_peer(horizon)
             while self._at_sender and self._at_sender[0][0] < horizon + self._path.delay_us:
                 at, _, ack = heapq.heappop(self._at_sender)
                 if ack is not None:
-                    self._acknowledge(at, ack)
-                self._write(at)
+                    self._put_ack(at, ack)
+                self._put_due_writes(at)
             if not is_delivered and len(self._lines) == begin and first == expiry:
-                self._put(first, _TICK)
+                self._put_line(first, _TICK)
         return self._lines[begin:]
 
-    def horizon(self, first: int) -> int:
+    def earliest_arrival_from(self, first: int) -> int:
         """A moment before which nothing reaches the peer that leaves from the first one on."""
-        return self._link.earliest(first)
+        return self._link.earliest_arrival(first)
 
-    def _first(self, expiry: int | None) -> int | None:
+    def _first_due_moment(self, expiry: int | None) -> int | None:
         """The first moment at which the sender may do something."""
         moments = [] if expiry is None else [expiry]
         if self._at_sender:
@@ -169,29 +169,29 @@ class Transfer:
             moments.append(self._at_peer[0][0] + self._path.delay_us)
         return min(moments, default=None)
 
-    def _acknowledge(self, at: int, ack: Ack) -> None:
+    def _put_ack(self, at: int, ack: Ack) -> None:
         blocks = " ".join(f"{left}:{right}" for left, right in ack.blocks)
         options = f" <nop,nop,sack {blocks}>" if blocks else ""
-        self._put(at, f"< . 1:1(0) ack {ack.number} win {self._path.field}{options}")
-        self._writer.acknowledge(at, ack.number)
+        self._put_line(at, f"< . 1:1(0) ack {ack.number} win {self._path.window_field}{options}")
+        self._writer.note_acknowledged(at, ack.number)
 
-    def _write(self, at: int) -> None:
+    def _put_due_writes(self, at: int) -> None:
         """Writes what is due and has room, and notes when more is due."""
-        for octets in self._writer.writes(at):
-            self._put(at, f"write(4, ..., {octets}) = {octets}")
-        due = self._writer.wakes(at)
+        for octets in self._writer.due_writes(at):
+            self._put_line(at, f"write(4, ..., {octets}) = {octets}")
+        due = self._writer.next_wake_moment(at)
         if due is not None:
             heapq.heappush(self._at_sender, (due, _LAST, None))
 
-    def _put(self, at: int, what: str) -> None:
-        self._lines.append(f"{_after(at - self._now)} {what}")
+    def _put_line(self, at: int, what: str) -> None:
+        self._lines.append(f"{_relative_time(at - self._now)} {what}")
         self._now = at
 
-    def _carry(self, reply: SenderReply) -> None:
+    def _carry_departures(self, reply: SenderReply) -> None:
         """Hands what left to the link."""
         for it in reply.departures:
             self._departures.append(it)
-            carried = self._link.carry(it.at, it.end - it.start + HEADER)
+            carried = self._link.carry_packet(it.at, it.end - it.start + HEADER)
             self._fates[carried.fate] += 1
             if carried.fate is not PacketFate.OVERFLOW:
                 self._waits.append(carried.waited)
@@ -207,45 +207,45 @@ class Transfer:
             at, _, span = heapq.heappop(self._at_peer)
             is_any = True
             if span is None:
-                self._expire(at)
-            elif self._receiver.take(span):
-                self._send(at)
+                self._handle_peer_timers(at)
+            elif self._receiver.take_segment(span):
+                self._send_ack(at)
             elif self._receiver.waiting == 1:
                 self._ack_due = at + self._path.ack_delay_us
-                self._wake(self._ack_due)
-            self._writer.deliver(at, self._receiver.next)
+                self._wake_peer_at(self._ack_due)
+            self._writer.note_delivered(at, self._receiver.next)
         return is_any
 
-    def _expire(self, at: int) -> None:
+    def _handle_peer_timers(self, at: int) -> None:
         """What the peer does when a timer of its own may be due: it acknowledges, or lets gathered ACKs go."""
         if self._ack_due == at:
-            self._send(at)
+            self._send_ack(at)
         if self._gathered is not None and self._gather_due == at:
             ack, self._gathered = self._gathered, None
-            self._return(at, ack)
+            self._return_ack(at, ack)
 
-    def _send(self, at: int) -> None:
+    def _send_ack(self, at: int) -> None:
         """Sends an ACK, which may wait for newer ones on its way."""
         self._ack_due = None
-        ack = self._receiver.acknowledge()
+        ack = self._receiver.make_ack()
         if not self._path.ack_gather_us:
-            self._return(at, ack)
+            self._return_ack(at, ack)
             return
         if self._gathered is None:
             self._gather_due = at + self._path.ack_gather_us
-            self._wake(self._gather_due)
+            self._wake_peer_at(self._gather_due)
         self._gathered = ack
 
-    def _return(self, at: int, ack: Ack) -> None:
+    def _return_ack(self, at: int, ack: Ack) -> None:
         if self._lost_acks.random() >= self._path.ack_loss:
             heapq.heappush(self._at_sender, (at + self._path.delay_us, next(self._acks), ack))
 
-    def _wake(self, at: int) -> None:
+    def _wake_peer_at(self, at: int) -> None:
         heapq.heappush(self._at_peer, (at, _LAST, None))
 
     # ---- what came of it
 
-    def _delivery(self) -> Delivery:
+    def _make_delivery(self) -> Delivery:
         top = 1
         segments = octets = 0
         for it in self._departures:
@@ -267,7 +267,7 @@ class Transfer:
         )
 
 
-def _after(microseconds: int) -> str:
+def _relative_time(microseconds: int) -> str:
     """A time after the event before, as short as a script has it."""
     whole, part = divmod(microseconds, SECOND)
     digits = f"{part:06}".rstrip("0")

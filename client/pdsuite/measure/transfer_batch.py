@@ -43,7 +43,7 @@ class _GrowingScript:
     taking: list[str] = field(default_factory=list)
     departures: list[Departure] = field(default_factory=list)
 
-    def command(self, inputs: Sequence[str]) -> bytes:
+    def command_adding_inputs(self, inputs: Sequence[str]) -> bytes:
         """What puts inputs at the end, below what takes the packets before them."""
         put = [*self.taking, *inputs]
         self.taking = []
@@ -59,17 +59,17 @@ class _GrowingScript:
             return b"add %s %d\n%s" % (self.name, len(put) + 1, text)
         return b"edit %s %d 1 %d\n%s" % (self.name, begin + 1, len(put) + 1, text)
 
-    def read(self, cause: Cause) -> bool:
+    def take_cause(self, cause: Cause) -> bool:
         """Takes what the program explains; whether all that left is reported."""
         if cause.get("verdict") != "fail" or cause.get("line") != self.lines + 1:
             raise UnfinishedTransferError(
                 f"line {cause.get('line')} of its script: {cause.get('verdict')}: {cause.get('what')}"
             )
-        for text, by in _packets_of(cause):
-            self._take(text, by)
+        for text, by in _reported_packets(cause):
+            self._take_packet(text, by)
         return not cause.get("more_untaken_packets")
 
-    def _take(self, text: str, by: object) -> None:
+    def _take_packet(self, text: str, by: object) -> None:
         found = _SENT.search(text)
         if found is None:
             raise UnfinishedTransferError(f"no packet: {printable_text(text)}")
@@ -80,7 +80,7 @@ class _GrowingScript:
             is_by_timer = isinstance(by, Mapping) and "line" not in by
             self.departures.append(Departure(int(found[5]) * SECOND + int(found[6]), start, end, is_by_timer))
 
-    def reply(self, cause: Cause) -> SenderReply:
+    def make_reply(self, cause: Cause) -> SenderReply:
         """What the sender reports of all inputs since the last reply."""
         state = cause.get("state")
         expiry = state.get("expiry_us") if isinstance(state, Mapping) else None
@@ -88,7 +88,7 @@ class _GrowingScript:
         return SenderReply(departures, expiry if isinstance(expiry, int) else None)
 
 
-def _packets_of(cause: Cause) -> Iterator[tuple[str, object]]:
+def _reported_packets(cause: Cause) -> Iterator[tuple[str, object]]:
     """The packets that are reported, each with what sent it."""
     first = cause.get("actual_packet")
     if isinstance(first, str):
@@ -107,7 +107,7 @@ def play_transfers(
     batch = _TransferBatch([_GrowingScript(script_name(number), game) for number, game in enumerate(games)])
     try:
         with Program(words, stop) as started:
-            batch.play(started)
+            batch.play_all(started)
     except (ProgramEndedError, UnexpectedAnswerError) as end:
         return [batch.outcomes.get(it.name, UnfinishedTransferError(str(end))) for it in batch.scripts]
     return [batch.outcomes[it.name] for it in batch.scripts]
@@ -120,20 +120,20 @@ class _TransferBatch:
     scripts: Sequence[_GrowingScript]
     outcomes: dict[bytes, TransferOutcome] = field(default_factory=dict)
 
-    def play(self, program: Program) -> None:
-        commands = {it.name: self._next(it, None) for it in self.scripts}
+    def play_all(self, program: Program) -> None:
+        commands = {it.name: self._next_command(it, None) for it in self.scripts}
         while pending := {name: it for name, it in commands.items() if it}:
-            causes = _explanations(program, b"".join(pending.values()), len(pending))
-            commands = {it.name: self._next(it, causes[it.name]) for it in self.scripts if it.name in causes}
+            causes = _query_causes(program, b"".join(pending.values()), len(pending))
+            commands = {it.name: self._next_command(it, causes[it.name]) for it in self.scripts if it.name in causes}
 
-    def _next(self, script: _GrowingScript, cause: Cause | None) -> bytes:
+    def _next_command(self, script: _GrowingScript, cause: Cause | None) -> bytes:
         """The next command about a script: nothing where the transfer is over."""
         try:
             if cause is None:
-                return script.command(next(script.game))
-            if not script.read(cause):
-                return script.command(())
-            return script.command(script.game.send(script.reply(cause)))
+                return script.command_adding_inputs(next(script.game))
+            if not script.take_cause(cause):
+                return script.command_adding_inputs(())
+            return script.command_adding_inputs(script.game.send(script.make_reply(cause)))
         except StopIteration as end:
             self.outcomes[script.name] = end.value
         except (StalledTransferError, UnfinishedTransferError) as why:
@@ -141,7 +141,7 @@ class _TransferBatch:
         return b""
 
 
-def _explanations(program: Program, commands: bytes, count: int) -> dict[bytes, Cause]:
+def _query_causes(program: Program, commands: bytes, count: int) -> dict[bytes, Cause]:
     """What the program explains of the scripts that changed, by their names."""
     answer, errors = program.query_with_errors(commands + SETTLE, (count + 1) * LONGEST_CAUSE)
     if refusal := refusal_name(answer):

@@ -6,7 +6,7 @@ from pathlib import Path
 from pdsuite.compare.sides import Side
 from pdsuite.faults import Fault
 from pdsuite.files import require_new_or_empty_folder, write_folder_atomically
-from pdsuite.measure.measurement import MeasuredCase, TransferCase, program_of, settings_for
+from pdsuite.measure.measurement import MeasuredCase, TransferCase, program_of, settings_for_path
 from pdsuite.measure.transfer import Delivery, Departure
 from pdsuite.output.octets import printable_path
 from pdsuite.packetdrill.items import Packet
@@ -31,27 +31,27 @@ class TransferFolder:
         self._sides = sides
         self._target = require_new_or_empty_folder(folder)
 
-    def write(self, cases: Sequence[MeasuredCase], common: Settings, stop: Stop) -> None:
+    def write_all_transfers(self, cases: Sequence[MeasuredCase], common: Settings, stop: Stop) -> None:
         """Writes all transfers."""
-        write_folder_atomically(self._target, self._files(cases, common, stop))
+        write_folder_atomically(self._target, self._record_files(cases, common, stop))
 
-    def _files(self, cases: Sequence[MeasuredCase], common: Settings, stop: Stop) -> Iterator[tuple[str, bytes]]:
+    def _record_files(self, cases: Sequence[MeasuredCase], common: Settings, stop: Stop) -> Iterator[tuple[str, bytes]]:
         for number, side in enumerate(self._sides):
             for measured in cases:
                 case = measured.case
                 folder = f"{_SIDES[number]}/{case.path.name}-{case.size}"
-                settings = settings_for(side, common, case.path)
+                settings = settings_for_path(side, common, case.path)
                 yield f"{folder}/{CONFIG_FILE}", f"root = true\n{settings_as_toml(settings)}\n".encode()
                 deliveries = [it.sides[number] for it in measured.pairs]
-                scripts = [it.script() for it in deliveries]
+                scripts = [it.script_octets() for it in deliveries]
                 recordings = record_texts(program_of(side, RECORD), scripts, settings, stop, (TRACE,))
                 for pair, delivery, recording in zip(measured.pairs, deliveries, recordings):
                     name = f"{folder}/{pair.run:04}.pkt"
-                    yield name, self._script(name, case, delivery, recording)
+                    yield name, self._script_if_as_played(name, case, delivery, recording)
 
-    def _script(self, name: str, case: TransferCase, delivery: Delivery, recording: Recording) -> bytes:
+    def _script_if_as_played(self, name: str, case: TransferCase, delivery: Delivery, recording: Recording) -> bytes:
         """A recording as a script; a fault where it has other packets than were played."""
-        if sent_in(recording) != list(delivery.packets):
+        if sent_segments_in(recording) != list(delivery.departures_without_cause):
             why = recording.fault or "pdrecord sends other packets than were played"
             raise Fault(f"--save: {printable_path(self._target / name)}: {why}")
         head = f"// {case.size:,} octets over {case.path.name}: delivered in {delivery.time / 1_000:.3f} ms.\n"
@@ -59,7 +59,7 @@ class TransferFolder:
         return (head + "\n".join(lines)).encode()
 
 
-def sent_in(recording: Recording) -> list[Departure]:
+def sent_segments_in(recording: Recording) -> list[Departure]:
     """The segments with octets of a recording with its trace."""
     packets = [(it.moment, it.what) for it in traced_events_in(recording.text) if isinstance(it.what, Packet)]
     return [Departure(at, it.start, it.end) for at, it in packets if not it.is_inbound and it.start < it.end]

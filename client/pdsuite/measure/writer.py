@@ -17,7 +17,7 @@ class Writer:
     def __init__(self, path: NetworkPath, size: int, room: int) -> None:
         self._path = path
         self._room = room
-        self.total = path.total(size)
+        self.total = path.octets_written(size)
         # Where the parts end, as the number after their last octet.
         self._ends = [size + 1, self.total + 1] if path.idle_us else [size + 1]
         self._part = self._delivered = 0
@@ -33,47 +33,47 @@ class Writer:
         """Whether all was written, and is acknowledged."""
         return self._una == self.total + 1
 
-    def writes(self, at: int) -> Iterator[int]:
+    def due_writes(self, at: int) -> Iterator[int]:
         """What it writes at a moment, write by write."""
-        while self._due is not None and self._due <= at and (octets := self._next()):
-            if self._written == self._start:
+        while self._due is not None and self._due <= at and (octets := self._next_write_octets()):
+            if self._written == self._part_begin:
                 self._begins.append(at)
             self._written += octets
             if self._written == self._ends[self._part]:
                 self._due = None
-            elif self._path.write and (self._written - self._start) % self._path.write == 0:
+            elif self._path.write and (self._written - self._part_begin) % self._path.write == 0:
                 self._due = at + self._path.write_every_us
             yield octets
 
-    def wakes(self, at: int) -> int | None:
+    def next_wake_moment(self, at: int) -> int | None:
         """When it wants to write next, if that is later and it hasn't answered so before."""
         if self._due is None or self._due <= at or self._due == self._woken:
             return None
         self._woken = self._due
         return self._due
 
-    def acknowledge(self, at: int, number: int) -> None:
+    def note_acknowledged(self, at: int, number: int) -> None:
         """Takes note that all octets below a number are acknowledged."""
         self._una = max(self._una, number)
         if self._una == self._ends[self._part] and self._part + 1 < len(self._ends):
             self._part += 1
             self._due = at + self._path.idle_us
 
-    def deliver(self, at: int, number: int) -> None:
+    def note_delivered(self, at: int, number: int) -> None:
         """Takes note that the peer has all octets below a number."""
         while self._delivered < len(self._ends) and number >= self._ends[self._delivered]:
             self.time += at - self._begins[self._delivered]
             self._delivered += 1
 
     @property
-    def _start(self) -> int:
+    def _part_begin(self) -> int:
         """Where the present part begins."""
         return self._ends[self._part - 1] if self._part else 1
 
-    def _next(self) -> int:
+    def _next_write_octets(self) -> int:
         """How much the next write has: nothing where too little of the buffer is free."""
         left = self._ends[self._part] - self._written
         if self._path.write:
-            left = min(left, self._path.write - (self._written - self._start) % self._path.write)
+            left = min(left, self._path.write - (self._written - self._part_begin) % self._path.write)
         free = self._room - (self._written - self._una)
         return min(left, free, _MOST) if free >= min(left, self._room // 2) else 0

@@ -4,9 +4,9 @@
 `HeaderOption`, each with its `Time`), and `layout` says where the fields of each `Event` stand. `recorded` puts a
 recording beside its script: which packet each event met, and how the sender stood after it.
 
-    text --tokens_of--> Token --read--> Item --layout_of--> Event, with the place of each field
+    text --tokens_of--> Token --read_items--> Item --layout_of--> Event, with the place of each field
                                                    |
-    recording with its trace --recorded_in--> RecordedEvent --match_events--> MatchedEvent
+    recording with its trace --recorded_events_in--> RecordedEvent --match_events--> MatchedEvent
 
 - The reader takes more than the program does: commands, code and options of other kernels, since imports and editors
   meet them. It goes as far as the text is a script, and says where that ends (`Reading.fault`, a `ScriptSyntaxError`).

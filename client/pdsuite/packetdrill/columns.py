@@ -42,37 +42,41 @@ class PacketField:
 PacketColumns = tuple[PacketField, ...]
 
 
-def columns(script: str, actual: str, kind: str) -> tuple[PacketColumns, PacketColumns]:
+def columns_of_packets(script: str, actual: str, kind: str) -> tuple[PacketColumns, PacketColumns]:
     """Both packets field by field. `kind` is the field by which the script fails, as the program names it."""
     one, other = _PACKET.fullmatch(script), _PACKET.fullmatch(actual)
     if one is None or other is None:
         return (PacketField(script),), (PacketField(actual),)
-    fields = [(name, one[name], other[name], _mark(name, one[name], other[name], kind)) for name in _FORMS]
-    pairs = [(_part(name, left, mark), _part(name, right, mark)) for name, left, right, mark in fields if left or right]
+    fields = [(name, one[name], other[name], _field_mark(name, one[name], other[name], kind)) for name in _FORMS]
+    pairs = [
+        (_packet_field(name, left, mark), _packet_field(name, right, mark))
+        for name, left, right, mark in fields
+        if left or right
+    ]
     widths = [max(len(left.text), len(right.text)) for left, right in pairs]
-    return _padded([it for it, _ in pairs], widths), _padded([it for _, it in pairs], widths)
+    return _pad_to_columns([it for it, _ in pairs], widths), _pad_to_columns([it for _, it in pairs], widths)
 
 
-def _mark(name: str, script: str | None, actual: str | None, kind: str) -> Mark:
+def _field_mark(name: str, script: str | None, actual: str | None, kind: str) -> Mark:
     if name == kind:
         return Mark.FAILS
-    if name not in _COMPARED or script is None or _agree(name, script, actual):
+    if name not in _COMPARED or script is None or _do_fields_agree(name, script, actual):
         return Mark.NONE
     return Mark.DIFFERS
 
 
-def _agree(name: str, script: str, actual: str | None) -> bool:
+def _do_fields_agree(name: str, script: str, actual: str | None) -> bool:
     """Whether a field that the script writes is written alike of the packet sent."""
     if name == "flags" and actual is not None:
         return set(script) == set(actual)
     return script == actual or (name == "options" and script == _ANY_OPTIONS)
 
 
-def _part(name: str, value: str | None, mark: Mark) -> PacketField:
+def _packet_field(name: str, value: str | None, mark: Mark) -> PacketField:
     return PacketField("", Mark.NONE) if value is None else PacketField(_FORMS[name].format(value), mark)
 
 
-def _padded(parts: list[PacketField], widths: list[int]) -> PacketColumns:
+def _pad_to_columns(parts: list[PacketField], widths: list[int]) -> PacketColumns:
     """The parts, each with the blanks up to the next column; the last one with none."""
     last = max(number for number, it in enumerate(parts) if it.text)
     padded = [

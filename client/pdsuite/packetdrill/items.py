@@ -23,8 +23,8 @@ class Time:
         if self.first is None:
             return "*"
         sign = "+" if self.is_relative else ""
-        end = "" if self.last is None else f"~{sign}{_seconds(self.last)}"
-        return f"{sign}{_seconds(self.first)}{end}"
+        end = "" if self.last is None else f"~{sign}{_seconds_text(self.last)}"
+        return f"{sign}{_seconds_text(self.first)}{end}"
 
 
 @dataclass(frozen=True, slots=True)
@@ -118,6 +118,6 @@ class Item:
     is_blocking: bool = False
 
 
-def _seconds(microseconds: int) -> str:
+def _seconds_text(microseconds: int) -> str:
     whole, part = divmod(microseconds, SECOND)
     return f"{whole}.{part:06}".rstrip("0") if part else str(whole)

@@ -6,7 +6,7 @@ from functools import cached_property
 
 from pdsuite.packetdrill.items import Call, Item, Packet
 from pdsuite.packetdrill.lines import Extent
-from pdsuite.packetdrill.reader import read
+from pdsuite.packetdrill.reader import read_items
 from pdsuite.packetdrill.tokens import ScriptSyntaxError, Token, TokenKind, tokens_of
 
 
@@ -18,13 +18,13 @@ class Event:
     text: str
 
     @cached_property
-    def fields(self) -> Mapping[str, Extent]:
+    def field_extents(self) -> Mapping[str, Extent]:
         """The places of its fields, by their names.
 
         A packet has `time`, `flags`, `seq`, `ack`, `win` and `options`, as far as they are written; a call `time`,
         `call`, `arguments` and `result`.
         """
-        return _fields(self.text, self.item)
+        return _field_extents(self.text, self.item)
 
     @property
     def extent(self) -> Extent:
@@ -55,14 +55,16 @@ class Layout:
         """The packets and calls."""
         return [it for it in self.items if isinstance(it.item.what, Packet | Call)]
 
-    def at(self, offset: int) -> Event | None:
+    def item_at(self, offset: int) -> Event | None:
         """The item that stands at a place."""
         return next((it for it in self.items if offset in it.extent), None)
 
-    def of_line(self, line: int, printed: str = "") -> Event | None:
+    def item_of_line(self, line: int, printed: str = "") -> Event | None:
         """The item that begins in a line, counted from 1; of several the one that the program shows as `printed`."""
         found = [it for it in self.items if it.item.line == line]
-        alike = [it for it in found if _squeezed(self.text[it.item.start : it.item.end]) == _squeezed(printed)]
+        alike = [
+            it for it in found if _without_blanks(self.text[it.item.start : it.item.end]) == _without_blanks(printed)
+        ]
         return next(iter([*alike, *found]), None)
 
 
@@ -71,22 +73,22 @@ NOTHING = Layout("", (), None)
 
 def layout_of(text: str) -> Layout:
     """Where the parts of a text stand, as far as it is a script."""
-    reading = read(text)
+    reading = read_items(text)
     return Layout(text, tuple(Event(it, text) for it in reading.items), reading.fault)
 
 
-def _squeezed(text: str) -> str:
+def _without_blanks(text: str) -> str:
     """A text without blanks, as the program shows others than the blank itself."""
     for blank in (" ", "\t", "\n", "\r", "\\x09", "\\x0a", "\\x0d"):
         text = text.replace(blank, "")
     return text
 
 
-def _fields(text: str, item: Item) -> Mapping[str, Extent]:
+def _field_extents(text: str, item: Item) -> Mapping[str, Extent]:
     tokens = [Token(it.kind, it.text, it.start + item.start) for it in tokens_of(text[item.start : item.end])]
     time = [it for it in tokens if it.start < item.action]
     action = [it for it in tokens if it.start >= item.action]
-    fields = {"time": _span(time)} if time else {}
+    fields = {"time": _extent_of_tokens(time)} if time else {}
     match item.what:
         case Packet():
             fields |= dict(_packet_fields(action))
@@ -99,30 +101,30 @@ def _packet_fields(tokens: list[Token]) -> Iterator[tuple[str, Extent]]:
     """The fields after the arrow, which may come after the end of a blocking call."""
     arrow = next(place for place, it in enumerate(tokens) if it.text in ("<", ">"))
     number = next(place for place, it in enumerate(tokens) if place > arrow and it.kind is TokenKind.NUMBER)
-    yield "flags", _span(tokens[arrow + 1 : number])
-    yield "seq", _span(tokens[number : number + 6])
+    yield "flags", _extent_of_tokens(tokens[arrow + 1 : number])
+    yield "seq", _extent_of_tokens(tokens[number : number + 6])
     rest = tokens[number + 6 :]
     while rest and rest[0].text in ("ack", "win"):
-        yield rest[0].text, _span(rest[:2])
+        yield rest[0].text, _extent_of_tokens(rest[:2])
         rest = rest[2:]
     if rest:
-        yield "options", _span(rest)
+        yield "options", _extent_of_tokens(rest)
 
 
 def _call_fields(tokens: list[Token]) -> Iterator[tuple[str, Extent]]:
     """The name, what stands in its brackets, and the result with the name of an error."""
     name = next(place for place, it in enumerate(tokens) if it.kind is TokenKind.WORD)
-    yield "call", _span(tokens[name : name + 1])
+    yield "call", _extent_of_tokens(tokens[name : name + 1])
     depth = 0
     for place, it in enumerate(tokens[name + 1 :], name + 1):
         depth += (it.text in ("(", "[", "{")) - (it.text in (")", "]", "}"))
         if depth == 0:
             break
-    yield "arguments", _span(tokens[name + 1 : place + 1])
+    yield "arguments", _extent_of_tokens(tokens[name + 1 : place + 1])
     result = tokens[place + 2 :]
     note = next((at for at, it in enumerate(result) if it.text == "("), len(result))
-    yield "result", _span(result[:note])
+    yield "result", _extent_of_tokens(result[:note])
 
 
-def _span(tokens: list[Token]) -> Extent:
+def _extent_of_tokens(tokens: list[Token]) -> Extent:
     return Extent(tokens[0].start, tokens[-1].end)

@@ -27,29 +27,29 @@ class TextLines:
         self._starts = [0, *(it.end() for it in _NEWLINE.finditer(text))]
 
     @property
-    def count(self) -> int:
+    def line_count(self) -> int:
         """How many lines there are; after a last newline comes an empty one."""
         return len(self._starts)
 
-    def start(self, line: int) -> int:
+    def line_start(self, line: int) -> int:
         """Where a line begins; past the last line, the end of the text."""
         return self._starts[line] if line < len(self._starts) else len(self.text)
 
-    def end(self, line: int) -> int:
+    def line_end(self, line: int) -> int:
         """Where a line ends, before its newline."""
         return self._starts[line + 1] - 1 if line + 1 < len(self._starts) else len(self.text)
 
-    def content(self, line: int) -> str:
+    def line_content(self, line: int) -> str:
         """A line without its end, be that a newline or a carriage return too."""
-        return self.text[self.start(line) : self.end(line)].removesuffix("\r")
+        return self.text[self.line_start(line) : self.line_end(line)].removesuffix("\r")
 
     def line_of(self, offset: int) -> int:
         """The line that a place lies in."""
         return bisect_right(self._starts, offset) - 1
 
-    def whole_line(self, line: int) -> Extent:
+    def trimmed_line_extent(self, line: int) -> Extent:
         """What a line has between its first blanks and its end."""
-        content = self.content(line)
-        start = self.start(line)
+        content = self.line_content(line)
+        start = self.line_start(line)
         indent = len(content) - len(content.lstrip(" \t"))
         return Extent(start + (indent if indent < len(content) else 0), start + len(content))

@@ -5,7 +5,7 @@ from collections.abc import Sequence
 from dataclasses import dataclass
 
 from pdsuite.packetdrill.items import SECOND, Call, Code, Command, HeaderOption, Item, Packet, TcpOption, Time
-from pdsuite.packetdrill.tokens import ScriptSyntaxError, Token, TokenKind, line_of, tokens_of
+from pdsuite.packetdrill.tokens import ScriptSyntaxError, Token, TokenKind, line_number_at, tokens_of
 
 MOST_NUMBER = (1 << 32) - 1
 MOST_PAIRS = 16
@@ -41,13 +41,13 @@ class Reading:
     fault: ScriptSyntaxError | None = None
 
 
-def read(text: str) -> Reading:
+def read_items(text: str) -> Reading:
     """Reads a text as far as it is a script."""
     reader = _Reader(text)
     items: list[Item] = []
     try:
         while not reader.is_at_end():
-            items.append(reader.item())
+            items.append(reader.take_item())
     except ScriptSyntaxError as unread:
         return Reading(tuple(items), unread)
     return Reading(tuple(items))
@@ -70,10 +70,10 @@ class _Reader:
     def is_at_end(self) -> bool:
         return self._at == len(self._tokens) and self._stuck is None
 
-    def item(self) -> Item:
+    def take_item(self) -> Item:
         """An option, a command or code without a time, or an event."""
-        token = self._next()
-        line = line_of(self._text, token.start)
+        token = self._require_token()
+        line = line_number_at(self._text, token.start)
         match token.kind:
             case TokenKind.OPTION:
                 self._at += 1
@@ -82,54 +82,54 @@ class _Reader:
                 return Item(what, line, token.start, token.end, token.start)
             case TokenKind.COMMAND | TokenKind.CODE:
                 self._at += 1
-                return Item(_quoted(token), line, token.start, token.end, token.start)
-        return self._event(token, line)
+                return Item(_unquote(token), line, token.start, token.end, token.start)
+        return self._take_event(token, line)
 
-    def _event(self, first: Token, line: int) -> Item:
-        time = self._time()
-        action = self._next().start
-        is_blocking = self._takes_dots()
-        token = self._next()
+    def _take_event(self, first: Token, line: int) -> Item:
+        time = self._take_time()
+        action = self._require_token().start
+        is_blocking = self._take_blocking_end()
+        token = self._require_token()
         match token.kind, token.text:
             case (TokenKind.COMMAND | TokenKind.CODE), _:
                 self._at += 1
-                what: Packet | Call | Command | Code = _quoted(token)
+                what: Packet | Call | Command | Code = _unquote(token)
             case TokenKind.SYMBOL, ("<" | ">"):
                 self._at += 1
-                what = self._packet(token.text == "<")
+                what = self._take_packet(token.text == "<")
             case _:
-                what = self._call()
+                what = self._take_call()
         return Item(what, line, first.start, self._tokens[self._at - 1].end, action, time, is_blocking)
 
     # ---- times
 
-    def _time(self) -> Time:
-        if self._takes("*"):
+    def _take_time(self) -> Time:
+        if self._take_symbol_if("*"):
             return Time(None)
-        is_relative = self._takes("+")
-        first = self._seconds(0)
-        if not self._takes("~"):
+        is_relative = self._take_symbol_if("+")
+        first = self._take_seconds(0)
+        if not self._take_symbol_if("~"):
             return Time(first, None, is_relative)
         if is_relative:
-            self._takes("+")
-        return Time(first, self._seconds(first), is_relative)
+            self._take_symbol_if("+")
+        return Time(first, self._take_seconds(first), is_relative)
 
-    def _takes_dots(self) -> bool:
+    def _take_blocking_end(self) -> bool:
         """Takes the end of a blocking call, where there is one."""
-        if self._next().kind is not TokenKind.DOTS:
+        if self._require_token().kind is not TokenKind.DOTS:
             return False
         self._at += 1
-        self._takes("+")
-        self._seconds(0)
+        self._take_symbol_if("+")
+        self._take_seconds(0)
         return True
 
-    def _seconds(self, least: int) -> int:
+    def _take_seconds(self, least: int) -> int:
         """Seconds as microseconds; digits after the sixth decimal are dropped."""
-        token = self._next()
+        token = self._require_token()
         if token.kind not in (TokenKind.NUMBER, TokenKind.DECIMAL):
             raise self._syntax_error(token)
         whole, _, part = token.text.partition(".")
-        seconds = _number(whole or "0")
+        seconds = _parse_number(whole or "0")
         microseconds = seconds * SECOND + int(part[:6].ljust(6, "0"))
         if seconds > MOST_NUMBER or microseconds < least:
             raise self._syntax_error(token)
@@ -138,128 +138,128 @@ class _Reader:
 
     # ---- packets
 
-    def _packet(self, is_inbound: bool) -> Packet:
-        flags = self._flags()
-        start = self._int()
-        self._expect(":")
-        end = self._int(least=start)
-        self._expect("(")
-        self._int(least=end - start, most=end - start)
-        self._expect(")")
-        ack = self._named("ack")
-        win = self._named("win")
+    def _take_packet(self, is_inbound: bool) -> Packet:
+        flags = self._take_flags()
+        start = self._take_number()
+        self._require_symbol(":")
+        end = self._take_number(least=start)
+        self._require_symbol("(")
+        self._take_number(least=end - start, most=end - start)
+        self._require_symbol(")")
+        ack = self._take_named_number("ack")
+        win = self._take_named_number("win")
         if win is None and is_inbound:
-            raise self._syntax_error(self._peek())
+            raise self._syntax_error(self._peek_token())
         first = self._at
-        options = self._options(is_inbound)
-        return Packet(is_inbound, flags, start, end, ack, win, options, self._flat(first, self._at))
+        options = self._take_options(is_inbound)
+        return Packet(is_inbound, flags, start, end, ack, win, options, self._tokens_in_line(first, self._at))
 
-    def _flags(self) -> str:
-        if self._takes("-"):
+    def _take_flags(self) -> str:
+        if self._take_symbol_if("-"):
             return ""
-        if self._takes("."):
+        if self._take_symbol_if("."):
             return "."
-        token = self._next()
+        token = self._require_token()
         if token.kind is not TokenKind.WORD or not _FLAGS.fullmatch(token.text):
             raise self._syntax_error(token)
         self._at += 1
-        return "".join(dict.fromkeys(token.text)) + ("." if self._takes(".") else "")
+        return "".join(dict.fromkeys(token.text)) + ("." if self._take_symbol_if(".") else "")
 
-    def _named(self, name: str) -> int | None:
+    def _take_named_number(self, name: str) -> int | None:
         """A number after its name, where that stands here."""
-        token = self._peek()
+        token = self._peek_token()
         if token.kind is not TokenKind.WORD or token.text != name:
             return None
         self._at += 1
-        return self._int()
+        return self._take_number()
 
-    def _options(self, is_inbound: bool) -> tuple[TcpOption, ...]:
-        if not self._takes("<") or self._takes(">"):
+    def _take_options(self, is_inbound: bool) -> tuple[TcpOption, ...]:
+        if not self._take_symbol_if("<") or self._take_symbol_if(">"):
             return ()
-        if not is_inbound and self._next().kind is TokenKind.DOTS:
+        if not is_inbound and self._require_token().kind is TokenKind.DOTS:
             self._at += 1
-            self._expect(">")
+            self._require_symbol(">")
             return ()
-        options = [self._option()]
-        while self._takes(","):
-            options.append(self._option())
-        self._expect(">")
+        options = [self._take_option()]
+        while self._take_symbol_if(","):
+            options.append(self._take_option())
+        self._require_symbol(">")
         return tuple(options)
 
-    def _option(self) -> TcpOption:
-        token = self._next()
+    def _take_option(self) -> TcpOption:
+        token = self._require_token()
         self._at += 1
         match token.text:
             case "mss" | "wscale":
-                return TcpOption(token.text, (self._int(),))
+                return TcpOption(token.text, (self._take_number(),))
             case "sackOK" | "nop" | "eol":
                 return TcpOption(token.text)
             case "TS":
-                return TcpOption("TS", (self._after("val"), self._after("ecr")))
+                return TcpOption("TS", (self._take_number_after("val"), self._take_number_after("ecr")))
             case "sack":
-                return TcpOption("sack", self._blocks())
+                return TcpOption("sack", self._take_sack_edges())
         self._at -= 1
         raise self._syntax_error(token)
 
-    def _after(self, name: str) -> int:
-        token = self._next()
+    def _take_number_after(self, name: str) -> int:
+        token = self._require_token()
         if token.text != name:
             raise self._syntax_error(token)
         self._at += 1
-        return self._int()
+        return self._take_number()
 
-    def _blocks(self) -> tuple[int, ...]:
+    def _take_sack_edges(self) -> tuple[int, ...]:
         """The edges of one block or more."""
         edges: list[int] = []
-        while not edges or self._peek().kind is TokenKind.NUMBER:
-            edges.append(self._int())
-            self._expect(":")
-            edges.append(self._int())
+        while not edges or self._peek_token().kind is TokenKind.NUMBER:
+            edges.append(self._take_number())
+            self._require_symbol(":")
+            edges.append(self._take_number())
         return tuple(edges)
 
     # ---- calls
 
-    def _call(self) -> Call:
-        token = self._next()
+    def _take_call(self) -> Call:
+        token = self._require_token()
         if token.kind is not TokenKind.WORD:
             raise self._syntax_error(token)
         self._at += 1
-        self._expect("(")
-        arguments = self._arguments()
-        self._expect("=")
-        result, error = self._result()
-        if self._takes("("):
-            self._balanced(MOST_PAIRS - 1, parted=False)
-            self._expect(")")
+        self._require_symbol("(")
+        arguments = self._take_arguments()
+        self._require_symbol("=")
+        result, error = self._take_result()
+        if self._take_symbol_if("("):
+            self._take_balanced(MOST_PAIRS - 1, parted=False)
+            self._require_symbol(")")
         return Call(token.text, arguments, result, error)
 
-    def _arguments(self) -> tuple[str, ...]:
-        if self._takes(")"):
+    def _take_arguments(self) -> tuple[str, ...]:
+        if self._take_symbol_if(")"):
             return ()
-        arguments = [self._balanced(MOST_PAIRS, parted=True)]
-        while self._takes(","):
-            arguments.append(self._balanced(MOST_PAIRS, parted=True))
-        self._expect(")")
+        arguments = [self._take_balanced(MOST_PAIRS, parted=True)]
+        while self._take_symbol_if(","):
+            arguments.append(self._take_balanced(MOST_PAIRS, parted=True))
+        self._require_symbol(")")
         return tuple(arguments)
 
-    def _balanced(self, most: int, parted: bool) -> str:
+    def _take_balanced(self, most: int, parted: bool) -> str:
         """Tokens whose brackets are balanced, up to the bracket after them, or to a comma where these part them."""
         first = self._at
         closing: list[str] = []
-        while closing or not self._ends_here(parted):
-            token = self._next()
+        while closing or not self._is_at_argument_end(parted):
+            token = self._require_token()
             if token.kind is TokenKind.SYMBOL:
-                self._pair(token, closing, most)
+                self._match_bracket(token, closing, most)
             self._at += 1
         if parted and first == self._at:
-            raise self._syntax_error(self._next())
-        return self._flat(first, self._at)
+            raise self._syntax_error(self._require_token())
+        return self._tokens_in_line(first, self._at)
 
-    def _ends_here(self, parted: bool) -> bool:
-        token = self._next()
+    def _is_at_argument_end(self, parted: bool) -> bool:
+        token = self._require_token()
         return token.kind is TokenKind.SYMBOL and (token.text == ")" or (parted and token.text == ","))
 
-    def _pair(self, token: Token, closing: list[str], most: int) -> None:
+    def _match_bracket(self, token: Token, closing: list[str], most: int) -> None:
         """Opens a pair of brackets, or closes the innermost one."""
         if token.text in _CLOSING:
             if len(closing) == most:
@@ -269,12 +269,12 @@ class _Reader:
             if not closing or closing.pop() != token.text:
                 raise self._syntax_error(token)
 
-    def _result(self) -> tuple[int, str | None]:
+    def _take_result(self) -> tuple[int, str | None]:
         """A result, and where it is negative the error that it may be written with."""
-        if not self._takes("-"):
-            return self._int(also=TokenKind.HEX), None
-        number = self._int()
-        error = self._peek()
+        if not self._take_symbol_if("-"):
+            return self._take_number(also=TokenKind.HEX), None
+        number = self._take_number()
+        error = self._peek_token()
         if error.kind is not TokenKind.WORD:
             return -number, None
         self._at += 1
@@ -282,32 +282,32 @@ class _Reader:
 
     # ---- tokens
 
-    def _next(self) -> Token:
+    def _require_token(self) -> Token:
         """The token that stands here, which there has to be."""
         if self._at < len(self._tokens):
             return self._tokens[self._at]
         raise self._stuck or ScriptSyntaxError(max(len(self._text.rstrip("\n")) - 1, 0), "the script breaks off here")
 
-    def _peek(self) -> Token:
+    def _peek_token(self) -> Token:
         """The token that stands here, if there is one."""
         return self._tokens[self._at] if self._at < len(self._tokens) else _END
 
-    def _takes(self, symbol: str) -> bool:
-        token = self._peek()
+    def _take_symbol_if(self, symbol: str) -> bool:
+        token = self._peek_token()
         if token.kind is not TokenKind.SYMBOL or token.text != symbol:
             return False
         self._at += 1
         return True
 
-    def _expect(self, symbol: str) -> None:
-        if not self._takes(symbol):
-            raise self._syntax_error(self._next())
+    def _require_symbol(self, symbol: str) -> None:
+        if not self._take_symbol_if(symbol):
+            raise self._syntax_error(self._require_token())
 
-    def _int(self, least: int = 0, most: int = MOST_NUMBER, also: TokenKind = TokenKind.NUMBER) -> int:
-        token = self._next()
+    def _take_number(self, least: int = 0, most: int = MOST_NUMBER, also: TokenKind = TokenKind.NUMBER) -> int:
+        token = self._require_token()
         if token.kind not in (TokenKind.NUMBER, also):
             raise self._syntax_error(token)
-        number = _number(token.text)
+        number = _parse_number(token.text)
         if not least <= number <= most:
             raise self._syntax_error(token)
         self._at += 1
@@ -320,12 +320,12 @@ class _Reader:
             return ScriptSyntaxError(token.start, "AccECN", token.text)
         return ScriptSyntaxError(token.start, _KNOWN.get(token.text, _NO_SCRIPT), token.text)
 
-    def _flat(self, first: int, last: int) -> str:
+    def _tokens_in_line(self, first: int, last: int) -> str:
         """Tokens in one line: a blank stands where blanks or comments stood."""
-        return flat(self._tokens[first:last])
+        return tokens_in_one_line(self._tokens[first:last])
 
 
-def flat(tokens: Sequence[Token]) -> str:
+def tokens_in_one_line(tokens: Sequence[Token]) -> str:
     """Tokens in one line: a blank stands where blanks or comments stood."""
     parts: list[str] = []
     for number, token in enumerate(tokens):
@@ -335,7 +335,7 @@ def flat(tokens: Sequence[Token]) -> str:
     return "".join(parts)
 
 
-def _number(digits: str) -> int:
+def _parse_number(digits: str) -> int:
     """The number that digits write, or one above all that a script may have."""
     if digits.startswith("0x"):
         return int(digits, 16)
@@ -343,7 +343,7 @@ def _number(digits: str) -> int:
     return int(digits or "0") if len(digits) <= 20 else 10**20
 
 
-def _quoted(token: Token) -> Command | Code:
+def _unquote(token: Token) -> Command | Code:
     if token.kind is TokenKind.COMMAND:
         return Command(token.text[1:-1])
     return Code(token.text[2:-2])

@@ -5,7 +5,7 @@ from collections.abc import Iterator, Mapping, Sequence
 from dataclasses import dataclass
 from math import inf
 
-from pdsuite.packetdrill.alignment import Fields, aligned, fields_of
+from pdsuite.packetdrill.alignment import Fields, align_packets, fields_of
 from pdsuite.packetdrill.items import SECOND, HeaderOption, Packet, Time
 from pdsuite.packetdrill.layout import Event
 
@@ -62,22 +62,22 @@ class MatchedEvent:
     last: float = inf
 
 
-def recorded_in(recording: str) -> tuple[RecordedEvent, ...]:
+def recorded_events_in(recording: str) -> tuple[RecordedEvent, ...]:
     """The events of a recording that was made with a trace, whose line comes after each."""
     begin = 0
     each: list[RecordedEvent] = []
     for found in _TRACE.finditer(recording):
-        each.append(_recorded(recording, begin, found))
+        each.append(_parse_recorded_event(recording, begin, found))
         begin = found.end()
     return tuple(each)
 
 
-def without_trace(recording: str) -> str:
+def strip_trace(recording: str) -> str:
     """A recording without the lines of its trace."""
     return _TRACE.sub("", recording)
 
 
-def _recorded(recording: str, begin: int, trace: "re.Match[str]") -> RecordedEvent:
+def _parse_recorded_event(recording: str, begin: int, trace: "re.Match[str]") -> RecordedEvent:
     """The event before a line of the trace; comments and the header may come before it."""
     gap = _BEFORE.match(recording, begin, trace.start())
     start = begin if gap is None else gap.end()
@@ -94,17 +94,17 @@ def _recorded(recording: str, begin: int, trace: "re.Match[str]") -> RecordedEve
         moment=int(trace["whole"]) * SECOND + int(trace["part"]),
         state=SenderState(trace["name"], facts),
         sent_by=sent_by,
-        fields=None if packet is None else _fields(packet),
+        fields=None if packet is None else _fields_of_match(packet),
     )
 
 
-def _fields(packet: "re.Match[str]") -> Fields:
+def _fields_of_match(packet: "re.Match[str]") -> Fields:
     ack, win = (None if packet[it] is None else int(packet[it]) for it in ("ack", "win"))
     octets = int(packet["start"]), int(packet["end"])
     return Fields(frozenset(packet["flags"]) - {"-"}, octets, ack, win, "".join((packet["options"] or "").split()))
 
 
-def tolerance_of(items: Sequence[Event], settings: int) -> int:
+def tolerance_of_script(items: Sequence[Event], settings: int) -> int:
     """The tolerance in microseconds: the last one of the header, else that of the settings."""
     header = [it.item.what for it in items if isinstance(it.item.what, HeaderOption)]
     values = [it.value for it in header if it.name == _TOLERANCE and it.value is not None and it.value.isdecimal()]
@@ -120,19 +120,19 @@ def match_events(
     one is met where it left before the event's last moment, give or take the tolerance.
     """
     inputs = [place for place, it in enumerate(recorded) if it.is_input]
-    pairs = _pairs(events, recorded, passed)
+    pairs = _pair_outputs(events, recorded, passed)
     base = clock = begin
     after: RecordedEvent | None = None
     for number, event in enumerate(events):
-        first, end = _first(event.item.time, base), _last(event.item.time, base)
+        first, end = _first_moment(event.item.time, base), _last_moment(event.item.time, base)
         if event.is_input:
             found = inputs.pop(0) if inputs else None
-            base = _moment(event.item.time, base)
+            base = _first_moment_or_base(event.item.time, base)
         else:
             until = inputs[0] if inputs else len(recorded)
             last = inf if number < passed else max(clock, end + tolerance)
             place = pairs.get(number)
-            found = place if place is not None and _is_met(recorded, place, until, last) else None
+            found = place if place is not None and _left_in_time(recorded, place, until, last) else None
             base = _base_after(event.item.time, base, None if found is None else recorded[found].moment)
         if found is not None:
             after = recorded[found]
@@ -140,17 +140,17 @@ def match_events(
         yield MatchedEvent(event, None if found is None else recorded[found], after, first, end)
 
 
-def _pairs(events: Sequence[Event], recorded: Sequence[RecordedEvent], passed: int) -> dict[int, int]:
+def _pair_outputs(events: Sequence[Event], recorded: Sequence[RecordedEvent], passed: int) -> dict[int, int]:
     """The place of the packet beside each event that awaits one: those that passed met theirs in order."""
     awaited = [number for number, it in enumerate(events) if not it.is_input]
     outputs = [place for place, it in enumerate(recorded) if not it.is_input]
     taken = min(sum(number < passed for number in awaited), len(outputs))
     pairs = dict(zip(awaited[:taken], outputs[:taken]))
     left, sent = awaited[taken:], outputs[taken:]
-    until = _untils(events, recorded)
+    until = _next_input_places(events, recorded)
     wanted = [fields_of(it.item.what) if isinstance(it.item.what, Packet) else None for it in (events[n] for n in left)]
     there = [recorded[place].fields for place in sent]
-    found = aligned(
+    found = align_packets(
         [it or _NO_FIELDS for it in wanted],
         [it or _NO_FIELDS for it in there],
         lambda one, other: sent[other] < until[left[one]],
@@ -158,7 +158,7 @@ def _pairs(events: Sequence[Event], recorded: Sequence[RecordedEvent], passed: i
     return pairs | {left[one]: sent[other] for one, other in found.items()}
 
 
-def _untils(events: Sequence[Event], recorded: Sequence[RecordedEvent]) -> list[int]:
+def _next_input_places(events: Sequence[Event], recorded: Sequence[RecordedEvent]) -> list[int]:
     """For each event the place of the next input after it in the recording, or its end."""
     inputs = [place for place, it in enumerate(recorded) if it.is_input]
     untils, count = [], 0
@@ -168,21 +168,21 @@ def _untils(events: Sequence[Event], recorded: Sequence[RecordedEvent]) -> list[
     return untils
 
 
-def _is_met(recorded: Sequence[RecordedEvent], place: int, until: int, last: float) -> bool:
+def _left_in_time(recorded: Sequence[RecordedEvent], place: int, until: int, last: float) -> bool:
     return place < until and recorded[place].moment <= last
 
 
-def _moment(time: Time | None, base: int) -> int:
+def _first_moment_or_base(time: Time | None, base: int) -> int:
     if time is None or time.first is None:
         return base
     return base + time.first if time.is_relative else time.first
 
 
-def _first(time: Time | None, base: int) -> float:
-    return 0 if time is None or time.first is None else _moment(time, base)
+def _first_moment(time: Time | None, base: int) -> float:
+    return 0 if time is None or time.first is None else _first_moment_or_base(time, base)
 
 
-def _last(time: Time | None, base: int) -> float:
+def _last_moment(time: Time | None, base: int) -> float:
     if time is None or time.first is None:
         return inf
     last = time.first if time.last is None else time.last
@@ -191,7 +191,7 @@ def _last(time: Time | None, base: int) -> float:
 
 def _base_after(time: Time | None, base: int, moment: int | None) -> int:
     if time is not None and time.is_fixed:
-        return _moment(time, base)
+        return _first_moment_or_base(time, base)
     return base if moment is None else max(base, moment)
 
 

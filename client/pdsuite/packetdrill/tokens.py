@@ -72,19 +72,19 @@ _PIECE = re.compile("|".join(f"(?P<{kind.name}>{piece.pattern})" for kind, piece
 
 def tokens_of(text: str) -> Iterator[Token]:
     """The tokens of a text, up to its end or to the first place where none fits."""
-    place = _after_gap(text, 0)
+    place = _skip_gap(text, 0)
     while place < len(text):
         token = _token_at(text, place)
         yield token
-        place = _after_gap(text, token.end)
+        place = _skip_gap(text, token.end)
 
 
-def line_of(text: str, place: int) -> int:
+def line_number_at(text: str, place: int) -> int:
     """The line that a place of a text lies in."""
     return text.count("\n", 0, place) + 1
 
 
-def _after_gap(text: str, place: int) -> int:
+def _skip_gap(text: str, place: int) -> int:
     """The place after blanks and comments."""
     found = _GAP.match(text, place)
     return place if found is None else found.end()
@@ -93,7 +93,7 @@ def _after_gap(text: str, place: int) -> int:
 def _token_at(text: str, place: int) -> Token:
     if found := _PIECE.match(text, place):
         kind = TokenKind[found.lastgroup or ""]
-        return Token(_kind_of(found[0]) if kind is TokenKind.WORD else kind, found[0], place)
+        return Token(_kind_of_letters(found[0]) if kind is TokenKind.WORD else kind, found[0], place)
     if _OPENING.match(text, place):
         raise ScriptSyntaxError(place, "what is opened here is never closed")
     if found := _SYMBOL.match(text, place):
@@ -101,7 +101,7 @@ def _token_at(text: str, place: int) -> Token:
     raise ScriptSyntaxError(place, "an octet that no script has here")
 
 
-def _kind_of(letters: str) -> TokenKind:
+def _kind_of_letters(letters: str) -> TokenKind:
     if _DIGITS.fullmatch(letters):
         return TokenKind.NUMBER
     return TokenKind.HEX if _HEX.fullmatch(letters) else TokenKind.WORD

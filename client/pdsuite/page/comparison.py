@@ -17,9 +17,9 @@ from pdsuite.diagram.timeline import timeline_of
 from pdsuite.files import write_file_atomically
 from pdsuite.output.octets import printable_path
 from pdsuite.packages import missing_module_message
-from pdsuite.page.folder import TABLE, prepare, sweep
-from pdsuite.page.links import file_of
-from pdsuite.page.render import compare_page
+from pdsuite.page.folder import TABLE, prepare_page_folder, remove_stale_pages
+from pdsuite.page.links import page_file_of
+from pdsuite.page.render import render_comparison_page
 from pdsuite.programs.trace import traced_events_in
 from pdsuite.programs.verdict import Verdict
 from pdsuite.reports.comparison import compared_script_lines
@@ -53,10 +53,10 @@ class ComparisonPage:
     """The page in a folder."""
 
     def __init__(self, folder: Path) -> None:
-        prepare(folder)
+        prepare_page_folder(folder)
         self._folder = folder
 
-    def write(
+    def write_page(
         self,
         compared: Sequence[ComparedScript],
         results: tuple[SenderResults, SenderResults],
@@ -64,13 +64,13 @@ class ComparisonPage:
         is_unproved: bool,
     ) -> None:
         """Writes the page."""
-        sections = tuple(_sections(compared, results))
+        sections = tuple(_make_sections(compared, results))
         counts: tuple[KindCounts, ...] = tuple(counts_by_folder_and_total(compared))
-        write_file_atomically(self._folder / TABLE, compare_page(sections, counts, names, is_unproved))
-        sweep(self._folder, (), ())
+        write_file_atomically(self._folder / TABLE, render_comparison_page(sections, counts, names, is_unproved))
+        remove_stale_pages(self._folder, (), ())
 
 
-def _sections(
+def _make_sections(
     compared: Sequence[ComparedScript], results: tuple[SenderResults, SenderResults]
 ) -> Iterator[ComparisonSection]:
     """The scripts that differ, those that turned first, group by group."""
@@ -79,21 +79,21 @@ def _sections(
         for group in group_by_first_difference([it for it in compared if it.kind is kind]):
             title = f"{len(group.scripts)} scripts differ first in {group.title}" if len(group.scripts) > 1 else ""
             for it in group.scripts:
-                yield _section(it, results, number < _MOST, title)
+                yield _make_section(it, results, number < _MOST, title)
                 title = ""
                 number += 1
 
 
-def _section(
+def _make_section(
     it: ComparedScript, results: tuple[SenderResults, SenderResults], is_drawn: bool, title: str
 ) -> ComparisonSection:
-    pictures = [_picture(side, it.index, sender, is_drawn) for side, sender in zip(("before", "after"), results)]
-    name = file_of(it.path).removesuffix(".html")
+    pictures = [_make_picture(side, it.index, sender, is_drawn) for side, sender in zip(("before", "after"), results)]
+    name = page_file_of(it.path).removesuffix(".html")
     lines = [it.comment] * bool(it.comment) + compared_script_lines(it)
     return ComparisonSection(printable_path(it.path), name, it.kind, tuple(lines), tuple(pictures), title)
 
 
-def _picture(side: str, index: int, sender: SenderResults, is_drawn: bool) -> ComparisonPicture:
+def _make_picture(side: str, index: int, sender: SenderResults, is_drawn: bool) -> ComparisonPicture:
     """The diagram of a script under one of the senders."""
     recording = sender.recordings.get(index)
     if recording is None or not recording.text:
@@ -113,6 +113,6 @@ def _picture(side: str, index: int, sender: SenderResults, is_drawn: bool) -> Co
     if strokes is None:
         return ComparisonPicture(side, "", "There is nothing to draw: no packet comes or leaves.")
     # Only who draws pays for what draws.
-    from pdsuite.diagram.pictures import for_page
+    from pdsuite.diagram.pictures import svg_for_page
 
-    return ComparisonPicture(side, for_page(strokes))
+    return ComparisonPicture(side, svg_for_page(strokes))

@@ -28,12 +28,12 @@ class DiagramChoice:
     most: int = MOST
 
 
-def diagram_choice(pattern: str | None, most: int | None) -> DiagramChoice:
+def make_diagram_choice(pattern: str | None, most: int | None) -> DiagramChoice:
     """The choice by two options, each of which may be missing."""
     return DiagramChoice(pattern, MOST if most is None else most)
 
 
-def plots_of(outcomes: Iterable[Outcome], wanted: DiagramChoice) -> Iterator[Plot]:
+def choose_plots(outcomes: Iterable[Outcome], wanted: DiagramChoice) -> Iterator[Plot]:
     """Of each script, in the order of paths, whether it is drawn."""
     left = wanted.most
     for outcome in outcomes:

@@ -11,7 +11,7 @@ from pdsuite.files import write_file_atomically
 from pdsuite.output.octets import printable_path
 from pdsuite.packages import missing_module_message
 from pdsuite.page.diagram_choice import Plot
-from pdsuite.page.links import PLOTS, plot_files
+from pdsuite.page.links import PLOTS, plot_file_names
 from pdsuite.programs.protocol import Cause
 from pdsuite.programs.recorder import Recorder
 from pdsuite.programs.trace import traced_events_in
@@ -44,40 +44,40 @@ _NO_RECORDING = {
 _RECORDED = "What the sender does with the inputs of the script, as pdrecord records it."
 
 
-def undrawn(row: Row) -> Diagram:
+def undrawn_diagram(row: Row) -> Diagram:
     """The words of a script that isn't drawn."""
     return Diagram("", (_NO_RECORDING.get(row.verdict) or _UNDRAWN[row.verdict],))
 
 
-def diagram_of(
+def make_script_diagram(
     outcome: Outcome, text: Text | None, plot: Plot, cause: Cause | None, recorder: Recorder, folder: Path
 ) -> Diagram:
     """The diagram of a script, where one is to be drawn; its files are written into the folder of the page."""
     row = outcome.row
     if plot is Plot.NONE or text is None or row.verdict in _NO_RECORDING:
-        return undrawn(row)
+        return undrawn_diagram(row)
     if reason := missing_module_message("matplotlib"):
         return Diagram("", (f"It isn't drawn: {reason}",))
     recording = recorder.record_script(outcome.path, text.octets, outcome.settings)
     if not recording.text:
         return Diagram("", (f"There is no recording: {recording.fault or 'pdrecord writes nothing'}",))
-    timeline = timeline_of(traced_events_in(recording.text), _failing(text, row, cause))
+    timeline = timeline_of(traced_events_in(recording.text), _failing_line(text, row, cause))
     if timeline is None:
         return Diagram("", ("There is nothing to draw: no packet comes or leaves.",))
     # Only who draws pays for what draws.
-    from pdsuite.diagram.pictures import for_page
+    from pdsuite.diagram.pictures import svg_for_page
 
-    files = _write_files(folder, outcome.path, timeline) if plot is Plot.FILES else ()
-    return Diagram(for_page(timeline), tuple(_words(timeline)), files)
+    files = _write_picture_files(folder, outcome.path, timeline) if plot is Plot.FILES else ()
+    return Diagram(svg_for_page(timeline), tuple(_diagram_words(timeline)), files)
 
 
-def _failing(text: Text, row: Row, cause: Cause | None) -> FailingLine | None:
+def _failing_line(text: Text, row: Row, cause: Cause | None) -> FailingLine | None:
     if row.verdict is not Verdict.FAIL or row.line is None:
         return None
     return failing_line_of(text.octets.decode("utf-8", "surrogateescape"), row.line, cause or {})
 
 
-def _words(timeline: Timeline) -> Iterator[str]:
+def _diagram_words(timeline: Timeline) -> Iterator[str]:
     yield _RECORDED
     failure = timeline.failure
     if failure is None:
@@ -86,15 +86,15 @@ def _words(timeline: Timeline) -> Iterator[str]:
         yield f"Line {failure.line} expects the packet that is outlined; the filled one was sent."
     elif failure.expected is not None:
         yield f"Line {failure.line} expects the packet that is outlined; none was sent in time."
-    if timeline.has_later:
+    if timeline.has_later_events:
         yield f"Pale is what comes after line {failure.line}: what the sender would do next."
 
 
-def _write_files(folder: Path, path: str, timeline: Timeline) -> tuple[str, ...]:
+def _write_picture_files(folder: Path, path: str, timeline: Timeline) -> tuple[str, ...]:
     """Writes the picture as files, and answers their names."""
     from pdsuite.diagram.pictures import png_file, svg_file
 
-    names = plot_files(path)
+    names = plot_file_names(path)
     title = printable_path(path)
     for name, octets in zip(names, (svg_file(timeline, title), png_file(timeline, title))):
         (folder / PLOTS).mkdir(exist_ok=True)

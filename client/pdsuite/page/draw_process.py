@@ -5,7 +5,7 @@ import pickle
 import sys
 
 from pdsuite.faults import Fault
-from pdsuite.page.jobs import Job, carry_out
+from pdsuite.page.jobs import Job, carry_out_job
 from pdsuite.signals import Stop, StoppedError
 
 # Begins the line that says why it has to end; the status then.
@@ -19,7 +19,7 @@ def main() -> int:
     with Stop() as stop:
         job: Job = pickle.load(sys.stdin.buffer)
         try:
-            carry_out(job, stop, _print_line)
+            carry_out_job(job, stop, _print_line)
         except StoppedError as stopped:
             return stopped.status
         except Fault as fault:

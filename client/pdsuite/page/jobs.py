@@ -5,12 +5,12 @@ from dataclasses import dataclass
 from pathlib import Path
 
 from pdsuite.files import write_file_atomically
-from pdsuite.page.diagrams import diagram_of
-from pdsuite.page.folder import TABLE, sweep
+from pdsuite.page.diagrams import make_script_diagram
+from pdsuite.page.folder import TABLE, remove_stale_pages
 from pdsuite.page.links import FOLDER
 from pdsuite.page.notes import SenderNotes
-from pdsuite.page.render import script_page, table_page
-from pdsuite.page.view_model import PageEntry, TableRow, script_view
+from pdsuite.page.render import render_script_page, render_table_page
+from pdsuite.page.view_model import PageEntry, TableRow, script_view_of
 from pdsuite.programs.locate import is_programs_folder_set
 from pdsuite.programs.recorder import Recorder
 from pdsuite.programs.verdict import Verdict
@@ -36,15 +36,15 @@ class Job:
     notes: SenderNotes = SenderNotes()
 
 
-def carry_out(job: Job, stop: Stop, done: Callable[[int], None]) -> None:
+def carry_out_job(job: Job, stop: Stop, done: Callable[[int], None]) -> None:
     """Does a job. `done` gets the place of each script whose page stands."""
     if job.rows is not None:
-        write_file_atomically(job.folder / TABLE, table_page(job.rows, job.is_unproved, job.notes))
-        sweep(job.folder, (it.file for it in job.rows), job.plots)
+        write_file_atomically(job.folder / TABLE, render_table_page(job.rows, job.is_unproved, job.notes))
+        remove_stale_pages(job.folder, (it.file for it in job.rows), job.plots)
     recorder = Recorder(stop, lambda line: None, job.record)
     for place, entry in enumerate(job.entries):
         stop.raise_if_stopped()
-        _write_page(job, entry, recorder)
+        _write_script_page(job, entry, recorder)
         done(place)
 
 
@@ -53,13 +53,15 @@ def _has_programs(job: Job) -> bool:
     return not job.is_unproved or job.regress is not None or is_programs_folder_set()
 
 
-def _write_page(job: Job, entry: PageEntry, recorder: Recorder) -> None:
-    diagram = diagram_of(entry.outcome, entry.text, entry.plot, entry.cause, recorder, job.folder)
-    sheet = script_view(entry, entry.cause, diagram, _met(entry, recorder if _has_programs(job) else None))
-    write_file_atomically(job.folder / FOLDER / sheet.row.file, script_page(sheet, job.is_unproved))
+def _write_script_page(job: Job, entry: PageEntry, recorder: Recorder) -> None:
+    diagram = make_script_diagram(entry.outcome, entry.text, entry.plot, entry.cause, recorder, job.folder)
+    sheet = script_view_of(
+        entry, entry.cause, diagram, _line_diff_of_entry(entry, recorder if _has_programs(job) else None)
+    )
+    write_file_atomically(job.folder / FOLDER / sheet.row.file, render_script_page(sheet, job.is_unproved))
 
 
-def _met(entry: PageEntry, recorder: Recorder | None) -> LineDiff | None:
+def _line_diff_of_entry(entry: PageEntry, recorder: Recorder | None) -> LineDiff | None:
     """What each line of a script that fails was met by, where that can be recorded or is known."""
     outcome, text = entry.outcome, entry.text
     if recorder is None or text is None or outcome.row.verdict is not Verdict.FAIL or outcome.line_diff is not None:

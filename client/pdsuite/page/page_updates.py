@@ -9,14 +9,14 @@ from pathlib import Path
 from pdsuite.compare.comparison import ComparedScript
 from pdsuite.files import write_file_atomically
 from pdsuite.packages import require_module
-from pdsuite.page.diagram_choice import DiagramChoice, Plot, plots_of
+from pdsuite.page.diagram_choice import DiagramChoice, Plot, choose_plots
 from pdsuite.page.draw_process import FAILED, FAULT
-from pdsuite.page.folder import prepare
+from pdsuite.page.folder import prepare_page_folder
 from pdsuite.page.jobs import Job
-from pdsuite.page.links import plot_files
-from pdsuite.page.notes import SenderNotes, turned_of
+from pdsuite.page.links import plot_file_names
+from pdsuite.page.notes import SenderNotes, turned_scripts_for_table
 from pdsuite.page.render import SENDER, sender_style
-from pdsuite.page.view_model import PageEntry, table_row
+from pdsuite.page.view_model import PageEntry, table_row_of
 from pdsuite.programs.child_process import ChildProcess
 from pdsuite.signals import Stop
 
@@ -34,7 +34,7 @@ class PageUpdates:
     ) -> None:
         if plots.pattern is not None:
             require_module("matplotlib")
-        prepare(folder)
+        prepare_page_folder(folder)
         self._plots = plots
         self._is_unproved = is_unproved
         self.has_failed = False
@@ -63,15 +63,15 @@ class PageUpdates:
         """What can be read once a process has drawn something or has ended."""
         return [it.fileno() for it in self._workers]
 
-    def turn(self, regress: Path, record: Path | None, is_unproved: bool) -> None:
+    def redraw_by_programs(self, regress: Path, record: Path | None, is_unproved: bool) -> None:
         """Has all drawn anew by other programs."""
         self._programs = regress, record
         self._is_unproved = is_unproved
         self._is_turning, self._follows = self._follows or self._is_turning, False
         self._drawn = {}
-        self.end()
+        self.end_drawing()
 
-    def mark(self, words: str) -> None:
+    def mark_as_of_sender_before(self, words: str) -> None:
         """Has all pages say that they are of the sender before, and why, until they are drawn of one that stands."""
         self._words = words
         shown_words = words or (_DRAWING if self._is_turning else "")
@@ -87,63 +87,63 @@ class PageUpdates:
         self._notes = replace(self._notes, refusals=lines)
         if self._follows or not self._entries:
             self._waiting = self._entries
-            self.look()
+            self.advance_drawing()
 
-    def end(self) -> None:
+    def end_drawing(self) -> None:
         """Has what is drawn now ended, since it isn't wanted any more."""
         self._is_ending = True
         for worker in self._workers:
             worker.terminate()
 
-    def follow(self, entries: Sequence[PageEntry], turned: Sequence[ComparedScript] = ()) -> None:
+    def queue_entries(self, entries: Sequence[PageEntry], turned: Sequence[ComparedScript] = ()) -> None:
         """Has the page drawn of these scripts, as soon as nothing else is drawn; the sender turned some."""
         self._follows = True
-        plots = plots_of((it.outcome for it in entries), self._plots)
+        plots = choose_plots((it.outcome for it in entries), self._plots)
         self._waiting = self._entries = [replace(it, plot=plot) for it, plot in zip(entries, plots)]
         if turned is not self._turned:
-            self._turned, self._notes = turned, replace(self._notes, turned=turned_of(turned))
-        self.look()
+            self._turned, self._notes = turned, replace(self._notes, turned=turned_scripts_for_table(turned))
+        self.advance_drawing()
 
-    def look(self) -> None:
+    def advance_drawing(self) -> None:
         """Reads what was drawn, and begins what waits."""
         for worker, entries in list(self._workers.items()):
-            self._read(worker, entries)
+            self._read_worker(worker, entries)
         if self._waiting is not None and not self._workers:
             self._is_ending = False
-            self._begin(self._waiting)
+            self._start_workers(self._waiting)
             self._waiting = None
         if self._is_turning and self._follows and not self._workers and not self._words:
             self._is_turning = False
-            self.mark("")
+            self.mark_as_of_sender_before("")
 
-    def finish(self, stop: Stop, advance: Callable[[int, int], None]) -> None:
+    def wait_until_drawn(self, stop: Stop, advance: Callable[[int, int], None]) -> None:
         """Waits until all is drawn; `advance` gets how many pages are, and of how many."""
         count = sum(map(len, self._workers.values()))
         while self._workers:
             advance(len(self._drawn), count)
             select.select([stop.fileno(), *self.filenos()], [], [])
             stop.raise_if_stopped()
-            self.look()
+            self.advance_drawing()
 
-    def _begin(self, entries: Sequence[PageEntry]) -> None:
+    def _start_workers(self, entries: Sequence[PageEntry]) -> None:
         paths = {it.outcome.path for it in entries}
         self._drawn = {path: it for path, it in self._drawn.items() if path in paths}
         changed = [it for it in entries if self._drawn.get(it.outcome.path) != it]
         changed.sort(key=lambda it: it.plot is not Plot.NONE)  # what takes longest comes last, and to all
         diagrams = sum(it.plot is not Plot.NONE for it in changed)
         count = max(1, min(len(os.sched_getaffinity(0)), max(len(changed) // _SHARE, diagrams)))
-        rows = tuple(table_row(it.outcome) for it in entries)
-        plots = tuple(name for it in entries if it.plot is Plot.FILES for name in plot_files(it.outcome.path))
+        rows = tuple(table_row_of(it.outcome) for it in entries)
+        plots = tuple(name for it in entries if it.plot is Plot.FILES for name in plot_file_names(it.outcome.path))
         for number in range(count):
             share = tuple(changed[number::count])
             table = rows if number == 0 else None
             job = Job(self._folder, table, plots, share, self._is_unproved, *self._programs, self._notes)
             self._workers[ChildProcess(_DRAWER, job)] = share
 
-    def _read(self, worker: ChildProcess, entries: Sequence[PageEntry]) -> None:
+    def _read_worker(self, worker: ChildProcess, entries: Sequence[PageEntry]) -> None:
         for line in worker.read_lines():
             if line.startswith(FAULT):
-                self._fail(line.removeprefix(FAULT))
+                self._note_failure(line.removeprefix(FAULT))
             else:
                 entry = entries[int(line)]
                 self._drawn[entry.outcome.path] = entry
@@ -151,8 +151,8 @@ class PageUpdates:
             del self._workers[worker]
             status = worker.close_and_get_status()
             if status not in (0, FAILED) and not self._is_ending:
-                self._fail(f"what draws the page ended with status {status}")
+                self._note_failure(f"what draws the page ended with status {status}")
 
-    def _fail(self, reason: str) -> None:
+    def _note_failure(self, reason: str) -> None:
         self.has_failed = True
         self._note(f"pdsuite: {reason}")

@@ -9,7 +9,7 @@ from typing import TYPE_CHECKING
 from jinja2 import Environment, FileSystemLoader, StrictUndefined
 
 from pdsuite.compare.comparison import KindCounts
-from pdsuite.diagram.palette import rules
+from pdsuite.diagram.palette import css_rules
 from pdsuite.page.links import FOLDER, PLOTS
 from pdsuite.page.notes import SenderNotes
 from pdsuite.page.view_model import ScriptView, TableRow
@@ -41,12 +41,12 @@ _RANKS: tuple[Verdict | CountedAs, ...] = (
 )
 
 
-def static(name: str) -> bytes:
+def static_file(name: str) -> bytes:
     """A file that all pages use."""
     if name == SENDER:
         return sender_style("")
     octets = (_HERE / "static" / name).read_bytes()
-    return octets + f"\n/* The colours of diagrams. */\n{rules(':root')}\n".encode() if name == _STYLE else octets
+    return octets + f"\n/* The colours of diagrams. */\n{css_rules(':root')}\n".encode() if name == _STYLE else octets
 
 
 def sender_style(words: str) -> bytes:
@@ -58,46 +58,46 @@ def sender_style(words: str) -> bytes:
     return f'body::before {{ content: "{shown}"; {mark} }}\nheader, main {{ opacity: 0.5 }}\n'.encode()
 
 
-def table_page(rows: Sequence[TableRow], is_unproved: bool = False, notes: SenderNotes = SenderNotes()) -> bytes:
+def render_table_page(rows: Sequence[TableRow], is_unproved: bool = False, notes: SenderNotes = SenderNotes()) -> bytes:
     """The page with the table: what fails stands first, and what is counted alike in the order of paths."""
     counts = Counter(it.counted_as for it in rows)
     tallies = [(it, counts[it]) for it in (*Verdict, *CountedAs) if counts[it]]
-    ranked = sorted(rows, key=_rank)
+    ranked = sorted(rows, key=_table_rank)
     values = {"rows": ranked, "tallies": tallies, "folder": FOLDER, "is_unproved": is_unproved}
-    return _filled("table.html", notes=notes, **values)
+    return _fill_template("table.html", notes=notes, **values)
 
 
-def _rank(row: TableRow) -> tuple[int, bool]:
+def _table_rank(row: TableRow) -> tuple[int, bool]:
     """Which verdicts come first; of those that pass the ones that are warned of."""
     return _RANKS.index(row.counted_as), row.counted_as is Verdict.PASS and not row.why
 
 
-def script_page(sheet: ScriptView, is_unproved: bool = False) -> bytes:
+def render_script_page(sheet: ScriptView, is_unproved: bool = False) -> bytes:
     """The page of a script."""
-    return _filled("script.html", sheet=sheet, row=sheet.row, plots=PLOTS, is_unproved=is_unproved)
+    return _fill_template("script.html", sheet=sheet, row=sheet.row, plots=PLOTS, is_unproved=is_unproved)
 
 
-def compare_page(
+def render_comparison_page(
     sections: "Sequence[ComparisonSection]", counts: Sequence[KindCounts], names: tuple[str, str], is_unproved: bool
 ) -> bytes:
     """The page of a comparison."""
-    return _filled("compare.html", sections=sections, counts=counts, names=names, is_unproved=is_unproved)
+    return _fill_template("compare.html", sections=sections, counts=counts, names=names, is_unproved=is_unproved)
 
 
-def measure_page(
+def render_measure_page(
     sections: "Sequence[MeasureSection]", totals: Sequence[str], names: tuple[str, str], is_unproved: bool
 ) -> bytes:
     """The page of what was measured."""
-    return _filled("measure.html", sections=sections, totals=totals, names=names, is_unproved=is_unproved)
+    return _fill_template("measure.html", sections=sections, totals=totals, names=names, is_unproved=is_unproved)
 
 
-def _filled(name: str, **values: object) -> bytes:
-    text = _environment().get_template(name).render(generator=GENERATOR, passes=Verdict.PASS, **values)
+def _fill_template(name: str, **values: object) -> bytes:
+    text = _template_environment().get_template(name).render(generator=GENERATOR, passes=Verdict.PASS, **values)
     return text.encode()
 
 
 @cache
-def _environment() -> Environment:
+def _template_environment() -> Environment:
     return Environment(
         loader=FileSystemLoader(_HERE / "templates"),
         autoescape=True,

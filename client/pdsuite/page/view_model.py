@@ -4,10 +4,10 @@ from collections.abc import Iterator, Mapping
 from dataclasses import dataclass
 
 from pdsuite.output.octets import printable_octets, printable_path
-from pdsuite.packetdrill.columns import Mark, PacketColumns, PacketField, columns
+from pdsuite.packetdrill.columns import Mark, PacketColumns, PacketField, columns_of_packets
 from pdsuite.page.diagram_choice import Plot
 from pdsuite.page.diagrams import Diagram
-from pdsuite.page.links import file_of
+from pdsuite.page.links import page_file_of
 from pdsuite.programs.cause_text import (
     STATE,
     WORDS,
@@ -132,65 +132,65 @@ class ScriptView:
         return [it for it in Mark if it in used and it is not Mark.NONE]
 
 
-def table_row(outcome: Outcome) -> TableRow:
+def table_row_of(outcome: Outcome) -> TableRow:
     """The row of a script in the table."""
     row = outcome.row
     return TableRow(
         printable_path(outcome.path),
-        file_of(outcome.path),
+        page_file_of(outcome.path),
         row.verdict,
         outcome.counted_as,
         "" if row.verdict is Verdict.ERROR else row.word,
         outcome.line,
-        _text(outcome),
-        _why(outcome),
-        _expected(outcome),
+        _shown_row_text(outcome),
+        _reason_or_warnings(outcome),
+        _expectation_words(outcome),
     )
 
 
-def _text(outcome: Outcome) -> str:
+def _shown_row_text(outcome: Outcome) -> str:
     """The line of its text that the row is about, as it is shown."""
     if outcome.line != outcome.row.line and outcome.block_lines:
         return outcome.block_lines[0].strip()  # the program marks another one than the row has
     return "" if outcome.text is None else printable_octets(outcome.text.expandtabs().strip(), _LONGEST_LINE)
 
 
-def script_view(entry: PageEntry, cause: Cause | None, diagram: Diagram, met: LineDiff | None = None) -> ScriptView:
+def script_view_of(entry: PageEntry, cause: Cause | None, diagram: Diagram, met: LineDiff | None = None) -> ScriptView:
     """The page of a script, with the program's explanation, and what its lines were met by."""
     outcome, explanation = entry.outcome, cause or {}
     return ScriptView(
-        row=table_row(outcome),
+        row=table_row_of(outcome),
         events=outcome.row.number if outcome.row.verdict is Verdict.PASS else None,
-        lines=tuple(_lines(entry.text, outcome.line)) if entry.text else (),
+        lines=tuple(_script_lines(entry.text, outcome.line)) if entry.text else (),
         settings=tuple(NamedFact(key, make_printable(value_as_toml(value))) for key, value in outcome.settings),
-        packets=_packets(explanation),
-        reason=_string(explanation, "reason_words"),
-        refused=_refused(explanation),
-        facts=tuple(_facts(explanation)),
-        unmatched=tuple(_unmatched(explanation)),
-        more_unmatched=_number(explanation, "more_untaken_packets"),
-        state=tuple(_state(explanation)),
+        packets=_compared_packets(explanation),
+        reason=_text_of_key(explanation, "reason_words"),
+        refused=_refused_text(explanation),
+        facts=tuple(_cause_facts(explanation)),
+        unmatched=tuple(_unmatched_packets(explanation)),
+        more_unmatched=_number_of_key(explanation, "more_untaken_packets"),
+        state=tuple(_state_facts(explanation)),
         below=() if explanation else tuple(lines_below_row(outcome)),
         diagram=diagram,
         met=() if met is None else met.lines,
     )
 
 
-def _facts(explanation: Cause) -> Iterator[NamedFact]:
+def _cause_facts(explanation: Cause) -> Iterator[NamedFact]:
     if sender := origin_in_words(explanation.get("sent_by")):
         yield NamedFact("sent by", sender)
     for key, words in WORDS.items():
         if key in explanation and key not in _ELSEWHERE:
-            yield NamedFact(words, _value(key, explanation[key]))
+            yield NamedFact(words, _value_with_unit(key, explanation[key]))
     for it in dropped_segments(explanation):
         yield NamedFact("dropped", make_printable(it))
 
 
-def _unmatched(explanation: Cause) -> Iterator[str]:
+def _unmatched_packets(explanation: Cause) -> Iterator[str]:
     return (make_printable(packet_with_sender(packet, origin)) for packet, origin in unmatched_packets(explanation))
 
 
-def _expected(outcome: Outcome) -> str:
+def _expectation_words(outcome: Outcome) -> str:
     """Which row is expected, and why, where one is."""
     expected = outcome.expected
     if expected is None or outcome.row.verdict is Verdict.NOT_RUN:
@@ -198,61 +198,61 @@ def _expected(outcome: Outcome) -> str:
     return expected.reason if outcome.is_known_failure else f'"{expected.row}" is expected ({expected.reason})'
 
 
-def _why(outcome: Outcome) -> str:
+def _reason_or_warnings(outcome: Outcome) -> str:
     """Why a row is so, as far as that is explained, or what is warned of."""
     if outcome.row.verdict is Verdict.ERROR:
         return outcome.row.word
     return "; ".join(warning_texts(outcome)) or reason_for_row(outcome)
 
 
-def _lines(text: Text, named: int | None) -> Iterator[ScriptLine]:
+def _script_lines(text: Text, named: int | None) -> Iterator[ScriptLine]:
     for number, line in enumerate(text.octets.split(b"\n")[: text.lines], 1):
         yield ScriptLine(number, printable_octets(line.removesuffix(b"\r").expandtabs()), number == named)
 
 
-def _packets(explanation: Cause) -> tuple[tuple[str, PacketColumns], ...]:
+def _compared_packets(explanation: Cause) -> tuple[tuple[str, PacketColumns], ...]:
     """The packet of the script, and below it the one that was sent, if one was."""
-    script, actual = _string(explanation, "script_packet"), _string(explanation, "actual_packet")
+    script, actual = _text_of_key(explanation, "script_packet"), _text_of_key(explanation, "actual_packet")
     if not script:
         return ()
     if not actual:
         return (("script packet", (PacketField(script),)), ("actual packet", ()))
-    one, other = columns(script, actual, _string(explanation, "kind"))
+    one, other = columns_of_packets(script, actual, _text_of_key(explanation, "kind"))
     return ("script packet", one), ("actual packet", other)
 
 
-def _refused(explanation: Cause) -> RefusedText | None:
+def _refused_text(explanation: Cause) -> RefusedText | None:
     if "expected" not in explanation:
         return None
-    text, column = _string(explanation, "text"), explanation.get("column")
+    text, column = _text_of_key(explanation, "text"), explanation.get("column")
     place = column if isinstance(column, int) else len(text)
-    return RefusedText(text[:place], text[place:], _texts(explanation, "expected"))
+    return RefusedText(text[:place], text[place:], _texts_of_key(explanation, "expected"))
 
 
-def _state(explanation: Cause) -> Iterator[NamedFact]:
+def _state_facts(explanation: Cause) -> Iterator[NamedFact]:
     state = explanation.get("state")
     if isinstance(state, Mapping):
         for key, word in {"name": "state", **STATE}.items():
             if key in state:
-                yield NamedFact(word, _value(key, state[key]), _GLOSSES.get(key, ""))
+                yield NamedFact(word, _value_with_unit(key, state[key]), _GLOSSES.get(key, ""))
 
 
-def _value(key: str, value: object) -> str:
+def _value_with_unit(key: str, value: object) -> str:
     """A value as people see it, with the unit of moments and spans."""
     unit = " s" if key.endswith("_us") and value is not None else ""
     return f"{make_printable(value_in_words(key, value))}{unit}"
 
 
-def _string(explanation: Cause, key: str) -> str:
+def _text_of_key(explanation: Cause, key: str) -> str:
     value = explanation.get(key)
     return make_printable(value) if isinstance(value, str) else ""
 
 
-def _texts(explanation: Cause, key: str) -> tuple[str, ...]:
+def _texts_of_key(explanation: Cause, key: str) -> tuple[str, ...]:
     values = explanation.get(key)
     return tuple(make_printable(it) for it in values if isinstance(it, str)) if isinstance(values, list) else ()
 
 
-def _number(explanation: Cause, key: str) -> int:
+def _number_of_key(explanation: Cause, key: str) -> int:
     value = explanation.get(key)
     return value if isinstance(value, int) else 0

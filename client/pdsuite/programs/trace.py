@@ -4,8 +4,8 @@ from collections.abc import Mapping
 from dataclasses import dataclass
 
 from pdsuite.packetdrill.items import Call, Packet
-from pdsuite.packetdrill.reader import read
-from pdsuite.packetdrill.recorded import recorded_in
+from pdsuite.packetdrill.reader import read_items
+from pdsuite.packetdrill.recorded import recorded_events_in
 
 
 @dataclass(frozen=True, slots=True)
@@ -31,8 +31,8 @@ class TracedEvent:
 
 def traced_events_in(recording: str) -> tuple[TracedEvent, ...]:
     """The events of a recording, or none where one of them has no state."""
-    items = [(it.what, it.end) for it in read(recording).items if isinstance(it.what, Packet | Call)]
-    recorded = recorded_in(recording)
+    items = [(it.what, it.end) for it in read_items(recording).items if isinstance(it.what, Packet | Call)]
+    recorded = recorded_events_in(recording)
     if len(items) != len(recorded):
         return ()
     each = zip(items, recorded)

@@ -47,9 +47,9 @@ class AssertionCheck:
 
     def _compare_with_recording(self, outcome: Outcome, text: Text) -> list["CheckedAssertion"]:
         # Only who has assertions pays for what reads scripts.
-        from pdsuite.imports.assertion_checks import compare
+        from pdsuite.imports.assertion_checks import check_assertions
 
         script = text.octets.decode("utf-8", "surrogateescape")
         recording = self._recorder.record_script(outcome.path, text.octets, outcome.settings).text
         mss = {**DEFAULTS, **dict(outcome.settings)}["mss"]
-        return compare(script, recording, outcome.row.line, mss if isinstance(mss, int) else 0)
+        return check_assertions(script, recording, outcome.row.line, mss if isinstance(mss, int) else 0)

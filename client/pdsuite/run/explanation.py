@@ -6,7 +6,7 @@ from dataclasses import replace
 from pdsuite.packetdrill.items import Packet
 from pdsuite.packetdrill.layout import Event, Layout, layout_of
 from pdsuite.packetdrill.lines import Extent, TextLines
-from pdsuite.packetdrill.reader import flat
+from pdsuite.packetdrill.reader import tokens_in_one_line
 from pdsuite.packetdrill.tokens import tokens_of
 from pdsuite.programs.cause_text import make_printable
 from pdsuite.programs.protocol import Cause
@@ -62,7 +62,7 @@ def _place_fields(place: RowLocation, lines: TextLines) -> dict[str, object]:
 
 def _line_and_column(offset: int, lines: TextLines) -> tuple[int, int]:
     line = lines.line_of(offset)
-    return line + 1, len(lines.text[lines.start(line) : offset].encode("utf-8", "surrogateescape"))
+    return line + 1, len(lines.text[lines.line_start(line) : offset].encode("utf-8", "surrogateescape"))
 
 
 def _script_and_actual_packets(row: Row, cause: Cause, layout: Layout) -> Iterator[tuple[str, Event | None]]:
@@ -85,7 +85,7 @@ def _packet_fields(event: Event) -> dict[str, object]:
     packet = event.item.what
     assert isinstance(packet, Packet)  # what is expected to leave
     fields: dict[str, object] = {
-        it: _field_text(event, event.fields[it]) for it in ("time", "flags") if it in event.fields
+        it: _field_text(event, event.field_extents[it]) for it in ("time", "flags") if it in event.field_extents
     }
     fields["seq"] = {"start": packet.start, "end": packet.end}
     fields |= {name: number for name, number in (("ack", packet.ack), ("win", packet.win)) if number is not None}
@@ -93,7 +93,7 @@ def _packet_fields(event: Event) -> dict[str, object]:
 
 
 def _field_text(event: Event, extent: Extent) -> str:
-    return flat(list(tokens_of(event.text[extent.start : extent.end])))
+    return tokens_in_one_line(list(tokens_of(event.text[extent.start : extent.end])))
 
 
 def _make_value_printable(value: object) -> object:

@@ -4,10 +4,16 @@ from collections.abc import Iterator, Mapping, Sequence
 from dataclasses import dataclass, replace
 
 from pdsuite.output.octets import printable_text
-from pdsuite.packetdrill.columns import Mark, PacketColumns, PacketField, columns
+from pdsuite.packetdrill.columns import Mark, PacketColumns, PacketField, columns_of_packets
 from pdsuite.packetdrill.items import SECOND
 from pdsuite.packetdrill.layout import Event, Layout, layout_of
-from pdsuite.packetdrill.recorded import MatchedEvent, RecordedEvent, match_events, recorded_in, tolerance_of
+from pdsuite.packetdrill.recorded import (
+    MatchedEvent,
+    RecordedEvent,
+    match_events,
+    recorded_events_in,
+    tolerance_of_script,
+)
 from pdsuite.programs.recorder import Recording
 from pdsuite.programs.verdict import Row
 from pdsuite.run.locate_row import failing_event
@@ -51,8 +57,8 @@ def diff_lines(
     row: Row, block_lines: Sequence[str], text: str, recording: str, settings: Settings
 ) -> tuple[DiffLine, ...]:
     """What each event of a script that fails was met by, in a recording with its trace."""
-    layout, recorded = layout_of(text), recorded_in(recording)
-    allowed = tolerance_of(layout.items, tolerance_us_of(settings))
+    layout, recorded = layout_of(text), recorded_events_in(recording)
+    allowed = tolerance_of_script(layout.items, tolerance_us_of(settings))
     met = list(
         match_events(layout.events, recorded, count_passed_events(layout, row, event_of_block(block_lines)), allowed)
     )
@@ -111,7 +117,9 @@ def _event_line(met: MatchedEvent, recording: str, allowed: int) -> DiffLine:
     if not event.is_expected:
         return _call_line(event, one, recording)
     is_late = not met.first - allowed <= one.moment <= met.last + allowed
-    script, actual = map(_soften_marks, columns(written, _sent_packet_text(one, recording), _TIME if is_late else ""))
+    script, actual = map(
+        _soften_marks, columns_of_packets(written, _sent_packet_text(one, recording), _TIME if is_late else "")
+    )
     if any(it.mark is not Mark.NONE for it in script):
         return DiffLine(event.item.line, script, actual, True)
     return DiffLine(event.item.line, (PacketField(written),))
@@ -124,12 +132,12 @@ def _soften_marks(packet: PacketColumns) -> PacketColumns:
 
 def _call_line(event: Event, one: RecordedEvent, recording: str) -> DiffLine:
     """A call beside its answer; a packet that arrives is met by itself."""
-    written, result = _event_text(event), event.fields.get("result")
+    written, result = _event_text(event), event.field_extents.get("result")
     if result is None:
         return DiffLine(event.item.line, (PacketField(written),))
     wanted = event.text[result.start : result.end]
     answered = layout_of(recording[one.start : one.end]).events
-    place = answered[0].fields.get("result") if answered else None
+    place = answered[0].field_extents.get("result") if answered else None
     got = "" if place is None else answered[0].text[place.start : place.end]
     if "".join(got.split()) == "".join(wanted.split()) or not got:
         return DiffLine(event.item.line, (PacketField(written),))

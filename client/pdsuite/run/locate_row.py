@@ -43,15 +43,15 @@ class RowLocation:
 def locate_row(row: Row, cause: Cause | None, layout: Layout, lines: TextLines) -> RowLocation:
     """The field that a row is about, else its event, else its line."""
     if row.line is None:
-        return RowLocation(lines.whole_line(0))
-    line = min(row.line, lines.count) - 1
+        return RowLocation(lines.trimmed_line_extent(0))
+    line = min(row.line, lines.line_count) - 1
     if row.verdict is Verdict.SYNTAX:
         return RowLocation(_syntax_error_extent(line, cause, layout, lines))
     event = failing_event(row, cause, layout)
     if event is None:
-        return RowLocation(lines.whole_line(line))
+        return RowLocation(lines.trimmed_line_extent(line))
     field = "time" if row.word == "backwards" else row.word or _RULES.get(str((cause or {}).get("rule")), "")
-    extent = event.fields.get(field)
+    extent = event.field_extents.get(field)
     return RowLocation(event.extent) if extent is None else RowLocation(extent, field)
 
 
@@ -61,7 +61,7 @@ def failing_event(row: Row, cause: Cause | None, layout: Layout) -> Event | None
         return None
     explanation = cause or {}
     printed = next((str(explanation[it]) for it in ("script_packet", "call", "event") if it in explanation), "")
-    return layout.of_line(row.line, printed)
+    return layout.item_of_line(row.line, printed)
 
 
 def _syntax_error_extent(line: int, cause: Cause | None, layout: Layout, lines: TextLines) -> Extent:
@@ -69,10 +69,10 @@ def _syntax_error_extent(line: int, cause: Cause | None, layout: Layout, lines: 
     explanation = cause or {}
     column, number = explanation.get("column"), explanation.get("text_line")
     if not isinstance(column, int):
-        return lines.whole_line(line)
+        return lines.trimmed_line_extent(line)
     if isinstance(number, int):
         line = number - 1
-    start = lines.start(line) + character_at_shown_column(lines.content(line), column)
+    start = lines.line_start(line) + character_at_shown_column(lines.line_content(line), column)
     found = _TOKEN.match(layout.text, start)
     return Extent(start, start + 1 if found is None else found.end())
 

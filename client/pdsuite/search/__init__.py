@@ -7,7 +7,7 @@ gives `Inputs`: calls and packets, each at its moment. `Candidates` makes the li
 
     Candidates --lists--> play_side_by_side --> PlayedInputs --FindTest--> Find --shrink--> finished_script
         ^                       ^                    |
-        +---- learn: what reached a new step --------+
+        +---- keep: what reached a new step ---------+
                                 |
                       SenderOracle: recordings, rows, explanations of one sender
 

@@ -3,11 +3,11 @@
 from collections.abc import Iterable, Iterator, Sequence
 from dataclasses import dataclass, field
 
-from pdsuite.search.generate import generated
+from pdsuite.search.generate import generate_scenarios
 from pdsuite.search.mutate import CorpusEntry, InputMutator
 from pdsuite.search.scenario import Emphasis, Scenario
-from pdsuite.search.simulate import InputSteps, PlayedInputs, play, play_as, play_on
-from pdsuite.search.states import StateStep, steps_in
+from pdsuite.search.simulate import InputSteps, PlayedInputs, play_inputs, play_on_from_inputs, play_scenario
+from pdsuite.search.states import StateStep, state_steps_in
 
 # Lists of scenarios for what goes on from some inputs are numbered from here.
 _FURTHER = 500_000
@@ -35,33 +35,33 @@ class Candidates:
         self._waiting = list(self.initial_inputs)
         self._mutator = InputMutator(self.seed, self.emphasis)
 
-    def lists(self) -> Iterator[list[InputSteps]]:
+    def input_lists(self) -> Iterator[list[InputSteps]]:
         """The lists, each made when all of the one before was learnt from."""
         for number, size in enumerate(self.sizes):
-            yield list(self._list(number, size))
+            yield list(self._make_list(number, size))
 
-    def _list(self, number: int, size: int) -> Iterator[InputSteps]:
+    def _make_list(self, number: int, size: int) -> Iterator[InputSteps]:
         first, self._waiting = self._waiting[: 2 * size], self._waiting[2 * size :]
-        yield from (play_as(it.inputs) for it in first)
-        scenarios = generated(self.seed, number, size, self.emphasis)
+        yield from (play_inputs(it.inputs) for it in first)
+        scenarios = generate_scenarios(self.seed, number, size, self.emphasis)
         varied = size // 2 if self._kept else 0
-        yield from (play(it) for it in scenarios[varied:])
-        yield from (self._varied(it) for it in scenarios[:varied])
+        yield from (play_scenario(it) for it in scenarios[varied:])
+        yield from (self._vary_kept_inputs(it) for it in scenarios[:varied])
 
     def more_scenarios(self, count: int) -> list[Scenario]:
         """So many further scenarios."""
         self._further += 1
-        return generated(self.seed, _FURTHER + self._further, count, self.emphasis)
+        return generate_scenarios(self.seed, _FURTHER + self._further, count, self.emphasis)
 
-    def learn(self, played: Iterable[PlayedInputs]) -> None:
+    def keep_inputs_with_new_steps(self, played: Iterable[PlayedInputs]) -> None:
         """Keeps what reached a state of the sender, by a step, that none before reached."""
         for it in played:
-            steps = set(steps_in(it.recording.text))
+            steps = set(state_steps_in(it.recording.text))
             if steps - self._seen:
                 self._seen |= steps
                 self._kept.append(CorpusEntry(it.inputs, it.recording.text))
 
-    def _varied(self, scenario: Scenario) -> InputSteps:
+    def _vary_kept_inputs(self, scenario: Scenario) -> InputSteps:
         """A variation of what is kept, which may go on by a scenario."""
-        variation = self._mutator.mutate(self._mutator.choose(self._kept, _LATEST))
-        return play_on(scenario, variation.begun) if variation.goes_on else play_as(variation.begun)
+        variation = self._mutator.mutate(self._mutator.choose_entry(self._kept, _LATEST))
+        return play_on_from_inputs(scenario, variation.begun) if variation.goes_on else play_inputs(variation.begun)

@@ -36,12 +36,12 @@ class Coverage:
     options: Counter[str] = field(default_factory=Counter)
     settings: Counter[str] = field(default_factory=Counter)
 
-    def note(self, recording: str, options: Iterable[str], settings: Iterable[str]) -> None:
+    def count_reached_by_input(self, recording: str, options: Iterable[str], settings: Iterable[str]) -> None:
         """Counts what one input reaches."""
         self.inputs += 1
         events = list(played_events(recording))
-        self.counts.update(set(_reached(events)))
-        self.states.update({_name(it) for it in events})
+        self.counts.update(set(_names_of_reached(events)))
+        self.states.update({_state_name_of(it) for it in events})
         self.options.update(set(options))
         self.settings.update(set(settings))
 
@@ -51,10 +51,10 @@ class Coverage:
         return {name: self.counts[name] / max(self.inputs, 1) for name in SHARES}
 
 
-def _reached(events: Iterable[PlayedEvent]) -> Iterator[str]:
+def _names_of_reached(events: Iterable[PlayedEvent]) -> Iterator[str]:
     expiry = ""
     for it in events:
-        name = _name(it)
+        name = _state_name_of(it)
         if name not in ("SYN-RECEIVED", "LISTEN") and _FLIGHT.search(it.state):
             yield FLIGHT
         if _RECOVERY.search(it.state):
@@ -69,7 +69,7 @@ def _reached(events: Iterable[PlayedEvent]) -> Iterator[str]:
         expiry = found[1] if found else ""
 
 
-def _name(it: PlayedEvent) -> str:
+def _state_name_of(it: PlayedEvent) -> str:
     """The state's name."""
     return it.state.partition(" ")[0]
 
@@ -80,17 +80,17 @@ class StatePattern:
 
     facts: tuple[tuple[str, str], ...]
 
-    def is_in(self, recording: str) -> bool:
+    def is_reached_in(self, recording: str) -> bool:
         """Whether a state of a recording has all of them."""
-        return any(self._fits(it.state) for it in played_events(recording))
+        return any(self._fits_state(it.state) for it in played_events(recording))
 
-    def _fits(self, state: str) -> bool:
+    def _fits_state(self, state: str) -> bool:
         name, *facts = state.split(" ")
         there = {_STATE: name} | dict(it.split(":", 1) for it in facts)
         return all(key in there and fnmatchcase(there[key], value) for key, value in self.facts)
 
 
-def state_pattern(text: str) -> StatePattern | None:
+def parse_state_pattern(text: str) -> StatePattern | None:
     """The pattern that a text says, if it says one."""
     words = [it.partition(":") for it in text.split()]
     if not words or any(not name or not value for name, _, value in words):

@@ -27,19 +27,19 @@ class Find:
 class FindTest(Protocol):
     """Decides which inputs are finds."""
 
-    def finds(self, inputs: Sequence[Inputs], recordings: Sequence[Recording]) -> list[Find | None]:
+    def finds_among(self, inputs: Sequence[Inputs], recordings: Sequence[Recording]) -> list[Find | None]:
         """The finds among inputs, by their recordings."""
 
 
-def without_trace(recording: str) -> bytes:
+def script_without_trace(recording: str) -> bytes:
     """A recording as a script, without the sender's states."""
     lines = (it for it in recording.split("\n") if not it.startswith(TRACE))
     return "\n".join(lines).encode("utf-8", "surrogateescape")
 
 
-def script_of(find: Find) -> ConfiguredScript:
+def configured_script_of(find: Find) -> ConfiguredScript:
     """The script that a find is saved as."""
-    return ConfiguredScript(find.inputs.settings, without_trace(find.recording))
+    return ConfiguredScript(find.inputs.settings, script_without_trace(find.recording))
 
 
 @dataclass(frozen=True)
@@ -48,9 +48,9 @@ class FailsTest:
 
     other: SenderOracle
 
-    def finds(self, inputs: Sequence[Inputs], recordings: Sequence[Recording]) -> list[Find | None]:
+    def finds_among(self, inputs: Sequence[Inputs], recordings: Sequence[Recording]) -> list[Find | None]:
         made = [Find(it, recording.text) if recording.text else None for it, recording in zip(inputs, recordings)]
-        rows = iter(self.other.rows([script_of(it) for it in made if it is not None]))
+        rows = iter(self.other.rows([configured_script_of(it) for it in made if it is not None]))
         finds = [None if it is None else Find(it.inputs, it.recording, next(rows)) for it in made]
         return [
             it if it is not None and it.row is not None and it.row.verdict is not Verdict.PASS else None for it in finds
@@ -72,15 +72,17 @@ class DiffersTest:
 
     other: SenderOracle
 
-    def differences(self, inputs: Sequence[Inputs], recordings: Sequence[Recording]) -> list[SenderDifference | None]:
+    def sender_differences(
+        self, inputs: Sequence[Inputs], recordings: Sequence[Recording]
+    ) -> list[SenderDifference | None]:
         """How the senders differ on each, if they do."""
         others = self.other.recordings(inputs)
-        return [_difference(it, one, other) for it, one, other in zip(inputs, recordings, others)]
+        return [_sender_difference(it, one, other) for it, one, other in zip(inputs, recordings, others)]
 
-    def finds(self, inputs: Sequence[Inputs], recordings: Sequence[Recording]) -> list[Find | None]:
+    def finds_among(self, inputs: Sequence[Inputs], recordings: Sequence[Recording]) -> list[Find | None]:
         others = self.other.recordings(inputs)
         return [
-            Find(it, one.text) if one.text and _differ(one, other) else None
+            Find(it, one.text) if one.text and _play_differently(one, other) else None
             for it, one, other in zip(inputs, recordings, others)
         ]
 
@@ -91,14 +93,16 @@ class ReachesTest:
 
     pattern: StatePattern
 
-    def finds(self, inputs: Sequence[Inputs], recordings: Sequence[Recording]) -> list[Find | None]:
-        return [Find(it, one.text) if self.pattern.is_in(one.text) else None for it, one in zip(inputs, recordings)]
+    def finds_among(self, inputs: Sequence[Inputs], recordings: Sequence[Recording]) -> list[Find | None]:
+        return [
+            Find(it, one.text) if self.pattern.is_reached_in(one.text) else None for it, one in zip(inputs, recordings)
+        ]
 
 
-def _difference(inputs: Inputs, one: Recording, other: Recording) -> SenderDifference | None:
+def _sender_difference(inputs: Inputs, one: Recording, other: Recording) -> SenderDifference | None:
     if not one.text or one.text == other.text:
         return None
-    if _differ(one, other):
+    if _play_differently(one, other):
         return SenderDifference(Find(inputs, one.text), True, len(inputs.events))
     count = 0
     for it, that in zip(played_events(one.text), played_events(other.text)):
@@ -108,5 +112,5 @@ def _difference(inputs: Inputs, one: Recording, other: Recording) -> SenderDiffe
     return None
 
 
-def _differ(one: Recording, other: Recording) -> bool:
+def _play_differently(one: Recording, other: Recording) -> bool:
     return not other.text or first_divergence(one.text, other.text) is not None

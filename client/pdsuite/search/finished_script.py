@@ -6,11 +6,11 @@ from dataclasses import dataclass, replace
 from pdsuite.compare.divergence import PlayedEvent, played_events
 from pdsuite.packetdrill.items import Time
 from pdsuite.programs.verdict import Row, Verdict
-from pdsuite.search.find import Find, script_of
+from pdsuite.search.find import Find, configured_script_of
 from pdsuite.search.inputs import EXACT
 from pdsuite.search.oracle import ConfiguredScript, SenderOracle
 from pdsuite.search.simulate import TICK
-from pdsuite.search.states import moment_of
+from pdsuite.search.states import parse_moment
 
 
 @dataclass(frozen=True)
@@ -21,43 +21,47 @@ class FinishedScript:
     row: Row | None
 
     @property
-    def lines(self) -> int:
+    def line_count(self) -> int:
         """How many lines it has."""
         return self.script.octets.count(b"\n")
 
 
-def finished_script(find: Find, before: SenderOracle, after: SenderOracle) -> FinishedScript:
+def least_script_of_find(find: Find, before: SenderOracle, after: SenderOracle) -> FinishedScript:
     """The least script that shows a find: of what was tried, what passes before and fails after."""
-    best = FinishedScript(script_of(find), find.row)
+    best = FinishedScript(configured_script_of(find), find.row)
     if find.row is None or find.row.line is None:
         return best
-    played = list(played_events(find.recording))[: find.row.line - find.inputs.header_lines]
+    played = list(played_events(find.recording))[: find.row.line - find.inputs.header_line_count]
     for kept in (_without_waits(played), played):
-        smaller = _checked([_script(find, kept)], before, after)
+        smaller = _passing_before_failing_after([_script_of_events(find, kept)], before, after)
         if smaller:
             best = smaller[0]
             break
-    while found := _checked(list(_fewer_waits(best)), before, after):
+    while found := _passing_before_failing_after(list(_scripts_less_one_wait(best)), before, after):
         best = found[0]
     return best
 
 
-def with_head(it: FinishedScript, head: Callable[[Row | None], Sequence[str]], after: SenderOracle) -> FinishedScript:
+def with_head_comment(
+    it: FinishedScript, head: Callable[[Row | None], Sequence[str]], after: SenderOracle
+) -> FinishedScript:
     """The script below lines of comment, which name its row as it is when it is run with them."""
     row = it.row
     for _ in range(2):
-        script = replace(it.script, octets=below(head(row), it.script.octets))
+        script = replace(it.script, octets=prepend_comment_lines(head(row), it.script.octets))
         (ran,) = after.rows([script])
         row = None if ran.verdict is Verdict.PASS else ran
     return FinishedScript(script, row)
 
 
-def below(head: Sequence[str], octets: bytes) -> bytes:
+def prepend_comment_lines(head: Sequence[str], octets: bytes) -> bytes:
     """A script below lines of comment."""
     return "".join(f"// {line}\n" for line in head).encode("utf-8", "surrogateescape") + octets
 
 
-def _checked(scripts: Sequence[ConfiguredScript], before: SenderOracle, after: SenderOracle) -> list[FinishedScript]:
+def _passing_before_failing_after(
+    scripts: Sequence[ConfiguredScript], before: SenderOracle, after: SenderOracle
+) -> list[FinishedScript]:
     """Those scripts that pass before and fail after."""
     rows = zip(scripts, before.rows(scripts), after.rows(scripts))
     return [
@@ -75,34 +79,34 @@ def _without_waits(played: Sequence[PlayedEvent]) -> list[PlayedEvent]:
     return [it for it in played if not _is_wait(it)]
 
 
-def _script(find: Find, played: Sequence[PlayedEvent]) -> ConfiguredScript:
+def _script_of_events(find: Find, played: Sequence[PlayedEvent]) -> ConfiguredScript:
     header = [EXACT] if find.inputs.is_exact else []
-    lines = [*header, *_lines(played)]
+    lines = [*header, *_relative_time_lines(played)]
     return ConfiguredScript(find.inputs.settings, "".join(f"{it}\n" for it in lines).encode("utf-8", "surrogateescape"))
 
 
-def _lines(played: Sequence[PlayedEvent]) -> Iterator[str]:
+def _relative_time_lines(played: Sequence[PlayedEvent]) -> Iterator[str]:
     """The lines of events, each after a time that counts from the one before."""
     before = 0
     for it in played:
-        at = moment_of(it.moment) or 0
+        at = parse_moment(it.moment) or 0
         yield f"{Time(at - before)} {it.line.removeprefix(EXACT).lstrip().partition(' ')[2]}"
         before = at
 
 
-def _fewer_waits(best: FinishedScript) -> Iterator[ConfiguredScript]:
+def _scripts_less_one_wait(best: FinishedScript) -> Iterator[ConfiguredScript]:
     """The script without one line that waits, whose time goes to the next."""
     lines = best.script.octets.decode("utf-8", "surrogateescape").splitlines()
     for place, line in enumerate(lines[:-1]):
         time, _, rest = line.partition(" ")
         then, _, next_rest = lines[place + 1].partition(" ")
         if rest.startswith(f"{TICK.name}(") and time.startswith("+") and then.startswith("+"):
-            at = (moment_of(_decimal(time)) or 0) + (moment_of(_decimal(then)) or 0)
+            at = (parse_moment(_time_with_decimals(time)) or 0) + (parse_moment(_time_with_decimals(then)) or 0)
             kept = [*lines[:place], f"{Time(at)} {next_rest}", *lines[place + 2 :]]
             yield replace(best.script, octets="".join(f"{it}\n" for it in kept).encode("utf-8", "surrogateescape"))
 
 
-def _decimal(time: str) -> str:
+def _time_with_decimals(time: str) -> str:
     """A time with decimals."""
     text = time.removeprefix("+")
     return text if "." in text else f"{text}.0"

@@ -6,7 +6,7 @@ from typing import TypeVar
 
 from pdsuite.packetdrill.items import SECOND, TcpOption
 from pdsuite.scripts.settings import Settings, Value, sorted_settings
-from pdsuite.search.inputs import call
+from pdsuite.search.inputs import make_call
 from pdsuite.search.scenario import Emphasis, Ending, Handshake, IrregularPacket, Irregularity, Network, PlannedCall
 from pdsuite.search.scenario import ReceiverPlan, Scenario, Theme
 
@@ -57,16 +57,16 @@ _LATER = tuple(it for it in Irregularity if it not in (Irregularity.FIN, Irregul
 _NUMBERS = (0, 1, 2, 3, 100, 1_000, 2_500)
 
 
-def scenarios(seed: int, sizes: Iterable[int], emphasis: Emphasis = Emphasis()) -> Iterator[list[Scenario]]:
+def scenario_lists(seed: int, sizes: Iterable[int], emphasis: Emphasis = Emphasis()) -> Iterator[list[Scenario]]:
     """Lists of so many scenarios each, one after the other."""
     for number, size in enumerate(sizes):
-        yield generated(seed, number, size, emphasis)
+        yield generate_scenarios(seed, number, size, emphasis)
 
 
-def generated(seed: int, number: int, size: int, emphasis: Emphasis) -> list[Scenario]:
+def generate_scenarios(seed: int, number: int, size: int, emphasis: Emphasis) -> list[Scenario]:
     """So many scenarios, the list of this number by a seed."""
     maker = _Generator(Random(seed * _APART + number), emphasis)
-    return [maker.scenario() for _ in range(size)]
+    return [maker.draw_scenario() for _ in range(size)]
 
 
 class _Generator:
@@ -78,158 +78,172 @@ class _Generator:
         self._first = tuple(it for it in self._keys if it in emphasis.keys)
         self._themes = emphasis.themes
 
-    def scenario(self) -> Scenario:
-        chosen = self._settings()
-        network = self._network()
-        closed = self._after(network.round_trip) if self._often(Theme.CLOSE, 2) else None
-        idle = self._idle(chosen)
+    def draw_scenario(self) -> Scenario:
+        chosen = self._draw_settings()
+        network = self._draw_network()
+        closed = self._draw_moment(network.round_trip) if self._happens_more_with_theme(Theme.CLOSE, 2) else None
+        idle = self._draw_idle_writes(chosen)
         return Scenario(
             chosen,
-            self._handshake(network.round_trip),
+            self._draw_handshake(network.round_trip),
             network,
-            self._receiver(),
-            self._acts(network.round_trip, chosen, closed),
-            self._irregular_packets(network.round_trip, closed),
+            self._draw_receiver_plan(),
+            self._draw_calls(network.round_trip, chosen, closed),
+            self._draw_irregular_packets(network.round_trip, closed),
             self._pick((Ending.WAIT, Ending.WRITE, Ending.WRITE, Ending.NONE)),
-            self._from(4, 14) + (_MORE_ROUNDS if idle else 0),
+            self._draw_between(4, 14) + (_MORE_ROUNDS if idle else 0),
             idle,
         )
 
-    def _number(self, below: int) -> int:
+    def _draw_below(self, below: int) -> int:
         return self._random.randrange(below)
 
-    def _from(self, first: int, last: int) -> int:
-        return first + self._number(last - first + 1)
+    def _draw_between(self, first: int, last: int) -> int:
+        return first + self._draw_below(last - first + 1)
 
-    def _one_in(self, number: int) -> bool:
-        return self._number(number) == number - 1
+    def _happens_one_in(self, number: int) -> bool:
+        return self._draw_below(number) == number - 1
 
-    def _often(self, theme: Theme, number: int) -> bool:
+    def _happens_more_with_theme(self, theme: Theme, number: int) -> bool:
         """Whether one of so many has something, or where the theme comes first two of three."""
-        return not self._one_in(3) if theme in self._themes else self._one_in(number)
+        return not self._happens_one_in(3) if theme in self._themes else self._happens_one_in(number)
 
     def _pick(self, values: Sequence[T]) -> T:
-        return values[self._number(len(values))]
+        return values[self._draw_below(len(values))]
 
-    def _some(self, most: int, below: int) -> frozenset[int]:
+    def _draw_number_set(self, most: int, below: int) -> frozenset[int]:
         """Some different numbers, so many at most."""
-        return frozenset(self._number(below) for _ in range(self._from(1, most)))
+        return frozenset(self._draw_below(below) for _ in range(self._draw_between(1, most)))
 
-    def _settings(self) -> Settings:
-        if not self._keys or self._one_in(8 if self._first else 2):
+    def _draw_settings(self) -> Settings:
+        if not self._keys or self._happens_one_in(8 if self._first else 2):
             return ()
-        if self._first and not self._one_in(4):
-            first = {key for key in self._first if not self._one_in(3)} or {self._pick(self._first)}
+        if self._first and not self._happens_one_in(4):
+            first = {key for key in self._first if not self._happens_one_in(3)} or {self._pick(self._first)}
             more = {self._pick(self._keys) for _ in range(self._pick((0, 0, 1)))}
             return sorted_settings({key: self._pick(KEYS[key]) for key in sorted(first | more)})
         keys = {self._pick(self._keys) for _ in range(self._pick((1, 1, 2, 3)))}
         return sorted_settings({key: self._pick(KEYS[key]) for key in sorted(keys)})
 
-    def _handshake(self, round_trip: int) -> Handshake:
-        takes = self._pick(_LONG_HANDSHAKES) if self._often(Theme.HANDSHAKE, 8) else round_trip
-        is_irregular = self._often(Theme.HANDSHAKE, 8)
+    def _draw_handshake(self, round_trip: int) -> Handshake:
+        takes = self._pick(_LONG_HANDSHAKES) if self._happens_more_with_theme(Theme.HANDSHAKE, 8) else round_trip
+        is_irregular = self._happens_more_with_theme(Theme.HANDSHAKE, 8)
         irregular = (
-            (IrregularPacket(takes // 2, self._pick(_IN_HANDSHAKES), self._number(200)),) if is_irregular else ()
+            (IrregularPacket(takes // 2, self._pick(_IN_HANDSHAKES), self._draw_below(200)),) if is_irregular else ()
         )
         window = self._pick(_SMALL if Theme.WINDOW in self._themes else (32_792, 32_792, 1_000, 2_000, 65_535, 0))
-        return Handshake(self._options(), window, takes, irregular, self._one_in(16), self._one_in(16))
+        return Handshake(
+            self._draw_syn_options(), window, takes, irregular, self._happens_one_in(16), self._happens_one_in(16)
+        )
 
-    def _options(self) -> tuple[TcpOption, ...]:
+    def _draw_syn_options(self) -> tuple[TcpOption, ...]:
         options = []
-        if not self._one_in(8):
-            options.append(TcpOption("mss", (1_000 if self._one_in(2) else self._pick(_SEGMENTS),)))
-        if self._one_in(16):
+        if not self._happens_one_in(8):
+            options.append(TcpOption("mss", (1_000 if self._happens_one_in(2) else self._pick(_SEGMENTS),)))
+        if self._happens_one_in(16):
             options.append(TcpOption("eol"))
-        if not self._often(Theme.NO_SACK, 3):
+        if not self._happens_more_with_theme(Theme.NO_SACK, 3):
             options.append(TcpOption("sackOK"))
-        if not self._one_in(4):
+        if not self._happens_one_in(4):
             options.append(TcpOption("wscale", (self._pick((7, 7, 7, 0, 1, 2, 10, 14, 15, 16)),)))
         return tuple(options)
 
-    def _network(self) -> Network:
+    def _draw_network(self) -> Network:
         round_trip = self._pick(_ROUND_TRIPS)
-        more = tuple(self._pick((0, 0, 1, 2, 4)) * round_trip // 4 for _ in range(self._from(1, 3)))
+        more = tuple(self._pick((0, 0, 1, 2, 4)) * round_trip // 4 for _ in range(self._draw_between(1, 3)))
         late: dict[int, int] = {}
-        if self._one_in(3):
+        if self._happens_one_in(3):
             step = max(round_trip // 20, 1)
-            late = {self._number(12): self._from(1, 60) * step for _ in range(self._from(1, 3))}
-        lost_acks = self._some(3, 10) if self._one_in(4) else frozenset()
+            late = {self._draw_below(12): self._draw_between(1, 60) * step for _ in range(self._draw_between(1, 3))}
+        lost_acks = self._draw_number_set(3, 10) if self._happens_one_in(4) else frozenset()
         outage = (0, 0)
-        if self._often(Theme.EXPIRY, 6):
-            begin = self._number(7) * round_trip
+        if self._happens_more_with_theme(Theme.EXPIRY, 6):
+            begin = self._draw_below(7) * round_trip
             outage = (begin, begin + self._pick(_OUTAGES))
-        return Network(round_trip, more, self._losses(), late, lost_acks, outage)
+        return Network(round_trip, more, self._draw_lost_packets(), late, lost_acks, outage)
 
-    def _losses(self) -> frozenset[int]:
-        kind = self._from(1, 5) if Theme.LOSS in self._themes else self._number(6)
+    def _draw_lost_packets(self) -> frozenset[int]:
+        kind = self._draw_between(1, 5) if Theme.LOSS in self._themes else self._draw_below(6)
         if kind == 0:
             return frozenset()
-        first = self._number(8)
+        first = self._draw_below(8)
         if kind < 3:
             return frozenset((first,))
         if kind == 3:
-            return frozenset(range(first, first + self._from(2, 4)))
-        return self._some(5, 16)
+            return frozenset(range(first, first + self._draw_between(2, 4)))
+        return self._draw_number_set(5, 16)
 
-    def _receiver(self) -> ReceiverPlan:
-        windows = {0: self._window()}
-        if self._often(Theme.WINDOW, 3):
-            windows |= {self._from(1, 8): self._window() for _ in range(self._from(1, 3))}
+    def _draw_receiver_plan(self) -> ReceiverPlan:
+        windows = {0: self._draw_window()}
+        if self._happens_more_with_theme(Theme.WINDOW, 3):
+            windows |= {self._draw_between(1, 8): self._draw_window() for _ in range(self._draw_between(1, 3))}
         each = self._pick((1, 1, 1, 2, 3, 8))
         delay = self._pick((40, 200)) * _MILLISECOND
-        return ReceiverPlan(each, delay, not self._one_in(16), not self._one_in(5), tuple(sorted(windows.items())))
+        return ReceiverPlan(
+            each, delay, not self._happens_one_in(16), not self._happens_one_in(5), tuple(sorted(windows.items()))
+        )
 
-    def _window(self) -> int:
-        if Theme.WINDOW in self._themes and self._one_in(2):
+    def _draw_window(self) -> int:
+        if Theme.WINDOW in self._themes and self._happens_one_in(2):
             return self._pick(_SMALL)
-        return self._pick(_NARROW) if self._often(Theme.WINDOW, 4) else self._pick(_WIDE)
+        return self._pick(_NARROW) if self._happens_more_with_theme(Theme.WINDOW, 4) else self._pick(_WIDE)
 
-    def _acts(self, round_trip: int, chosen: Settings, closed: int | None) -> tuple[PlannedCall, ...]:
+    def _draw_calls(self, round_trip: int, chosen: Settings, closed: int | None) -> tuple[PlannedCall, ...]:
         sizes = [*_SHORT, *_LONG, *(int(str(value)) - 1 for key, value in chosen if key == "sndbuf")]
-        first = self._pick(sizes) if self._often(Theme.SMALL, 3) else self._pick(_LONG)
-        acts = [PlannedCall(0, call("write", 4, "...", first))]
-        for _ in range(self._number(5)):
-            acts.append(PlannedCall(self._after(round_trip), call("write", 4, "...", self._pick(sizes))))
+        first = self._pick(sizes) if self._happens_more_with_theme(Theme.SMALL, 3) else self._pick(_LONG)
+        acts = [PlannedCall(0, make_call("write", 4, "...", first))]
+        for _ in range(self._draw_below(5)):
+            acts.append(PlannedCall(self._draw_moment(round_trip), make_call("write", 4, "...", self._pick(sizes))))
         if _RESTART in dict(chosen):
             acts.append(
-                PlannedCall(self._after(round_trip) + self._pick(_IDLE), call("write", 4, "...", self._pick(_LONG)))
-            )
-        if self._one_in(6):
-            option = (4, "SOL_TCP", "TCP_NODELAY", f"[{self._number(2)}]", 4)
-            acts.append(PlannedCall(0 if self._one_in(2) else self._after(round_trip), call("setsockopt", *option)))
-        if closed is not None:
-            acts.append(PlannedCall(closed, call("close", 4)))
-            if self._one_in(8):
-                acts.append(PlannedCall(closed, call("write", 4, "...", 100)))
-        return tuple(sorted(acts, key=_moment))
-
-    def _idle(self, chosen: Settings) -> tuple[PlannedCall, ...]:
-        """What is written after idle times."""
-        if _RESTART not in dict(chosen) and not self._often(Theme.IDLE, 8):
-            return ()
-        count = self._from(1, 2)
-        return tuple(PlannedCall(self._pick(_AROUND), call("write", 4, "...", self._pick(_LONG))) for _ in range(count))
-
-    def _irregular_packets(self, round_trip: int, closed: int | None) -> tuple[IrregularPacket, ...]:
-        irregular = []
-        if self._one_in(3):
-            is_near = closed is not None and not self._one_in(3)
-            irregular.append(
-                IrregularPacket(
-                    (closed or 0) + round_trip // 4 if is_near else self._after(round_trip), Irregularity.FIN
+                PlannedCall(
+                    self._draw_moment(round_trip) + self._pick(_IDLE), make_call("write", 4, "...", self._pick(_LONG))
                 )
             )
-        if self._one_in(3 if Theme.CLOSE in self._themes else 10):
-            irregular.append(IrregularPacket(self._after(round_trip), Irregularity.RESET, self._number(2)))
-        if self._often(Theme.IRREGULAR, 3):
-            for _ in range(self._from(1, 4)):
-                irregular.append(IrregularPacket(self._after(round_trip), self._pick(_LATER), self._pick(_NUMBERS)))
-        return tuple(sorted(irregular, key=_moment))
+        if self._happens_one_in(6):
+            option = (4, "SOL_TCP", "TCP_NODELAY", f"[{self._draw_below(2)}]", 4)
+            acts.append(
+                PlannedCall(
+                    0 if self._happens_one_in(2) else self._draw_moment(round_trip), make_call("setsockopt", *option)
+                )
+            )
+        if closed is not None:
+            acts.append(PlannedCall(closed, make_call("close", 4)))
+            if self._happens_one_in(8):
+                acts.append(PlannedCall(closed, make_call("write", 4, "...", 100)))
+        return tuple(sorted(acts, key=_moment_after_handshake))
 
-    def _after(self, round_trip: int) -> int:
+    def _draw_idle_writes(self, chosen: Settings) -> tuple[PlannedCall, ...]:
+        """What is written after idle times."""
+        if _RESTART not in dict(chosen) and not self._happens_more_with_theme(Theme.IDLE, 8):
+            return ()
+        count = self._draw_between(1, 2)
+        return tuple(
+            PlannedCall(self._pick(_AROUND), make_call("write", 4, "...", self._pick(_LONG))) for _ in range(count)
+        )
+
+    def _draw_irregular_packets(self, round_trip: int, closed: int | None) -> tuple[IrregularPacket, ...]:
+        irregular = []
+        if self._happens_one_in(3):
+            is_near = closed is not None and not self._happens_one_in(3)
+            irregular.append(
+                IrregularPacket(
+                    (closed or 0) + round_trip // 4 if is_near else self._draw_moment(round_trip), Irregularity.FIN
+                )
+            )
+        if self._happens_one_in(3 if Theme.CLOSE in self._themes else 10):
+            irregular.append(IrregularPacket(self._draw_moment(round_trip), Irregularity.RESET, self._draw_below(2)))
+        if self._happens_more_with_theme(Theme.IRREGULAR, 3):
+            for _ in range(self._draw_between(1, 4)):
+                irregular.append(
+                    IrregularPacket(self._draw_moment(round_trip), self._pick(_LATER), self._pick(_NUMBERS))
+                )
+        return tuple(sorted(irregular, key=_moment_after_handshake))
+
+    def _draw_moment(self, round_trip: int) -> int:
         """A moment after the handshake: some round trips, in quarters and a little more."""
-        return self._number(25) * round_trip // 4 + self._pick((0, 1, 1_000))
+        return self._draw_below(25) * round_trip // 4 + self._pick((0, 1, 1_000))
 
 
-def _moment(it: PlannedCall | IrregularPacket) -> int:
+def _moment_after_handshake(it: PlannedCall | IrregularPacket) -> int:
     return it.after

@@ -17,7 +17,7 @@ from pdsuite.signals import Stop
 SUITE = "examples/suite"
 
 
-def scripts_in(tree: Path | None, stop: Stop) -> list[ConfiguredScript]:
+def suite_scripts_of_tree(tree: Path | None, stop: Stop) -> list[ConfiguredScript]:
     """The scripts of a tree's suite with their settings, in the order of their paths; none where there is no suite."""
     if tree is None or not (tree / SUITE).is_dir():
         return []
@@ -25,17 +25,19 @@ def scripts_in(tree: Path | None, stop: Stop) -> list[ConfiguredScript]:
     return [
         it
         for script in make_scripts(find_selected_scripts([tree / SUITE], [], suite, stop), suite)
-        for it in _configured(script)
+        for it in _load_configured(script)
     ]
 
 
-def _configured(script: Script) -> Iterator[ConfiguredScript]:
+def _load_configured(script: Script) -> Iterator[ConfiguredScript]:
     text = load_script_text(script)
     if not isinstance(text, str):
         yield ConfiguredScript(script.settings, text.octets)
 
 
-def initial_inputs(scripts: list[ConfiguredScript], oracle: SenderOracle, fixed: frozenset[str]) -> list[CorpusEntry]:
+def record_initial_inputs(
+    scripts: list[ConfiguredScript], oracle: SenderOracle, fixed: frozenset[str]
+) -> list[CorpusEntry]:
     """The inputs of scripts with their recordings, without settings that are fixed; none of what isn't recorded."""
     configured = [
         ConfiguredScript(tuple(it for it in one.settings if it[0] not in fixed), one.octets) for one in scripts

@@ -29,24 +29,24 @@ class Inputs:
     events: tuple[Input, ...]
     is_exact: bool = True
 
-    def script(self) -> bytes:
+    def script_octets(self) -> bytes:
         """The script of these inputs alone."""
         header = [EXACT] if self.is_exact else []
-        return "".join(f"{line}\n" for line in [*header, *self._lines()]).encode()
+        return "".join(f"{line}\n" for line in [*header, *self._event_lines()]).encode()
 
     @property
-    def header_lines(self) -> int:
+    def header_line_count(self) -> int:
         """How many lines of the script come before the first input."""
         return 1 if self.is_exact else 0
 
-    def _lines(self) -> Iterator[str]:
+    def _event_lines(self) -> Iterator[str]:
         before = 0
         for it in self.events:
             yield f"{Time(it.at - before)} {it}"
             before = it.at
 
 
-def call(name: str, *arguments: str | int) -> Call:
+def make_call(name: str, *arguments: str | int) -> Call:
     """A call, whose result a recording fills in."""
     return Call(name, tuple(map(str, arguments)), 0)
 
@@ -56,7 +56,9 @@ def call_text(it: Call) -> str:
     return f"{it.name}({', '.join(it.arguments)}) = {it.result}"
 
 
-def packet(flags: str, start: int, ack: int | None, win: int, options: tuple[TcpOption, ...] = ()) -> Packet:
+def make_inbound_packet(
+    flags: str, start: int, ack: int | None, win: int, options: tuple[TcpOption, ...] = ()
+) -> Packet:
     """A packet without data that arrives; its FIN and SYN don't count in its length."""
     return Packet(True, flags, start, start, ack, win, options, options_text(options))
 

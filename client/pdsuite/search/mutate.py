@@ -9,9 +9,9 @@ from pdsuite.compare.divergence import played_events
 from pdsuite.packetdrill.items import SECOND, Call, Packet, TcpOption
 from pdsuite.scripts.settings import Settings, sorted_settings
 from pdsuite.search.generate import KEYS
-from pdsuite.search.inputs import Input, Inputs, call, options_text, packet
+from pdsuite.search.inputs import Input, Inputs, make_call, make_inbound_packet, options_text
 from pdsuite.search.scenario import Emphasis, Theme
-from pdsuite.search.states import TracedState, states_before
+from pdsuite.search.states import TracedState, states_before_inputs
 
 T = TypeVar("T")
 
@@ -57,26 +57,26 @@ class InputMutator:
         self._first = sorted(emphasis.keys - emphasis.fixed)
         self._weights = [more if theme in emphasis.themes else some for some, theme, more in _KINDS.values()]
 
-    def choose(self, kept: Sequence[CorpusEntry], latest: int) -> CorpusEntry:
+    def choose_entry(self, kept: Sequence[CorpusEntry], latest: int) -> CorpusEntry:
         """One of those that are kept: each second time one of the latest."""
         return self._pick(kept if self._random.random() < 0.5 else kept[-latest:])
 
     def mutate(self, kept: CorpusEntry) -> MutatedInputs:
         """Inputs that are like these."""
-        states = states_before(list(played_events(kept.recording)))
+        states = states_before_inputs(list(played_events(kept.recording)))
         events = list(kept.inputs.events)
         open_from = next((place for place, it in enumerate(states) if it.is_open), len(events))
-        place = self._place(states, min(open_from, len(events)), len(events))
+        place = self._draw_place(states, min(open_from, len(events)), len(events))
         goes_on = self._random.random() < 0.7
         if goes_on:
             del events[place:]
         for _ in range(self._random.randint(0 if goes_on else 1, _MOST_EDITS)):
             at = max(min(open_from, len(events)), min(len(events), place) - self._random.randint(0, 4))
-            self._edit(events, at, states[min(at, len(states) - 1)])
-        settings = self._settings(kept.inputs.settings)
-        return MutatedInputs(Inputs(settings, _in_order(events), kept.inputs.is_exact), goes_on)
+            self._change_or_insert_event(events, at, states[min(at, len(states) - 1)])
+        settings = self._mutate_settings(kept.inputs.settings)
+        return MutatedInputs(Inputs(settings, _with_rising_moments(events), kept.inputs.is_exact), goes_on)
 
-    def _place(self, states: Sequence[TracedState], first: int, last: int) -> int:
+    def _draw_place(self, states: Sequence[TracedState], first: int, last: int) -> int:
         """Where inputs are varied: each second time where the sender recovers, if it does."""
         recovering = [place for place, it in enumerate(states[: last + 1]) if first <= place and it.is_recovering]
         if recovering and self._random.random() < 0.5:
@@ -86,7 +86,7 @@ class InputMutator:
     def _pick(self, values: Sequence[T]) -> T:
         return self._random.choice(values)
 
-    def _settings(self, given: Settings) -> Settings:
+    def _mutate_settings(self, given: Settings) -> Settings:
         """Settings like these: mostly the same, or with another one."""
         if not self._keys or self._random.random() < (0.3 if self._first else 0.7):
             return given
@@ -94,64 +94,66 @@ class InputMutator:
         key = self._pick(keys)
         return sorted_settings({**dict(given), key: self._pick(KEYS[key])})
 
-    def _edit(self, events: list[Input], at: int, state: TracedState) -> None:
+    def _change_or_insert_event(self, events: list[Input], at: int, state: TracedState) -> None:
         """Changes an event, or puts one before it."""
         there = events[at] if at < len(events) else None
         if there is None or self._random.random() < 0.5:
-            moment = events[at - 1].at + self._gap(events[at - 1].at, state) if at else 0
-            events.insert(at, Input(moment, self._new(state)))
+            moment = events[at - 1].at + self._draw_gap(events[at - 1].at, state) if at else 0
+            events.insert(at, Input(moment, self._draw_new_input(state)))
         elif self._random.random() < 0.3:
-            self._move(events, at, state)
+            self._move_event_and_later(events, at, state)
         elif self._random.random() < 0.2:
             del events[at]
         elif isinstance(there.what, Packet):
-            events[at] = replace(there, what=self._changed(there.what, state))
+            events[at] = replace(there, what=self._change_packet_field(there.what, state))
         elif there.what.name == _WRITE:
-            events[at] = replace(there, what=call(_WRITE, 4, "...", self._pick(_SIZES)))
+            events[at] = replace(there, what=make_call(_WRITE, 4, "...", self._pick(_SIZES)))
 
-    def _gap(self, now: int, state: TracedState) -> int:
+    def _draw_gap(self, now: int, state: TracedState) -> int:
         """How long something waits: until the timer expires, give or take a microsecond, or some round time."""
-        expiry, timeout = state.moment("expiry"), state.moment("RTO")
+        expiry, timeout = state.fact_as_moment("expiry"), state.fact_as_moment("RTO")
         around = [it for it in (expiry and expiry - now, timeout) if it]
         if around and self._random.random() < 0.4:
             return max(0, self._pick(around) + self._pick((-100_000, -1, 0, 1, 1_000)))
         return self._pick(_GAPS)
 
-    def _move(self, events: list[Input], at: int, state: TracedState) -> None:
+    def _move_event_and_later(self, events: list[Input], at: int, state: TracedState) -> None:
         """Moves an event and all after it."""
         before = events[at - 1].at if at else 0
-        by = before + self._gap(before, state) - events[at].at
+        by = before + self._draw_gap(before, state) - events[at].at
         events[at:] = [replace(it, at=it.at + by) for it in events[at:]]
 
-    def _new(self, state: TracedState) -> Packet | Call:
+    def _draw_new_input(self, state: TracedState) -> Packet | Call:
         """A call or a packet that isn't there yet."""
         match self._random.choices(list(_KINDS), self._weights)[0]:
             case "write":
-                return call(_WRITE, 4, "...", self._pick(_SIZES))
+                return make_call(_WRITE, 4, "...", self._pick(_SIZES))
             case "close":
-                return call("close", 4)
+                return make_call("close", 4)
             case "no delay":
-                return call("setsockopt", self._pick((3, 4)), *_NODELAY[1:], self._pick(("[0]", "[1]")), 4)
+                return make_call("setsockopt", self._pick((3, 4)), *_NODELAY[1:], self._pick(("[0]", "[1]")), 4)
             case "odd":
-                return packet(self._pick(("F.", "R", "R.", "-")), self._pick((1, 1, 2)), self._number(state), 257)
-        return self._ack(state)
+                return make_inbound_packet(
+                    self._pick(("F.", "R", "R.", "-")), self._pick((1, 1, 2)), self._draw_ack_number(state), 257
+                )
+        return self._draw_ack(state)
 
-    def _ack(self, state: TracedState) -> Packet:
+    def _draw_ack(self, state: TracedState) -> Packet:
         window = self._pick((257, 32_792, self._pick(_WINDOWS)))
-        blocks = self._blocks(state) if self._random.random() < 0.5 else ()
-        return packet(".", 1, self._number(state), window, blocks)
+        blocks = self._draw_sack_option(state) if self._random.random() < 0.5 else ()
+        return make_inbound_packet(".", 1, self._draw_ack_number(state), window, blocks)
 
-    def _number(self, state: TracedState) -> int:
+    def _draw_ack_number(self, state: TracedState) -> int:
         """An ack number: mostly in what is outstanding."""
-        una, top, end = (state.number(it, 1) for it in ("una", "top", "end"))
+        una, top, end = (state.fact_as_number(it, 1) for it in ("una", "top", "end"))
         offset = self._pick(_OFFSETS)
         return max(
             0, self._pick((una, una, una + offset, max(una, top - offset), top, top, top + 1, end, una - offset))
         )
 
-    def _blocks(self, state: TracedState) -> tuple[TcpOption, ...]:
+    def _draw_sack_option(self, state: TracedState) -> tuple[TcpOption, ...]:
         """A SACK option."""
-        una, top = state.number("una", 1), state.number("top", 1)
+        una, top = state.fact_as_number("una", 1), state.fact_as_number("top", 1)
         numbers: list[int] = []
         for _ in range(self._pick((1, 1, 2, 3))):
             left = max(0, self._pick((una + self._pick(_OFFSETS), una - 1_000, top - self._pick(_OFFSETS))))
@@ -160,20 +162,20 @@ class InputMutator:
         end = (TcpOption("eol"),) if self._random.random() < 0.03 else ()
         return (*end, TcpOption("sack", tuple(numbers)))
 
-    def _changed(self, what: Packet, state: TracedState) -> Packet:
+    def _change_packet_field(self, what: Packet, state: TracedState) -> Packet:
         """A packet with another field."""
         match self._random.randrange(4):
             case 0:
                 return replace(what, win=self._pick(_WINDOWS))
             case 1 if what.ack is not None:
-                return replace(what, ack=self._number(state))
+                return replace(what, ack=self._draw_ack_number(state))
             case 2:
-                options = self._blocks(state)
+                options = self._draw_sack_option(state)
                 return replace(what, options=options, options_text=options_text(options))
         return replace(what, flags="F." if what.flags == "." else ".")
 
 
-def _in_order(events: Sequence[Input]) -> tuple[Input, ...]:
+def _with_rising_moments(events: Sequence[Input]) -> tuple[Input, ...]:
     """Events none of which comes before the one before it."""
     ordered: list[Input] = []
     for it in events:

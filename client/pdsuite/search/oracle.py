@@ -58,7 +58,7 @@ class ConfiguredScript:
     settings: Settings
     octets: bytes
 
-    def script(self) -> bytes:
+    def script_octets(self) -> bytes:
         """The script."""
         return self.octets
 
@@ -79,7 +79,7 @@ class SenderOracle(Protocol):
 class SettingsOracle(SenderOracle, Protocol):
     """Queries one sender about settings, too."""
 
-    def refused(self, claims: Sequence[Claim]) -> list[Refusal]:
+    def refusals_of_claims(self, claims: Sequence[Claim]) -> list[Refusal]:
         """The claims that the sender refuses."""
 
 
@@ -91,41 +91,41 @@ class SideOracle:
     side: Side
     common: Settings
 
-    def settings(self, given: Settings) -> Settings:
+    def settings_on_side(self, given: Settings) -> Settings:
         """The settings under which inputs or a script with these are played."""
         return self.side.effective_settings(sorted_settings({**dict(given), **dict(self.common)}))
 
     def recordings(self, inputs: Sequence[Inputs | ConfiguredScript]) -> list[Recording]:
-        return self.oracle.recordings([replace(it, settings=self.settings(it.settings)) for it in inputs])
+        return self.oracle.recordings([replace(it, settings=self.settings_on_side(it.settings)) for it in inputs])
 
     def rows(self, scripts: Sequence[ConfiguredScript]) -> list[Row]:
-        return self.oracle.rows([self._configured(it) for it in scripts])
+        return self.oracle.rows([self._with_side_settings(it) for it in scripts])
 
     def explain(self, script: ConfiguredScript) -> list[str]:
-        return self.oracle.explain(self._configured(script))
+        return self.oracle.explain(self._with_side_settings(script))
 
-    def _configured(self, it: ConfiguredScript) -> ConfiguredScript:
-        return replace(it, settings=self.settings(it.settings))
+    def _with_side_settings(self, it: ConfiguredScript) -> ConfiguredScript:
+        return replace(it, settings=self.settings_on_side(it.settings))
 
 
 @contextmanager
-def oracles_of(senders: Sequence[Sender], stop: Stop) -> Iterator[list[SettingsOracle]]:
+def open_oracles(senders: Sequence[Sender], stop: Stop) -> Iterator[list[SettingsOracle]]:
     """The oracles of senders: programs, or those of a tree, which `rt try` builds once for the block, side by side."""
     with ExitStack() as stack:
         trees = {it.build_tree for it in senders if not it.has_programs}
         sessions = {tree: stack.enter_context(UnprovedSession(tree, stop)) for tree in trees}
         for session in sessions.values():
             session.wait_until_built()
-        yield [_oracle(it, stop, sessions) for it in senders]
+        yield [_make_oracle(it, stop, sessions) for it in senders]
 
 
-def _oracle(sender: Sender, stop: Stop, sessions: Mapping[Path, UnprovedSession]) -> SettingsOracle:
+def _make_oracle(sender: Sender, stop: Stop, sessions: Mapping[Path, UnprovedSession]) -> SettingsOracle:
     if sender.has_programs:
         return ProgramOracle(sender, stop)
     return UnprovedOracle(sender, sessions[sender.build_tree])
 
 
-def sizes() -> Iterator[int]:
+def query_sizes() -> Iterator[int]:
     """How many inputs senders are queried about at once, one time after the other."""
     # What is found at once costs few inputs; where it isn't, many keep all processors at work.
     yield from _FIRST
@@ -143,53 +143,53 @@ class ProgramOracle:
         self._stop = stop
         self._count = len(os.sched_getaffinity(0))
 
-    def refused(self, claims: Sequence[Claim]) -> list[Refusal]:
+    def refusals_of_claims(self, claims: Sequence[Claim]) -> list[Refusal]:
         return find_refusals(claims, lambda: Program([self._program], self._stop))
 
     def recordings(self, inputs: Sequence[Inputs | ConfiguredScript]) -> list[Recording]:
-        return self._by_settings(inputs, self._recordings)
+        return self._query_by_settings(inputs, self._record_with_equal_settings)
 
     def rows(self, scripts: Sequence[ConfiguredScript]) -> list[Row]:
-        return self._by_settings(scripts, self._rows)
+        return self._query_by_settings(scripts, self._rows_with_equal_settings)
 
-    def _recordings(self, inputs: Sequence[Inputs | ConfiguredScript]) -> list[Recording]:
+    def _record_with_equal_settings(self, inputs: Sequence[Inputs | ConfiguredScript]) -> list[Recording]:
         """The recordings of inputs with equal settings."""
-        texts = [it.script() for it in inputs]
+        texts = [it.script_octets() for it in inputs]
         return list(record_texts(self._recorder, texts, inputs[0].settings, self._stop, (TRACE,)))
 
-    def _by_settings(self, items: Sequence[A], work: Callable[[Sequence[A]], Sequence[U]]) -> list[U]:
+    def _query_by_settings(self, items: Sequence[A], work: Callable[[Sequence[A]], Sequence[U]]) -> list[U]:
         """What comes of each item, where those with equal settings are handed on together, so many at most."""
-        pieces = list(_pieces(items))
-        answers = self._each(lambda it: work([items[place] for place in it]), pieces)
+        pieces = list(_group_by_settings(items))
+        answers = self._map_in_threads(lambda it: work([items[place] for place in it]), pieces)
         found = {place: one for piece, answer in zip(pieces, answers) for place, one in zip(piece, answer)}
         return [found[place] for place in range(len(items))]
 
     def explain(self, script: ConfiguredScript) -> list[str]:
-        with self._started(script.settings, EXPLAIN) as program:
-            return _explanation(program.finish_and_read_errors(_commands([script]), 2 * LONGEST_BLOCK))
+        with self._start_program(script.settings, EXPLAIN) as program:
+            return _explanation_lines(program.finish_and_read_errors(_add_commands([script]), 2 * LONGEST_BLOCK))
 
-    def _rows(self, scripts: Sequence[ConfiguredScript]) -> list[Row]:
+    def _rows_with_equal_settings(self, scripts: Sequence[ConfiguredScript]) -> list[Row]:
         """The rows of scripts with equal settings. Where the program ends on the way, each is run by itself."""
         try:
-            with self._started(scripts[0].settings) as program:
-                answer = program.query(_commands(scripts) + SETTLE, LONGEST_LINE * (len(scripts) + 2))
-                return parse_new_rows(answer, b"", _names(scripts), len(scripts))
+            with self._start_program(scripts[0].settings) as program:
+                answer = program.query(_add_commands(scripts) + SETTLE, LONGEST_LINE * (len(scripts) + 2))
+                return parse_new_rows(answer, b"", _numbered_names(scripts), len(scripts))
         except (ProgramEndedError, UnexpectedAnswerError) as end:
             if len(scripts) == 1:
-                return [Row(Verdict.ERROR, 0, self._why(scripts[0], str(end)))]
-            return [row for it in scripts for row in self._rows([it])]
+                return [Row(Verdict.ERROR, 0, self._reason_of_end(scripts[0], str(end)))]
+            return [row for it in scripts for row in self._rows_with_equal_settings([it])]
 
-    def _why(self, script: ConfiguredScript, end: str) -> str:
+    def _reason_of_end(self, script: ConfiguredScript, end: str) -> str:
         """Why the program ended on a script. Where an optimised one stops, a plain one says where."""
         plain = as_plain_build(self._sender, self._stop) if _STOPS in end else None
         (row,) = ProgramOracle(plain, self._stop).rows([script]) if plain else [Row(Verdict.ERROR, 0, end)]
         return row.word if row.verdict is Verdict.ERROR else end
 
-    def _started(self, settings: Settings, *words: str) -> Program:
+    def _start_program(self, settings: Settings, *words: str) -> Program:
         text = settings_as_toml(settings)
         return Program([self._program, *words, *(["--settings", text] if text else [])], self._stop)
 
-    def _each(self, work: Callable[[T], U], items: Sequence[T]) -> list[U]:
+    def _map_in_threads(self, work: Callable[[T], U], items: Sequence[T]) -> list[U]:
         with ThreadPoolExecutor(self._count) as pool:
             return list(pool.map(work, items))
 
@@ -201,7 +201,7 @@ class UnprovedOracle:
         self._tree = sender.build_tree
         self._session = session
 
-    def refused(self, claims: Sequence[Claim]) -> list[Refusal]:
+    def refusals_of_claims(self, claims: Sequence[Claim]) -> list[Refusal]:
         settings_case = Case(
             (), b"".join(set_and_show_commands(*it) for it in distinct_key_values(claims)), is_alone=True
         )
@@ -211,23 +211,25 @@ class UnprovedOracle:
         return refusals_in_answer(claims, answer.output)
 
     def recordings(self, inputs: Sequence[Inputs | ConfiguredScript]) -> list[Recording]:
-        answers = self._session.run_cases(recording_cases(self._tree, [(it.settings, it.script()) for it in inputs]))
+        answers = self._session.run_cases(
+            recording_cases(self._tree, [(it.settings, it.script_octets()) for it in inputs])
+        )
         return [recording_from_answer(it) for it in answers]
 
     def rows(self, scripts: Sequence[ConfiguredScript]) -> list[Row]:
-        return [_row_of(it) for it in self._answers(scripts)]
+        return [_row_of_only_script(it) for it in self._run_each_alone(scripts)]
 
     def explain(self, script: ConfiguredScript) -> list[str]:
-        (answer,) = self._answers([script], EXPLAIN)
-        return [answer.fault] if answer.fault else _explanation(answer.errors)
+        (answer,) = self._run_each_alone([script], EXPLAIN)
+        return [answer.fault] if answer.fault else _explanation_lines(answer.errors)
 
-    def _answers(self, scripts: Sequence[ConfiguredScript], *words: str) -> list[Answer]:
+    def _run_each_alone(self, scripts: Sequence[ConfiguredScript], *words: str) -> list[Answer]:
         """What comes of each script in a start of its own, which costs little."""
-        cases = tuple(Case((), _sets(it.settings) + _commands([it])) for it in scripts)
+        cases = tuple(Case((), _set_commands(it.settings) + _add_commands([it])) for it in scripts)
         return self._session.run_cases(ProgramCases(self._tree, REGRESS, words, cases))
 
 
-def _row_of(answer: Answer) -> Row:
+def _row_of_only_script(answer: Answer) -> Row:
     """The row of the only script."""
     if answer.fault:
         return Row(Verdict.ERROR, 0, answer.fault)
@@ -238,7 +240,7 @@ def _row_of(answer: Answer) -> Row:
         return Row(Verdict.ERROR, 0, str(unexpected))
 
 
-def _pieces(items: Sequence[A]) -> Iterable[tuple[int, ...]]:
+def _group_by_settings(items: Sequence[A]) -> Iterable[tuple[int, ...]]:
     """The places of inputs or scripts, those with equal settings together."""
     groups: dict[Settings, list[int]] = {}
     for place, it in enumerate(items):
@@ -246,19 +248,21 @@ def _pieces(items: Sequence[A]) -> Iterable[tuple[int, ...]]:
     return [piece for group in groups.values() for piece in split_by_size(group, _PIECE)]
 
 
-def _names(scripts: Sequence[ConfiguredScript]) -> list[bytes]:
+def _numbered_names(scripts: Sequence[ConfiguredScript]) -> list[bytes]:
     return [script_name(number) for number in range(len(scripts))]
 
 
-def _sets(settings: Settings) -> bytes:
+def _set_commands(settings: Settings) -> bytes:
     return b"".join(set_command(*set_command_words(key, value)) for key, value in settings)
 
 
-def _commands(scripts: Sequence[ConfiguredScript]) -> bytes:
-    return b"".join(add_command(name, _text(it.octets)) for name, it in zip(_names(scripts), scripts))
+def _add_commands(scripts: Sequence[ConfiguredScript]) -> bytes:
+    return b"".join(
+        add_command(name, _text_or_failing_text(it.octets)) for name, it in zip(_numbered_names(scripts), scripts)
+    )
 
 
-def _text(octets: bytes) -> Text:
+def _text_or_failing_text(octets: bytes) -> Text:
     """The text of a recording, or one that fails where it is over the limits."""
     try:
         return make_text(octets)
@@ -266,7 +270,7 @@ def _text(octets: bytes) -> Text:
         return make_text(b"too long")
 
 
-def _explanation(errors: bytes) -> list[str]:
+def _explanation_lines(errors: bytes) -> list[str]:
     """The block of the only script: what its row means, and the lines below that."""
     blocks = parse_blocks(errors)
     (lines,) = blocks.values() or [[]]

@@ -3,7 +3,7 @@
 from collections.abc import Iterator
 
 from pdsuite.packetdrill.items import Packet, TcpOption
-from pdsuite.search.inputs import packet
+from pdsuite.search.inputs import make_inbound_packet
 from pdsuite.search.scenario import IrregularPacket, Irregularity, Scenario
 
 _MOST_BLOCKS = 3
@@ -30,80 +30,84 @@ class Peer:
         self._spans: list[OctetRange] = []
         self._newest: OctetRange | None = None
 
-    def resume(self, una: int, top: int, number: int) -> None:
+    def resume_at_numbers(self, una: int, top: int, number: int) -> None:
         """Goes on where octets up to a number are acknowledged, others were sent, and its own number is this."""
         self.next = self._acked = una
         self.top = top
         self._number = number
 
-    def take(self, span: OctetRange) -> bool:
+    def take_segment(self, span: OctetRange) -> bool:
         """Takes a segment from the network; whether it is acknowledged at once."""
         start, end = span
         self.top = max(self.top, end)
         before = self.next
         self._newest = span if end > self.next else None
-        self._add(span)
+        self._note_taken_octets(span)
         self.waiting += 1
         is_in_order = start == before and not self._spans
         return not is_in_order or self.waiting >= self._receiver.each
 
-    def acknowledge(self) -> Packet:
+    def make_ack(self) -> Packet:
         """The ACK of all that was taken."""
         self.waiting = 0
         self._acked = max(self._acked, self.next)
-        ack = packet(".", self._number, self.next, self.window, self._blocks())
+        ack = make_inbound_packet(".", self._number, self.next, self.window_field, self._sack_option())
         self._acks += 1
         return ack
 
     @property
-    def acks(self) -> int:
+    def ack_count(self) -> int:
         """How many ACKs were sent."""
         return self._acks
 
     @property
-    def window(self) -> int:
+    def window_field(self) -> int:
         """The field of its window, shifted as it offered."""
         octets = next(octets for first, octets in reversed(self._receiver.windows) if first <= self._acks)
         return min(-(-octets >> min(self._shift, _MOST_SHIFT)), _MOST_WINDOW)
 
-    def irregular(self, it: IrregularPacket) -> Packet:
+    def make_irregular_packet(self, it: IrregularPacket) -> Packet:
         """An irregular packet."""
-        made = self._irregular(it)
+        made = self._build_irregular_packet(it)
         if it.kind in (Irregularity.FIN, Irregularity.OLD_FIN):
             self._number = 2
         return made
 
-    def _irregular(self, it: IrregularPacket) -> Packet:
+    def _build_irregular_packet(self, it: IrregularPacket) -> Packet:
         number, ack, own = it.number, self._acked, self._number
         match it.kind:
             case Irregularity.OLD_ACK:
-                return packet(".", own, max(ack - 1 - number, 0), self.window)
+                return make_inbound_packet(".", own, max(ack - 1 - number, 0), self.window_field)
             case Irregularity.EARLY_ACK:
-                return packet(".", own, min(self.top + 1 + number, _MOST_NUMBER), self.window)
+                return make_inbound_packet(".", own, min(self.top + 1 + number, _MOST_NUMBER), self.window_field)
             case Irregularity.SAME_ACK:
-                return packet(".", own, ack, self.window, self._blocks())
+                return make_inbound_packet(".", own, ack, self.window_field, self._sack_option())
             case Irregularity.UPDATE:
-                return packet(".", own, ack, number % 65_536, self._blocks())
+                return make_inbound_packet(".", own, ack, number % 65_536, self._sack_option())
             case Irregularity.NEWER:
-                return packet(".", own + 1 + number % 1_000, ack, self.window)
+                return make_inbound_packet(".", own + 1 + number % 1_000, ack, self.window_field)
             case Irregularity.BARE:
-                return packet("-", own, None, self.window)
+                return make_inbound_packet("-", own, None, self.window_field)
             case Irregularity.OUTSIDE | Irregularity.RESET_FAR:
                 flags = "." if it.kind is Irregularity.OUTSIDE else "R"
-                return packet(flags, own + self._edge + number % 3 - 1, ack if flags == "." else None, self.window)
+                return make_inbound_packet(
+                    flags, own + self._edge + number % 3 - 1, ack if flags == "." else None, self.window_field
+                )
             case Irregularity.BELOW:
-                return packet(".", own - 1, ack, self.window)
+                return make_inbound_packet(".", own - 1, ack, self.window_field)
             case Irregularity.RESET:
-                return packet("R" if number % 2 else "R.", own, None if number % 2 else ack, self.window)
+                return make_inbound_packet(
+                    "R" if number % 2 else "R.", own, None if number % 2 else ack, self.window_field
+                )
             case Irregularity.RESET_NEAR:
-                return packet("R", own + 1 + number % max(self._edge, 2), None, self.window)
+                return make_inbound_packet("R", own + 1 + number % max(self._edge, 2), None, self.window_field)
             case Irregularity.FIN:
-                return packet("F.", own, self.next, self.window)
+                return make_inbound_packet("F.", own, self.next, self.window_field)
             case Irregularity.OLD_FIN:
-                return packet("F.", own, max(ack - 1 - number, 0), self.window)
-        return packet(".", own, ack, self.window, tuple(self._irregular_options(it)))
+                return make_inbound_packet("F.", own, max(ack - 1 - number, 0), self.window_field)
+        return make_inbound_packet(".", own, ack, self.window_field, tuple(self._irregular_sack_options(it)))
 
-    def _irregular_options(self, it: IrregularPacket) -> Iterator[TcpOption]:
+    def _irregular_sack_options(self, it: IrregularPacket) -> Iterator[TcpOption]:
         """Blocks that have other octets than those that were taken."""
         number, ack = it.number, self._acked
         if it.kind is Irregularity.BLOCK_AFTER_END:
@@ -120,7 +124,7 @@ class Peer:
             left = ack + number % max(self.top - ack, 1)
             yield TcpOption("sack", (left, min(left + 1_000, max(self.top, left + 1))))
 
-    def _blocks(self) -> tuple[TcpOption, ...]:
+    def _sack_option(self) -> tuple[TcpOption, ...]:
         """The SACK option: the block that was taken last comes first."""
         if not self._receiver.has_blocks or not self._spans:
             return ()
@@ -133,7 +137,7 @@ class Peer:
         numbers = tuple(number for span in spans[:_MOST_BLOCKS] for number in span)
         return (TcpOption("sack", numbers),)
 
-    def _add(self, span: OctetRange) -> None:
+    def _note_taken_octets(self, span: OctetRange) -> None:
         """Notes octets as taken, and moves on over those without a gap."""
         start, end = max(span[0], self.next), span[1]
         if start >= end:

@@ -34,17 +34,17 @@ _PARTS: Mapping[str, tuple[Sequence[str], Sequence[Theme]]] = {
 }
 
 
-def emphasis_of(changed: Iterable[Mapping[str, Any]], fixed: frozenset[str]) -> Emphasis:
+def emphasis_of_changes(changed: Iterable[Mapping[str, Any]], fixed: frozenset[str]) -> Emphasis:
     """What comes first, by names that stand in the lines that changed, or else in all that changed."""
     each = list(changed)
     for names in ("changed", "whole"):
-        found = _emphasis({name for it in each for name in it[names]}, fixed)
+        found = _emphasis_by_names({name for it in each for name in it[names]}, fixed)
         if found.keys or found.themes:
             return found
     return Emphasis(fixed=fixed)
 
 
-def offer(changed: Iterable[Mapping[str, Any]]) -> list[str]:
+def suggest_suite_script(changed: Iterable[Mapping[str, Any]]) -> list[str]:
     """How a script of a changed rule may come into the suite: its name, and the two lines that say what it tests."""
     for it in changed:
         if it["sections"]:
@@ -53,7 +53,7 @@ def offer(changed: Iterable[Mapping[str, Any]]) -> list[str]:
     return []
 
 
-def _emphasis(names: Iterable[str], fixed: frozenset[str]) -> Emphasis:
+def _emphasis_by_names(names: Iterable[str], fixed: frozenset[str]) -> Emphasis:
     keys = {name for name in names if name in KEYS}
     themes: set[Theme] = set()
     for part, (some, more) in _PARTS.items():

@@ -7,13 +7,13 @@ from dataclasses import dataclass, replace
 from pdsuite.packetdrill.items import Packet
 from pdsuite.programs.recorder import Recording
 from pdsuite.search.candidates import Candidates
-from pdsuite.search.continuations import continuations
+from pdsuite.search.continuations import continued_inputs_of_find
 from pdsuite.search.coverage import Coverage
 from pdsuite.search.find import DiffersTest, Find, FindTest, SenderDifference
 from pdsuite.search.inputs import Inputs
 from pdsuite.search.oracle import SenderOracle
-from pdsuite.search.shrink import shrink, size_of
-from pdsuite.search.simulate import InputSteps, PlayedInputs, play_on
+from pdsuite.search.shrink import shrink_find, size_of_inputs
+from pdsuite.search.simulate import InputSteps, PlayedInputs, play_on_from_inputs
 
 # So many inputs on which senders differ, and no script fails, are tried with other ends, each with so many scenarios.
 _TRIED = 6
@@ -51,71 +51,78 @@ class Search:
         begin = time.monotonic()
         coverage = Coverage()
         unshown: Find | None = None
-        for games in self.candidates.lists():
+        for games in self.candidates.input_lists():
             played = [it for it in play_side_by_side(games, self.before) if it.recording.text]
-            _note(coverage, played)
-            self.candidates.learn(played)
-            found, hidden = self._look(played)
+            _count_coverage(coverage, played)
+            self.candidates.keep_inputs_with_new_steps(played)
+            found, hidden = self._find_simplest(played)
             unshown = unshown or hidden
             if found is not None:
-                return self._shrunk(found, self.test, coverage, time.monotonic() - begin)
+                return self._shrink_result(found, self.test, coverage, time.monotonic() - begin)
             advance(coverage.inputs)
-            if self._is_over(coverage, time.monotonic() - begin):
+            if self._is_limit_reached(coverage, time.monotonic() - begin):
                 break
         if unshown is not None and self.hidden is not None:
-            return self._shrunk(unshown, self.hidden, coverage, time.monotonic() - begin)
+            return self._shrink_result(unshown, self.hidden, coverage, time.monotonic() - begin)
         return SearchResult(None, None, coverage, time.monotonic() - begin)
 
-    def _is_over(self, coverage: Coverage, seconds: float) -> bool:
+    def _is_limit_reached(self, coverage: Coverage, seconds: float) -> bool:
         return seconds >= self.seconds if self.count is None else coverage.inputs >= self.count
 
-    def _shrunk(self, find: Find, test: FindTest, coverage: Coverage, seconds: float) -> SearchResult:
+    def _shrink_result(self, find: Find, test: FindTest, coverage: Coverage, seconds: float) -> SearchResult:
         begin = time.monotonic()
-        least = shrink(find, test, self.before, self.seconds)
+        least = shrink_find(find, test, self.before, self.seconds)
         found, unshown = (least, None) if test is self.test else (None, least)
         return SearchResult(found, unshown, coverage, seconds, time.monotonic() - begin)
 
-    def _look(self, played: Sequence[PlayedInputs]) -> tuple[Find | None, Find | None]:
+    def _find_simplest(self, played: Sequence[PlayedInputs]) -> tuple[Find | None, Find | None]:
         """The simplest find, or else the simplest input on which senders play otherwise, and nothing shows it."""
         inputs, recordings = [it.inputs for it in played], [it.recording for it in played]
         if self.hidden is None:
-            return _simplest(self.test.finds(inputs, recordings)), None
-        differences = [it for it in self.hidden.differences(inputs, recordings) if it is not None]
-        shown = sorted((it for it in differences if it.is_played), key=_size)
-        found = self._simplest_of([it.find for it in shown])
+            return _simplest_find(self.test.finds_among(inputs, recordings)), None
+        differences = [it for it in self.hidden.sender_differences(inputs, recordings) if it is not None]
+        shown = sorted((it for it in differences if it.is_played), key=_difference_size)
+        found = self._simplest_after_test([it.find for it in shown])
         if found is not None:
             return found, None
-        further = [more for it in shown[:_TRIED] for more in continuations(it.find)]
-        found = _simplest(self.test.finds(further, self.before.recordings(further))) if further else None
+        further = [more for it in shown[:_TRIED] for more in continued_inputs_of_find(it.find)]
+        found = _simplest_find(self.test.finds_among(further, self.before.recordings(further))) if further else None
         if found is None:
-            found = self._further(sorted((it for it in differences if not it.is_played), key=_size) + shown)
+            found = self._search_from_differences(
+                sorted((it for it in differences if not it.is_played), key=_difference_size) + shown
+            )
         return found, shown[0].find if shown else None
 
-    def _simplest_of(self, finds: Sequence[Find]) -> Find | None:
+    def _simplest_after_test(self, finds: Sequence[Find]) -> Find | None:
         inputs = [it.inputs for it in finds]
-        return _simplest(self.test.finds(inputs, [Recording(it.recording) for it in finds])) if inputs else None
+        return (
+            _simplest_find(self.test.finds_among(inputs, [Recording(it.recording) for it in finds])) if inputs else None
+        )
 
-    def _further(self, differences: Sequence[SenderDifference]) -> Find | None:
+    def _search_from_differences(self, differences: Sequence[SenderDifference]) -> Find | None:
         """A find among inputs that go on from where the senders began to differ."""
-        begun = list(dict.fromkeys(_begun(it) for it in differences))[:_TRIED]
+        begun = list(dict.fromkeys(_inputs_until_difference(it) for it in differences))[:_TRIED]
         if not begun:
             return None
         scenarios = self.candidates.more_scenarios(len(begun) * _PLANS)
         played = play_side_by_side(
-            [play_on(scenario, begun[number % len(begun)]) for number, scenario in enumerate(scenarios)], self.before
+            [play_on_from_inputs(scenario, begun[number % len(begun)]) for number, scenario in enumerate(scenarios)],
+            self.before,
         )
         there = [it for it in played if it.recording.text]
-        self.candidates.learn(there)
+        self.candidates.keep_inputs_with_new_steps(there)
         return (
-            _simplest(self.test.finds([it.inputs for it in there], [it.recording for it in there])) if there else None
+            _simplest_find(self.test.finds_among([it.inputs for it in there], [it.recording for it in there]))
+            if there
+            else None
         )
 
 
-def _size(it: SenderDifference) -> tuple[int, int]:
+def _difference_size(it: SenderDifference) -> tuple[int, int]:
     return it.after, len(it.find.inputs.events)
 
 
-def _begun(it: SenderDifference) -> Inputs:
+def _inputs_until_difference(it: SenderDifference) -> Inputs:
     """The inputs up to the one after which senders differ."""
     return replace(it.find.inputs, events=it.find.inputs.events[: it.after])
 
@@ -127,11 +134,11 @@ def play_side_by_side(games: Iterable[InputSteps], oracle: SenderOracle) -> list
     done: dict[int, PlayedInputs] = {}
     while pending:
         recordings = oracle.recordings([inputs for _, _, inputs in pending])
-        pending = list(_answered([(number, game) for number, game, _ in pending], recordings, done))
+        pending = list(_advance_games([(number, game) for number, game, _ in pending], recordings, done))
     return [done[number] for number in sorted(done)]
 
 
-def _answered(
+def _advance_games(
     games: Sequence[tuple[int, InputSteps]], recordings: Sequence[Recording], done: dict[int, PlayedInputs]
 ) -> Iterator[tuple[int, InputSteps, Inputs]]:
     """The games that go on, each with what it requests next; those that end come to the ones that are done."""
@@ -142,13 +149,13 @@ def _answered(
             done[number] = end.value
 
 
-def _simplest(finds: Iterable[Find | None]) -> Find | None:
-    there = sorted((it for it in finds if it is not None), key=lambda it: size_of(it.inputs))
+def _simplest_find(finds: Iterable[Find | None]) -> Find | None:
+    there = sorted((it for it in finds if it is not None), key=lambda it: size_of_inputs(it.inputs))
     return there[0] if there else None
 
 
-def _note(coverage: Coverage, played: Iterable[PlayedInputs]) -> None:
+def _count_coverage(coverage: Coverage, played: Iterable[PlayedInputs]) -> None:
     for it in played:
         syns = [event.what for event in it.inputs.events if isinstance(event.what, Packet) and event.what.flags == "S"]
         options = [option.name for syn in syns for option in syn.options]
-        coverage.note(it.recording.text, options, [key for key, _ in it.inputs.settings])
+        coverage.count_reached_by_input(it.recording.text, options, [key for key, _ in it.inputs.settings])

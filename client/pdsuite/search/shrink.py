@@ -8,18 +8,18 @@ from itertools import islice
 from pdsuite.compare.divergence import played_events
 from pdsuite.packetdrill.items import Call, Packet, TcpOption
 from pdsuite.search.find import TRACE, Find, FindTest
-from pdsuite.search.inputs import Input, Inputs, call, options_text
+from pdsuite.search.inputs import Input, Inputs, make_call, options_text
 from pdsuite.search.oracle import SenderOracle
-from pdsuite.search.renumber import without_rounds
+from pdsuite.search.renumber import inputs_less_one_round
 from pdsuite.search.simulate import TICK
-from pdsuite.search.states import states_before
+from pdsuite.search.states import states_before_inputs
 
 _GAPS = (0, 1_000, 100_000, 200_000, 1_000_000, 10_000_000)
 _WINDOWS = (257, 32_792, 1_000)
 _SIZES = (1, 100, 1_000, 2_000, 3_000, 4_000, 5_000, 8_000, 10_000)
 _WRITE = "write"
 # What a connection is requested last: it tells one that is reset, and has what a window lets go.
-_LAST = (call(_WRITE, 4, "...", 1_000), call("close", 4))
+_LAST = (make_call(_WRITE, 4, "...", 1_000), make_call("close", 4))
 # So many inputs without a round are tried at once.
 _AT_ONCE = 96
 _NOT_ZERO = tuple(b"%d" % digit for digit in range(1, 10))
@@ -41,71 +41,71 @@ class _EventChange:
 _Changes = tuple[_EventChange, ...]
 
 
-def shrink(find: Find, test: FindTest, before: SenderOracle, seconds: float) -> Find:
+def shrink_find(find: Find, test: FindTest, before: SenderOracle, seconds: float) -> Find:
     """The least find that is reached from this one, or the last in so many seconds."""
     until = time.monotonic() + seconds
-    while time.monotonic() < until and (smaller := _smaller(find, test, before)) is not None:
+    while time.monotonic() < until and (smaller := _smaller_find(find, test, before)) is not None:
         find = smaller
     return find
 
 
-def size_of(it: Inputs) -> _Size:
+def size_of_inputs(it: Inputs) -> _Size:
     """How simple inputs are; the least are the simplest."""
-    text = it.script()
+    text = it.script_octets()
     return (len(it.events), len(it.settings), int(it.is_exact), len(text), sum(map(text.count, _NOT_ZERO)))
 
 
 def _size_of_find(it: Find) -> tuple[int, _Size]:
     """How simple a find is: the lines of its script up to the one that fails, and its inputs."""
     lines = it.recording.count(TRACE) if it.row is None or it.row.line is None else it.row.line
-    return lines, size_of(it.inputs)
+    return lines, size_of_inputs(it.inputs)
 
 
-def _smaller(find: Find, test: FindTest, before: SenderOracle) -> Find | None:
+def _smaller_find(find: Find, test: FindTest, before: SenderOracle) -> Find | None:
     """A smaller find, if there is one: without events or rounds, then under fewer rules, then with simpler events."""
     whole = find.inputs
-    for changes in (list(_pieces(whole)), list(_singles(whole))):
-        if (found := _changed(find, changes, test, before)) is not None:
+    for changes in (list(_piece_removals(whole)), list(_single_removals(whole))):
+        if (found := _apply_good_changes(find, changes, test, before)) is not None:
             return found
-    states = states_before(list(played_events(find.recording)))
+    states = states_before_inputs(list(played_events(find.recording)))
     if len(states) == len(whole.events) + 1:
-        rounds = without_rounds(whole, states)
+        rounds = inputs_less_one_round(whole, states)
         while some := list(islice(rounds, _AT_ONCE)):
-            if (found := _best(find, some, test, before)) is not None:
+            if (found := _least_find_among(find, some, test, before)) is not None:
                 return found
-    for others in (list(_fewer_rules(whole)), list(_sooner_ends(whole))):
-        if (found := _best(find, others, test, before)) is not None:
+    for others in (list(_with_fewer_rules(whole)), list(_with_sooner_ends(whole))):
+        if (found := _least_find_among(find, others, test, before)) is not None:
             return found
-    return _changed(find, list(_simpler_events(whole)), test, before)
+    return _apply_good_changes(find, list(_simpler_event_changes(whole)), test, before)
 
 
-def _changed(find: Find, changes: Sequence[_Changes], test: FindTest, before: SenderOracle) -> Find | None:
+def _apply_good_changes(find: Find, changes: Sequence[_Changes], test: FindTest, before: SenderOracle) -> Find | None:
     """The find that all changes lead to which lead to one by themselves, or else half of these, and so on."""
-    size, least = size_of(find.inputs), _size_of_find(find)
-    tried = [it for it in changes if size_of(_with(find.inputs, it)) < size]
-    found = _tested([_with(find.inputs, it) for it in tried], test, before)
+    size, least = size_of_inputs(find.inputs), _size_of_find(find)
+    tried = [it for it in changes if size_of_inputs(_apply_changes(find.inputs, it)) < size]
+    found = _test_candidates([_apply_changes(find.inputs, it) for it in tried], test, before)
     good = [(_size_of_find(it), number) for number, it in enumerate(found) if it is not None]
     chosen = [number for smaller, number in sorted(good) if smaller < least]
     while len(chosen) > 1:
-        together = _with(find.inputs, [change for number in chosen for change in tried[number]])
-        (both,) = _tested([together], test, before)
+        together = _apply_changes(find.inputs, [change for number in chosen for change in tried[number]])
+        (both,) = _test_candidates([together], test, before)
         if both is not None and _size_of_find(both) < least:
             return both
         chosen = chosen[: len(chosen) // 2]
     return found[chosen[0]] if chosen else None
 
 
-def _best(find: Find, candidates: Sequence[Inputs], test: FindTest, before: SenderOracle) -> Find | None:
+def _least_find_among(find: Find, candidates: Sequence[Inputs], test: FindTest, before: SenderOracle) -> Find | None:
     least = _size_of_find(find)
-    there = [it for it in _tested(candidates, test, before) if it is not None and _size_of_find(it) < least]
+    there = [it for it in _test_candidates(candidates, test, before) if it is not None and _size_of_find(it) < least]
     return min(there, key=_size_of_find) if there else None
 
 
-def _tested(candidates: Sequence[Inputs], test: FindTest, before: SenderOracle) -> list[Find | None]:
-    return test.finds(candidates, before.recordings(candidates)) if candidates else []
+def _test_candidates(candidates: Sequence[Inputs], test: FindTest, before: SenderOracle) -> list[Find | None]:
+    return test.finds_among(candidates, before.recordings(candidates)) if candidates else []
 
 
-def _with(inputs: Inputs, changes: Iterable[_EventChange]) -> Inputs:
+def _apply_changes(inputs: Inputs, changes: Iterable[_EventChange]) -> Inputs:
     """The inputs after changes, of which the first of each kind counts for an event. What follows a gap moves along."""
     gone: set[int] = set()
     whats: dict[int, Packet | Call] = {}
@@ -127,7 +127,7 @@ def _with(inputs: Inputs, changes: Iterable[_EventChange]) -> Inputs:
     return replace(inputs, events=tuple(events))
 
 
-def _pieces(it: Inputs) -> Iterator[_Changes]:
+def _piece_removals(it: Inputs) -> Iterator[_Changes]:
     """Without pieces of half of the events, a quarter, and so on."""
     count = len(it.events)
     length = count // 2
@@ -137,13 +137,13 @@ def _pieces(it: Inputs) -> Iterator[_Changes]:
         length //= 2
 
 
-def _singles(it: Inputs) -> Iterator[_Changes]:
+def _single_removals(it: Inputs) -> Iterator[_Changes]:
     """Without one event."""
     for place in range(len(it.events)):
         yield (_EventChange(place, goes=True),)
 
 
-def _fewer_rules(it: Inputs) -> Iterator[Inputs]:
+def _with_fewer_rules(it: Inputs) -> Iterator[Inputs]:
     """Without one setting, or with packets that may leave a little earlier or later."""
     for place in range(len(it.settings)):
         yield replace(it, settings=it.settings[:place] + it.settings[place + 1 :])
@@ -151,7 +151,7 @@ def _fewer_rules(it: Inputs) -> Iterator[Inputs]:
         yield replace(it, is_exact=False)
 
 
-def _sooner_ends(it: Inputs) -> Iterator[Inputs]:
+def _with_sooner_ends(it: Inputs) -> Iterator[Inputs]:
     """With a write or a close in place of all that follows an event, and with a wait that what these send meets."""
     for place in range(1, len(it.events)):
         at = it.events[place - 1].at
@@ -160,21 +160,21 @@ def _sooner_ends(it: Inputs) -> Iterator[Inputs]:
             yield from (replace(it, events=(*it.events[:place], Input(at, what), *more)) for more in ((), (wait,)))
 
 
-def _simpler_events(it: Inputs) -> Iterator[_Changes]:
+def _simpler_event_changes(it: Inputs) -> Iterator[_Changes]:
     """With one event simpler, or at a simpler time."""
     before = 0
     for place, event in enumerate(it.events):
-        yield from ((_EventChange(place, what=what),) for what in _simpler(event.what))
+        yield from ((_EventChange(place, what=what),) for what in _simpler_variants(event.what))
         yield from ((_EventChange(place, gap=gap),) for gap in _GAPS if gap != event.at - before)
         before = event.at
 
 
-def _simpler(what: Packet | Call) -> Iterator[Packet | Call]:
+def _simpler_variants(what: Packet | Call) -> Iterator[Packet | Call]:
     if isinstance(what, Call):
         if what.name == _WRITE and what.arguments[-1].isdecimal():
             yield from (replace(what, arguments=(*what.arguments[:-1], str(it))) for it in _SIZES)
         return
-    for options in _fewer(what.options):
+    for options in _with_fewer_options(what.options):
         yield replace(what, options=options, options_text=options_text(options))
     if what.win is not None:
         yield from (replace(what, win=it) for it in _WINDOWS)
@@ -182,7 +182,7 @@ def _simpler(what: Packet | Call) -> Iterator[Packet | Call]:
         yield replace(what, flags=".")
 
 
-def _fewer(options: tuple[TcpOption, ...]) -> Iterator[tuple[TcpOption, ...]]:
+def _with_fewer_options(options: tuple[TcpOption, ...]) -> Iterator[tuple[TcpOption, ...]]:
     """Without one option, or without one block."""
     for place, option in enumerate(options):
         before, after = options[:place], options[place + 1 :]

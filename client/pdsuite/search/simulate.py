@@ -9,16 +9,20 @@ from itertools import count
 from pdsuite.compare.divergence import PlayedEvent, played_events
 from pdsuite.packetdrill.items import SECOND, Call, Packet
 from pdsuite.programs.recorder import Recording
-from pdsuite.search.inputs import Input, Inputs, call, packet
+from pdsuite.search.inputs import Input, Inputs, make_call, make_inbound_packet
 from pdsuite.search.peer import Peer
 from pdsuite.search.scenario import Ending, Handshake, IrregularPacket, Irregularity, Scenario
-from pdsuite.search.states import TracedState, state_of
+from pdsuite.search.states import TracedState, parse_state
 
 SYN_AT = 100_000
 # A call that changes nothing.
-TICK = call("fcntl", 3, "F_SETFL", "O_RDWR")
-LISTENING = (call("socket", "...", "SOCK_STREAM", "IPPROTO_TCP"), call("bind", 3, "...", "..."), call("listen", 3, 1))
-ACCEPT = call("accept", 3, "...", "...")
+TICK = make_call("fcntl", 3, "F_SETFL", "O_RDWR")
+LISTENING = (
+    make_call("socket", "...", "SOCK_STREAM", "IPPROTO_TCP"),
+    make_call("bind", 3, "...", "..."),
+    make_call("listen", 3, 1),
+)
+ACCEPT = make_call("accept", 3, "...", "...")
 
 # The longest time between two events, so many of which have more expiries than a sender keeps packets.
 LONGEST_GAP = 3_600 * SECOND
@@ -59,41 +63,41 @@ class _Arrival:
     end: int
 
 
-def play(scenario: Scenario) -> InputSteps:
+def play_scenario(scenario: Scenario) -> InputSteps:
     """The inputs of a scenario, by recordings of those before."""
     return (yield from _Simulation(scenario).play())
 
 
-def play_on(scenario: Scenario, begun: Inputs) -> InputSteps:
+def play_on_from_inputs(scenario: Scenario, begun: Inputs) -> InputSteps:
     """Inputs that begin as these do, and go on by a scenario; its moments count from where these end.
 
     Where no connection is open at their end, they are all.
     """
-    return (yield from _Simulation(_fitted(scenario, begun)).play_on(begun))
+    return (yield from _Simulation(_fit_scenario_to_inputs(scenario, begun)).play_on_from_inputs(begun))
 
 
-def play_as(inputs: Inputs) -> InputSteps:
+def play_inputs(inputs: Inputs) -> InputSteps:
     """Inputs as they are, without what the sender doesn't run."""
     events = list(inputs.events)
     recording = Recording("", "nothing is recorded yet")
     for _ in range(_TRIES):
         recording = yield replace(inputs, events=tuple(events))
-        place = _refused_place(recording, inputs, len(events))
+        place = _refused_input_place(recording, inputs, len(events))
         if place is None:
             break
         del events[place]
     return PlayedInputs(replace(inputs, events=tuple(events)), recording)
 
 
-def _refused_place(recording: Recording, inputs: Inputs, count: int) -> int | None:
+def _refused_input_place(recording: Recording, inputs: Inputs, count: int) -> int | None:
     """The place of the input that a sender doesn't run, if that is why there is no recording."""
     refused = _REFUSED.match(recording.fault)
     if recording.text or refused is None or not count:
         return None
-    return min(int(refused[1]) - 1 - inputs.header_lines, count - 1)
+    return min(int(refused[1]) - 1 - inputs.header_line_count, count - 1)
 
 
-def _fitted(scenario: Scenario, begun: Inputs) -> Scenario:
+def _fit_scenario_to_inputs(scenario: Scenario, begun: Inputs) -> Scenario:
     """A scenario with the settings of inputs, and the options of their SYN."""
     syns = [it.what for it in begun.events if isinstance(it.what, Packet) and it.what.flags == "S"]
     options = syns[0].options if syns else ()
@@ -121,56 +125,58 @@ class _Simulation:
         self._recording = Recording("", "nothing is recorded yet")
 
     def play(self) -> InputSteps:
-        for at, what in _beginning(self._scenario.handshake, self._peer.window):
-            self._put(at, what)
-        return (yield from self._go_on())
+        for at, what in _handshake_inputs(self._scenario.handshake, self._peer.window_field):
+            self._schedule(at, what)
+        return (yield from self._play_rest())
 
-    def play_on(self, begun: Inputs) -> InputSteps:
+    def play_on_from_inputs(self, begun: Inputs) -> InputSteps:
         """Takes up inputs where they end: what is outstanding then is on its way to the peer."""
-        taken = yield from play_as(begun)
+        taken = yield from play_inputs(begun)
         self._events, self._recording = list(taken.inputs.events), taken.recording
         played = list(played_events(self._recording.text))
-        state = state_of(played[-1].state) if played else TracedState("CLOSED")
+        state = parse_state(played[-1].state) if played else TracedState("CLOSED")
         if not state.is_open:
-            return PlayedInputs(self._inputs(), self._recording)
-        self._note(played[-1])
+            return PlayedInputs(self._inputs_so_far(), self._recording)
+        self._note_sender_state(played[-1])
         self._established_at = self._now
-        una = state.number("una", 1)
-        self._peer.resume(una, state.number("top", 1), 2 if any(_is_fin(it.what) for it in begun.events) else 1)
-        segments = list(_segments(played))
+        una = state.fact_as_number("una", 1)
+        self._peer.resume_at_numbers(
+            una, state.fact_as_number("top", 1), 2 if any(_has_fin(it.what) for it in begun.events) else 1
+        )
+        segments = list(_sent_segments_of(played))
         self._seen = len(segments)
         for start, end in dict.fromkeys((start, end) for _, start, end in segments if end > una):
-            self._send(self._now, start, end)
-        return (yield from self._go_on())
+            self._send_to_peer(self._now, start, end)
+        return (yield from self._play_rest())
 
-    def _go_on(self) -> InputSteps:
+    def _play_rest(self) -> InputSteps:
         """Plays the calls, the irregular packets and the end."""
         for it in self._scenario.acts:
-            self._put(self._established_at + it.after, it.call)
+            self._schedule(self._established_at + it.after, it.call)
         for irregular in self._scenario.irregular:
-            self._put(self._established_at + irregular.after, irregular)
+            self._schedule(self._established_at + irregular.after, irregular)
         for _ in range(self._scenario.rounds):
-            if not self._step():
+            if not self._add_due_inputs():
                 break
-            yield from self._record()
+            yield from self._record_and_send()
         self._events = [it for it in self._events[:-1] if it.what is not TICK] + self._events[-1:]
-        self._events += self._last()
-        yield from self._record()
-        return PlayedInputs(self._inputs(), self._recording)
+        self._events += self._final_inputs()
+        yield from self._record_and_send()
+        return PlayedInputs(self._inputs_so_far(), self._recording)
 
-    def _inputs(self) -> Inputs:
+    def _inputs_so_far(self) -> Inputs:
         return Inputs(self._scenario.settings, tuple(self._events))
 
-    def _put(self, at: int, what: "Call | Packet | IrregularPacket | _Arrival | None") -> None:
+    def _schedule(self, at: int, what: "Call | Packet | IrregularPacket | _Arrival | None") -> None:
         heapq.heappush(self._due, _Due(at, next(self._places), what))
 
-    def _step(self) -> bool:
+    def _add_due_inputs(self) -> bool:
         """Puts in what is due before the sender could be answered; whether there was anything."""
         while True:
             if not self._due and self._expiry is None:
-                self._write_after_idle()
+                self._schedule_idle_write()
             first = self._due[0].at if self._due else None
-            expiry = None if self._expiry is None else self._after_outage(self._expiry)
+            expiry = None if self._expiry is None else self._moment_after_outage(self._expiry)
             if expiry is not None and (first is None or expiry < first):
                 self._events.append(Input(expiry, TICK))
                 return True
@@ -181,71 +187,71 @@ class _Simulation:
             put = len(self._events)
             while self._due and self._due[0].at < max(horizon, first + 1):
                 due = heapq.heappop(self._due)
-                self._react(due)
+                self._react_to_due(due)
             if len(self._events) > put:
                 return True
 
-    def _write_after_idle(self) -> None:
+    def _schedule_idle_write(self) -> None:
         """Where nothing is due, writes an RTO after what was sent last, give or take what the scenario says."""
         if self._idle and self._rto is not None and self._state in _WRITABLE:
             act = self._idle.pop(0)
-            self._put(max(self._last_sent + self._rto + act.after, self._now + 1), act.call)
+            self._schedule(max(self._last_sent + self._rto + act.after, self._now + 1), act.call)
 
-    def _after_outage(self, at: int) -> int:
+    def _moment_after_outage(self, at: int) -> int:
         begin, end = (self._established_at + it for it in self._scenario.network.outage)
         return end if begin <= at < end else at
 
-    def _react(self, due: _Due) -> None:
+    def _react_to_due(self, due: _Due) -> None:
         if isinstance(due.what, _Arrival):
-            if self._peer.take((due.what.start, due.what.end)):
-                self._acknowledge(due.at)
+            if self._peer.take_segment((due.what.start, due.what.end)):
+                self._put_in_ack(due.at)
             elif self._peer.waiting == 1:
-                self._put(due.at + self._scenario.receiver.delay, None)
+                self._schedule(due.at + self._scenario.receiver.delay, None)
         elif due.what is None:
             if self._peer.waiting:
-                self._acknowledge(due.at)
+                self._put_in_ack(due.at)
         elif isinstance(due.what, IrregularPacket):
-            self._put_in(due.at, self._peer.irregular(due.what))
+            self._add_input(due.at, self._peer.make_irregular_packet(due.what))
         else:
-            self._put_in(due.at, due.what)
+            self._add_input(due.at, due.what)
 
-    def _acknowledge(self, at: int) -> None:
-        number = self._peer.acks
-        ack = self._peer.acknowledge()
+    def _put_in_ack(self, at: int) -> None:
+        number = self._peer.ack_count
+        ack = self._peer.make_ack()
         if number not in self._scenario.network.lost_acks:
-            self._put_in(at, ack)
+            self._add_input(at, ack)
 
-    def _put_in(self, at: int, what: Packet | Call) -> None:
+    def _add_input(self, at: int, what: Packet | Call) -> None:
         if isinstance(what, Packet) and self._state == "CLOSED" and len(self._events) > len(LISTENING) + 1:
             return  # a closed connection takes no packet
         self._events.append(Input(at, what))
 
-    def _record(self) -> Generator[Inputs, Recording, None]:
+    def _record_and_send(self) -> Generator[Inputs, Recording, None]:
         """Has what was put in recorded, without what the sender doesn't run, and sends what left to the peer."""
         for _ in range(_TRIES):
-            inputs = self._inputs()
+            inputs = self._inputs_so_far()
             self._recording = yield inputs
-            place = _refused_place(self._recording, inputs, len(self._events))
+            place = _refused_input_place(self._recording, inputs, len(self._events))
             if place is None:
                 break
             del self._events[place]
         played = list(played_events(self._recording.text))
         if played:
-            self._note(played[-1])
-        segments = list(_segments(played))
+            self._note_sender_state(played[-1])
+        segments = list(_sent_segments_of(played))
         for at, start, end in segments[self._seen :]:
-            self._send(at, start, end)
+            self._send_to_peer(at, start, end)
         self._seen = len(segments)
         self._last_sent = segments[-1][0] if segments else self._now
 
-    def _note(self, last: PlayedEvent) -> None:
-        state = state_of(last.state)
+    def _note_sender_state(self, last: PlayedEvent) -> None:
+        state = parse_state(last.state)
         self._state = state.name
-        self._expiry = state.moment("expiry")
-        self._rto = state.moment("RTO")
-        self._now = max(self._events[-1].at, _moment(last))
+        self._expiry = state.fact_as_moment("expiry")
+        self._rto = state.fact_as_moment("RTO")
+        self._now = max(self._events[-1].at, _moment_of_event(last))
 
-    def _send(self, at: int, start: int, end: int) -> None:
+    def _send_to_peer(self, at: int, start: int, end: int) -> None:
         """Hands a segment to the network."""
         network = self._scenario.network
         number, self._sent = self._sent, self._sent + 1
@@ -253,9 +259,9 @@ class _Simulation:
         if number in network.lost or begin <= at < ends:
             return
         takes = network.round_trip + network.more[number % len(network.more)] + network.late.get(number, 0)
-        self._put(at + takes, _Arrival(start, end))
+        self._schedule(at + takes, _Arrival(start, end))
 
-    def _last(self) -> Iterator[Input]:
+    def _final_inputs(self) -> Iterator[Input]:
         """The end: a wait in which expiries show the timer, or after which none could come."""
         ending = self._scenario.ending
         at = max(self._now, self._events[-1].at)
@@ -264,52 +270,52 @@ class _Simulation:
         elif self._expiry is not None and ending is not Ending.NONE:
             yield Input(self._expiry + (self._expiry - at) // 2 + 1, TICK)
         elif ending is Ending.WRITE and self._state in _WRITABLE:
-            yield Input(at + 1_000, call("write", 4, "...", _LONG_WRITE))
+            yield Input(at + 1_000, make_call("write", 4, "...", _LONG_WRITE))
             yield Input(at + 10 * SECOND, TICK)
 
 
-def _beginning(it: Handshake, window: int) -> Iterator[tuple[int, Call | Packet]]:
+def _handshake_inputs(it: Handshake, window: int) -> Iterator[tuple[int, Call | Packet]]:
     """The handshake, and the accepted connection."""
-    yield SYN_AT, packet("S", 0, None, it.window, it.options)
+    yield SYN_AT, make_inbound_packet("S", 0, None, it.window, it.options)
     if it.accepts_early:
         yield SYN_AT, ACCEPT
     for irregular in it.irregular:
-        yield SYN_AT + irregular.after, _irregular_in_handshake(irregular)
-    yield SYN_AT + it.takes, packet("F." if it.has_fin else ".", 1, 1, window)
+        yield SYN_AT + irregular.after, _irregular_handshake_packet(irregular)
+    yield SYN_AT + it.takes, make_inbound_packet("F." if it.has_fin else ".", 1, 1, window)
     yield SYN_AT + it.takes, ACCEPT
 
 
-def _irregular_in_handshake(irregular: IrregularPacket) -> Packet:
+def _irregular_handshake_packet(irregular: IrregularPacket) -> Packet:
     match irregular.kind:
         case Irregularity.OLD_ACK:
-            return packet(".", 1, 0, 1_000)
+            return make_inbound_packet(".", 1, 0, 1_000)
         case Irregularity.EARLY_ACK:
-            return packet(".", 1, 2 + irregular.number, 1_000)
+            return make_inbound_packet(".", 1, 2 + irregular.number, 1_000)
         case Irregularity.BARE:
-            return packet("-", 1, None, 1_000)
+            return make_inbound_packet("-", 1, None, 1_000)
         case Irregularity.RESET:
-            return packet("R", 1, None, 1_000)
+            return make_inbound_packet("R", 1, None, 1_000)
         case Irregularity.RESET_NEAR:
-            return packet("R", 2 + irregular.number % 100, None, 1_000)
+            return make_inbound_packet("R", 2 + irregular.number % 100, None, 1_000)
         case Irregularity.BELOW:
-            return packet(".", 0, 1, 1_000)
+            return make_inbound_packet(".", 0, 1, 1_000)
         case _:
-            return packet(".", 70_000, 1, 1_000)
+            return make_inbound_packet(".", 70_000, 1, 1_000)
 
 
-def _is_fin(what: Packet | Call) -> bool:
+def _has_fin(what: Packet | Call) -> bool:
     return isinstance(what, Packet) and "F" in what.flags
 
 
-def _segments(played: list[PlayedEvent]) -> Iterator[tuple[int, int, int]]:
+def _sent_segments_of(played: list[PlayedEvent]) -> Iterator[tuple[int, int, int]]:
     """The moments and octets of segments with data or a FIN."""
     for it in played:
         if found := _SENT.match(it.line):
             flags, start, end = found[1], int(found[2]), int(found[3]) + ("F" in found[1])
             if start < end and "S" not in flags:
-                yield _moment(it), start, end
+                yield _moment_of_event(it), start, end
 
 
-def _moment(it: PlayedEvent) -> int:
+def _moment_of_event(it: PlayedEvent) -> int:
     whole, _, part = it.moment.partition(".")
     return int(whole) * SECOND + int(part)

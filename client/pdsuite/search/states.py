@@ -19,14 +19,14 @@ class TracedState:
     name: str
     facts: Mapping[str, str] = field(default_factory=dict)
 
-    def number(self, name: str, default: int = 0) -> int:
+    def fact_as_number(self, name: str, default: int = 0) -> int:
         """A fact that is a number, or what holds where there is none."""
         value = self.facts.get(name, "")
         return int(value) if value.isdecimal() else default
 
-    def moment(self, name: str) -> int | None:
+    def fact_as_moment(self, name: str) -> int | None:
         """A fact that is a time, in microseconds."""
-        return moment_of(self.facts.get(name, ""))
+        return parse_moment(self.facts.get(name, ""))
 
     @property
     def is_open(self) -> bool:
@@ -39,35 +39,35 @@ class TracedState:
         return self.facts.get("recovery", _NONE) != _NONE
 
     @property
-    def kind(self) -> str:
+    def rough_kind(self) -> str:
         """What kind of state it is: numbers count by their order and by rough sizes alone."""
-        una, top = self.number("una"), self.number("top")
-        cwnd, flight, rwnd = self.number("cwnd"), self.number("FlightSize"), self.number("rwnd")
+        una, top = self.fact_as_number("una"), self.fact_as_number("top")
+        cwnd, flight, rwnd = self.fact_as_number("cwnd"), self.fact_as_number("FlightSize"), self.fact_as_number("rwnd")
         parts = [
             self.name,
             self.facts.get("recovery", ""),
             self.facts.get("connection", ""),
-            str(min(self.number("DupAcks"), 3)),
-            _order(cwnd, self.number("ssthresh")),
-            _order(flight, cwnd),
-            _order(flight, rwnd) if rwnd else "0",
-            _order(self.number("next"), top),
-            _order(top, self.number("end")),
+            str(min(self.fact_as_number("DupAcks"), 3)),
+            _order_sign(cwnd, self.fact_as_number("ssthresh")),
+            _order_sign(flight, cwnd),
+            _order_sign(flight, rwnd) if rwnd else "0",
+            _order_sign(self.fact_as_number("next"), top),
+            _order_sign(top, self.fact_as_number("end")),
             str(min(flight // _SEGMENT, 4)) if flight else "none",
-            "runs" if self.moment("expiry") is not None else "stopped",
-            _order(self.number("pipe"), cwnd) if "pipe" in self.facts else "",
-            _order(self.number("prr_delivered"), self.number("prr_out")) if una < top else "",
+            "runs" if self.fact_as_moment("expiry") is not None else "stopped",
+            _order_sign(self.fact_as_number("pipe"), cwnd) if "pipe" in self.facts else "",
+            _order_sign(self.fact_as_number("prr_delivered"), self.fact_as_number("prr_out")) if una < top else "",
         ]
         return " ".join(parts)
 
 
-def moment_of(text: str) -> int | None:
+def parse_moment(text: str) -> int | None:
     """A time in seconds with decimals, in microseconds."""
     whole, _, part = text.partition(".")
     return int(whole) * SECOND + int(part.ljust(6, "0")) if whole.isdecimal() and part.isdecimal() else None
 
 
-def state_of(text: str) -> TracedState:
+def parse_state(text: str) -> TracedState:
     """The state that a trace says."""
     name, *facts = text.split(" ")
     return TracedState(name, dict(it.split(":", 1) for it in facts))
@@ -78,31 +78,31 @@ def is_input(it: PlayedEvent) -> bool:
     return it.line.split(" ", 2)[1:2] != [">"]
 
 
-def states_before(played: Sequence[PlayedEvent]) -> list[TracedState]:
+def states_before_inputs(played: Sequence[PlayedEvent]) -> list[TracedState]:
     """The sender's state before each input, and last the one at the end."""
     states = [TracedState("CLOSED")]
     last = states[0]
     for it in played:
         if is_input(it):
             states.append(last)
-        last = state_of(it.state)
+        last = parse_state(it.state)
     return [*states[1:], last]
 
 
-def steps_in(recording: str) -> Iterator[StateStep]:
+def state_steps_in(recording: str) -> Iterator[StateStep]:
     """The steps of a recording: each from one kind of state to another, or on which a packet leaves."""
     before = kind = last = ""
     for it in played_events(recording):
         # Most events leave the state as it is, and to find its kind costs most here.
         if it.state != last:
-            kind, last = state_of(it.state).kind, it.state
-        what = _what(it)
+            kind, last = parse_state(it.state).rough_kind, it.state
+        what = _rough_event_name(it)
         if kind != before or what != "leaves":
             yield before, what, kind
         before = kind
 
 
-def _what(it: PlayedEvent) -> str:
+def _rough_event_name(it: PlayedEvent) -> str:
     """What happened, roughly."""
     words = it.line.split(" ")
     if words[1:2] == [">"]:
@@ -112,5 +112,5 @@ def _what(it: PlayedEvent) -> str:
     return words[1].partition("(")[0] if len(words) > 1 else ""
 
 
-def _order(one: int, other: int) -> str:
+def _order_sign(one: int, other: int) -> str:
     return "<" if one < other else "=" if one == other else ">"

@@ -6,8 +6,8 @@ and `View` shows what changed. `SenderFollower` follows which sender stands, `Se
 
     Watcher --FileEvent--> Folders --WantedScript--> plan_changes --RunChange--> LivePool --rows--> View
 
-    a live run:       started --carry_out: add, edit, remove, set; settle--> its rows are right --carry_out--> ..
-                        | it ends                          '--renew: a new one, before this one ends
+    a live run:       started --acts: add, edit, remove, set; settle--> its rows are right --acts--> ..
+                        | it ends                     '--renew_long_runs: a new one, before this one ends
                         v
                       a new one with the same scripts; ends again: the fatal scripts are found and set apart
     a watched script: seen --closed, or moved--> read --> wanted --> its row

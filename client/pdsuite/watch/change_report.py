@@ -24,54 +24,54 @@ class ChangeReport:
     is_brief = False  # whether a script that another sender turned is reported once
     is_unproved = False  # whether the sender isn't proved that runs scripts
 
-    def first(self, outcomes: Outcomes, every: bool, seconds: float) -> StyledText:
+    def first_report(self, outcomes: Outcomes, every: bool, seconds: float) -> StyledText:
         """Each script that doesn't pass, or every script; then the totals."""
-        return entries(outcomes.values(), every).append_text(self.foot(outcomes, seconds))
+        return entries_of(outcomes.values(), every).append_text(self.totals_line(outcomes, seconds))
 
-    def moves(
+    def folder_moves(
         self, before: Outcomes, after: Outcomes, had: Mapping[str, WantedScript], has: Mapping[str, WantedScript]
     ) -> Sequence[Move]:
         """The folders that are reported to have moved."""
         return ()
 
-    def head(self) -> StyledText:
+    def report_head(self) -> StyledText:
         """What stands before a report that isn't the first."""
         return StyledText()
 
-    def rows(self, before: Outcomes, after: Outcomes, moves: Sequence[Move]) -> StyledText:
+    def changed_rows(self, before: Outcomes, after: Outcomes, moves: Sequence[Move]) -> StyledText:
         """The rows that changed, without their explanations: first of those that don't pass, last what went."""
         form = PlainFormatter(True)
         text = StyledText()
-        for outcome in changed(before, after):
+        for outcome in changed_outcomes(before, after):
             text.append_text(form.row_and_warnings(outcome))
-        for path in gone(before, after):
+        for path in gone_paths(before, after):
             text.append_text(gone_row(path))
         return text
 
-    def blocks(self, before: Outcomes, after: Outcomes, moves: Sequence[Move]) -> StyledText:
+    def changed_explanations(self, before: Outcomes, after: Outcomes, moves: Sequence[Move]) -> StyledText:
         """The explanations of the rows that changed, and of others where they are others."""
-        return entries(newly_explained(before, after), False)
+        return entries_of(newly_explained_outcomes(before, after), False)
 
-    def compared(self, scripts: Sequence[ComparedScript]) -> StyledText:
+    def turned_entries(self, scripts: Sequence[ComparedScript]) -> StyledText:
         """The scripts that another sender turned."""
         text = StyledText()
         for it in scripts:
             text.append_text(compared_script_entry(it))
         return text
 
-    def foot(self, outcomes: Outcomes, seconds: float) -> StyledText:
+    def totals_line(self, outcomes: Outcomes, seconds: float) -> StyledText:
         """The totals."""
         return PlainFormatter(True).summary(totals_of(outcomes, self.is_unproved), seconds)
 
-    def left(self, why: str) -> StyledText:
+    def sender_left_notice(self, why: str) -> StyledText:
         """That the sender doesn't stand any more of which all rows are, and why."""
         return StyledText([(f"{_LEFT}\n  {why}\n", "dim")])
 
-    def turned(self, words: str) -> StyledText:
+    def new_sender_notice(self, words: str) -> StyledText:
         """What is shown of another sender."""
         return StyledText([(f"{words}\n", "bold")])
 
-    def refused(self, lines: Sequence[str]) -> StyledText:
+    def refused_sender_notice(self, lines: Sequence[str]) -> StyledText:
         """Why no sender can be built, or be proved: below the first line stand the lines that say why."""
         first, *below = lines
         return StyledText([(f"{first}\n", "bold red"), ("".join(f"  {line}\n" for line in below), "")])
@@ -82,20 +82,20 @@ def totals_of(outcomes: Outcomes, is_unproved: bool = False) -> Totals:
     return replace(Totals.of_outcomes(outcomes.values()), is_unproved=is_unproved)
 
 
-def of_sender_before(text: StyledText) -> StyledText:
+def mark_as_of_sender_before(text: StyledText) -> StyledText:
     """A part of a report that is of a sender that doesn't stand any more: each of its rows says so, and all is dim."""
     lines = text.plain.splitlines()
     marked = [line if line.startswith("  ") else f"{line}{BEFORE}" for line in lines]
     return StyledText([("".join(f"{line}\n" for line in marked), "dim")])
 
 
-def changed(before: Outcomes, after: Outcomes) -> list[Outcome]:
+def changed_outcomes(before: Outcomes, after: Outcomes) -> list[Outcome]:
     """The outcomes whose rows changed, last those that pass or are known not to."""
-    found = [it for path, it in after.items() if path not in before or _is_other(before[path], it)]
+    found = [it for path, it in after.items() if path not in before or _is_shown_otherwise(before[path], it)]
     return sorted(found, key=lambda it: it.counted_as in (Verdict.PASS, CountedAs.KNOWN))
 
 
-def gone(before: Outcomes, after: Outcomes) -> Iterator[str]:
+def gone_paths(before: Outcomes, after: Outcomes) -> Iterator[str]:
     """The scripts that went."""
     return (path for path in before if path not in after)
 
@@ -105,12 +105,12 @@ def gone_row(path: str) -> StyledText:
     return StyledText([(f"{printable_path(path)}: ", "")]).append("gone\n", "dim")
 
 
-def newly_explained(before: Outcomes, after: Outcomes) -> list[Outcome]:
+def newly_explained_outcomes(before: Outcomes, after: Outcomes) -> list[Outcome]:
     """The outcomes of which something is to be shown: their rows changed, or their explanations did."""
     return [it for path, it in after.items() if _is_newly_explained(before.get(path), it)]
 
 
-def entries(outcomes: Iterable[Outcome], every: bool) -> StyledText:
+def entries_of(outcomes: Iterable[Outcome], every: bool) -> StyledText:
     form = PlainFormatter(every)
     text = StyledText()
     for number, outcome in enumerate(outcomes, 1):
@@ -119,7 +119,7 @@ def entries(outcomes: Iterable[Outcome], every: bool) -> StyledText:
     return text
 
 
-def _is_other(old: Outcome, new: Outcome) -> bool:
+def _is_shown_otherwise(old: Outcome, new: Outcome) -> bool:
     """Whether the row changed, the line that it names, what is warned of, or whether it makes the run fail."""
     if old is new:
         return False
@@ -136,6 +136,6 @@ def _is_other(old: Outcome, new: Outcome) -> bool:
 def _is_newly_explained(old: Outcome | None, new: Outcome) -> bool:
     if new.row.line is None:
         return False
-    if old is None or _is_other(old, new):
+    if old is None or _is_shown_otherwise(old, new):
         return True
     return (new.why, new.block_lines) not in ((old.why, old.block_lines), ("", ()))

@@ -12,8 +12,15 @@ from pdsuite.scripts.expectation import Expectation
 from pdsuite.signals import Stop
 from pdsuite.watch.plan_changes import WantedScript
 from pdsuite.watch.settings_files import SettingsFiles
-from pdsuite.watch.watched_files import GRACE, WatchedFile, WatchedFiles, is_other, update_of, watched_file
-from pdsuite.watch.watched_files import watched_files
+from pdsuite.watch.watched_files import (
+    GRACE,
+    WatchedFile,
+    WatchedFiles,
+    has_script_changed,
+    read_watched_file,
+    update_from_seen,
+)
+from pdsuite.watch.watched_files import read_watched_files
 from pdsuite.watch.watcher import FileEvent, FileEventKind, Watcher
 
 # The folders are walked so often, and so soon after the last event, at the latest a period after the first one.
@@ -69,11 +76,11 @@ class Folders:
         """What holds for scripts, by the settings files as they are known now."""
         return self._suite
 
-    def due(self) -> float:
+    def next_look_moment(self) -> float:
         """The moment at which something has to be looked at, whatever is reported."""
         return min([self._walk_at, self._quiet_at, *self._again.values()])
 
-    def wanted(self) -> tuple[dict[str, WantedScript], dict[str, str]]:
+    def wanted_and_unfit(self) -> tuple[dict[str, WantedScript], dict[str, str]]:
         """The scripts that are to be run, and for all others why they can't."""
         wanted: dict[str, WantedScript] = {}
         unfit: dict[str, str] = {}
@@ -89,16 +96,16 @@ class Folders:
         """Whether a warning makes a script fail."""
         return self._choice.is_strict or self._suite.is_script_strict(self.files[path].found)
 
-    def expected(self, path: str) -> Expectation | None:
+    def expected_row(self, path: str) -> Expectation | None:
         """The row that a script is known to have, if one is given."""
         return self._suite.expectation_of_script(self.files[path].found)
 
-    def check_settings(self) -> None:
+    def recheck_settings(self) -> None:
         """Has the settings files checked anew, as another sender may read them otherwise."""
-        self._settings_files.check_again()
+        self._settings_files.recheck_all_files()
         self._suite = self._settings_files.suite()
 
-    def look(self, events: Sequence[FileEvent], now: float) -> bool:
+    def take_in_events(self, events: Sequence[FileEvent], now: float) -> bool:
         """Takes in what is reported and what is due; whether anything is other than it was."""
         paths = {path for path, moment in self._again.items() if moment <= now}
         for path in paths:
@@ -110,11 +117,11 @@ class Folders:
         if events:
             self._busy_since = now if self._busy_since is None else self._busy_since
             self._quiet_at = min(self._busy_since + _PERIOD, now + _QUIET)
-        seen = {path: self._look_at(path, closed) for path in paths if path in self.files}
+        seen = {path: self._read_file_again(path, closed) for path in paths if path in self.files}
         # What is gone, or new, is only known when all has been looked at.
         if is_walk or len(seen) < len(paths) or any(it.is_gone for it in seen.values()):
-            return self._walk(closed, now)
-        return bool(seen) and self._update({**self.files, **seen}, now)
+            return self._walk_and_schedule(closed, now)
+        return bool(seen) and self._apply_seen_files({**self.files, **seen}, now)
 
     def _note_event(self, event: FileEvent, paths: set[str], now: float) -> bool:
         """Notes what an event is about; whether all has to be looked at for it."""
@@ -131,70 +138,70 @@ class Folders:
             self._gone = {path: now, **self._gone}
         return False
 
-    def _look_at(self, path: str, closed: Set[tuple[str, str]]) -> WatchedFile:
+    def _read_file_again(self, path: str, closed: Set[tuple[str, str]]) -> WatchedFile:
         known = self.files[path]
-        return watched_file(known.found, known, (known.found.folder, known.found.name) in closed)
+        return read_watched_file(known.found, known, (known.found.folder, known.found.name) in closed)
 
-    def _walk(self, closed: Set[tuple[str, str]], now: float) -> bool:
+    def _walk_and_schedule(self, closed: Set[tuple[str, str]], now: float) -> bool:
         """Looks at all there is, with what was closed just now, and says when it is to be done again."""
         self._walk_at = self._quiet_at = inf
         self._busy_since = None
         begin = process_time()
-        is_other = self._walk_through(closed, now)
+        is_other = self._walk_folders(closed, now)
         if not is_other:
             # What is read anew takes longer, and is no measure of the next walk.
             self._period = max(_PERIOD, _TIMES * (process_time() - begin))
         self._walk_at = min(self._walk_at, now + self._period)
         return is_other
 
-    def _walk_through(self, closed: Set[tuple[str, str]], now: float) -> bool:
-        scripts = self._find()
-        has_changed, is_torn = self._settings_files.look()
+    def _walk_folders(self, closed: Set[tuple[str, str]], now: float) -> bool:
+        scripts = self._find_and_watch_scripts()
+        has_changed, is_torn = self._settings_files.reread_changed_files()
         if has_changed:
             self._suite = self._settings_files.suite()
         if is_torn:
             self._walk_at = now + GRACE
         self._places = {(it.folder, it.name): it.path for it in scripts}
-        files = watched_files(scripts, self.files, closed)
+        files = read_watched_files(scripts, self.files, closed)
         is_first, self._is_first = self._is_first, False
         if is_first:
             self.files = files
-        is_other = self._update(files, now)
-        self._report_unused()
+        is_other = self._apply_seen_files(files, now)
+        self._report_unused_tables()
         return is_other or has_changed or is_first
 
-    def _find(self) -> list[ScriptFile]:
+    def _find_and_watch_scripts(self) -> list[ScriptFile]:
         """Finds all scripts, and has their folders watched before any of them is read."""
         for _ in range(_TRIES):
             finding = find_scripts_and_folders(self._choice.paths, self._choice.only, self._stop)
-            folders = finding.folders | self._settings_files.folders()
-            self._report_limit(self._watcher.watch(folders))
-            self._settings_files.read(finding.folders)
+            folders = finding.folders | self._settings_files.folders_with_files()
+            self._report_watch_limit(self._watcher.watch_folders(folders))
+            self._settings_files.read_new_folders(finding.folders)
             is_known = folders <= self._watched
             self._watched = folders
             if is_known:
                 break
         return finding.scripts
 
-    def _update(self, seen: WatchedFiles, now: float) -> bool:
-        update = update_of(self.files, seen, self._gone, now)
+    def _apply_seen_files(self, seen: WatchedFiles, now: float) -> bool:
+        update = update_from_seen(self.files, seen, self._gone, now)
         self._gone = update.gone
         self._again.update(dict.fromkeys(update.torn, now + GRACE))
         if any(path not in seen or seen[path].is_gone for path in update.gone):
             self._walk_at = min(self._walk_at, now + GRACE)
         before, self.files = self.files, update.files
-        return is_other(before, self.files)
+        return has_script_changed(before, self.files)
 
-    def _report_unused(self) -> None:
+    def _report_unused_tables(self) -> None:
         """Reports tables whose scripts aren't there, each once while that is so."""
         held = {(it.folder, it.name) for it in (self.files[path].found for path in self._gone if path in self.files)}
-        unused = self._settings_files.unused(held)
+        unused = self._settings_files.unused_table_warnings(held)
         for line in unused:
             if line not in self._unused:
                 self._note(f"{line}; all else in the file counts")
         self._unused = set(unused)
 
-    def _report_limit(self, limit: str | None) -> None:
+    def _report_watch_limit(self, limit: str | None) -> None:
         if limit is not None and limit not in self._limits:
             self._limits.add(limit)
             often = f"every {_PERIOD:.0f} seconds, in large folders more rarely"

@@ -57,7 +57,7 @@ class LivePool:
         """The runs as they are now."""
         return tuple(self._runs)
 
-    def follow(self, wanted: Mapping[str, WantedScript]) -> None:
+    def hold_wanted_scripts(self, wanted: Mapping[str, WantedScript]) -> None:
         """Brings the runs to hold what is wanted."""
         self._not_run = {
             path: it for path, it in self._not_run.items() if it.is_lasting and wanted.get(path) == it.wanted
@@ -65,10 +65,10 @@ class LivePool:
         fit = {path: it for path, it in wanted.items() if path not in self._not_run}
         before = self.runs
         for change in plan_changes([it.contents for it in before], fit):
-            self._show_running(_running(change))
+            self._show_running(_running_words(change))
             self._make_change(None if change.run is None else before[change.run], change)
 
-    def mend(self) -> bool:
+    def restart_ended_runs(self) -> bool:
         """Begins anew what has ended by itself; whether anything had."""
         ended = False
         for run in self.runs:
@@ -76,19 +76,19 @@ class LivePool:
                 run.program.require_idle()
             except ProgramEndedError as end:
                 ended = True
-                self._begin_again(run, run.contents, str(end))
+                self._restart_run(run, run.contents, str(end))
         return ended
 
-    def renew(self, most: int) -> bool:
+    def renew_long_runs(self, most: int) -> bool:
         """Starts a new run for each whose history has more acts than that, before the old one ends; whether any had."""
         worn = [run for run in self.runs if run.acts > most]
         for run in worn:
             place = self._runs.index(run)
             try:
-                self._begin(run.contents, place)
+                self._start_run(run.contents, place)
             except ProgramEndedError:
                 continue  # the old one goes on
-            self._end(run)
+            self._end_run(run)
         return bool(worn)
 
     def rows(self) -> Iterator[tuple[str, Row]]:
@@ -98,7 +98,7 @@ class LivePool:
         for path, it in self._not_run.items():
             yield path, it.row
 
-    def causes(self) -> Mapping[str, Cause]:
+    def causes_by_path(self) -> Mapping[str, Cause]:
         """The explanations of scripts by keys, by their paths."""
         return {path: it for run in self._runs for path, it in run.causes.items()}
 
@@ -107,76 +107,76 @@ class LivePool:
         causes = (run.causes[outcome.path] for run in self._runs if outcome.path in run.causes)
         return with_explanation(outcome, next(causes, None), wanted.text)
 
-    def steps(self) -> Mapping[str, int]:
+    def steps_by_path(self) -> Mapping[str, int]:
         """How many steps scripts took that ran at the last change, by their paths."""
         return {path: it for run in self._runs for path, it in run.steps.items()}
 
     def _make_change(self, run: LiveRun | None, change: RunChange) -> None:
         if run is not None and not change.after.texts:
-            self._end(run)
+            self._end_run(run)
             return
         try:
             if run is None:
-                self._begin(change.after, len(self._runs))
+                self._start_run(change.after, len(self._runs))
             else:
-                run.carry_out(change.acts, change.after)
+                run.carry_out_acts(change.acts, change.after)
         except ProgramEndedError as end:
-            self._begin_again(run, change.after, str(end))
+            self._restart_run(run, change.after, str(end))
 
-    def _begin(self, contents: RunContents, place: int) -> None:
+    def _start_run(self, contents: RunContents, place: int) -> None:
         """Starts a run that holds this, as the one with this number."""
         run = LiveRun(contents.settings, self._start)
         try:
-            run.carry_out([AddScript(path, text) for path, text in contents.texts.items()], contents)
+            run.carry_out_acts([AddScript(path, text) for path, text in contents.texts.items()], contents)
         except BaseException:
             run.program.kill_and_close()
             raise
         self._runs.insert(place, run)
 
-    def _end(self, run: LiveRun) -> int:
+    def _end_run(self, run: LiveRun) -> int:
         """Ends a run; the number that it had."""
         place = self._runs.index(run)
         del self._runs[place]
         run.program.kill_and_close()
         return place
 
-    def _begin_again(self, run: LiveRun | None, contents: RunContents, reason: str) -> None:
+    def _restart_run(self, run: LiveRun | None, contents: RunContents, reason: str) -> None:
         """Starts a new run with all files of one that ended. If that ends too, each script is tried by itself."""
-        place = len(self._runs) if run is None else self._end(run)
-        self._note(f"pdsuite: {reason}; a new run begins with {_counted(list(contents.texts))}")
+        place = len(self._runs) if run is None else self._end_run(run)
+        self._note(f"pdsuite: {reason}; a new run begins with {_path_or_count(list(contents.texts))}")
         try:
-            self._begin(contents, place)
+            self._start_run(contents, place)
         except ProgramEndedError:
-            self._begin_apart(contents, place)
+            self._restart_without_fatal(contents, place)
 
-    def _begin_apart(self, contents: RunContents, place: int) -> None:
+    def _restart_without_fatal(self, contents: RunContents, place: int) -> None:
         """Finds the scripts on which a run ends, and starts one with all others."""
-        rows = self._fatal(contents)
+        rows = self._find_fatal_scripts(contents)
         rest = {path: text for path, text in contents.texts.items() if path not in rows}
         if rest:
             try:
-                self._begin(RunContents(contents.settings, rest), place)
+                self._start_run(RunContents(contents.settings, rest), place)
             except ProgramEndedError as end:
                 rows.update(dict.fromkeys(rest, Row(Verdict.ERROR, word=str(end))))
-        is_lasting = bool(rows) and self._answers(contents.settings)
+        is_lasting = bool(rows) and self._can_empty_run_answer(contents.settings)
         for path, row in rows.items():
             self._not_run[path] = FatalScript(WantedScript(contents.settings, contents.texts[path]), row, is_lasting)
 
-    def _answers(self, settings: Settings) -> bool:
+    def _can_empty_run_answer(self, settings: Settings) -> bool:
         """Whether a run without scripts answers."""
         try:
             run = LiveRun(settings, self._start)
         except ProgramEndedError:
             return False
         try:
-            run.carry_out([], run.contents)
+            run.carry_out_acts([], run.contents)
         except ProgramEndedError:
             return False
         finally:
             run.program.kill_and_close()
         return True
 
-    def _fatal(self, contents: RunContents) -> dict[str, Row]:
+    def _find_fatal_scripts(self, contents: RunContents) -> dict[str, Row]:
         """The scripts on which a run ends twice, as `pdsuite run` finds them, each with its row."""
         scripts = [Script(index, path, contents.settings) for index, path in enumerate(contents.texts)]
         batch = Batch(contents.settings, tuple(split_by_size(scripts, PIECE_SIZE)))
@@ -191,9 +191,9 @@ class LivePool:
         return {path: it for path, it in rows.items() if it.verdict is Verdict.ERROR or path in unexplained}
 
 
-def _running(change: RunChange) -> str:
-    return f"running {_counted(change.concerned)}"
+def _running_words(change: RunChange) -> str:
+    return f"running {_path_or_count(change.rerun_paths)}"
 
 
-def _counted(paths: list[str]) -> str:
+def _path_or_count(paths: list[str]) -> str:
     return printable_path(paths[0]) if len(paths) == 1 else f"{len(paths):,} scripts"

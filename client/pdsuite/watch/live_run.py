@@ -42,9 +42,9 @@ class LiveRun:
         self._names: dict[str, bytes] = {}
         self._count = 0
 
-    def carry_out(self, acts: Sequence[Act], after: RunContents) -> None:
+    def carry_out_acts(self, acts: Sequence[Act], after: RunContents) -> None:
         """Has the program hold something else, and settles it."""
-        commands = b"".join(self._command(it) for it in acts)
+        commands = b"".join(self._command_of_act(it) for it in acts)
         names = list(self._names.values())
         longest = LONGEST_LINE * (len(acts) + len(names) + 2)
         answer, errors = self.program.query_with_errors(commands + SETTLE, longest, LONGEST_CAUSE * (len(names) + 1))
@@ -56,8 +56,8 @@ class LiveRun:
         self.rows = dict(zip(self._names, rows))
         self.contents = after
         self.acts += sum(1 + _PER_JOB * (len(names) if isinstance(it, SetKey) else 1) for it in acts)
-        self._update_causes(acts, self._by_paths(causes))
-        self.steps = self._by_paths(parse_step_counts(errors))
+        self._update_causes(acts, self._key_by_paths(causes))
+        self.steps = self._key_by_paths(parse_step_counts(errors))
 
     def _update_causes(self, acts: Sequence[Act], causes: Mapping[str, Cause]) -> None:
         """Takes the explanations of the scripts that have run again; any other keeps the one before."""
@@ -68,11 +68,11 @@ class LiveRun:
                 self.causes.pop(it.path, None)
         self.causes |= {path: it for path, it in causes.items() if self.rows[path].line in (None, it["line"])}
 
-    def _by_paths(self, each: Mapping[bytes, T]) -> dict[str, T]:
+    def _key_by_paths(self, each: Mapping[bytes, T]) -> dict[str, T]:
         paths = {name: path for path, name in self._names.items()}
         return {paths[name]: it for name, it in each.items() if name in paths}
 
-    def _command(self, act: Act) -> bytes:
+    def _command_of_act(self, act: Act) -> bytes:
         match act:
             case RemoveScript(path):
                 return remove_command(self._names.pop(path))

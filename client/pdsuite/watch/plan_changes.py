@@ -62,7 +62,7 @@ class RunChange:
     after: RunContents
 
     @property
-    def concerned(self) -> list[str]:
+    def rerun_paths(self) -> list[str]:
         """The scripts that are run again."""
         if any(isinstance(it, SetKey) for it in self.acts):
             return list(self.after.texts)
@@ -74,24 +74,24 @@ def plan_changes(runs: Sequence[RunContents], wanted: Mapping[str, WantedScript]
 
     A script stays in its run while that has its settings; any other goes to the first run with room.
     """
-    targets = _targets(runs, wanted)
+    targets = _target_settings(runs, wanted)
     after: list[RunContents] = []
     placed: set[str] = set()
     for run, target in zip(runs, targets):
-        stays = {path: wanted[path].text for path in run.texts if _has(wanted.get(path), target)}
+        stays = {path: wanted[path].text for path in run.texts if _has_settings(wanted.get(path), target)}
         placed.update(stays)
         after.append(RunContents(run.settings if target is None else target, stays))
-    _place({path: it for path, it in wanted.items() if path not in placed}, after)
-    old = [RunChange(number, _acts(run, then), then) for number, (run, then) in enumerate(zip(runs, after))]
-    new = [RunChange(None, _acts(RunContents(it.settings, {}), it), it) for it in after[len(runs) :]]
+    _place_in_runs({path: it for path, it in wanted.items() if path not in placed}, after)
+    old = [RunChange(number, _acts_between(run, then), then) for number, (run, then) in enumerate(zip(runs, after))]
+    new = [RunChange(None, _acts_between(RunContents(it.settings, {}), it), it) for it in after[len(runs) :]]
     return [change for change in [*old, *new] if change.acts]
 
 
-def _has(it: WantedScript | None, settings: Settings | None) -> bool:
+def _has_settings(it: WantedScript | None, settings: Settings | None) -> bool:
     return it is not None and it.settings == settings
 
 
-def _place(scripts: Mapping[str, WantedScript], runs: list[RunContents]) -> None:
+def _place_in_runs(scripts: Mapping[str, WantedScript], runs: list[RunContents]) -> None:
     """Puts each script into the first run that has its settings and room, or else into a new one."""
     rooms: dict[Settings, list[dict[str, Text]]] = {}
     for number, run in enumerate(runs):
@@ -108,12 +108,12 @@ def _place(scripts: Mapping[str, WantedScript], runs: list[RunContents]) -> None
         having[0][path] = it.text
 
 
-def _targets(runs: Sequence[RunContents], wanted: Mapping[str, WantedScript]) -> list[Settings | None]:
+def _target_settings(runs: Sequence[RunContents], wanted: Mapping[str, WantedScript]) -> list[Settings | None]:
     """The settings that each run is to have: those of most of its scripts, if that takes no run too many.
 
     A run that can't be given them has none, and ends.
     """
-    choices = [_choices(run, wanted) for run in runs]
+    choices = [_settings_by_frequency(run, wanted) for run in runs]
     need = {
         settings: -(-count // BATCH_SIZE) for settings, count in Counter(it.settings for it in wanted.values()).items()
     }
@@ -130,35 +130,35 @@ def _targets(runs: Sequence[RunContents], wanted: Mapping[str, WantedScript]) ->
     return targets
 
 
-def _choices(run: RunContents, wanted: Mapping[str, WantedScript]) -> list[Settings]:
+def _settings_by_frequency(run: RunContents, wanted: Mapping[str, WantedScript]) -> list[Settings]:
     """The settings that a run's scripts are to have: those of most scripts first, and of equally many its own."""
     counts = Counter(wanted[path].settings for path in run.texts if path in wanted)
     return sorted(counts, key=lambda it: (-counts[it], it != run.settings))
 
 
-def _acts(old: RunContents, new: RunContents) -> tuple[Act, ...]:
+def _acts_between(old: RunContents, new: RunContents) -> tuple[Act, ...]:
     if not new.texts:
         return tuple(RemoveScript(path) for path in old.texts)
-    return (*_removed(old, new), *_set(old, new), *_changed(old, new), *_added(old, new))
+    return (*_remove_acts(old, new), *_set_key_acts(old, new), *_edit_acts(old, new), *_add_acts(old, new))
 
 
-def _removed(old: RunContents, new: RunContents) -> Iterator[RemoveScript]:
+def _remove_acts(old: RunContents, new: RunContents) -> Iterator[RemoveScript]:
     return (RemoveScript(path) for path in old.texts if path not in new.texts)
 
 
-def _set(old: RunContents, new: RunContents) -> Iterator[SetKey]:
+def _set_key_acts(old: RunContents, new: RunContents) -> Iterator[SetKey]:
     if old.settings != new.settings:
         yield from (
             SetKey(*set_command_words(key, value)) for key, value in changed_settings(old.settings, new.settings)
         )
 
 
-def _changed(old: RunContents, new: RunContents) -> Iterator[EditScript]:
+def _edit_acts(old: RunContents, new: RunContents) -> Iterator[EditScript]:
     for path, text in old.texts.items():
         then = new.texts.get(path)
         if then is not None and then is not text and then.octets != text.octets:
             yield EditScript(path, edit_between(text, then))
 
 
-def _added(old: RunContents, new: RunContents) -> Iterator[AddScript]:
+def _add_acts(old: RunContents, new: RunContents) -> Iterator[AddScript]:
     return (AddScript(path, text) for path, text in new.texts.items() if path not in old.texts)

@@ -22,25 +22,25 @@ class RefusedProof:
 
     def __init__(self, tree: Path | None) -> None:
         self._file = None if tree is None else tree / _FILE
-        self._stamp = self._seen()
+        self._stamp = self._file_stamp()
         self._named: Mapping[str, Stamp] = {}
         self.lines: Sequence[str] = ()  # its lines
 
-    def look(self) -> bool:
+    def reread_lines(self) -> bool:
         """Whether its lines are others than at the last look."""
-        before, stamp = self.lines, self._seen()
+        before, stamp = self.lines, self._file_stamp()
         if stamp != self._stamp:
             self._stamp = stamp
-            self.lines = tuple(self._read())
+            self.lines = tuple(self._read_lines())
             self._named = {path: stamp_of(path) for line in self.lines for path in _PLACE.findall(line)}
         elif not are_stamps_current(self._named):
             self.lines, self._named = (), {}
         return self.lines != before
 
-    def _seen(self) -> Stamp:
+    def _file_stamp(self) -> Stamp:
         return (_NONE,) if self._file is None else stamp_of(self._file)
 
-    def _read(self) -> Iterator[str]:
+    def _read_lines(self) -> Iterator[str]:
         if self._file is None or len(self._stamp) == _NONE:
             return
         try:

@@ -29,19 +29,19 @@ class LiveSender:
     record: StampedProgram | None
     is_proved: bool = True
 
-    def check(self) -> None:
+    def require_unchanged(self) -> None:
         """Raises SenderChangedError where a program's file isn't the one that was found."""
         for it in (self.regress, self.record):
             if it is not None:
                 it.raise_if_changed()
 
     @property
-    def paths(self) -> tuple[Path, Path | None]:
+    def program_paths(self) -> tuple[Path, Path | None]:
         """Where the programs are."""
         return self.regress.path, None if self.record is None else self.record.path
 
     @property
-    def is_there(self) -> bool:
+    def are_programs_there(self) -> bool:
         """Whether the programs can be started still."""
         return all(it is None or it.is_same_file for it in (self.regress, self.record))
 
@@ -80,16 +80,16 @@ class SenderFollower:
         return self.sender is not None and not self.reason
 
     @property
-    def phase(self) -> str:
+    def build_phase(self) -> str:
         """What is built, if something is."""
         return "" if self._building is None else f"building without proofs: {self._building.phase or 'begun'}"
 
     @property
-    def doing(self) -> str:
+    def build_phase_and_seconds(self) -> str:
         """What is built, and for how long."""
-        return "" if self._building is None else f"{self.phase} {self._building.phase_seconds:.0f} s"
+        return "" if self._building is None else f"{self.build_phase} {self._building.phase_seconds:.0f} s"
 
-    def look(self, now: float) -> bool:
+    def look_for_sender(self, now: float) -> bool:
         """Looks at what stands; whether that is other than it was."""
         before = self.sender, self.reason, self.failure
         if self._building is not None and not are_stamps_current(self._sources or {}):
@@ -100,18 +100,18 @@ class SenderFollower:
         if isinstance(regress, StampedProgram) and not missing:
             self._end_build()
             self._sources, self.failure = None, ()
-            self._stand(LiveSender(regress, record if isinstance(record, StampedProgram) else None))
+            self._set_sender(LiveSender(regress, record if isinstance(record, StampedProgram) else None))
         elif self.tree is None:
-            self._leave(missing[0])
+            self._keep_sender_before(missing[0])
         else:
             self._follow_sources(self.tree, now)
         return before != (self.sender, self.reason, self.failure)
 
-    def folders(self) -> set[str]:
+    def folders_to_watch(self) -> set[str]:
         """The folders in which a change may make another sender stand."""
         return self._look.folders_to_watch()
 
-    def due(self, now: float) -> float:
+    def next_look_moment(self, now: float) -> float:
         """The moment at which it is to be looked again, whatever is reported."""
         return now + _SECOND if self._building is not None else self._quiet_at
 
@@ -119,13 +119,13 @@ class SenderFollower:
         """What can be read once a build has something to say."""
         return [] if self._building is None else [self._building.fileno()]
 
-    def _stand(self, sender: LiveSender) -> None:
+    def _set_sender(self, sender: LiveSender) -> None:
         self.sender, self.reason = sender, ""
 
-    def _leave(self, reason: str) -> None:
+    def _keep_sender_before(self, reason: str) -> None:
         """Goes on with the sender before, if it is there still."""
         self.reason = reason
-        if self.sender is not None and not self.sender.is_there:
+        if self.sender is not None and not self.sender.are_programs_there:
             self.sender = None
 
     def _follow_sources(self, tree: Path, now: float) -> None:
@@ -136,15 +136,15 @@ class SenderFollower:
             self._quiet_at = now if self._sources is None and self.sender is None else now + _QUIET
             self._sources, self._built, self.failure = sources, None, ()
         if self._built is None and not self.failure:
-            self._build(tree, now)
-        if self._built is not None and self._built.is_there:
-            self._stand(self._built)
+            self._advance_build(tree, now)
+        if self._built is not None and self._built.are_programs_there:
+            self._set_sender(self._built)
             return
         if self._built is not None:
             self._built, self._quiet_at = None, now  # it was taken away, and is built anew
-        self._leave(_REFUSED if self.failure else _BUILDING)
+        self._keep_sender_before(_REFUSED if self.failure else _BUILDING)
 
-    def _build(self, tree: Path, now: float) -> None:
+    def _advance_build(self, tree: Path, now: float) -> None:
         """Begins a build where it is time, or reads how the one goes on."""
         if self._building is None and now >= self._quiet_at:
             self._quiet_at = inf

@@ -28,7 +28,7 @@ from pdsuite.watch.plan_changes import WantedScript
 from pdsuite.watch.refused_proof import RefusedProof
 from pdsuite.watch.sender import LiveSender, SenderFollower
 from pdsuite.watch.settings_files import SettingsFiles
-from pdsuite.watch.turned_scripts import BaseSender, EarlierBuild, EarlierSender, turned_scripts
+from pdsuite.watch.turned_scripts import BaseSender, EarlierBuild, EarlierSender, find_turned_scripts
 from pdsuite.watch.view import Compare, View
 from pdsuite.watch.watcher import FileEvent, Watcher
 
@@ -86,114 +86,120 @@ class Session:
         self._runs = held.enter_context(ExitStack())
         self._watcher = held.enter_context(Watcher())
         self._sources = held.enter_context(Watcher())
-        settings_files = SettingsFiles(watched.option, self._refused, screen.print_note)
+        settings_files = SettingsFiles(watched.option, self._refusal_lines, screen.print_note)
         self._folders = Folders(watched.choice, settings_files, self._watcher, stop, screen.print_note)
 
-    def follow(self) -> NoReturn:
+    def follow_changes(self) -> NoReturn:
         """Shows what changes, on and on, until a signal comes."""
         while True:
             try:
-                self._look()
-                self._step()
+                self._look_for_sender()
+                self._rerun_and_show()
             except SenderChangedError:
                 continue  # the next look says what stands
-            self._wait()
+            self._wait_for_next()
             self._stop.raise_if_stopped()
 
-    def _look(self) -> None:
+    def _look_for_sender(self) -> None:
         """Looks at which sender stands, and goes over to it."""
         follower = self._follower
-        self._sources.watch(follower.folders())
-        self._sources.read()
+        self._sources.watch_folders(follower.folders_to_watch())
+        self._sources.read_events()
         failure = follower.failure
-        if follower.look(time.monotonic()) or follower.sender != self._sender:
-            self._go_over(follower.sender)
+        if follower.look_for_sender(time.monotonic()) or follower.sender != self._sender:
+            self._switch_sender(follower.sender)
             if not follower.is_current:
-                self._view.leave(follower.reason)
+                self._view.say_sender_left(follower.reason)
             if follower.failure and follower.failure != failure:
-                self._view.refuse(_not_built(follower.failure))
-        if self._refused_proof.look() and self._refused_proof.lines:
-            self._view.refuse(self._refused_proof.lines)
-        self._show_doing(follower.doing)
+                self._view.say_sender_refused(_not_built_lines(follower.failure))
+        if self._refused_proof.reread_lines() and self._refused_proof.lines:
+            self._view.say_sender_refused(self._refused_proof.lines)
+        self._show_sender_progress(follower.build_phase_and_seconds)
 
-    def _go_over(self, sender: LiveSender | None) -> None:
+    def _switch_sender(self, sender: LiveSender | None) -> None:
         """Goes over to the sender that answers now."""
         before = self._sender
         if sender is None:
             self._end_runs()
         elif sender != before:
-            pool = self._begin(sender)
-            self._view.turn(pool, _words(before, sender), not sender.is_proved, self._compare(before))
+            pool = self._begin_runs(sender)
+            self._view.turn_to_sender(
+                pool, _words_of_sender(before, sender), not sender.is_proved, self._make_comparer(before)
+            )
         elif self._follower.is_current and self._pool is not None:
-            self._view.turn(self._pool, _AGAIN, not sender.is_proved)
+            self._view.turn_to_sender(self._pool, _AGAIN, not sender.is_proved)
             self._is_new = True
 
-    def _compare(self, before: LiveSender | None) -> Compare | None:
+    def _make_comparer(self, before: LiveSender | None) -> Compare | None:
         """What finds the scripts that the sender turned."""
         base, sender = self._watched.base, self._sender
         if sender is None or base is None and before is None:
             return None
-        other: EarlierSender = base or EarlierBuild(None if before is None else before.paths)
-        programs = sender.paths
-        return lambda shown, now: turned_scripts(other, programs, shown, now, self._stop, self._screen.print_note)
+        other: EarlierSender = base or EarlierBuild(None if before is None else before.program_paths)
+        programs = sender.program_paths
+        return lambda shown, now: find_turned_scripts(other, programs, shown, now, self._stop, self._screen.print_note)
 
-    def _step(self) -> None:
-        events, now = self._watcher.read(), time.monotonic()
+    def _rerun_and_show(self) -> None:
+        events, now = self._watcher.read_events(), time.monotonic()
         if self._pool is None or self._sender is None:
-            self._folders.look(events, now)
+            self._folders.take_in_events(events, now)
             return
-        step(self._folders, self._pool, self._view, events, now, self._page, self._sender.check, self._is_new)
+        rerun_changes_and_show(
+            self._folders, self._pool, self._view, events, now, self._page, self._sender.require_unchanged, self._is_new
+        )
         self._is_new = False
 
-    def _show_doing(self, doing: str) -> None:
+    def _show_sender_progress(self, doing: str) -> None:
         """Says what is built, at the bottom of a terminal and on the page, and there what is refused, too."""
         follower, page = self._follower, self._page
         if doing or not follower.is_current:
             self._view.show_progress(doing)
         if page is not None:
-            is_of_before = self._view.status is not None and not follower.is_current
-            page.mark(f"the sender has changed; {follower.phase or follower.reason}" if is_of_before else "")
-            refusals = (_not_built(follower.failure), self._refused_proof.lines)
+            is_of_before = self._view.exit_status is not None and not follower.is_current
+            page.mark_as_of_sender_before(
+                f"the sender has changed; {follower.build_phase or follower.reason}" if is_of_before else ""
+            )
+            refusals = (_not_built_lines(follower.failure), self._refused_proof.lines)
             page.show_refusals([it for it in refusals if it])
 
-    def _wait(self) -> None:
+    def _wait_for_next(self) -> None:
         files = [self._stop.fileno(), self._watcher.fileno(), self._sources.fileno(), *self._follower.filenos()]
         files += [it.program.fileno() for it in (self._pool.runs if self._pool else ())]
         if self._page is not None:
-            self._page.look()
+            self._page.advance_drawing()
             files += self._page.filenos()
-        until = min(self._folders.due(), self._follower.due(time.monotonic()))
-        _wait(until, [it for it in files if it is not None])
+        until = min(self._folders.next_look_moment(), self._follower.next_look_moment(time.monotonic()))
+        _wait_until_readable(until, [it for it in files if it is not None])
 
-    def _refused(self, claims: Iterable[Claim]) -> list[str]:
+    def _refusal_lines(self, claims: Iterable[Claim]) -> list[str]:
         """The lines of the claims that the sender refuses; nothing while there is none."""
         if (sender := self._sender) is None:
             return []
         program = sender.regress.path
-        sender.check()
+        sender.require_unchanged()
         return refusal_lines(claims, lambda: Program([program], self._stop))
 
-    def _begin(self, sender: LiveSender) -> LivePool:
+    def _begin_runs(self, sender: LiveSender) -> LivePool:
         """Begins runs of a sender in place of those of the one before."""
-        is_first = self._view.status is None
+        is_first = self._view.exit_status is None
         self._end_runs()
         start = starter_with_options(sender.regress.path, EXPLAIN_OPTIONS, BATCH_SIZE, self._stop)
         plain_start = starter_without_explanations(sender.regress.path, 0, 1, self._stop)
 
         def checked(settings: Settings) -> Program:
-            sender.check()
+            sender.require_unchanged()
             return start(settings)
 
         self._sender = sender
-        if is_first and (lines := self._refused(claims_of_layers([self._watched.option]))):
+        if is_first and (lines := self._refusal_lines(claims_of_layers([self._watched.option]))):
             raise SessionSettingsError(lines)
         pool = LivePool(checked, self._screen.print_note, self._view.show_progress, plain_start)
         self._pool = self._runs.enter_context(pool)
         self._is_new = True
         if not is_first:
-            self._folders.check_settings()
+            self._folders.recheck_settings()
         if self._page is not None:
-            self._page.turn(*sender.paths, not sender.is_proved)
+            self._page.redraw_by_programs(*sender.program_paths, not sender.is_proved)
         return pool
 
     def _end_runs(self) -> None:
@@ -201,19 +207,19 @@ class Session:
         self._pool = self._sender = None
 
 
-def _not_built(failure: Sequence[str]) -> Sequence[str]:
+def _not_built_lines(failure: Sequence[str]) -> Sequence[str]:
     """What is shown where no sender can be built; nothing where that isn't so."""
     return (_NO_BUILD, *failure) if failure else ()
 
 
-def _words(before: LiveSender | None, sender: LiveSender) -> str:
+def _words_of_sender(before: LiveSender | None, sender: LiveSender) -> str:
     """What is shown of a sender before its first report."""
     if not sender.is_proved:
         return _BUILT
     return _PROVED if before is not None and not before.is_proved else _ANOTHER
 
 
-def step(
+def rerun_changes_and_show(
     folders: Folders,
     pool: LivePool,
     view: View,
@@ -227,19 +233,21 @@ def step(
 
     `check` raises SenderChangedError where the program has another file than its runs; `is_new` says these are new.
     """
-    has_changed = folders.look(events, now)
-    if pool.mend() or has_changed or is_new:
+    has_changed = folders.take_in_events(events, now)
+    if pool.restart_ended_runs() or has_changed or is_new:
         if page is not None:
-            page.end()
-        wanted, unfit = folders.wanted()
-        pool.follow(wanted)
+            page.end_drawing()
+        wanted, unfit = folders.wanted_and_unfit()
+        pool.hold_wanted_scripts(wanted)
         check()
-        view.show(_outcomes(folders, pool, unfit), wanted, now, folders.is_strict, check)
+        view.show_outcomes(_make_outcomes(folders, pool, unfit), wanted, now, folders.is_strict, check)
         if page is not None:
-            page.follow(_entries(view.outcomes, wanted, pool.causes()), view.turned)
+            page.queue_entries(_page_entries(view.outcomes, wanted, pool.causes_by_path()), view.turned)
 
 
-def _entries(outcomes: Outcomes, wanted: Mapping[str, WantedScript], causes: Mapping[str, Cause]) -> "list[PageEntry]":
+def _page_entries(
+    outcomes: Outcomes, wanted: Mapping[str, WantedScript], causes: Mapping[str, Cause]
+) -> "list[PageEntry]":
     """What the page shows; of a script that passes nothing is explained there."""
     from pdsuite.page.view_model import PageEntry
 
@@ -252,21 +260,21 @@ def _entries(outcomes: Outcomes, wanted: Mapping[str, WantedScript], causes: Map
     ]
 
 
-def _outcomes(folders: Folders, pool: LivePool, unfit: Mapping[str, str]) -> Outcomes:
+def _make_outcomes(folders: Folders, pool: LivePool, unfit: Mapping[str, str]) -> Outcomes:
     """What came of each script, in the order of paths."""
     rows = {**dict(pool.rows()), **{path: Row(Verdict.ERROR, word=why) for path, why in unfit.items()}}
-    return {path: _outcome(path, it.file.value, rows[path], folders) for path, it in folders.files.items()}
+    return {path: _make_outcome(path, it.file.value, rows[path], folders) for path, it in folders.files.items()}
 
 
-def _outcome(path: str, text: Text | str, row: Row, folders: Folders) -> Outcome:
+def _make_outcome(path: str, text: Text | str, row: Row, folders: Folders) -> Outcome:
     line = text.line(row.line) if isinstance(text, Text) and row.line is not None else None
-    outcome = Outcome(path, (), row, line, expected=folders.expected(path))
+    outcome = Outcome(path, (), row, line, expected=folders.expected_row(path))
     if outcome.warnings:
         outcome.is_strict = folders.is_strict(path)
     return outcome
 
 
-def _wait(until: float, files: Iterable[int]) -> None:
+def _wait_until_readable(until: float, files: Iterable[int]) -> None:
     """Waits until a moment, or until one of these can be read."""
     poll = select.poll()
     for file in files:

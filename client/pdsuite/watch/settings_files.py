@@ -33,18 +33,18 @@ class SettingsFiles:
 
     def suite(self) -> SuiteConfig:
         """The settings of scripts by the files as they are known now."""
-        return SuiteConfig(self._option, self.layer)
+        return SuiteConfig(self._option, self.layer_of_file)
 
-    def folders(self) -> set[str]:
+    def folders_with_files(self) -> set[str]:
         """The folders of the files that are there."""
         return {str(path.parent) for path, it in self._read.items() if it.value is not None}
 
-    def read(self, folders: Iterable[str]) -> None:
+    def read_new_folders(self, folders: Iterable[str]) -> None:
         """Reads the files of these folders that weren't read before, whichever scripts they are about."""
         for folder in folders:
-            self.layer(Path(folder, CONFIG_FILE))
+            self.layer_of_file(Path(folder, CONFIG_FILE))
 
-    def unused(self, held: Set[tuple[str, str]]) -> list[str]:
+    def unused_table_warnings(self, held: Set[tuple[str, str]]) -> list[str]:
         """The lines of tables whose scripts aren't there; those of `held`, by folder and name, are taken to be."""
         return [
             line
@@ -55,58 +55,58 @@ class SettingsFiles:
             )
         ]
 
-    def layer(self, path: Path) -> Layer | None:
+    def layer_of_file(self, path: Path) -> Layer | None:
         """The layer that counts for a file."""
         if path not in self._read:
-            self._look(path)
+            self._reread_file(path)
         return self._good[path]
 
-    def look(self) -> tuple[bool, bool]:
+    def reread_changed_files(self) -> tuple[bool, bool]:
         """Reads again what isn't surely as it was: whether a layer changed, and whether a file is still written."""
         known = [path for path, it in self._read.items() if not is_unchanged_since_read(it, path)]
-        changed = [self._look(path) for path in known]
+        changed = [self._reread_file(path) for path in known]
         return any(changed), any(self._read[path].is_torn for path in known)
 
-    def check_again(self) -> None:
+    def recheck_all_files(self) -> None:
         """Has each file checked anew, since another sender may take what the one before refused, and refuse others."""
         for path, it in self._read.items():
-            self._take(path, it.value)
+            self._take_if_good(path, it.value)
 
-    def _look(self, path: Path) -> bool:
+    def _reread_file(self, path: Path) -> bool:
         """Reads a file, and takes it if it is good; whether it was taken."""
         before = self._read.get(path)
-        now = read_stamped(path, lambda: self._octets(path))
+        now = read_stamped(path, lambda: self._octets_or_fault(path))
         self._read[path] = now
         if before is not None and (now.is_torn or before.value == now.value):
             if now.is_torn:
                 self._read[path] = StampedValue(before.value, now.stamp, True, True)
             return False
-        return self._take(path, now.value)
+        return self._take_if_good(path, now.value)
 
-    def _take(self, path: Path, octets: bytes | str | None) -> bool:
+    def _take_if_good(self, path: Path, octets: bytes | str | None) -> bool:
         """Takes what a file holds if it is good; whether it was taken."""
         try:
-            layer = self._checked(path, octets)
+            layer = self._parse_and_check(path, octets)
         except Fault as fault:
-            self._refuse(path, str(fault))
+            self._report_fault(path, str(fault))
             self._good.setdefault(path, None)
             return False
         self._good[path] = layer
         return True
 
-    def _refuse(self, path: Path, fault: str) -> None:
+    def _report_fault(self, path: Path, fault: str) -> None:
         """Reports a fault, and what counts in spite of it."""
         stays = "its last good settings stay" if self._good.get(path) else "the file counts for nothing"
         self._note(f"{fault}; {stays}")
 
-    def _octets(self, path: Path) -> bytes | str | None:
+    def _octets_or_fault(self, path: Path) -> bytes | str | None:
         """The octets of a file if it is there, or the line that says why it can't be read."""
         try:
             return read_config_octets(path)
         except Fault as fault:
             return str(fault)
 
-    def _checked(self, path: Path, octets: bytes | str | None) -> Layer | None:
+    def _parse_and_check(self, path: Path, octets: bytes | str | None) -> Layer | None:
         if octets is None:
             return None
         if isinstance(octets, str):

@@ -10,8 +10,16 @@ from pdsuite.output.fitting import fit_to_columns, usable_columns, wrap_line
 from pdsuite.output.octets import printable_path
 from pdsuite.output.styled_text import StyledText
 from pdsuite.reports.plain import PlainFormatter, totals_style
-from pdsuite.watch.change_report import ChangeReport, changed, entries, gone, gone_row, newly_explained, totals_of
-from pdsuite.watch.folder_moves import Move, Outcomes, moves_of
+from pdsuite.watch.change_report import (
+    ChangeReport,
+    changed_outcomes,
+    entries_of,
+    gone_paths,
+    gone_row,
+    newly_explained_outcomes,
+    totals_of,
+)
+from pdsuite.watch.folder_moves import Move, Outcomes, folder_moves_between
 from pdsuite.watch.plan_changes import WantedScript
 
 # So many rows of a kind are shown, and so many blocks.
@@ -27,68 +35,70 @@ class TerminalReport(ChangeReport):
         self._width = width
         self._command = command
 
-    def first(self, outcomes: Outcomes, every: bool, seconds: float) -> StyledText:
+    def first_report(self, outcomes: Outcomes, every: bool, seconds: float) -> StyledText:
         """Each script that doesn't pass, or every script; then the totals."""
-        return self._fitting(entries(outcomes.values(), every)).append_text(self.foot(outcomes, seconds))
+        return self._wrap_to_width(entries_of(outcomes.values(), every)).append_text(
+            self.totals_line(outcomes, seconds)
+        )
 
-    def moves(
+    def folder_moves(
         self, before: Outcomes, after: Outcomes, had: Mapping[str, WantedScript], has: Mapping[str, WantedScript]
     ) -> Sequence[Move]:
         """The folders that moved."""
-        return moves_of(before, after, had, has)
+        return folder_moves_between(before, after, had, has)
 
-    def head(self) -> StyledText:
+    def report_head(self) -> StyledText:
         """A line with the time of day, across the terminal."""
         return StyledText(
-            [(f"\u2500\u2500 {time.strftime('%H:%M:%S')} ".ljust(self._columns(), "\u2500") + "\n", "dim")]
+            [(f"\u2500\u2500 {time.strftime('%H:%M:%S')} ".ljust(self._line_width(), "\u2500") + "\n", "dim")]
         )
 
-    def rows(self, before: Outcomes, after: Outcomes, moves: Sequence[Move]) -> StyledText:
+    def changed_rows(self, before: Outcomes, after: Outcomes, moves: Sequence[Move]) -> StyledText:
         """The folders that moved, and a few of the other rows of each kind."""
-        known = _known(before, moves)
+        known = _shown_as_if_moved(before, moves)
         text = StyledText()
         for move in moves:
-            text.append_text(_moved(move, before, after))
-        rows = changed(known, after)
+            text.append_text(_move_line(move, before, after))
+        rows = changed_outcomes(known, after)
         form = PlainFormatter(True)
-        text.append_text(_few([form.row_and_warnings(it) for it in rows if not it.lets_run_pass]))
-        text.append_text(_few([form.row_and_warnings(it) for it in rows if it.lets_run_pass]))
-        return text.append_text(_few(list(map(gone_row, gone(known, after)))))
+        text.append_text(_few_rows([form.row_and_warnings(it) for it in rows if not it.lets_run_pass]))
+        text.append_text(_few_rows([form.row_and_warnings(it) for it in rows if it.lets_run_pass]))
+        return text.append_text(_few_rows(list(map(gone_row, gone_paths(known, after)))))
 
-    def blocks(self, before: Outcomes, after: Outcomes, moves: Sequence[Move]) -> StyledText:
+    def changed_explanations(self, before: Outcomes, after: Outcomes, moves: Sequence[Move]) -> StyledText:
         """The explanations of a few scripts, and how many more there are."""
-        explained = newly_explained(_known(before, moves), after)
-        text = self._fitting(entries(explained[:_MOST], False))
+        explained = newly_explained_outcomes(_shown_as_if_moved(before, moves), after)
+        text = self._wrap_to_width(entries_of(explained[:_MOST], False))
         left = len(explained) - _MOST
         return text.append(f"{left:,} more: {self._command}\n", "bold") if left > 0 else text
 
-    def compared(self, scripts: Sequence[ComparedScript]) -> StyledText:
+    def turned_entries(self, scripts: Sequence[ComparedScript]) -> StyledText:
         """A few of the scripts that another sender turned, and how many more there are."""
-        text = self._fitting(super().compared(scripts[:_MOST]))
+        text = self._wrap_to_width(super().turned_entries(scripts[:_MOST]))
         left = len(scripts) - _MOST
         return text.append(f"{left:,} more turned\n", "bold") if left > 0 else text
 
-    def foot(self, outcomes: Outcomes, seconds: float) -> StyledText:
+    def totals_line(self, outcomes: Outcomes, seconds: float) -> StyledText:
         """The totals that aren't 0."""
         totals = totals_of(outcomes, self.is_unproved)
         line = f"{totals.nonzero_counts()} in {seconds:.2f} s{totals.unproved_mark}"
-        return StyledText([("\n".join(textwrap.wrap(line, self._columns())) + "\n", totals_style(totals))])
+        return StyledText([("\n".join(textwrap.wrap(line, self._line_width())) + "\n", totals_style(totals))])
 
-    def left(self, why: str) -> StyledText:
+    def sender_left_notice(self, why: str) -> StyledText:
         """That the sender doesn't stand any more of which all rows are, and why, in lines that fit."""
-        lines = super().left(why).plain.splitlines()
-        return StyledText([(f"{wrap_line(line, self._columns())}\n", "dim") for line in lines])
+        lines = super().sender_left_notice(why).plain.splitlines()
+        return StyledText([(f"{wrap_line(line, self._line_width())}\n", "dim") for line in lines])
 
-    def _columns(self) -> int:
+    def _line_width(self) -> int:
         """How long a line may be."""
         return usable_columns(self._width())
 
-    def _fitting(self, text: StyledText) -> StyledText:
+    def _wrap_to_width(self, text: StyledText) -> StyledText:
         """The text in lines that fit."""
-        return fit_to_columns(text, self._columns())
+        return fit_to_columns(text, self._line_width())
 
 
-def _known(before: Outcomes, moves: Sequence[Move]) -> Outcomes:
+def _shown_as_if_moved(before: Outcomes, moves: Sequence[Move]) -> Outcomes:
     """What was shown, as if the scripts that moved had been where they are."""
     if not moves:
         return before
@@ -96,7 +106,7 @@ def _known(before: Outcomes, moves: Sequence[Move]) -> Outcomes:
     return {new.get(path, path): replace(it, path=new.get(path, path)) for path, it in before.items()}
 
 
-def _moved(move: Move, before: Outcomes, after: Outcomes) -> StyledText:
+def _move_line(move: Move, before: Outcomes, after: Outcomes) -> StyledText:
     """The line of a folder that moved."""
     count = len(move.scripts)
     others = sum(before[old].row != after[new].row for old, new in move.scripts.items())
@@ -107,7 +117,7 @@ def _moved(move: Move, before: Outcomes, after: Outcomes) -> StyledText:
     )
 
 
-def _few(rows: Sequence[StyledText]) -> StyledText:
+def _few_rows(rows: Sequence[StyledText]) -> StyledText:
     """A few rows, and how many more there are."""
     text = StyledText()
     for row in rows[:_MOST]:

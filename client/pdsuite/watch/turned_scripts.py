@@ -34,7 +34,7 @@ class ShownScripts:
 class EarlierSender(Protocol):
     """A sender with which the one that answers is compared."""
 
-    def outcomes(self, shown: ShownScripts, now: ShownScripts) -> Outcomes:
+    def outcomes_now(self, shown: ShownScripts, now: ShownScripts) -> Outcomes:
         """What it makes of the scripts as they are now, after something else was shown of them."""
 
     def programs(self) -> Programs | None:
@@ -47,7 +47,7 @@ class EarlierBuild:
 
     sender: Programs | None
 
-    def outcomes(self, shown: ShownScripts, now: ShownScripts) -> Outcomes:
+    def outcomes_now(self, shown: ShownScripts, now: ShownScripts) -> Outcomes:
         return {path: it for path, it in shown.outcomes.items() if shown.wanted.get(path) == now.wanted.get(path)}
 
     def programs(self) -> Programs | None:
@@ -64,16 +64,16 @@ class BaseSender:
         self._note = note
         self._known: dict[str, tuple[WantedScript, Outcome]] = {}
 
-    def outcomes(self, shown: ShownScripts, now: ShownScripts) -> Outcomes:
+    def outcomes_now(self, shown: ShownScripts, now: ShownScripts) -> Outcomes:
         self._known = {path: it for path, it in self._known.items() if now.wanted.get(path) == it[0]}
         left = {path: it for path, it in now.wanted.items() if path not in self._known}
-        self._known |= {it.path: (left[it.path], it) for it in self._run(left)}
+        self._known |= {it.path: (left[it.path], it) for it in self._run_scripts(left)}
         return {path: outcome for path, (_, outcome) in self._known.items()}
 
     def programs(self) -> Programs | None:
         return self._programs
 
-    def _run(self, wanted: Wanted) -> Iterator[Outcome]:
+    def _run_scripts(self, wanted: Wanted) -> Iterator[Outcome]:
         scripts = [Script(index, path, it.settings) for index, (path, it) in enumerate(wanted.items())]
 
         def load(script: Script) -> Text:
@@ -88,7 +88,7 @@ class BaseSender:
                 self._note(str(step))
 
 
-def turned_scripts(
+def find_turned_scripts(
     before: EarlierSender,
     programs: Programs,
     shown: ShownScripts,
@@ -97,27 +97,30 @@ def turned_scripts(
     note: Callable[[str], None],
 ) -> list[ComparedScript]:
     """The scripts whose rows another sender turned, in the order of paths; `programs` are those that answer now."""
-    old = before.outcomes(shown, now)
+    old = before.outcomes_now(shown, now)
     pairs = [(old[path], it) for path, it in now.outcomes.items() if path in old and old[path].row != it.row]
-    recorders = [_recorder(it, stop, note) for it in (before.programs(), programs)]
+    recorders = [_make_recorder(it, stop, note) for it in (before.programs(), programs)]
     return [
-        _turned(index, one, other, now.wanted.get(other.path), recorders) for index, (one, other) in enumerate(pairs)
+        _compared_script(index, one, other, now.wanted.get(other.path), recorders)
+        for index, (one, other) in enumerate(pairs)
     ]
 
 
-def _recorder(programs: Programs | None, stop: Stop, note: Callable[[str], None]) -> Recorder | None:
+def _make_recorder(programs: Programs | None, stop: Stop, note: Callable[[str], None]) -> Recorder | None:
     record = None if programs is None else programs[1]
     return None if record is None or not record.exists() else Recorder(stop, note, record)
 
 
-def _turned(
+def _compared_script(
     index: int, one: Outcome, other: Outcome, wanted: WantedScript | None, recorders: Sequence[Recorder | None]
 ) -> ComparedScript:
-    parting = None if wanted is None else _parting(other.path, wanted, recorders)
+    parting = None if wanted is None else _divergence_of_recordings(other.path, wanted, recorders)
     return ComparedScript(index, ComparisonKind.TURNED, one, other, parting)
 
 
-def _parting(path: str, wanted: WantedScript, recorders: Iterable[Recorder | None]) -> Divergence | None:
+def _divergence_of_recordings(
+    path: str, wanted: WantedScript, recorders: Iterable[Recorder | None]
+) -> Divergence | None:
     """Where the recordings of a script part; None where one is missing."""
     texts = [it.record_script(path, wanted.text.octets, wanted.settings).text for it in recorders if it is not None]
     return first_divergence(*texts) if len(texts) == 2 and all(texts) else None

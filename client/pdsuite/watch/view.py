@@ -11,7 +11,7 @@ from pdsuite.output.styled_text import StyledText
 from pdsuite.programs.lookup import SenderChangedError
 from pdsuite.programs.verdict import Row, Verdict
 from pdsuite.run.outcomes import Outcome
-from pdsuite.watch.change_report import ChangeReport, changed, of_sender_before, totals_of
+from pdsuite.watch.change_report import ChangeReport, changed_outcomes, mark_as_of_sender_before, totals_of
 from pdsuite.watch.folder_moves import Move, Outcomes
 from pdsuite.watch.plan_changes import WantedScript
 from pdsuite.watch.turned_scripts import ShownScripts
@@ -34,7 +34,7 @@ class Explainer(Protocol):
 Compare = Callable[[ShownScripts, ShownScripts], Sequence[ComparedScript]]
 
 
-def _nothing() -> None:
+def _check_nothing() -> None:
     """Where programs stay as they are."""
 
 
@@ -64,23 +64,27 @@ class View:
         self._compare: Compare | None = None
 
     @property
-    def status(self) -> int | None:
+    def exit_status(self) -> int | None:
         """The exit status of the last report, if there was one: 2 where its sender doesn't stand any more."""
         return self._status if self._status is None or self._is_current else _FAULT
 
-    def leave(self, why: str) -> None:
+    def say_sender_left(self, why: str) -> None:
         """Says that the sender doesn't stand any more of which all rows are."""
         if self._is_current and self._status is not None:
-            self._screen.show(self._change_report.head().append_text(self._change_report.left(why)))
+            self._screen.show(
+                self._change_report.report_head().append_text(self._change_report.sender_left_notice(why))
+            )
         self._is_current = False
         self.show_progress("")
 
-    def refuse(self, lines: Sequence[str]) -> None:
+    def say_sender_refused(self, lines: Sequence[str]) -> None:
         """Says why no sender can be built, or be proved."""
-        self._screen.show(self._change_report.head().append_text(self._change_report.refused(lines)))
+        self._screen.show(
+            self._change_report.report_head().append_text(self._change_report.refused_sender_notice(lines))
+        )
         self.show_progress("")
 
-    def turn(
+    def turn_to_sender(
         self, explainer: Explainer, words: str, is_unproved: bool = False, compare: "Compare | None" = None
     ) -> None:
         """Goes over to a sender that stands.
@@ -94,22 +98,22 @@ class View:
         self._turn = words
         self.show_progress("")
 
-    def show(
+    def show_outcomes(
         self,
         outcomes: Outcomes,
         wanted: Wanted,
         begin: float,
         is_strict: Callable[[str], bool] = lambda path: False,
-        check: Callable[[], None] = _nothing,
+        check: Callable[[], None] = _check_nothing,
     ) -> None:
         """Shows what changed, with what is to be warned of at the ends of scripts that pass.
 
         `check` raises SenderChangedError where what was printed isn't surely of the program whose rows these are.
         """
-        passing = self._explained((it for it in outcomes.values() if it.row.verdict is Verdict.PASS), wanted)
+        passing = self._explain_outcomes((it for it in outcomes.values() if it.row.verdict is Verdict.PASS), wanted)
         put = {it.path: replace(it, is_strict=is_strict(it.path)) for it in passing if it.at_end}
         check()
-        self._show({**outcomes, **put}, wanted, begin, check)
+        self._show_changes({**outcomes, **put}, wanted, begin, check)
 
     def show_progress(self, doing: str) -> None:
         """Keeps at the bottom of a terminal how many scripts pass, and what is running."""
@@ -119,39 +123,44 @@ class View:
             passing += " by the sender before"
         self._screen.keep_bottom_line(", ".join(it for it in (passing, doing) if it))
 
-    def _show(self, outcomes: Outcomes, wanted: Wanted, begin: float, check: Callable[[], None]) -> None:
+    def _show_changes(self, outcomes: Outcomes, wanted: Wanted, begin: float, check: Callable[[], None]) -> None:
         """Shows what changed: the rows at once, their explanations once these are there; at first all in one."""
-        outcomes = self._placed(outcomes, wanted)
+        outcomes = self._explain_syntax_faults(outcomes, wanted)
         check()
-        before = self._before()
-        rows, moves = StyledText(), self._change_report.moves(before, outcomes, self._wanted, wanted)
+        before = self._outcomes_shown_before()
+        rows, moves = StyledText(), self._change_report.folder_moves(before, outcomes, self._wanted, wanted)
         if self._status is not None:
-            rows = self._change_report.rows(before, outcomes, moves)
+            rows = self._change_report.changed_rows(before, outcomes, moves)
         if rows.plain:
-            self._screen.show(self._head().append_text(self._as_it_stands(rows)))
-            self._note_marked(before, outcomes)
-        after = {path: self.outcomes[path] if self._is_explained(it, wanted) else it for path, it in outcomes.items()}
+            self._screen.show(self._report_head().append_text(self._marked_unless_current(rows)))
+            self._note_sender_of_rows(before, outcomes)
+        after = {
+            path: self.outcomes[path] if self._is_explanation_current(it, wanted) else it
+            for path, it in outcomes.items()
+        }
         unexplained = [it for path, it in after.items() if self._needs_explanation(it) and it is outcomes[path]]
-        after |= {it.path: it for it in self._explained(unexplained, wanted)}
+        after |= {it.path: it for it in self._explain_outcomes(unexplained, wanted)}
         try:
-            turned = self._turned(after, wanted)
+            turned = self._find_turned_scripts(after, wanted)
             check()
         except SenderChangedError:
             # The rows were shown; their explanations may be another program's.
             self.outcomes, self._wanted = outcomes, wanted
             raise
-        self._close(before, after, bool(rows.plain), moves, begin, turned or ())
-        self._keep_turned(turned, after, wanted)
+        self._show_report_end(before, after, bool(rows.plain), moves, begin, turned or ())
+        self._keep_turned_scripts(turned, after, wanted)
         self._wanted = wanted
 
-    def _placed(self, outcomes: Outcomes, wanted: Wanted) -> Outcomes:
+    def _explain_syntax_faults(self, outcomes: Outcomes, wanted: Wanted) -> Outcomes:
         """The outcomes, those of texts that are no scripts with explanations: these say where these break off."""
         broken = (
-            it for it in outcomes.values() if it.row.verdict is Verdict.SYNTAX and not self._is_explained(it, wanted)
+            it
+            for it in outcomes.values()
+            if it.row.verdict is Verdict.SYNTAX and not self._is_explanation_current(it, wanted)
         )
-        return {**outcomes, **{it.path: it for it in self._explained(broken, wanted)}}
+        return {**outcomes, **{it.path: it for it in self._explain_outcomes(broken, wanted)}}
 
-    def _turned(self, after: Outcomes, wanted: Wanted) -> Sequence[ComparedScript] | None:
+    def _find_turned_scripts(self, after: Outcomes, wanted: Wanted) -> Sequence[ComparedScript] | None:
         """The scripts that another sender turned; None where there is no other."""
         if self._compare is None:
             return None
@@ -159,7 +168,7 @@ class View:
         self._compare = None
         return found
 
-    def _keep_turned(self, found: Sequence[ComparedScript] | None, after: Outcomes, wanted: Wanted) -> None:
+    def _keep_turned_scripts(self, found: Sequence[ComparedScript] | None, after: Outcomes, wanted: Wanted) -> None:
         """Keeps the scripts that turned: those that were found, or of those before the ones that are as they were."""
         if found is None:
             same = [it for it in self.turned if it.path in after and after[it.path].row == it.after.row]
@@ -168,7 +177,7 @@ class View:
                 return
         self.turned = found
 
-    def _close(
+    def _show_report_end(
         self,
         before: Outcomes,
         after: Outcomes,
@@ -178,18 +187,18 @@ class View:
         turned: Sequence[ComparedScript],
     ) -> None:
         """Shows what stands after the rows, and notes what was shown."""
-        compared = self._change_report.compared(turned)
+        compared = self._change_report.turned_entries(turned)
         if self._status is None:
-            first = self._change_report.first(after, self._every, time.monotonic() - begin)
-            self._screen.show(self._as_it_stands(compared.append_text(first)))
+            first = self._change_report.first_report(after, self._every, time.monotonic() - begin)
+            self._screen.show(self._marked_unless_current(compared.append_text(first)))
         else:
             shown_paths = {it.path for it in turned} if self._change_report.is_brief else set()
             others = {path: it for path, it in after.items() if path not in shown_paths}
-            blocks = compared.append_text(self._change_report.blocks(before, others, moves))
-            head = StyledText() if has_changed else self._head()
+            blocks = compared.append_text(self._change_report.changed_explanations(before, others, moves))
+            head = StyledText() if has_changed else self._report_head()
             if has_changed or blocks.plain or self._turn is not None:
-                foot = self._change_report.foot(after, time.monotonic() - begin)
-                self._screen.show(head.append_text(self._as_it_stands(blocks.append_text(foot))))
+                foot = self._change_report.totals_line(after, time.monotonic() - begin)
+                self._screen.show(head.append_text(self._marked_unless_current(blocks.append_text(foot))))
         if not after and (self.outcomes or self._status is None):
             self._screen.print_note("pdsuite: no script found")
         self.outcomes = after
@@ -197,29 +206,29 @@ class View:
         self._status = totals_of(after).exit_status() if after else _NO_SCRIPT
         self.show_progress("")
 
-    def _head(self) -> StyledText:
+    def _report_head(self) -> StyledText:
         """What stands before a report that isn't the first; of another sender what is shown of it, too."""
-        head = self._change_report.head()
-        return head if self._turn is None else head.append_text(self._change_report.turned(self._turn))
+        head = self._change_report.report_head()
+        return head if self._turn is None else head.append_text(self._change_report.new_sender_notice(self._turn))
 
-    def _before(self) -> Outcomes:
+    def _outcomes_shown_before(self) -> Outcomes:
         """What was shown; where a sender stands, no row of the one before counts as shown."""
         if not self._is_current:
             return self.outcomes
         return {path: replace(it, row=_NOT_RUN) if path in self._marked else it for path, it in self.outcomes.items()}
 
-    def _note_marked(self, before: Outcomes, outcomes: Outcomes) -> None:
+    def _note_sender_of_rows(self, before: Outcomes, outcomes: Outcomes) -> None:
         """Notes whose rows were shown of which sender."""
         if self._is_current:
             self._marked.clear()
         else:
-            self._marked.update(it.path for it in changed(before, outcomes))
+            self._marked.update(it.path for it in changed_outcomes(before, outcomes))
 
-    def _as_it_stands(self, text: StyledText) -> StyledText:
+    def _marked_unless_current(self, text: StyledText) -> StyledText:
         """A part of a report, which says of which sender it is where that doesn't stand."""
-        return text if self._is_current else of_sender_before(text)
+        return text if self._is_current else mark_as_of_sender_before(text)
 
-    def _is_explained(self, outcome: Outcome, wanted: Wanted) -> bool:
+    def _is_explanation_current(self, outcome: Outcome, wanted: Wanted) -> bool:
         """Whether the explanation of a script is of this outcome."""
         path = outcome.path
         old = self.outcomes.get(path)
@@ -237,7 +246,7 @@ class View:
             and (self._of_known or not outcome.is_known_failure)
         )
 
-    def _explained(self, outcomes: Iterable[Outcome], wanted: Wanted) -> Iterator[Outcome]:
+    def _explain_outcomes(self, outcomes: Iterable[Outcome], wanted: Wanted) -> Iterator[Outcome]:
         """Outcomes with explanations."""
         if self._explainer is not None:
             yield from (self._explainer.explain(it, wanted[it.path]) for it in outcomes)

@@ -45,7 +45,7 @@ class Update:
     torn: frozenset[str]
 
 
-def watched_file(found: ScriptFile, before: WatchedFile | None, is_closed: bool) -> WatchedFile:
+def read_watched_file(found: ScriptFile, before: WatchedFile | None, is_closed: bool) -> WatchedFile:
     """Reads a script's file. If nobody says that it was closed, who wrote it a moment ago may still be writing."""
     script = Script(0, found.path, (), found.fault)
     file = read_stamped(found.path, lambda: load_script_text(script))
@@ -54,17 +54,19 @@ def watched_file(found: ScriptFile, before: WatchedFile | None, is_closed: bool)
     return WatchedFile(found, file)
 
 
-def watched_files(scripts: Iterable[ScriptFile], before: WatchedFiles, closed: Set[tuple[str, str]]) -> WatchedFiles:
+def read_watched_files(
+    scripts: Iterable[ScriptFile], before: WatchedFiles, closed: Set[tuple[str, str]]
+) -> WatchedFiles:
     """Reads all scripts but those that are surely as they were."""
     files: dict[str, WatchedFile] = {}
     for it in scripts:
         known = before.get(it.path)
         is_closed = (it.folder, it.name) in closed
-        files[it.path] = _as_before(it, known) or watched_file(it, known, is_closed)
+        files[it.path] = _known_if_unchanged(it, known) or read_watched_file(it, known, is_closed)
     return files
 
 
-def update_of(before: WatchedFiles, now: WatchedFiles, gone: Mapping[str, float], time: float) -> Update:
+def update_from_seen(before: WatchedFiles, now: WatchedFiles, gone: Mapping[str, float], time: float) -> Update:
     """Takes what is seen now, but neither that something went a moment ago, unless it moved, nor what is torn."""
     files: dict[str, WatchedFile] = {}
     still = {path: since for path, since in gone.items() if time < since + GRACE}
@@ -77,7 +79,7 @@ def update_of(before: WatchedFiles, now: WatchedFiles, gone: Mapping[str, float]
         if new is not None and new is not old and new.file.is_torn:
             torn.add(path)
             chosen = old
-        elif not _is_lost(old, new):
+        elif not _is_newly_gone(old, new):
             if new is not old:
                 still.pop(path, None)
         elif time < gone.get(path, time) + GRACE and (old is None or old.inode not in moved):
@@ -85,10 +87,10 @@ def update_of(before: WatchedFiles, now: WatchedFiles, gone: Mapping[str, float]
             chosen = old
         if chosen is not None:
             files[path] = chosen
-    return Update(_in_order(files) if missing else files, still, frozenset(torn))
+    return Update(_sort_by_path(files) if missing else files, still, frozenset(torn))
 
 
-def is_other(before: WatchedFiles, now: WatchedFiles) -> bool:
+def has_script_changed(before: WatchedFiles, now: WatchedFiles) -> bool:
     """Whether a script came, went, or reads otherwise."""
     return before.keys() != now.keys() or any(
         old is not new and (old.found != new.found or old.file.value != new.file.value)
@@ -96,15 +98,15 @@ def is_other(before: WatchedFiles, now: WatchedFiles) -> bool:
     )
 
 
-def _as_before(found: ScriptFile, known: WatchedFile | None) -> WatchedFile | None:
+def _known_if_unchanged(found: ScriptFile, known: WatchedFile | None) -> WatchedFile | None:
     is_same = known is not None and known.found == found and is_unchanged_since_read(known.file, found.path)
     return known if is_same else None
 
 
-def _is_lost(old: WatchedFile | None, new: WatchedFile | None) -> bool:
+def _is_newly_gone(old: WatchedFile | None, new: WatchedFile | None) -> bool:
     """Whether something went, or a path can suddenly not be looked at."""
     return (new is None or new.is_gone) and (old is None or not old.is_gone)
 
 
-def _in_order(files: WatchedFiles) -> WatchedFiles:
+def _sort_by_path(files: WatchedFiles) -> WatchedFiles:
     return dict(sorted(files.items(), key=lambda it: os.fsencode(it[0])))

@@ -55,57 +55,57 @@ class Watcher:
         return self
 
     def __exit__(self, *error: object) -> None:
-        self._close()
+        self._close_inotify()
 
     def fileno(self) -> int | None:
         """What can be read once there are events, if there can be any."""
         return None if self._inotify is None else self._inotify.fd
 
-    def watch(self, folders: Iterable[str]) -> str | None:
+    def watch_folders(self, folders: Iterable[str]) -> str | None:
         """Has these folders watched, whatever lay at their paths before; the limit of the system that prevents it."""
         for folder in sorted(folders):
             if self._is_refused:
                 return None
             try:
-                self._add(os.fsencode(folder))
+                self._watch_folder(os.fsencode(folder))
             except OSError as error:
                 if error.errno in _LIMITS:
                     self._is_refused = self._inotify is None
                     return _LIMITS[error.errno]
         return None
 
-    def read(self) -> list[FileEvent]:
+    def read_events(self) -> list[FileEvent]:
         """What has happened since it was read last."""
         events: list[FileEvent] = []
         if self._inotify is None:
             return events
         try:
             for _ in range(_BLOCKS):
-                events += [_event(it) for it in self._inotify.read_events()]
+                events += [_file_event_of(it) for it in self._inotify.read_events()]
         except BlockingIOError:
             pass
         except (KeyError, OSError):
             # watchdog has lost sight of a folder: all are watched anew.
-            self._close()
+            self._close_inotify()
             events.append(FileEvent(FileEventKind.FOLDER))
         if self._inotify is not None:
             self._inotify.clear_move_records()
         return events
 
-    def _add(self, folder: bytes) -> None:
+    def _watch_folder(self, folder: bytes) -> None:
         if self._inotify is None:
             self._inotify = Inotify(folder, recursive=False, event_mask=_MASK)
             os.set_blocking(self._inotify.fd, False)
         else:
             self._inotify.add_watch(folder)
 
-    def _close(self) -> None:
+    def _close_inotify(self) -> None:
         if self._inotify is not None:
             self._inotify.close()
             self._inotify = None
 
 
-def _event(it: InotifyEvent) -> FileEvent:
+def _file_event_of(it: InotifyEvent) -> FileEvent:
     folder, name = os.path.split(os.fsdecode(it.src_path))
     if it.is_directory or it.is_ignored:
         return FileEvent(FileEventKind.FOLDER, folder, name)
