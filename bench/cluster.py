@@ -16,7 +16,7 @@ sys.path.insert(0, str(top / "client"))
 from tests.cluster_fixture import LocalCluster  # noqa: E402
 
 
-def seconds(*words: str) -> float:
+def seconds_of_run(*words: str) -> float:
     """How long a run takes, with all that is shown."""
     begin = time.monotonic()
     done = subprocess.run([top / "pdsuite", "run", *words, suite], stdout=subprocess.DEVNULL)
@@ -24,7 +24,7 @@ def seconds(*words: str) -> float:
     return time.monotonic() - begin
 
 
-def there(count: int) -> float:
+def seconds_on_cluster(count: int) -> float:
     """The same by so many workers of one thread."""
     with tempfile.TemporaryDirectory() as folder:
         cluster = LocalCluster(Path(folder) / "cluster")
@@ -32,12 +32,12 @@ def there(count: int) -> float:
             for _ in range(count):
                 cluster.add(Path(os.environ["PDSUITE_PROGRAMS"]))
             cluster.wait()
-            return seconds("--scheduler", cluster.address)
+            return seconds_of_run("--scheduler", cluster.address)
         finally:
             cluster.close()
 
 
 for count in (1, 2, 4):
-    own = seconds("--workers", str(count))
-    other = there(count)
+    own = seconds_of_run("--workers", str(count))
+    other = seconds_on_cluster(count)
     print(f"{count} workers: {other:.2f} s on a cluster, {own:.2f} s without: {other / own:.2f} times")

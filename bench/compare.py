@@ -18,14 +18,14 @@ from collections.abc import Iterator
 from pathlib import Path
 from typing import Any
 
-from trees import TOP, copied, read_text
+from trees import TOP, copy_tree_with_mutant, read_mutants
 
 RULES = TOP / "bench" / "rules.mutants"
 # A verdict with its number of events or its kind, and the line.
 Row = tuple[str, "int | None"]
 
 
-def json_of(*command: "str | Path") -> Any:
+def run_for_json(*command: "str | Path") -> Any:
     """What a pdsuite prints as JSON."""
     done = subprocess.run(command, stdin=subprocess.DEVNULL, stdout=subprocess.PIPE)
     if done.returncode not in (0, 1):
@@ -33,20 +33,20 @@ def json_of(*command: "str | Path") -> Any:
     return json.loads(done.stdout)
 
 
-def rows(report: Any) -> Iterator[tuple[str, Row]]:
+def rows_of_report(report: Any) -> Iterator[tuple[str, Row]]:
     """The rows of a report of `run`, by paths, in the form that `compare` gives them."""
     for it in report["scripts"]:
         words = (it["verdict"], it.get("events"), it.get("kind"))
         yield it["path"], (" ".join(str(word) for word in words if word is not None), it.get("line"))
 
 
-def turned_in(compared: Any) -> dict[str, tuple[Row, Row]]:
+def turned_scripts(compared: Any) -> dict[str, tuple[Row, Row]]:
     """The scripts that `compare` lists as turned, with their rows."""
     turned = [it for it in compared["scripts"] if it["kind"] == "turned"]
-    return {it["path"]: (row_of(it["before"]), row_of(it["after"])) for it in turned}
+    return {it["path"]: (row_of_side(it["before"]), row_of_side(it["after"])) for it in turned}
 
 
-def row_of(side: Any) -> Row:
+def row_of_side(side: Any) -> Row:
     return side["row"], side["line"]
 
 
@@ -57,16 +57,16 @@ def main() -> int:
     options = parser.parse_args()
     is_well = True
     with tempfile.TemporaryDirectory(prefix="compare-") as folder:
-        before = dict(rows(report_of(options.base, options.suite)))
-        for number, mutant in enumerate(read_text(RULES.read_text(), folders=())):
-            tree = copied(Path(folder, str(number)), mutant)
+        before = dict(rows_of_report(report_of_sender(options.base, options.suite)))
+        for number, mutant in enumerate(read_mutants(RULES.read_text(), folders=())):
+            tree = copy_tree_with_mutant(Path(folder, str(number)), mutant)
             begin = time.monotonic()
-            compared = json_of(
+            compared = run_for_json(
                 TOP / "pdsuite", "compare", "--base", options.base, "--with", tree, "--json", options.suite
             )
             seconds = time.monotonic() - begin
-            after = dict(rows(report_of(str(tree), options.suite)))
-            listed = turned_in(compared)
+            after = dict(rows_of_report(report_of_sender(str(tree), options.suite)))
+            listed = turned_scripts(compared)
             turned = {path: (before[path], row) for path, row in after.items() if before[path] != row}
             is_same = bool(listed) and listed == turned
             is_well = is_well and is_same
@@ -76,12 +76,12 @@ def main() -> int:
     return 0 if is_well else 1
 
 
-def report_of(sender: str, suite: Path) -> Any:
+def report_of_sender(sender: str, suite: Path) -> Any:
     """The full report of a sender: a tree, or a folder of programs."""
     tree = Path(sender)
     if (tree / "pdsuite").is_file():
-        return json_of(tree / "pdsuite", "run", "--json", suite)
-    return json_of("env", f"PDSUITE_PROGRAMS={sender}", TOP / "pdsuite", "run", "--json", suite)
+        return run_for_json(tree / "pdsuite", "run", "--json", suite)
+    return run_for_json("env", f"PDSUITE_PROGRAMS={sender}", TOP / "pdsuite", "run", "--json", suite)
 
 
 if __name__ == "__main__":

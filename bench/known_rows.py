@@ -15,13 +15,13 @@ EACH = 10
 TIMES = 5
 
 
-def fail(scripts: list[Path]) -> None:
+def make_scripts_fail(scripts: list[Path]) -> None:
     """Has scripts fail in a line after their last one."""
     for path in scripts:
         path.write_bytes(path.read_bytes() + BAD)
 
 
-def expect(scripts: list[Path], are_known: bool) -> None:
+def write_expectations(scripts: list[Path], are_known: bool) -> None:
     """Writes the files that say which rows are expected, or takes them away."""
     tables: dict[Path, list[str]] = {}
     for place, path in enumerate(scripts):
@@ -35,7 +35,7 @@ def expect(scripts: list[Path], are_known: bool) -> None:
             file.unlink(missing_ok=True)
 
 
-def run(top: str, suite: str, status: int) -> tuple[float, float]:
+def time_run(top: str, suite: str, status: int) -> tuple[float, float]:
     """The seconds that a run takes, and those of a processor, with all that it starts."""
     begin, before = time.monotonic(), resource.getrusage(resource.RUSAGE_CHILDREN)
     done = subprocess.run([Path(top, "pdsuite"), "run", suite], stdout=subprocess.DEVNULL)
@@ -48,14 +48,14 @@ def main() -> int:
     top, suite = sys.argv[1:]
     scripts = sorted(Path(suite).rglob("*.pkt"))
     failing = scripts[::EACH]
-    fail(failing)
+    make_scripts_fail(failing)
     without: list[tuple[float, float]] = []
     known: list[tuple[float, float]] = []
     for _ in range(TIMES):
-        expect(failing, False)
-        without.append(run(top, suite, 1))
-        expect(failing, True)
-        known.append(run(top, suite, 0))
+        write_expectations(failing, False)
+        without.append(time_run(top, suite, 1))
+        write_expectations(failing, True)
+        known.append(time_run(top, suite, 0))
     (seconds, work), (others, other_work) = [
         (min(it[0] for it in each), min(it[1] for it in each)) for each in (known, without)
     ]

@@ -22,7 +22,7 @@ ERROR = 1
 MEDIAN, MOST, HOVER = 20.0, 60.0, 30.0
 
 
-def change(client: LspClient, uri: str, is_bad: bool) -> float:
+def time_change(client: LspClient, uri: str, is_bad: bool) -> float:
     """Changes a script; the milliseconds until its diagnostics came."""
     document = client.documents[uri]
     line = document.text.count("\n") // 2
@@ -37,7 +37,7 @@ def change(client: LspClient, uri: str, is_bad: bool) -> float:
     return took * 1_000
 
 
-def hover(client: LspClient, uri: str) -> float:
+def time_hover(client: LspClient, uri: str) -> float:
     """Asks what hover shows of the last event; the milliseconds until that came."""
     line = client.documents[uri].text.count("\n") - 1
     begin = time.monotonic()
@@ -66,8 +66,8 @@ def main() -> int:
         for number in range(int(count)):
             time.sleep(0.03 + 0.01 * (number % 7))
             uri = uris[number // 2 * 7 % len(uris)]
-            changes.append(change(client, uri, is_bad=number % 2 == 0))
-            hovers.append(hover(client, uri))
+            changes.append(time_change(client, uri, is_bad=number % 2 == 0))
+            hovers.append(time_hover(client, uri))
     print_times("diagnostics come", changes)
     print_times("hover is answered", hovers)
     return int(statistics.median(changes) > MEDIAN or max(changes) > MOST or max(hovers) > HOVER)

@@ -13,9 +13,9 @@ from pathlib import Path
 
 from trees import Mutant
 import building
-from mutant_files import TextChange, place_of
+from mutant_files import TextChange, place_of_old_text
 from build_cache import PROGRAMS
-from kit_tools import compiler_command, known_kit, linker_command
+from kit_tools import optimised_compiler_command, find_known_kit, linker_command
 
 # The function that gives the number, in the root of each crate that a mutant changes.
 CHOOSER = "chosen_mutant"
@@ -38,36 +38,36 @@ class OneBuildError(Exception):
     """That mutants can't be built into one program, and why."""
 
 
-def apply_all(mutants: Sequence[Mutant], tree: Path) -> None:
+def apply_all_mutants(mutants: Sequence[Mutant], tree: Path) -> None:
     """Puts all mutants into a tree; the first has the number 1."""
     files = dict.fromkeys(change.file for mutant in mutants for change in mutant.changes)
     for name in files:
         path = tree / name
         text = path.read_text()
         changes = [(number, it) for number, mutant in enumerate(mutants, 1) for it in mutant.changes if it.file == name]
-        path.write_text(_with_bodies(text, changes))
+        path.write_text(_with_body_per_mutant(text, changes))
     for root in {tree.joinpath(*Path(name).parts[:2], "src", "lib.rt") for name in files}:
         root.write_text(root.read_text() + _FUNCTION)
 
 
-def _with_bodies(text: str, changes: Iterable[tuple[int, TextChange]]) -> str:
+def _with_body_per_mutant(text: str, changes: Iterable[tuple[int, TextChange]]) -> str:
     """A text whose functions have a body for each number that changes them."""
-    bodies = list(bodies_in(text))
+    bodies = list(function_bodies_in(text))
     found: dict[Body, dict[int, list[tuple[Body, str]]]] = {}
     for number, it in changes:
-        begin, end = place_of(it, text, True)
+        begin, end = place_of_old_text(it, text, True)
         body = next((one for one in bodies if one[0] <= begin and end <= one[1]), None)
         if body is None:
             raise OneBuildError(f"{it.file}: '{it.old}' stands in no function")
         found.setdefault(body, {}).setdefault(number, []).append(((begin, end), it.new))
     for (begin, end), numbers in sorted(found.items(), reverse=True):
-        arms = "".join(f"{number} => {{{_changed(text, (begin, end), it)}}}\n" for number, it in numbers.items())
+        arms = "".join(f"{number} => {{{_changed_body(text, (begin, end), it)}}}\n" for number, it in numbers.items())
         choice = f"\nmatch crate::{CHOOSER}() {{\n{arms}_ => {{{text[begin:end]}}}\n}}\n"
         text = text[:begin] + choice + text[end:]
     return text
 
 
-def _changed(text: str, body: Body, changes: Sequence[tuple[Body, str]]) -> str:
+def _changed_body(text: str, body: Body, changes: Sequence[tuple[Body, str]]) -> str:
     """A body after changes."""
     begin, end = body
     for (first, last), new in sorted(changes, reverse=True):
@@ -76,7 +76,7 @@ def _changed(text: str, body: Body, changes: Sequence[tuple[Body, str]]) -> str:
     return text[begin:end]
 
 
-def bodies_in(text: str) -> Iterator[Body]:
+def function_bodies_in(text: str) -> Iterator[Body]:
     """Where the bodies of functions stand, between their braces, in a text in the layout of `rt fmt`."""
     for head in _HEAD.finditer(text):
         indent = head[1]
@@ -88,10 +88,10 @@ def bodies_in(text: str) -> Iterator[Body]:
             yield opened.end(), closed.start()
 
 
-def build(tree: Path, folder: Path) -> Path:
+def build_with_all_mutants(tree: Path, folder: Path) -> Path:
     """Builds a tree with all mutants in a folder; the program serves as both."""
-    kit = known_kit()
-    building.read(kit, tree, folder, print_phase)
+    kit = find_known_kit()
+    building.read_sources(kit, tree, folder, print_no_phase)
     module = folder / "module.ll"
     source = str(folder / "entry/module.bc")
     command = [str(kit.compiler), "-x", "ir", "-S", "-emit-llvm", "-O0", source, "-o", str(module)]
@@ -101,21 +101,21 @@ def build(tree: Path, folder: Path) -> Path:
         raise OneBuildError("the module doesn't have the function that gives the number")
     module.write_text(f"{text}\n{_GLOBAL}")
     given = (folder / "entry/arguments").read_text().splitlines()
-    compile_command = [it.replace("module.bc", "module.ll") for it in compiler_command(kit, given)]
-    building.run_checked(compile_command, folder, lambda: print_phase(building.COMPILING))
-    building.run_checked(building.handler_command(kit, folder / "handler.o"), folder, lambda: None)
+    compile_command = [it.replace("module.bc", "module.ll") for it in optimised_compiler_command(kit, given)]
+    building.run_kit_tool(compile_command, folder, lambda: print_no_phase(building.COMPILING))
+    building.run_kit_tool(building.fault_handler_command(kit, folder / "handler.o"), folder, lambda: None)
     program = folder / "program"
-    building.run_checked(
+    building.run_kit_tool(
         linker_command(kit, (folder / "module.o", folder / "handler.o"), program), folder, lambda: None
     )
     return program
 
 
-def print_phase(phase: str) -> None:
+def print_no_phase(phase: str) -> None:
     """Builds print nothing here."""
 
 
-def choose(program: Path, number: int, folder: Path) -> dict[str, Path]:
+def programs_with_mutant(program: Path, number: int, folder: Path) -> dict[str, Path]:
     """Both programs in a new folder, with the mutant of a number."""
     octets = program.read_bytes()
     mark = b"".join(it.to_bytes(4, "little") for it in _MARK)

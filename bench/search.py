@@ -21,8 +21,8 @@ from collections.abc import Sequence
 from dataclasses import dataclass
 from pathlib import Path
 
-from trees import TOP, Mutant, copied, read_text
-from one_build import apply_all, build, choose
+from trees import TOP, Mutant, copy_tree_with_mutant, read_mutants
+from one_build import apply_all_mutants, build_with_all_mutants, programs_with_mutant
 
 sys.path.insert(0, str(TOP / "client"))
 
@@ -63,12 +63,12 @@ class SearchBench:
     options: argparse.Namespace
     stop: Stop
 
-    def find(self, mutant: Mutant, number: int, folder: Path) -> tuple[bool, bool]:
+    def search_mutant(self, mutant: Mutant, number: int, folder: Path) -> tuple[bool, bool]:
         """Searches a mutant; whether a script of the suite sees it, and whether it was found."""
-        before = self._oracle(0, folder / "before")
-        after = self._oracle(number, folder / "after")
+        before = self._oracle_of_mutant(0, folder / "before")
+        after = self._oracle_of_mutant(number, folder / "after")
         is_seen = any(it.verdict is not Verdict.PASS for it in after.rows(self.scripts))
-        tree = copied(folder / "tree", mutant)
+        tree = copy_tree_with_mutant(folder / "tree", mutant)
         emphasis = emphasis_of_changes(changed_names(self.base, tree), frozenset())
         begun = record_initial_inputs(list(self.scripts), before, frozenset())
         drawing = Candidates(self.options.seed, query_sizes(), emphasis, begun)
@@ -85,12 +85,12 @@ class SearchBench:
         print(f"{mutant.name}: {'seen by the suite; ' if is_seen else ''}{found}", flush=True)
         return is_seen, searched.find is not None
 
-    def _oracle(self, number: int, folder: Path) -> SenderOracle:
-        sender = Sender(folder.name, choose(self.program, number, folder), None)
+    def _oracle_of_mutant(self, number: int, folder: Path) -> SenderOracle:
+        sender = Sender(folder.name, programs_with_mutant(self.program, number, folder), None)
         return ProgramOracle(sender, self.stop)
 
 
-def put_suite(place: Path) -> None:
+def copy_suite(place: Path) -> None:
     """This tree's suite, without what was written for these mutants."""
     shutil.copytree(TOP / SUITE, place, ignore=shutil.ignore_patterns(*(f"{it}.pkt" for it in LATER)))
     for path in (path for name in LONGER for path in place.rglob(f"{name}.pkt")):
@@ -106,23 +106,23 @@ def main() -> int:
     parser.add_argument("--program", type=Path)
     parser.add_argument("names", metavar="NAME", nargs="*")
     options = parser.parse_args()
-    mutants = read_text(MUTANTS.read_text(), True, ())
+    mutants = read_mutants(MUTANTS.read_text(), True, ())
     with tempfile.TemporaryDirectory(prefix="search-") as folder, Stop() as stop:
-        base = copied(Path(folder, "base"))
-        put_suite(base / SUITE)
+        base = copy_tree_with_mutant(Path(folder, "base"))
+        copy_suite(base / SUITE)
         program = options.program or Path(folder, "program")
         if not program.exists():
-            tree, work = copied(Path(folder, "tree")), Path(folder, "build")
-            apply_all(mutants, tree)
+            tree, work = copy_tree_with_mutant(Path(folder, "tree")), Path(folder, "build")
+            apply_all_mutants(mutants, tree)
             work.mkdir()
-            shutil.copy(build(tree, work), program)
+            shutil.copy(build_with_all_mutants(tree, work), program)
         bench = SearchBench(base, suite_scripts_of_tree(base, stop), program, options, stop)
         found = []
         for number, mutant in enumerate(mutants, 1):
             if not options.names or mutant.name in options.names:
                 work = Path(folder, mutant.name)
                 work.mkdir()
-                found.append(bench.find(mutant, number, work))
+                found.append(bench.search_mutant(mutant, number, work))
                 shutil.rmtree(work)
     live = [is_found for is_seen, is_found in found if not is_seen]
     print(f"total {len(found)} seen by the suite {len(found) - len(live)} others {len(live)} found {sum(live)}")

@@ -26,7 +26,7 @@ from pathlib import Path
 TOP = Path(__file__).resolve().parents[1]
 sys.path.insert(0, str(TOP / "tools"))
 
-from mutant_files import changed_files, read_text  # noqa: E402
+from mutant_files import changed_texts, read_mutants  # noqa: E402
 
 RULES = TOP / "bench/rules.mutants"
 OWN, WRONG = "the sender as it is", "one that doesn't compile"
@@ -58,18 +58,18 @@ class SenderTree:
     texts: dict[str, dict[Path, str]] = field(default_factory=dict)
     saves: list[tuple[float, str]] = field(default_factory=list)
 
-    def prepare(self, names: list[str]) -> None:
+    def clone_and_read_rules(self, names: list[str]) -> None:
         """Clones, and reads the rules, all where none is named."""
         subprocess.run(["git", "-c", "advice.detachedHead=false", "clone", "-q", TOP, self.top], check=True)
         subprocess.run(["cp", "-R", self.top / "examples/suite", self.top / SUITE], check=True)
-        mutants = read_text(RULES.read_text(), folders=())
-        rules = {it.name: dict(changed_files(it, self.top)) for it in mutants if it.name in names or not names}
+        mutants = read_mutants(RULES.read_text(), folders=())
+        rules = {it.name: dict(changed_texts(it, self.top)) for it in mutants if it.name in names or not names}
         own = {path: path.read_text() for texts in rules.values() for path in texts}
         own[self.top / SOURCE] = (self.top / SOURCE).read_text()
         self.texts = {OWN: own, **{name: {**own, **texts} for name, texts in rules.items()}}
         self.texts[WRONG] = {**own, self.top / SOURCE: own[self.top / SOURCE] + "wrong\n"}
 
-    def put_rule(self, rule: str, comment: str = "") -> float:
+    def save_rule(self, rule: str, comment: str = "") -> float:
         """Gives the sender a rule, with a comment for a build of its own; the moment of the save."""
         self.saves.append((time.monotonic(), rule))
         for path, text in self.texts[rule].items():
@@ -78,23 +78,23 @@ class SenderTree:
                 path.write_text(text)
         return time.monotonic()
 
-    def put_settings(self, settings: str) -> None:
+    def save_settings(self, settings: str) -> None:
         """Gives all scripts a setting."""
         (self.top / SUITE / "pdsuite.toml").write_text(f"root = true\n{settings}")
 
-    def run(self) -> Rows:
+    def run_suite(self) -> Rows:
         """The rows of `pdsuite run`."""
         command = [self.top / "pdsuite", "run", "-v", SUITE]
         printed = subprocess.run(command, cwd=self.top, capture_output=True, text=True).stdout
-        return {it[1]: row_of(it) for it in map(ROW.match, printed.splitlines()) if it}
+        return {it[1]: row_of_match(it) for it in map(ROW.match, printed.splitlines()) if it}
 
-    def standing(self, since: float, until: float) -> set[str]:
+    def rules_standing(self, since: float, until: float) -> set[str]:
         """The rules that stood at some time between two moments."""
         before = [rule for saved, rule in self.saves if saved <= since]
         return {*before[-1:], *(rule for saved, rule in self.saves if since < saved <= until)}
 
 
-def row_of(found: "re.Match[str]") -> str:
+def row_of_match(found: "re.Match[str]") -> str:
     return f"{found[2] or ''} {found[3]}"
 
 
@@ -114,87 +114,87 @@ class WatchRun:
         self._process = subprocess.Popen(
             [tree / "pdsuite", "watch", "-v", SUITE], cwd=tree, stdout=subprocess.PIPE, stderr=sys.stderr, text=True
         )
-        self._reader = threading.Thread(target=self._read)
+        self._reader = threading.Thread(target=self._read_lines)
         self._reader.start()
 
-    def wait(self, happened: Callable[[], bool], seconds: float = PATIENCE) -> None:
+    def wait_until(self, happened: Callable[[], bool], seconds: float = PATIENCE) -> None:
         """Waits until something is so of what was printed."""
         with self._news:
             if not self._news.wait_for(happened, seconds):
                 raise SystemExit("it never came; the last lines:\n" + "\n".join(line for _, line in self.lines[-30:]))
 
-    def first(self, since: float, *begins: str) -> float:
+    def wait_for_line(self, since: float, *begins: str) -> float:
         """Waits for a line with one of these beginnings that comes after a moment; its moment."""
 
         def found() -> Iterator[float]:
             return (moment for moment, line in self.lines if moment >= since and line.startswith(begins))
 
-        self.wait(lambda: next(found(), None) is not None)
+        self.wait_until(lambda: next(found(), None) is not None)
         return next(found())
 
-    def end(self) -> None:
+    def terminate(self) -> None:
         self._process.terminate()
         self._process.wait()
         self._reader.join()
 
-    def _read(self) -> None:
+    def _read_lines(self) -> None:
         assert self._process.stdout is not None
         for line in self._process.stdout:
             with self._news:
-                self._take(line.rstrip("\n"), time.monotonic())
+                self._note_line(line.rstrip("\n"), time.monotonic())
                 self._news.notify_all()
 
-    def _take(self, line: str, moment: float) -> None:
+    def _note_line(self, line: str, moment: float) -> None:
         self.lines.append((moment, line))
         if line.startswith(LEFT):
             self.is_current, self._since = False, moment
         elif line.startswith(STANDS):
             self.is_current = True
         elif BEFORE not in line and (found := ROW.match(line)):
-            self.rows[found[1]] = row_of(found)
+            self.rows[found[1]] = row_of_match(found)
         elif line.startswith("total "):
             if self.is_current and BEFORE not in line:
                 self.reports.append((self._since, moment, dict(self.rows)))
             self._since = moment
 
 
-def measure(tree: SenderTree, watching: WatchRun) -> None:
+def measure_delays(tree: SenderTree, watching: WatchRun) -> None:
     """Says how long after a save of each rule, and of a script, the first row comes."""
     script = tree.top / SUITE / SAVED[0]
     for rule in [it for it in tree.texts if it not in (OWN, WRONG)] + [OWN]:
-        saved = tree.put_rule(rule)
-        stands = watching.first(saved, *STANDS)
-        moment = watching.first(stands, "total ", f"{SUITE}/")
+        saved = tree.save_rule(rule)
+        stands = watching.wait_for_line(saved, *STANDS)
+        moment = watching.wait_for_line(stands, "total ", f"{SUITE}/")
         print(f"{rule}: the first new row {moment - saved:.1f} s after the save", flush=True)
-        watching.first(stands, "total ")
+        watching.wait_for_line(stands, "total ")
         text = script.read_bytes()
         script.write_bytes(BAD + text)
         saved = time.monotonic()
-        moment = watching.first(saved, f"{SUITE}/")
+        moment = watching.wait_for_line(saved, f"{SUITE}/")
         print(f"a script: its row {(moment - saved) * 1_000:.0f} ms after the save", flush=True)
-        watching.first(moment, "total ")
+        watching.wait_for_line(moment, "total ")
         script.write_bytes(text)
-        watching.first(watching.first(time.monotonic(), f"{SUITE}/"), "total ")
+        watching.wait_for_line(watching.wait_for_line(time.monotonic(), f"{SUITE}/"), "total ")
 
 
-def truths(tree: SenderTree) -> dict[str, list[Rows]]:
+def rows_of_each_rule(tree: SenderTree) -> dict[str, list[Rows]]:
     """The rows of each rule under each setting, but for the scripts that are saved; none of one that isn't built."""
     found: dict[str, list[Rows]] = {WRONG: []}
     for rule in (it for it in tree.texts if it != WRONG):
-        tree.put_rule(rule)
+        tree.save_rule(rule)
         found[rule] = []
         for settings in SETTINGS:
-            tree.put_settings(settings)
-            found[rule].append(untouched(tree.run()))
-    tree.put_settings("")
+            tree.save_settings(settings)
+            found[rule].append(without_saved_scripts(tree.run_suite()))
+    tree.save_settings("")
     return found
 
 
-def untouched(rows: Rows) -> Rows:
+def without_saved_scripts(rows: Rows) -> Rows:
     return {path: row for path, row in rows.items() if path.removeprefix(f"{SUITE}/") not in SAVED}
 
 
-def hold_storm(tree: SenderTree, watching: WatchRun, saves: int, seed: int, most: int) -> None:
+def storm_with_saves(tree: SenderTree, watching: WatchRun, saves: int, seed: int, most: int) -> None:
     """Saves rules, settings and scripts at random, and waits until the rows that stand are those of a run.
 
     A save of a rule has at most so many lines that make its build a new one.
@@ -204,29 +204,29 @@ def hold_storm(tree: SenderTree, watching: WatchRun, saves: int, seed: int, most
     for number in range(saves):
         match chance.randrange(6):
             case 0 | 1:
-                tree.put_rule(chance.choice(list(tree.texts)), f"// save {number}\n" * chance.randrange(most + 1))
+                tree.save_rule(chance.choice(list(tree.texts)), f"// save {number}\n" * chance.randrange(most + 1))
             case 2:
-                tree.put_settings(chance.choice(SETTINGS))
+                tree.save_settings(chance.choice(SETTINGS))
             case _:
                 name = chance.choice(SAVED)
                 (tree.top / SUITE / name).write_bytes(chance.choice((b"", b"// saved\n", BAD)) + texts[name])
         time.sleep(chance.choice((0.02, 0.2, 1.0, 8.0)))
     last = chance.choice([it for it in tree.texts if it != WRONG])
-    tree.put_rule(WRONG)
+    tree.save_rule(WRONG)
     time.sleep(SEEN)
-    saved = tree.put_rule(last, "// the last save\n" * most)
-    watching.first(saved, *STANDS)
-    truth = tree.run()
-    watching.wait(lambda: watching.is_current and watching.rows == truth)
+    saved = tree.save_rule(last, "// the last save\n" * most)
+    watching.wait_for_line(saved, *STANDS)
+    truth = tree.run_suite()
+    watching.wait_until(lambda: watching.is_current and watching.rows == truth)
     print(f"{saves} saves, the last one of {last}: the {len(truth)} rows that stand are those of a run", flush=True)
 
 
-def hold_reports(tree: SenderTree, watching: WatchRun, known: Mapping[str, list[Rows]]) -> bool:
+def are_reports_right(tree: SenderTree, watching: WatchRun, known: Mapping[str, list[Rows]]) -> bool:
     """Whether each report that counts as current has the rows of a rule that stood while it was made."""
     is_well = True
     for since, moment, rows in watching.reports:
-        standing = tree.standing(since, moment)
-        shown = [rule for rule, each in known.items() if untouched(rows) in each]
+        standing = tree.rules_standing(since, moment)
+        shown = [rule for rule, each in known.items() if without_saved_scripts(rows) in each]
         if not standing.intersection(shown):
             print(f"a report shows {' or '.join(shown) or 'other rows'}, where {' or '.join(sorted(standing))} stands")
             is_well = False
@@ -244,17 +244,17 @@ def main() -> int:
     print(f"{os.cpu_count()} processors, load {os.getloadavg()[0]:.1f}", flush=True)
     with tempfile.TemporaryDirectory(prefix="pdsender-") as folder:
         tree = SenderTree(Path(folder) / "tree")
-        tree.prepare(options.rule)
-        tree.put_rule(OWN)
+        tree.clone_and_read_rules(options.rule)
+        tree.save_rule(OWN)
         watching = WatchRun(tree.top)
         try:
-            watching.first(0.0, "total ")
-            measure(tree, watching)
-            known = truths(tree)
-            hold_storm(tree, watching, options.saves, options.seed, 0 if options.kept else 1)
+            watching.wait_for_line(0.0, "total ")
+            measure_delays(tree, watching)
+            known = rows_of_each_rule(tree)
+            storm_with_saves(tree, watching, options.saves, options.seed, 0 if options.kept else 1)
         finally:
-            watching.end()
-        is_well = hold_reports(tree, watching, known)
+            watching.terminate()
+        is_well = are_reports_right(tree, watching, known)
     print(f"load {os.getloadavg()[0]:.1f}")
     return 0 if is_well else 1
 

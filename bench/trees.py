@@ -7,16 +7,16 @@ from pathlib import Path
 TOP = Path(__file__).resolve().parents[1]
 sys.path.insert(0, str(TOP / "tools"))
 
-from mutant_files import Mutant, MutantError, apply, read_text  # noqa: E402
+from mutant_files import Mutant, MutantError, apply_mutant, read_mutants  # noqa: E402
 
-__all__ = ["TOP", "Mutant", "copied", "read_text"]
+__all__ = ["TOP", "Mutant", "copy_tree_with_mutant", "read_mutants"]
 
 # The parts of this tree that a copy has.
 FOLDERS = ("client/pdsuite", "crates", "tools")
 FILES = ("client/packages.txt", "crates.txt", "HANDLES", "pdrecord", "pdregress", "pdsuite")
 
 
-def copied(place: Path, mutant: "Mutant | None" = None) -> Path:
+def copy_tree_with_mutant(place: Path, mutant: "Mutant | None" = None) -> Path:
     """A copy of this tree in a place, with the mutant, if one is given."""
     for folder in FOLDERS:
         shutil.copytree(TOP / folder, place / folder, ignore=shutil.ignore_patterns("out", "__pycache__"))
@@ -24,7 +24,7 @@ def copied(place: Path, mutant: "Mutant | None" = None) -> Path:
         shutil.copy(TOP / file, place / file, follow_symlinks=False)
     try:
         if mutant is not None:
-            apply(mutant, place)
+            apply_mutant(mutant, place)
     except MutantError as why:
         raise SystemExit(f"{mutant.name if mutant else place}: {why}") from None
     return place

@@ -17,7 +17,7 @@ MOST = 0.01
 SETTLING = 15
 
 
-def save(path: Path, text: bytes, is_beside: bool) -> float:
+def save_script(path: Path, text: bytes, is_beside: bool) -> float:
     """Saves a script; the moment at which that returned."""
     target = path.with_name("beside.tmp") if is_beside else path
     with target.open("wb") as file:
@@ -27,7 +27,7 @@ def save(path: Path, text: bytes, is_beside: bool) -> float:
     return time.monotonic()
 
 
-def report(watching: "subprocess.Popen[bytes]") -> tuple[float, float]:
+def await_report(watching: "subprocess.Popen[bytes]") -> tuple[float, float]:
     """The moments at which the first row of a report and its last line came."""
     assert watching.stdout is not None
     first = 0.0
@@ -47,8 +47,8 @@ def measure_saves(watching: "subprocess.Popen[bytes]", paths: list[Path], saves:
         lines = path.read_bytes().splitlines(keepends=True)
         middle = len(lines) // 2
         text = b"".join([*lines[:middle], BAD, *lines[middle:]])
-        saved = save(path, text, is_beside=number % 2 == 1)
-        first, last = report(watching)
+        saved = save_script(path, text, is_beside=number % 2 == 1)
+        first, last = await_report(watching)
         rows.append(first - saved)
         reports.append(last - saved)
     for what, times in (("a row", rows), ("its report", reports)):
@@ -59,14 +59,14 @@ def measure_saves(watching: "subprocess.Popen[bytes]", paths: list[Path], saves:
 def measure_idle(watching: "subprocess.Popen[bytes]", seconds: float) -> bool:
     """Lets it be; whether it takes more than it may."""
     time.sleep(SETTLING)
-    begin, before = time.monotonic(), taken(watching.pid)
+    begin, before = time.monotonic(), processor_seconds_of(watching.pid)
     time.sleep(seconds)
-    share = (taken(watching.pid) - before) / (time.monotonic() - begin)
+    share = (processor_seconds_of(watching.pid) - before) / (time.monotonic() - begin)
     print(f"{seconds:.0f} s without a change: it takes {share:.2%} of a processor")
     return share > MOST
 
 
-def taken(process: int) -> float:
+def processor_seconds_of(process: int) -> float:
     """The seconds of a processor that a process has taken."""
     fields = Path(f"/proc/{process}/stat").read_text().rsplit(") ", 1)[1].split()
     return (int(fields[11]) + int(fields[12])) / os.sysconf("SC_CLK_TCK")
@@ -79,7 +79,7 @@ def main() -> None:
     environment = {**os.environ, "PYTHONUNBUFFERED": "1"}
     watching = subprocess.Popen([f"{top}/pdsuite", "watch", suite], stdout=subprocess.PIPE, env=environment)
     begin = time.monotonic()
-    report(watching)
+    await_report(watching)
     print(f"{len(paths)} scripts: the first report came {time.monotonic() - begin:.2f} s after the start")
     is_over = False
     if what == "idle":

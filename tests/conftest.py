@@ -12,10 +12,18 @@ from _pytest._code.code import ExceptionInfo, TerminalRepr
 from _pytest.terminal import TerminalReporter
 
 from harness.compare import RowCase, RowResult
-from harness.kinds import CaseGroup, groups_of
-from harness.without_pytest import at_least
+from harness.kinds import CaseGroup, read_groups
+from harness.without_pytest import number_at_least
 from harness.tables import DrawOptions
-from harness.run_rows import PROGRAMS, Programs, check, check_in_step, heed_signals, programs_in, proved_programs
+from harness.run_rows import (
+    PROGRAMS,
+    Programs,
+    check_selection,
+    check_selections_in_step,
+    interrupt_at_sigterm,
+    programs_in,
+    proved_programs,
+)
 
 NEEDS_BUILT = "needs a built program"
 
@@ -28,7 +36,7 @@ class RowFile(pytest.File):
     """A file of rows."""
 
     def collect(self) -> Iterator["RowTable"]:
-        for group in groups_of(self.path, draw_options_of(self.config)):
+        for group in read_groups(self.path, draw_options_of(self.config)):
             yield RowTable.from_parent(self, name=group.name, group=group)
 
 
@@ -52,7 +60,7 @@ class RowTest(pytest.Item):
         self.case = case
 
     def runtest(self) -> None:
-        result = row_runner_of(self.config).result(self)
+        result = row_runner_of(self.config).result_of(self)
         if result.fault:
             raise RowFailure(result.fault)
         if result.is_unanswered:
@@ -72,49 +80,51 @@ class RowRunner:
         self.programs = programs
         self.results: dict[str, RowResult] = {}
 
-    def result(self, item: RowTest) -> RowResult:
+    def result_of(self, item: RowTest) -> RowResult:
         """The result of a row; all rows of its table that are to be tested are run together."""
         if item.nodeid not in self.results:
-            together = [it for it in rows_of(item.session) if it.parent is item.parent]
-            self.keep(together, check((group_of(item), [it.case for it in together]), self.programs))
+            together = [it for it in rows_of_session(item.session) if it.parent is item.parent]
+            self.keep_results(
+                together, check_selection((group_of_row(item), [it.case for it in together]), self.programs)
+            )
         return self.results[item.nodeid]
 
-    def keep(self, items: Sequence[RowTest], results: Sequence[RowResult]) -> None:
+    def keep_results(self, items: Sequence[RowTest], results: Sequence[RowResult]) -> None:
         self.results.update(zip((it.nodeid for it in items), results))
 
-    def are_built(self, session: pytest.Session) -> bool:
+    def are_programs_built(self, session: pytest.Session) -> bool:
         """Whether all programs of the rows of a session are built."""
-        return self.programs.are_built([group_of(items[0]) for items in tables_of(session)])
+        return self.programs.are_built([group_of_row(items[0]) for items in tables_of_session(session)])
 
-    def run_at_once(self, session: pytest.Session) -> None:
+    def run_all_rows(self, session: pytest.Session) -> None:
         """Runs all rows, after one build of each program that isn't built, or a few."""
-        selections = [(group_of(items[0]), [it.case for it in items]) for items in tables_of(session)]
-        for items, results in zip(tables_of(session), check_in_step(selections, self.programs)):
-            self.keep(items, results)
+        selections = [(group_of_row(items[0]), [it.case for it in items]) for items in tables_of_session(session)]
+        for items, results in zip(tables_of_session(session), check_selections_in_step(selections, self.programs)):
+            self.keep_results(items, results)
 
 
 ROW_RUNNER = pytest.StashKey[RowRunner]()
 STATUS = pytest.StashKey[int]()
 
 
-def group_of(item: RowTest) -> CaseGroup:
+def group_of_row(item: RowTest) -> CaseGroup:
     assert isinstance(item.parent, RowTable)
     return item.parent.group
 
 
-def rows_of(session: pytest.Session) -> list[RowTest]:
+def rows_of_session(session: pytest.Session) -> list[RowTest]:
     return [it for it in session.items if isinstance(it, RowTest)]
 
 
-def tables_of(session: pytest.Session) -> list[list[RowTest]]:
+def tables_of_session(session: pytest.Session) -> list[list[RowTest]]:
     """The rows of a session, table by table."""
     tables: dict[object, list[RowTest]] = {}
-    for item in rows_of(session):
+    for item in rows_of_session(session):
         tables.setdefault(item.parent, []).append(item)
     return list(tables.values())
 
 
-def is_worker(config: pytest.Config) -> bool:
+def is_xdist_worker(config: pytest.Config) -> bool:
     """Whether this is one of the processes of `-n`."""
     return hasattr(config, "workerinput")
 
@@ -135,8 +145,12 @@ def pytest_addoption(parser: pytest.Parser, pluginmanager: pytest.PytestPluginMa
     group.addoption("--proved", action="store_true", help="the proved programs alone; if one isn't built, that fails")
     group.addoption("--unproved", action="store_true", help="the sources as they are, without proofs")
     group.addoption("--programs", metavar="FOLDER", type=Path, help="those of a folder, and the sources of others")
-    group.addoption("--seed", metavar="N", type=at_least(0), help="draws random rows and recoveries from this seed")
-    group.addoption("--rows", metavar="N", type=at_least(1), help="draws so many rows at least, or recoveries, a table")
+    group.addoption(
+        "--seed", metavar="N", type=number_at_least(0), help="draws random rows and recoveries from this seed"
+    )
+    group.addoption(
+        "--rows", metavar="N", type=number_at_least(1), help="draws so many rows at least, or recoveries, a table"
+    )
 
 
 def draw_options_of(config: pytest.Config) -> DrawOptions:
@@ -156,7 +170,7 @@ def row_runner_of(config: pytest.Config) -> RowRunner:
 
 def pytest_cmdline_main(config: pytest.Config) -> int | None:
     """Fails where a program isn't built that has to be."""
-    heed_signals()
+    interrupt_at_sigterm()
     unbuilt = row_runner_of(config).programs.unbuilt if config.getoption("--proved") else ()
     if not unbuilt:
         return None
@@ -171,16 +185,16 @@ def pytest_collect_file(file_path: Path, parent: pytest.Collector) -> RowFile | 
 def pytest_collection_finish(session: pytest.Session) -> None:
     """Before the first test, runs the rows that are run at once; of the processes of `-n` the first one does."""
     config, runner = session.config, row_runner_of(session.config)
-    if config.option.collectonly or runner.are_built(session):
+    if config.option.collectonly or runner.are_programs_built(session):
         return
-    if not is_worker(config):
+    if not is_xdist_worker(config):
         with config.pluginmanager.getplugin("capturemanager").global_and_fixture_disabled():
-            return runner.run_at_once(session)
+            return runner.run_all_rows(session)
     kept = config._tmp_path_factory.getbasetemp().parent / "results.json"  # type: ignore[attr-defined]
     with kept.with_suffix(".lock").open("w") as lock:
         fcntl.flock(lock, fcntl.LOCK_EX)
         if not kept.exists():
-            runner.run_at_once(session)
+            runner.run_all_rows(session)
             kept.write_text(json.dumps({name: asdict(it) for name, it in runner.results.items()}))
     runner.results = {name: RowResult(**it) for name, it in json.loads(kept.read_text()).items()}
 
@@ -201,7 +215,7 @@ def pytest_sessionfinish(session: pytest.Session, exitstatus: int) -> None:
 def pytest_unconfigure(config: pytest.Config) -> None:
     """Prints how many passed and failed; a run that comes to no end, or finds no test, counts as one that failed."""
     reporter = config.pluginmanager.getplugin("terminalreporter")
-    if reporter is not None and not is_worker(config):
+    if reporter is not None and not is_xdist_worker(config):
         passed, failed, errors = (len(reporter.stats.get(it, [])) for it in ("passed", "failed", "error"))
         has_passed = config.stash.get(STATUS, None) == pytest.ExitCode.OK
         print(f"{passed} passed, {failed + errors or int(not has_passed)} failed")

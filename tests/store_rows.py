@@ -3,7 +3,7 @@
 
     tests/store_rows.py
 
-They are the first of those that tests/run draws. ProgramRun it after a change of the models in tests/model.
+They are the first of those that tests/run draws. Run it after a change of the models in tests/model.
 """
 
 import sys
@@ -14,7 +14,7 @@ from pathlib import Path
 sys.path.insert(0, str(Path(__file__).resolve().parent))
 
 from drawn.drawing import Amount  # noqa: E402
-from harness.random_rows import PROGRAMS, RowLists, joined, with_drawn  # noqa: E402
+from harness.random_rows import PROGRAMS, RowLists, encode_lines, replace_stored_output  # noqa: E402
 from harness.tables import TOP  # noqa: E402
 
 
@@ -32,15 +32,15 @@ class StoredRows:
         return PROGRAMS[self.program][self.kind]
 
     @property
-    def path(self) -> Path:
+    def rows_file(self) -> Path:
         return TOP / "crates" / self.program / "data" / self.lists.file
 
     @property
-    def output(self) -> Path:
+    def output_file(self) -> Path:
         """The file that has the whole wanted output of the program."""
         return TOP / "crates" / self.program / "stdout"
 
-    def rows(self) -> Iterator[str]:
+    def draw_rows(self) -> Iterator[str]:
         return self.lists.drawn(self.seed, Amount(self.count))
 
 
@@ -51,14 +51,16 @@ STORED = (
 )
 
 
-def store(it: StoredRows) -> None:
+def store_rows(it: StoredRows) -> None:
     """Writes the rows, and their output in place of that of the rows before."""
-    before, after = it.path.read_text().splitlines(), list(it.rows())
-    output = with_drawn(it.output.read_bytes(), joined(it.lists.output(before)), joined(it.lists.output(after)))
-    it.path.write_bytes(joined(after))
-    it.output.write_bytes(output)
+    before, after = it.rows_file.read_text().splitlines(), list(it.draw_rows())
+    output = replace_stored_output(
+        it.output_file.read_bytes(), encode_lines(it.lists.output(before)), encode_lines(it.lists.output(after))
+    )
+    it.rows_file.write_bytes(encode_lines(after))
+    it.output_file.write_bytes(output)
 
 
 if __name__ == "__main__":
     for each in STORED:
-        store(each)
+        store_rows(each)

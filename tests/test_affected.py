@@ -8,7 +8,7 @@ import pytest
 TOP = Path(__file__).resolve().parents[1]
 sys.path.insert(0, str(TOP / "tools"))
 
-from affected_sections import AffectedParagraph, affected_paragraphs, cited_in  # noqa: E402
+from affected_sections import AffectedParagraph, affected_paragraphs, citations_in  # noqa: E402
 
 PAGE = """# The sender
 Before all (RFC 1, section 1)
@@ -62,7 +62,7 @@ impl Own {
 """
 
 
-def write(tree: Path, definitions: str = DEFINITIONS, code: str = CODE) -> Path:
+def write_crate(tree: Path, definitions: str = DEFINITIONS, code: str = CODE) -> Path:
     """A tree of one crate."""
     for name, text in (("specs/Rules.antt", definitions), ("src/rules.rt", code)):
         file = tree / "crates/pd_board" / name
@@ -73,11 +73,11 @@ def write(tree: Path, definitions: str = DEFINITIONS, code: str = CODE) -> Path:
     return tree
 
 
-def affected(tmp_path: Path, old: str, new: str) -> list[AffectedParagraph]:
+def paragraphs_after_change(tmp_path: Path, old: str, new: str) -> list[AffectedParagraph]:
     """The paragraphs that are affected where a text of the tree is changed."""
-    before = write(tmp_path / "before")
+    before = write_crate(tmp_path / "before")
     assert (DEFINITIONS + CODE).count(old) == 1
-    after = write(tmp_path / "after", DEFINITIONS.replace(old, new), CODE.replace(old, new))
+    after = write_crate(tmp_path / "after", DEFINITIONS.replace(old, new), CODE.replace(old, new))
     return list(affected_paragraphs(before, after))
 
 
@@ -109,13 +109,13 @@ ABOVE, LATER = (10, "As RFC 2, section 5, has"), (12, "Later. (Steps 3 and 4)")
 def test_the_paragraphs_that_cite_what_a_change_cites(
     old: str, new: str, wanted: list[tuple[int, str]], rule: str, tmp_path: Path
 ) -> None:
-    found = affected(tmp_path, old, new)
+    found = paragraphs_after_change(tmp_path, old, new)
     assert [(it.line, it.name) for it in found if it.page] == wanted
     assert {it.rules for it in found} == ({(rule,)} if rule else set())
 
 
 def test_what_is_gone_counts_as_changed(tmp_path: Path) -> None:
-    found = affected(tmp_path, "-- (step 4)\nabbrev pub fourth : ℕ\nfourth = 4\n", "")
+    found = paragraphs_after_change(tmp_path, "-- (step 4)\nabbrev pub fourth : ℕ\nfourth = 4\n", "")
     assert [(it.line, it.heading, it.sections) for it in found] == [
         (10, "Two", ("RFC 2, section 5",)),
         (12, "Two", ("RFC 2, section 5",)),
@@ -123,15 +123,15 @@ def test_what_is_gone_counts_as_changed(tmp_path: Path) -> None:
 
 
 def test_rows_of_the_table_beside_linux_are_named_too(tmp_path: Path) -> None:
-    write(tmp_path / "after")
+    write_crate(tmp_path / "after")
     (tmp_path / "after/docs/LINUX.md").write_text(LINUX)
-    found = [(it.page, it.line, it.name) for it in affected(tmp_path, "reached = limit", "reached = 5")]
+    found = [(it.page, it.line, it.name) for it in paragraphs_after_change(tmp_path, "reached = limit", "reached = 5")]
     assert found == [("docs/SENDER.md", *BOLD), ("docs/LINUX.md", 7, "a place")]
 
 
 def test_sections_steps_and_names_are_read() -> None:
     text = "NextSeg (RFC 3, section 4, rule 4, and section 5, step C.2; RFC 4, sections 2.1, 2.4 and 2.5, fifth check)"
-    assert [(it.rfc, it.section, sorted(it.parts)) for it in cited_in(text)] == [
+    assert [(it.rfc, it.section, sorted(it.parts)) for it in citations_in(text)] == [
         ("3", "4", ["4", "NextSeg"]),
         ("3", "5", ["C", "NextSeg"]),
         ("4", "2.1", ["NextSeg"]),

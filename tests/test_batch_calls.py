@@ -6,7 +6,7 @@ from pathlib import Path
 
 import pytest
 
-from harness.batch_calls import fits_the_batch, outputs_in, part, starts_of
+from harness.batch_calls import fits_the_batch, outputs_in, length_prefixed, encode_starts
 from harness.calls import ProgramCall, ProgramOutput
 from harness.run_calls import SourceCalls, run_calls
 
@@ -47,14 +47,14 @@ def test_arguments_that_need_a_process_of_their_own(program: str, arguments: str
 
 def test_starts_have_their_arguments_and_their_input_after_its_length() -> None:
     calls = [ProgramCall("pdrecord", (b"--trace",), b"12\n"), ProgramCall("pdregress", ())]
-    assert starts_of(calls) == b"16\npdrecord\0--trace3\n12\n9\npdregress0\n"
+    assert encode_starts(calls) == b"16\npdrecord\0--trace3\n12\n9\npdregress0\n"
 
 
 def test_outputs_up_to_the_call_that_ended_the_run() -> None:
-    whole = part(b"1\n2") + part(b"") + part(b"0\n")
+    whole = length_prefixed(b"1\n2") + length_prefixed(b"") + length_prefixed(b"0\n")
     assert list(outputs_in(whole * 2)) == [ProgramOutput(b"1\n2", b"", 0)] * 2
     assert list(outputs_in(whole + whole[:-1])) == [ProgramOutput(b"1\n2", b"", 0)]
-    assert list(outputs_in(whole + part(b"a"))) == [ProgramOutput(b"1\n2", b"", 0)]
+    assert list(outputs_in(whole + length_prefixed(b"a"))) == [ProgramOutput(b"1\n2", b"", 0)]
 
 
 def test_calls_that_no_process_can_make_are_left() -> None:

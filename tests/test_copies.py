@@ -12,7 +12,7 @@ TOP = Path(__file__).resolve().parents[1]
 sys.path.insert(0, str(TOP / "tools"))
 
 import copies  # noqa: E402
-from copies import Copy, checked_copy, copied  # noqa: E402
+from copies import Copy, copy_with_settled_stamps, copy_proof_sources  # noqa: E402
 from source_sums import Unreadable  # noqa: E402
 
 CRATES = ("low", "top")
@@ -38,7 +38,7 @@ def tree(tmp_path: Path) -> Path:
 
 def test_a_copy_has_what_is_read_and_no_more(tree: Path, tmp_path: Path) -> None:
     trees = [tmp_path / "one", tmp_path / "two"]
-    sums, made = copied(tree, CRATES, trees)
+    sums, made = copy_proof_sources(tree, CRATES, trees)
     assert [it.tree for it in made] == trees
     for it in trees:
         found = {str(path.relative_to(it)): path.read_text() for path in it.rglob("*") if path.is_file()}
@@ -49,25 +49,25 @@ def test_a_copy_has_what_is_read_and_no_more(tree: Path, tmp_path: Path) -> None
     assert (sums["crates.txt"], sums[CODE]) == tuple(hashlib.sha256(it).hexdigest() for it in (TABLE, CODE.encode()))
 
 
-def edited(tree: Path) -> None:
+def edit_code(tree: Path) -> None:
     (tree / CODE).write_text("another text")
 
 
-def edited_and_taken_back(tree: Path) -> None:
-    edited(tree)
+def edit_code_and_take_back(tree: Path) -> None:
+    edit_code(tree)
     (tree / CODE).write_text(CODE)
 
 
-def with_one_more(tree: Path) -> None:
+def add_source(tree: Path) -> None:
     (tree / "crates/low/src/more.rt").touch()
 
 
-def replaced(tree: Path) -> None:
+def replace_code(tree: Path) -> None:
     shutil.copy2(tree / CODE, tree / "more.rt")
     (tree / "more.rt").replace(tree / CODE)
 
 
-def built(tree: Path) -> None:
+def write_to_out_folder(tree: Path) -> None:
     (tree / "crates/low/out").mkdir()
     (tree / "crates/low/out/low.rt").touch()
 
@@ -75,30 +75,30 @@ def built(tree: Path) -> None:
 @pytest.mark.parametrize(
     ("change", "changed"),
     [
-        (edited, {CODE}),
-        (edited_and_taken_back, {CODE}),
-        (with_one_more, {"crates/low/src", "crates/low/src/more.rt"}),
-        (replaced, {CODE, "crates/low/src"}),
-        (built, {None}),
+        (edit_code, {CODE}),
+        (edit_code_and_take_back, {CODE}),
+        (add_source, {"crates/low/src", "crates/low/src/more.rt"}),
+        (replace_code, {CODE, "crates/low/src"}),
+        (write_to_out_folder, {None}),
     ],
 )
 def test_each_change_of_a_copy_shows(
     tree: Path, tmp_path: Path, change: Callable[[Path], None], changed: set[str | None]
 ) -> None:
-    _, (copy,) = copied(tree, CRATES, [tmp_path / "copy"])
-    assert copy.changed() is None
+    _, (copy,) = copy_proof_sources(tree, CRATES, [tmp_path / "copy"])
+    assert copy.changed_path() is None
     change(copy.tree)
-    assert copy.changed() in changed
+    assert copy.changed_path() in changed
 
 
-@pytest.mark.parametrize("change", [edited, with_one_more])
+@pytest.mark.parametrize("change", [edit_code, add_source])
 def test_a_copy_that_changes_while_it_is_made_is_refused(
     tree: Path, tmp_path: Path, change: Callable[[Path], None], monkeypatch: pytest.MonkeyPatch
 ) -> None:
     def late(top: Path, crates: tuple[str, ...]) -> Copy:
         change(top)
-        return checked_copy(top, crates)
+        return copy_with_settled_stamps(top, crates)
 
-    monkeypatch.setattr(copies, "checked_copy", late)
+    monkeypatch.setattr(copies, "copy_with_settled_stamps", late)
     with pytest.raises(Unreadable, match="copy has changed while it was made"):
-        copied(tree, CRATES, [tmp_path / "copy"])
+        copy_proof_sources(tree, CRATES, [tmp_path / "copy"])

@@ -7,43 +7,45 @@ import pytest
 
 from documents import main
 from documents.pages import Page
-from documents.shown import shown_in
-from documents.walking import walk
+from documents.shown import commands_shown_in
+from documents.walking import run_shown_commands
 
 TOP = Path(__file__).resolve().parents[1]
 PAGE = "# a\n\n```console\n$ echo a\na\n$ echo b\nc\n```\n\n```console slow\n$ echo d\n```\n"
 
 
-def commands_of(text: str, why: str | None, monkeypatch: pytest.MonkeyPatch) -> list[main.Test]:
+def results_of_commands(text: str, why: str | None, monkeypatch: pytest.MonkeyPatch) -> list[main.Test]:
     """The results of the commands of a page, in an empty tree, where the programs aren't built for this reason."""
 
     def built_tree(files: list[Path], folder: Path) -> str | None:
         folder.mkdir()
         return why
 
-    monkeypatch.setattr(main, "built_tree", built_tree)
+    monkeypatch.setattr(main, "copy_built_tree", built_tree)
     return list(main.test_commands([], Page(Path("/"), Path("a.md"), text)))
 
 
 def test_a_command_that_prints_something_else_fails(monkeypatch: pytest.MonkeyPatch) -> None:
-    good, bad = commands_of(PAGE, None, monkeypatch)
+    good, bad = results_of_commands(PAGE, None, monkeypatch)
     assert good == ("a.md:4: echo a", None)
     assert bad == ("a.md:6: echo b", "it isn't shown that this is printed:\nb\n")
 
 
 def test_commands_fail_where_a_program_is_not_built(monkeypatch: pytest.MonkeyPatch) -> None:
-    assert commands_of(PAGE, "pdregress isn't built", monkeypatch) == [("commands of a.md", "pdregress isn't built")]
+    assert results_of_commands(PAGE, "pdregress isn't built", monkeypatch) == [
+        ("commands of a.md", "pdregress isn't built")
+    ]
 
 
 def test_what_watch_prints_of_a_build_is_left_to_who_walks_without_proofs(tmp_path: Path) -> None:
     page = "```console follow\n$ sh -c 'echo a; sleep 60'\na\n```\n\n```console follow\nb\n```\n"
-    steps = list(shown_in(page))
-    assert list(walk(steps, tmp_path, 0.5, is_proved=True)) == []
-    assert [it.printed_instead for it in walk(steps, tmp_path, 0.5, is_proved=False)] == [None, ""]
+    steps = list(commands_shown_in(page))
+    assert list(run_shown_commands(steps, tmp_path, 0.5, is_proved=True)) == []
+    assert [it.printed_instead for it in run_shown_commands(steps, tmp_path, 0.5, is_proved=False)] == [None, ""]
 
 
 def test_a_block_of_an_unknown_kind_fails(monkeypatch: pytest.MonkeyPatch) -> None:
-    ((name, why),) = commands_of(PAGE.replace("slow", "fast"), None, monkeypatch)
+    ((name, why),) = results_of_commands(PAGE.replace("slow", "fast"), None, monkeypatch)
     assert (name, why) == ("blocks of a.md", "a.md:11: a block of an unknown kind fast")
 
 

@@ -13,14 +13,14 @@ import tempfile
 import unittest
 from pathlib import Path
 
-from kernel.compare import Difference, TimeSpan, differing, is_expected
+from kernel.compare import Difference, TimeSpan, differing_fields, is_expected_packet
 from kernel.device import NoDevice
-from kernel.main import ScriptJob, options_of, run_once, runners, sorted_files
-from kernel.report import places_of, row_of
+from kernel.main import ScriptJob, parse_options, run_once, make_pool, script_files
+from kernel.report import difference_places, script_lines
 from kernel.run import RunOutcome
 from kernel.script import UnsupportedScript, read_script
 from kernel.settings import KernelSettings, Tuning, settings_of, tuning_of
-from kernel.wire import PEER_ISN, SeenPacket, decode, encode
+from kernel.wire import PEER_ISN, SeenPacket, decode_packet, encode_packet
 from pdsuite.faults import Fault
 from pdsuite.packetdrill.items import Call, Packet, TcpOption, Time
 
@@ -75,21 +75,21 @@ class ReadingTest(unittest.TestCase):
 class Wire(unittest.TestCase):
     def test_numbers_count_from_both_first_numbers(self) -> None:
         packet = Packet(True, "P.", 5, 8, 7, 100, (TcpOption("sack", (7, 9)), TcpOption("nop"), TcpOption("nop")))
-        octets = encode(packet, isn=2**32 - 1)
+        octets = encode_packet(packet, isn=2**32 - 1)
         self.assertEqual(octets[24:32], (PEER_ISN + 5).to_bytes(4, "big") + (6).to_bytes(4, "big"))
         self.assertEqual(octets[40:50], bytes([5, 10, 0, 0, 0, 6, 0, 0, 0, 8]))
 
     def test_a_packet_of_the_kernel_is_read_back(self) -> None:
-        there = encode(Packet(True, "S.", 9, 9, 0, 500, (TcpOption("mss", (1460,)),)), isn=77)
+        there = encode_packet(Packet(True, "S.", 9, 9, 0, 500, (TcpOption("mss", (1460,)),)), isn=77)
         back = there[:20] + there[22:24] + there[20:22] + there[24:]
-        found = decode(back, 1.5, None)
+        found = decode_packet(back, 1.5, None)
         assert found is not None
         seen, first = found
         self.assertEqual(first, PEER_ISN + 9)
         self.assertEqual((seen.start, seen.window, seen.options), (0, 500, (TcpOption("mss", (1460,)),)))
 
     def test_another_port_is_none_of_the_run(self) -> None:
-        self.assertIsNone(decode(encode(Packet(True, ".", 1, 1, 1, 1), 0), 0.0, 0))
+        self.assertIsNone(decode_packet(encode_packet(Packet(True, ".", 1, 1, 1, 1), 0), 0.0, 0))
 
 
 class Comparing(unittest.TestCase):
@@ -97,13 +97,13 @@ class Comparing(unittest.TestCase):
 
     def test_each_field_is_named(self) -> None:
         expected = Packet(False, "P", 1, 501, 2, 257, (TcpOption("nop"),))
-        fields = differing(expected, self.seen, TimeSpan(0.0, 1.0), frozenset())
+        fields = differing_fields(expected, self.seen, TimeSpan(0.0, 1.0), frozenset())
         self.assertEqual(fields, ["time", "flags", "push", "seq", "ack", "win", "options"])
-        self.assertFalse(is_expected(expected, self.seen))
+        self.assertFalse(is_expected_packet(expected, self.seen))
 
     def test_what_is_ignored_or_not_written_does_not_differ(self) -> None:
         expected = Packet(False, "P.", 1, 1001)
-        self.assertEqual(differing(expected, self.seen, None, {"push"}), [])
+        self.assertEqual(differing_fields(expected, self.seen, None, {"push"}), [])
 
 
 class SetupTest(unittest.TestCase):
@@ -122,17 +122,19 @@ class SetupTest(unittest.TestCase):
         with tempfile.TemporaryDirectory() as name:
             path, toml = (Path(name).resolve() / it for it in ("a.pkt", "pdsuite.toml"))
             toml.write_text("root = true\nrestart_after_idle = true\n")
-            self.assertEqual(self.refused(path), f"{toml}:2: {OLD.format('')}")
+            self.assertEqual(self.fault_of_settings(path), f"{toml}:2: {OLD.format('')}")
             toml.write_text('root = true\n["a.pkt"]\nrestart_after_idle = true\n')
             beside = ' (["a.pkt"])'
-            self.assertEqual(self.refused(path), f"{toml}:3: {OLD.format(beside)}")
+            self.assertEqual(self.fault_of_settings(path), f"{toml}:3: {OLD.format(beside)}")
             toml.write_text("root = true\n")
             text = "// Why.\n// set restart_after_idle true\n"
-            self.assertEqual(self.refused(path, text), f"{path}:2: {OLD.format('')}")
-            self.assertEqual(self.refused(path, "", "restart_after_idle = true"), f"--settings: {OLD.format('')}")
+            self.assertEqual(self.fault_of_settings(path, text), f"{path}:2: {OLD.format('')}")
+            self.assertEqual(
+                self.fault_of_settings(path, "", "restart_after_idle = true"), f"--settings: {OLD.format('')}"
+            )
             self.assertIsNone(settings_of(path, "", "").slow_start_after_idle)
 
-    def refused(self, path: Path, text: str = "", words: str = "") -> str:
+    def fault_of_settings(self, path: Path, text: str = "", words: str = "") -> str:
         """The fault of the settings of a script."""
         with self.assertRaises(Fault) as raised:
             settings_of(path, text, words)
@@ -148,20 +150,22 @@ class SetupTest(unittest.TestCase):
         with tempfile.TemporaryDirectory() as name:
             for file in ("b.pkt", "a.pkt", "a.txt"):
                 Path(name, file).touch()
-            self.assertEqual([it.name for it in sorted_files([Path(name)])], ["a.pkt", "b.pkt"])
+            self.assertEqual([it.name for it in script_files([Path(name)])], ["a.pkt", "b.pkt"])
 
     def test_a_field_that_is_none_is_refused(self) -> None:
         with self.assertRaises(SystemExit), contextlib.redirect_stderr(io.StringIO()):
-            options_of(["--ignore", "winter", "a.pkt"])
+            parse_options(["--ignore", "winter", "a.pkt"])
 
 
 class Reporting(unittest.TestCase):
     def test_places_are_counted_over_runs(self) -> None:
         bad = RunOutcome((Difference(9, "win", "a"), Difference(7, "time", "b")))
         runs = [bad, RunOutcome(), RunOutcome((Difference(9, "win", "c"),))]
-        self.assertEqual([(it.line, it.field, it.runs) for it in places_of(runs)], [(7, "time", 1), (9, "win", 2)])
+        self.assertEqual(
+            [(it.line, it.field, it.runs) for it in difference_places(runs)], [(7, "time", 1), (9, "win", 2)]
+        )
         rows = ["x: 1 of 3 pass", "  line 7 time: 1 of 3, b", "  line 9 win: 2 of 3, a"]
-        self.assertEqual(list(row_of("x", runs)), rows)
+        self.assertEqual(list(script_lines("x", runs)), rows)
 
 
 class RunningTest(unittest.TestCase):
@@ -170,7 +174,7 @@ class RunningTest(unittest.TestCase):
     def run_text(self, text: str, *ignored: str) -> RunOutcome:
         events = read_script(OPENING + text)
         job = ScriptJob(Path("a.pkt"), events, tuning_of(events, KernelSettings(), {}), frozenset(ignored))
-        with runners(1) as pool:
+        with make_pool(1) as pool:
             found = pool.apply(run_once, (job,))
         if isinstance(found, NoDevice):
             self.skipTest(f"no tun device here: {found}")
@@ -194,7 +198,7 @@ class RunningTest(unittest.TestCase):
     def test_a_switch_that_the_kernel_lacks_is_told(self) -> None:
         events = read_script(OPENING)
         tuning = Tuning((("net.ipv4.no_such_switch", "1"),), (), 1500, False)
-        with runners(1) as pool:
+        with make_pool(1) as pool:
             self.assertIsInstance(pool.apply(run_once, (ScriptJob(Path("a"), events, tuning, frozenset()),)), NoDevice)
 
 

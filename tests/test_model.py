@@ -10,7 +10,7 @@ SUITE = Path(__file__).resolve().parents[1] / "examples" / "suite"
 LEAST = 120
 
 
-def faults() -> Iterator[str]:
+def faults_of_scripts() -> Iterator[str]:
     """What is wrong about each script that is played, empty where nothing is."""
     for path in sorted(SUITE.rglob("*.pkt")):
         try:
@@ -20,6 +20,6 @@ def faults() -> Iterator[str]:
 
 
 def test_the_scripts_of_the_suite_are_met() -> None:
-    found = list(faults())
+    found = list(faults_of_scripts())
     assert len(found) >= LEAST
     assert not any(found), "\n".join(it for it in found if it)

@@ -15,16 +15,16 @@ from mutant_files import (  # noqa: E402
     TextChange,
     Mutant,
     MutantError,
-    apply,
-    changed_files,
-    read_crates,
-    read_file,
-    read_python,
-    read_text,
+    apply_mutant,
+    changed_texts,
+    read_crate_mutants,
+    read_mutants_file,
+    read_python_mutants,
+    read_mutants,
 )
 import mutants as mutants_tool  # noqa: E402
-from mutant_python import FileMutant, NamedTest, TreeCopies, applied, named_test, refuse_failing  # noqa: E402
-from mutant_python import test_command as command_of  # noqa: E402
+from mutant_python import FileMutant, NamedTest, TreeCopies, mutant_applied, named_test  # noqa: E402
+from mutant_python import refuse_failing_tests, test_command as command_of  # noqa: E402
 from mutant_tests import RunLimits  # noqa: E402
 
 SECOND = "file: src/a.rt\nold:   two  blanks\nnew: \nfile: src/b.rt\nold: b: c\nnew: d\n"
@@ -34,21 +34,21 @@ WITH_TEST = "# late\nfails: story a title\nfile: src/a.rt\nold: f(a); g(b);\nnew
 
 def test_two_mutants() -> None:
     """Octets stay as they are: those that a line begins with, and a blank at its end."""
-    first, second = read_text(TWO)
+    first, second = read_mutants(TWO)
     assert (first.name, first.changes) == ("first", [TextChange("src/a.rt", "x", "y")])
     assert second.changes == [TextChange("src/a.rt", "  two  blanks", ""), TextChange("src/b.rt", "b: c", "d")]
-    assert second.text == SECOND
+    assert second.edit_file_text == SECOND
     assert not first.test
 
 
 def test_a_mutant_with_a_test() -> None:
-    (mutant,) = read_text(WITH_TEST, need_tests=True)
+    (mutant,) = read_mutants(WITH_TEST, need_tests=True)
     assert (mutant.name, mutant.test) == ("late", "story a title")
     assert mutant.changes == [TextChange("src/a.rt", "f(a); g(b);", "g(b);")]
 
 
 def test_no_mutants() -> None:
-    assert read_text("") == []
+    assert read_mutants("") == []
 
 
 PAIR = "file: src/a.rt\nold: x\nnew: y\n"
@@ -84,7 +84,7 @@ PAIR = "file: src/a.rt\nold: x\nnew: y\n"
 )
 def test_what_is_no_mutant(text: str, why: str) -> None:
     with pytest.raises(MutantError) as error:
-        read_text(text)
+        read_mutants(text)
     assert str(error.value) == why
 
 
@@ -97,7 +97,7 @@ def test_what_is_no_mutant(text: str, why: str) -> None:
 )
 def test_what_is_no_mutant_with_a_test(text: str, why: str) -> None:
     with pytest.raises(MutantError) as error:
-        read_text(text, need_tests=True)
+        read_mutants(text, need_tests=True)
     assert str(error.value) == why
 
 
@@ -105,41 +105,41 @@ def test_a_fault_names_its_file(tmp_path: Path) -> None:
     file = tmp_path / "contracts.mutants"
     file.write_text("x")
     with pytest.raises(MutantError) as error:
-        read_file(file)
+        read_mutants_file(file)
     assert str(error.value) == f"{file}:1: a line of no mutant: a title has to stand before it"
 
 
-def crate_of(folder: Path, text: str) -> Path:
+def make_crate(folder: Path, text: str) -> Path:
     """A crate with one file."""
     (folder / "src").mkdir()
     (folder / "src" / "a.rt").write_text(text)
     return folder
 
 
-def changed_text(folder: Path, text: str, mutant: Mutant) -> str:
-    crate = crate_of(folder, text)
-    apply(mutant, crate)
+def text_with_mutant(folder: Path, text: str, mutant: Mutant) -> str:
+    crate = make_crate(folder, text)
+    apply_mutant(mutant, crate)
     return (crate / "src" / "a.rt").read_text()
 
 
-def mutant_of(*changes: TextChange, test: str = "") -> Mutant:
+def make_mutant(*changes: TextChange, test: str = "") -> Mutant:
     return Mutant("a", [], test, list(changes))
 
 
 def test_old_texts_are_found_by_their_octets(tmp_path: Path) -> None:
-    mutant = mutant_of(TextChange("src/a.rt", "  b", " c"))
-    assert changed_text(tmp_path, "a b\n  b\n", mutant) == "a b\n c\n"
+    mutant = make_mutant(TextChange("src/a.rt", "  b", " c"))
+    assert text_with_mutant(tmp_path, "a b\n  b\n", mutant) == "a b\n c\n"
 
 
 def test_old_texts_of_mutants_with_tests_are_found_by_their_words(tmp_path: Path) -> None:
-    mutant = mutant_of(TextChange("src/a.rt", "f(a); g(b);", "g(b);"), test="run x")
-    assert changed_text(tmp_path, "{\n    f(a);\n\n    g(b);\n}\n", mutant) == "{\n    g(b);\n}\n"
+    mutant = make_mutant(TextChange("src/a.rt", "f(a); g(b);", "g(b);"), test="run x")
+    assert text_with_mutant(tmp_path, "{\n    f(a);\n\n    g(b);\n}\n", mutant) == "{\n    g(b);\n}\n"
 
 
 def test_old_texts_are_found_in_the_text_before_all_changes(tmp_path: Path) -> None:
     """What one change puts in isn't what the other one finds, whichever comes first."""
-    mutant = mutant_of(TextChange("src/a.rt", "y", "x"), TextChange("src/a.rt", "x", "y"), test="run x")
-    assert changed_text(tmp_path, "x y", mutant) == "y x"
+    mutant = make_mutant(TextChange("src/a.rt", "y", "x"), TextChange("src/a.rt", "x", "y"), test="run x")
+    assert text_with_mutant(tmp_path, "x y", mutant) == "y x"
 
 
 @pytest.mark.parametrize(
@@ -154,14 +154,14 @@ def test_old_texts_are_found_in_the_text_before_all_changes(tmp_path: Path) -> N
 @pytest.mark.parametrize("test", ["", "run x"])
 def test_what_cannot_be_applied(tmp_path: Path, change: TextChange, why: str, test: str) -> None:
     with pytest.raises(MutantError) as error:
-        changed_text(tmp_path, "x b x", mutant_of(change, test=test))
+        text_with_mutant(tmp_path, "x b x", make_mutant(change, test=test))
     assert str(error.value) == why
 
 
 CRATES = [
     (crate, mutant)
     for kind in ("contracts", "tests")
-    for crate, mutants in read_crates(TOP, kind).items()
+    for crate, mutants in read_crate_mutants(TOP, kind).items()
     for mutant in mutants
 ]
 
@@ -169,16 +169,16 @@ CRATES = [
 @pytest.mark.parametrize("crate, mutant", CRATES, ids=[f"{crate}-{mutant.name}" for crate, mutant in CRATES])
 def test_mutants_of_crates(crate: str, mutant: Mutant) -> None:
     """Each finds what it takes away, once."""
-    assert list(changed_files(mutant, TOP / "crates" / crate))
+    assert list(changed_texts(mutant, TOP / "crates" / crate))
 
 
-PYTHON = [(file, mutant) for file, mutants in read_python(TOP).items() for mutant in mutants]
+PYTHON = [(file, mutant) for file, mutants in read_python_mutants(TOP).items() for mutant in mutants]
 
 
 @pytest.mark.parametrize("file, mutant", PYTHON, ids=[f"{file}-{mutant.name}" for file, mutant in PYTHON])
 def test_mutants_of_python_and_shell(file: str, mutant: Mutant) -> None:
     """Each finds what it takes away, once, and names a test that is there."""
-    assert list(changed_files(mutant, TOP))
+    assert list(changed_texts(mutant, TOP))
     test = named_test(FileMutant(file, mutant))
     if test.kind == "shell":
         text = "".join(it.read_text() for it in (TOP / "tests" / "shell").glob(f"{test.place}.sh"))
@@ -190,11 +190,11 @@ def test_mutants_of_python_and_shell(file: str, mutant: Mutant) -> None:
 
 
 def test_a_mutant_of_python_and_shell_is_of_any_file_of_the_tree() -> None:
-    (mutant,) = read_text("# a\nfails: shell b c\nfile: check\nold: x\nnew: y\n", True, ())
+    (mutant,) = read_mutants("# a\nfails: shell b c\nfile: check\nold: x\nnew: y\n", True, ())
     assert (mutant.test, mutant.changes) == ("shell b c", [TextChange("check", "x", "y")])
     for path in ("/check", "../check", "a/../../check"):
         with pytest.raises(MutantError) as error:
-            read_text(f"# a\nfails: shell b c\nfile: {path}\nold: x\nnew: y\n", True, ())
+            read_mutants(f"# a\nfails: shell b c\nfile: {path}\nold: x\nnew: y\n", True, ())
         assert str(error.value) == f"3: 'file: {path}' has to name a file of the tree, before 'old:'"
 
 
@@ -207,13 +207,13 @@ def test_a_mutant_of_python_and_shell_is_of_any_file_of_the_tree() -> None:
     ],
 )
 def test_a_mutant_names_its_test(test: str, wanted: NamedTest) -> None:
-    assert named_test(FileMutant("a", mutant_of(test=test))) == wanted
+    assert named_test(FileMutant("a", make_mutant(test=test))) == wanted
 
 
 @pytest.mark.parametrize("test", ["client", "shell links", "run a title", "client a b"])
 def test_what_names_no_test(test: str) -> None:
     with pytest.raises(MutantError):
-        named_test(FileMutant("a", mutant_of(test=test)))
+        named_test(FileMutant("a", make_mutant(test=test)))
 
 
 @pytest.mark.parametrize(
@@ -256,13 +256,13 @@ def test_each_line_of_shell_is_run_alone_before_a_mutant_is_applied(tmp_path: Pa
     copies = PassingCopies(tmp_path, 1)
     copies.idle.put(tmp_path)
     lines = [NamedTest("shell", "links", it) for it in ("one", "other")]
-    refuse_failing([*lines, NamedTest("tests", "a"), NamedTest("tests", "b")], copies, 1)
+    refuse_failing_tests([*lines, NamedTest("tests", "a"), NamedTest("tests", "b")], copies, 1)
     assert copies.calls == [("shell", ["links"], "one"), ("shell", ["links"], "other"), ("tests", ["a", "b"], "")]
 
 
 def test_a_mutant_is_taken_back(tmp_path: Path) -> None:
-    path = crate_of(tmp_path, "a b\n") / "src" / "a.rt"
-    with applied(FileMutant("x", mutant_of(TextChange("src/a.rt", "b", "c"), test="tests a")), tmp_path):
+    path = make_crate(tmp_path, "a b\n") / "src" / "a.rt"
+    with mutant_applied(FileMutant("x", make_mutant(TextChange("src/a.rt", "b", "c"), test="tests a")), tmp_path):
         assert path.read_text() == "a c\n"
     assert path.read_text() == "a b\n"
 
@@ -270,12 +270,12 @@ def test_a_mutant_is_taken_back(tmp_path: Path) -> None:
 @pytest.mark.parametrize(
     "mutant",
     [
-        *read_text((TOP / "bench/rules.mutants").read_text(), folders=()),
-        *read_text((TOP / "bench/search.mutants").read_text(), need_tests=True, folders=()),
+        *read_mutants((TOP / "bench/rules.mutants").read_text(), folders=()),
+        *read_mutants((TOP / "bench/search.mutants").read_text(), need_tests=True, folders=()),
     ],
 )
 def test_mutants_of_benches_can_be_applied(mutant: Mutant) -> None:
-    assert list(changed_files(mutant, TOP))
+    assert list(changed_texts(mutant, TOP))
 
 
 # Proves any library, and reports each mutant of a crate as refused, but for two.
@@ -303,7 +303,7 @@ def run_tool(folder: Path, *arguments: str) -> "subprocess.CompletedProcess[str]
 
 def test_those_not_refused_are_counted(tmp_path: Path) -> None:
     done = run_tool(tmp_path, "contracts", "pd_seg", "pd_board")
-    count = {crate: len(mutants) for crate, mutants in read_crates(TOP, "contracts").items()}
+    count = {crate: len(mutants) for crate, mutants in read_crate_mutants(TOP, "contracts").items()}
     *_, board, seg, whole = done.stdout.splitlines()
     refused = count["pd_board"] - 2
     assert board == f"pd_board: {refused} of {count['pd_board']} refused"
@@ -343,5 +343,5 @@ def test_tests_are_run_as_often_and_as_long_as_the_options_say(tmp_path: Path, m
     monkeypatch.setattr(mutants_tool, "find_kit", lambda: None)
     monkeypatch.setattr(mutants_tool, "try_tests", try_tests)
     for arguments in (["tests", "-j", "3", "--times", "7", "--seconds", "9"], ["tests", "-j", "1"]):
-        assert mutants_tool.try_all(mutants_tool.parser().parse_args(arguments)) == 0
+        assert mutants_tool.try_chosen_mutants(mutants_tool.make_parser().parse_args(arguments)) == 0
     assert calls == [(3, 7, 9), (1, 10, 40)]

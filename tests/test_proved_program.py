@@ -124,24 +124,24 @@ class ProvedTree:
         (self.kit / "bin").mkdir(parents=True)
         (self.kit / "bin/rt").touch(mode=0o755)
         (self.kit / "KIT-ID").write_text("kit 1\n")
-        self.do(f"find . ! -path './{PROGRAM}' -exec touch -d '1 hour ago' {{}} +")
-        self.do(f"{{ sha256sum {PROGRAM}; tools/proved_program.sh --sums top; }} >x && mv x {PROGRAM}.sums")
+        self.run_shell(f"find . ! -path './{PROGRAM}' -exec touch -d '1 hour ago' {{}} +")
+        self.run_shell(f"{{ sha256sum {PROGRAM}; tools/proved_program.sh --sums top; }} >x && mv x {PROGRAM}.sums")
 
-    def do(self, command: str) -> str:
+    def run_shell(self, command: str) -> str:
         """Does a command of the shell in the tree, and gives what it prints."""
         words = ["sh", "-euc", command]
         return subprocess.run(
             words, cwd=self.top, env=self.environment, check=True, stdout=subprocess.PIPE, text=True
         ).stdout
 
-    def found(self) -> tuple[int, str, str]:
+    def find_proved_program(self) -> tuple[int, str, str]:
         """The status of proved_program.sh, and what it says."""
         words: list[str | Path] = [self.top / "tools/proved_program.sh", "top"]
         done = subprocess.run(words, env=self.environment, capture_output=True, text=True, timeout=SECONDS)
         return done.returncode, done.stdout, done.stderr
 
     def is_proved(self) -> bool:
-        status, out, err = self.found()
+        status, out, err = self.find_proved_program()
         assert (status, out != "", err != "") in ((0, True, False), (2, False, True))
         return status == 0
 
@@ -158,38 +158,38 @@ def tree(request: pytest.FixtureRequest, tmp_path: Path) -> ProvedTree:
 
 @pytest.mark.parametrize("done", STAYS.values(), ids=STAYS)
 def test_a_program_stays_proved(done: str, tree: ProvedTree) -> None:
-    tree.do(done)
-    assert tree.found() == (0, f"{tree.top}/{PROGRAM}\n", "")
+    tree.run_shell(done)
+    assert tree.find_proved_program() == (0, f"{tree.top}/{PROGRAM}\n", "")
 
 
 @pytest.mark.parametrize("done", CHANGES.values(), ids=CHANGES)
 def test_a_program_is_not_proved_any_more(done: str, tree: ProvedTree) -> None:
-    tree.do(done)
+    tree.run_shell(done)
     assert not tree.is_proved()
-    tree.do(SET_BACK)
+    tree.run_shell(SET_BACK)
     assert not tree.is_proved()
 
 
 def test_what_is_linked_is_named(tree: ProvedTree) -> None:
-    tree.do("mv crates/low/proofs/f elsewhere && ln -s ../../../elsewhere crates/low/proofs/f")
+    tree.run_shell("mv crates/low/proofs/f elsewhere && ln -s ../../../elsewhere crates/low/proofs/f")
     message = "top isn't proved: crates/low/proofs/f is a link: put the file or folder itself there\n"
-    assert tree.found() == (2, "", message)
+    assert tree.find_proved_program() == (2, "", message)
 
 
 def test_a_tree_that_is_copied_or_moved_stays_proved(tree: ProvedTree) -> None:
-    tree.do("cp -R . ../other")
+    tree.run_shell("cp -R . ../other")
     tree.top = tree.top.with_name("other")
     assert tree.is_proved()
-    tree.do("mv ../other ../third")
+    tree.run_shell("mv ../other ../third")
     tree.top = tree.top.with_name("third")
     assert tree.is_proved()
 
 
 def test_where_nothing_can_be_kept_all_is_read_each_time(tmp_path: Path) -> None:
     tree = ProvedTree(tmp_path)
-    tree.do(f"mkdir {PROGRAM}.stamps")
+    tree.run_shell(f"mkdir {PROGRAM}.stamps")
     assert tree.is_proved() and tree.is_proved()
-    tree.do(CHANGES["an edit in place while the clock stands back"])
+    tree.run_shell(CHANGES["an edit in place while the clock stands back"])
     assert not tree.is_proved()
 
 
@@ -197,7 +197,7 @@ def test_what_changed_in_the_tick_of_a_look_is_read_again(tmp_path: Path, monkey
     tree = ProvedTree(tmp_path)
     monkeypatch.setenv("PATH", tree.environment["PATH"])
     # As if the clock hadn't moved on since this source was written.
-    monkeypatch.setattr(stamps, "probe_in", lambda _: (tree.top / CODE).stat())
+    monkeypatch.setattr(stamps, "make_probe", lambda _: (tree.top / CODE).stat())
     assert proof_sums.is_proved(str(tree.top), "top")
     assert not (tree.top / f"{PROGRAM}.stamps").exists()
 
@@ -207,7 +207,7 @@ def test_where_a_program_can_set_the_clock_of_a_file_nothing_is_kept(
 ) -> None:
     tree = ProvedTree(tmp_path)
     monkeypatch.setenv("PATH", tree.environment["PATH"])
-    assert stamps.probe_in(str(tmp_path))
+    assert stamps.make_probe(str(tmp_path))
     # As FAT has it, where the moment of a change is that of the last edit, which any program may set.
     probe = os.stat_result((0o100644, 1, tree.top.stat().st_dev, 1, 0, 0, 0, 0, 0, 0))
     monkeypatch.setattr(os, "fstat", lambda _: probe)
@@ -223,9 +223,9 @@ def test_what_changes_while_it_is_read_is_read_again(
     monkeypatch.setenv("PATH", tree.environment["PATH"])
 
     def read_and_change(top: str, paths: list[str]) -> dict[str, str]:
-        found = source_sums.sums_of(top, paths)
+        found = source_sums.sums_of_files(top, paths)
         if CODE in found:
-            tree.do(done)
+            tree.run_shell(done)
         return found
 
     monkeypatch.setattr(proof_sums, "sums_of", read_and_change)
@@ -239,7 +239,7 @@ def test_what_comes_before_the_stamps_are_taken_is_read_again(tmp_path: Path, mo
     taken = stamps.stamps_of
 
     def take_late(top: str, paths: list[str]) -> dict[str, str]:
-        tree.do("cp -p crates/low/src/lib.rt crates/low/src/more.rt")
+        tree.run_shell("cp -p crates/low/src/lib.rt crates/low/src/more.rt")
         return taken(top, paths)
 
     monkeypatch.setattr(stamps, "stamps_of", take_late)
@@ -249,7 +249,7 @@ def test_what_comes_before_the_stamps_are_taken_is_read_again(tmp_path: Path, mo
 
 def test_stamps_that_were_cut_short_are_not_taken(tree: ProvedTree) -> None:
     assert tree.is_proved()
-    tree.do(
+    tree.run_shell(
         f"head -c -40 {PROGRAM}.stamps >x && cat x >{PROGRAM}.stamps && echo 'fn g() {{}}' >>crates/top/src/main.rt"
     )
     assert not tree.is_proved()
@@ -257,7 +257,7 @@ def test_stamps_that_were_cut_short_are_not_taken(tree: ProvedTree) -> None:
 
 def test_all_is_named_on_which_it_depends(tmp_path: Path) -> None:
     tree = ProvedTree(tmp_path)
-    tree.do("rm HANDLES && ln -s nowhere crates/low/src/.#lib.rt && ln -s lib.rt crates/low/src/other.rt")
+    tree.run_shell("rm HANDLES && ln -s nowhere crates/low/src/.#lib.rt && ln -s lib.rt crates/low/src/other.rt")
     below = [
         "HANDLES",
         "crates.txt",
@@ -277,12 +277,12 @@ def test_all_is_named_on_which_it_depends(tmp_path: Path) -> None:
         "crates/top/src",
         "crates/top/src/main.rt",
     ]
-    found = tree.do("tools/proved_program.sh --files top").split("\0")
+    found = tree.run_shell("tools/proved_program.sh --files top").split("\0")
     assert sorted(found) == sorted(
         ["", f"{tree.kit}/KIT-ID", f"{tree.kit}/bin/rt", *(f"{tree.top}/{it}" for it in below)]
     )
-    tree.do("rm crates.txt")
-    assert f"{tree.top}/crates.txt" in tree.do("tools/proved_program.sh --files top").split("\0")
+    tree.run_shell("rm crates.txt")
+    assert f"{tree.top}/crates.txt" in tree.run_shell("tools/proved_program.sh --files top").split("\0")
 
 
 @pytest.mark.parametrize("words", ["", "--sums", "top top", "--all top", "--files"])

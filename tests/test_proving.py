@@ -9,7 +9,7 @@ import changed_rules
 import proofs
 
 
-def crate_of(top: Path, name: str) -> Path:
+def make_crate(top: Path, name: str) -> Path:
     """A crate with a file of each kind, and one that no proof reads."""
     crate = top / "crates" / name
     for file in ("src/lib.rt", "src/in/more.rt", "specs/Rule.antt", "proofs/in/Lib.antt", "src/notes.txt"):
@@ -19,21 +19,21 @@ def crate_of(top: Path, name: str) -> Path:
 
 
 def test_definitions_are_kept_beside_another_link_of_the_file(tmp_path: Path) -> None:
-    crate = crate_of(tmp_path, "low")
+    crate = make_crate(tmp_path, "low")
     out, other = crate / "out", tmp_path / "other"
     out.mkdir()
     (out / changed_rules.KEPT).write_text("{}")
     other.hardlink_to(out / changed_rules.KEPT)
-    changed_rules.keep(out, [crate])
-    assert other.read_text() == "{}" and changed_rules.changed(out, [crate]) == []
+    changed_rules.keep_definitions(out, [crate])
+    assert other.read_text() == "{}" and changed_rules.changed_since_proof(out, [crate]) == []
     (crate / "specs" / "Rule.antt").write_text("abbrev pub one : N\none = 2\n")
-    assert [it.place for it in changed_rules.changed(out, [crate])] == ["crates/low/specs/Rule.antt:1"]
+    assert [it.place for it in changed_rules.changed_since_proof(out, [crate])] == ["crates/low/specs/Rule.antt:1"]
 
 
 def test_a_proof_reads_what_was_written_in_each_folder(tmp_path: Path, monkeypatch: pytest.MonkeyPatch) -> None:
     monkeypatch.setattr(proofs, "TOP", tmp_path)
-    crate = crate_of(tmp_path, "low")
-    found = sorted(str(it.relative_to(crate)) for it in proofs.sources("low"))
+    crate = make_crate(tmp_path, "low")
+    found = sorted(str(it.relative_to(crate)) for it in proofs.proof_sources("low"))
     assert found == ["proofs/in/Lib.antt", "specs/Rule.antt", "src/in/more.rt", "src/lib.rt"]
 
 
@@ -41,13 +41,13 @@ def test_a_crate_that_changed_takes_longer(tmp_path: Path, monkeypatch: pytest.M
     """What was measured counts for it and for what stands on it; one that stands takes next to nothing."""
     monkeypatch.setattr(proofs, "TOP", tmp_path)
     for name in ("low", "high", "apart"):
-        crate = crate_of(tmp_path, name)
+        crate = make_crate(tmp_path, name)
         (crate / "out").mkdir()
         (crate / "out" / name).touch()
         os.utime(crate / "out" / name, (9_000_000_000, 9_000_000_000))
     uses: dict[str, list[str]] = {"low": [], "high": ["low"], "apart": []}
     times = proofs.Times({"low": 100.0, "high": 200.0})
-    assert times.expected(uses) == {"low": 2.0, "high": 2.0, "apart": 2.0}
+    assert times.expected_seconds(uses) == {"low": 2.0, "high": 2.0, "apart": 2.0}
     later = (9_000_000_001, 9_000_000_001)
     os.utime(tmp_path / "crates/low/proofs/in/Lib.antt", later)
-    assert times.expected(uses) == {"low": 100.0, "high": 200.0, "apart": 2.0}
+    assert times.expected_seconds(uses) == {"low": 100.0, "high": 200.0, "apart": 2.0}

@@ -11,11 +11,11 @@ from drawn import books, packets
 from drawn.drawing import Amount
 from model.rules import RFC6675
 from model.scenarios import Transfer
-from harness.calls import Outputs, ProgramCall, ProgramOutput, run_steps
+from harness.calls import Outputs, ProgramCall, ProgramOutput, run_test_alone
 from harness.compare import RowResult
-from harness.kinds import groups_of
-from harness.random_rows import Draw, joined
-from harness.model_runs import drawn_transfers
+from harness.kinds import read_groups
+from harness.random_rows import Draw, encode_lines
+from harness.model_runs import draw_transfers
 from harness.tables import TOP, DrawOptions
 from store_rows import STORED, StoredRows
 
@@ -24,30 +24,30 @@ RANDOM = TOP / "tests" / "cases" / "random"
 
 @pytest.mark.parametrize("it", STORED, ids=[it.kind for it in STORED])
 def test_the_stored_rows_are_those_that_are_drawn(it: StoredRows) -> None:
-    rows = list(it.rows())
-    assert it.path.read_bytes() == joined(rows)
-    assert it.output.read_bytes().count(joined(it.lists.output(rows))) == 1
+    rows = list(it.draw_rows())
+    assert it.rows_file.read_bytes() == encode_lines(rows)
+    assert it.output_file.read_bytes().count(encode_lines(it.lists.output(rows))) == 1
 
 
 def test_few_random_rows_are_stored() -> None:
-    assert sum(it.path.read_bytes().count(b"\n") for it in STORED) <= 2_500
+    assert sum(it.rows_file.read_bytes().count(b"\n") for it in STORED) <= 2_500
 
 
-def draws(file: Path, draw_options: DrawOptions = DrawOptions()) -> list[Draw]:
+def draws_in_file(file: Path, draw_options: DrawOptions = DrawOptions()) -> list[Draw]:
     """The draws of the rows of a file."""
-    return [it for group in groups_of(file, draw_options) for case in group.cases for it in case.checks]
+    return [it for group in read_groups(file, draw_options) for case in group.cases for it in case.checks]
 
 
 def test_all_are_drawn_from_their_seeds_unless_a_run_chooses_otherwise() -> None:
     chosen = DrawOptions(seed=7, rows=40)
-    every = [it for file in sorted(RANDOM.glob("*.cases")) for it in draws(file)]
+    every = [it for file in sorted(RANDOM.glob("*.cases")) for it in draws_in_file(file)]
     assert {(it.kind, it.amount.lists) for it in every} == {
         ("books", 1_000),
         ("packets", 2_000),
         ("short boards", 1_000),
         ("long boards", 4),
     }
-    others = [it for file in sorted(RANDOM.glob("*.cases")) for it in draws(file, chosen)]
+    others = [it for file in sorted(RANDOM.glob("*.cases")) for it in draws_in_file(file, chosen)]
     assert [(it.seed, it.amount.rows) for it in others] == [(7, 40)] * len(every)
     assert all("from 7: 40 rows" in it.row.text for it in others)
 
@@ -56,10 +56,10 @@ def test_a_run_chooses_of_recoveries_too(tmp_path: Path) -> None:
     file = tmp_path / "a.cases"
     file.write_text("[a] random rows of pdrecord\n5 recoveries by rfc6675 from 3\n")
     for draw_options, transfers in (
-        (DrawOptions(), drawn_transfers(5, RFC6675, 3)),
-        (DrawOptions(0, 9), drawn_transfers(9, RFC6675, 0)),
+        (DrawOptions(), draw_transfers(5, RFC6675, 3)),
+        (DrawOptions(0, 9), draw_transfers(9, RFC6675, 0)),
     ):
-        (group,) = groups_of(file, draw_options)
+        (group,) = read_groups(file, draw_options)
         calls = next(group.kind.check_cases(group.cases))
         assert [it.given.decode() for it in calls] == [it.script for it in transfers]
 
@@ -74,12 +74,12 @@ def test_a_seed_draws_the_same_rows_again_and_another_one_others() -> None:
 TABLES = "[a] random rows of test_sender\n2 short boards from 5\n[b] random rows of test_book\n1 books from 5\n"
 
 
-def results(file: Path, wrong: str = "") -> list[RowResult]:
+def run_drawn_tables(file: Path, wrong: str = "") -> list[RowResult]:
     """The results of the tables where the outputs are the wanted ones, but that of one program has another number."""
     file.write_text(TABLES)
     found = []
-    for group in groups_of(file):
-        wanted = group.cases[0].checks[0].run().wanted
+    for group in read_groups(file):
+        wanted = group.cases[0].checks[0].program_run().wanted
 
         def answer(call: ProgramCall, wanted: ProgramOutput = wanted) -> ProgramOutput:
             return (
@@ -88,15 +88,15 @@ def results(file: Path, wrong: str = "") -> list[RowResult]:
                 else wanted
             )
 
-        found += run_steps(group.kind.check_cases(group.cases), lambda calls: [answer(it) for it in calls])
+        found += run_test_alone(group.kind.check_cases(group.cases), lambda calls: [answer(it) for it in calls])
     return found
 
 
 def test_what_differs_is_printed_with_its_seed(tmp_path: Path) -> None:
-    assert results(tmp_path / "a.cases") == [RowResult(), RowResult()]
-    sender, book = results(tmp_path / "a.cases", "test_sender")
+    assert run_drawn_tables(tmp_path / "a.cases") == [RowResult(), RowResult()]
+    sender, book = run_drawn_tables(tmp_path / "a.cases", "test_sender")
     assert "2 short boards from 5" in sender.fault and "+> 2 lists of 30 calls, 1 differ" in sender.fault
-    sender, other = results(tmp_path / "a.cases", "test_book")
+    sender, other = run_drawn_tables(tmp_path / "a.cases", "test_book")
     assert "+> 1 stories, " in other.fault and sender == book == RowResult()
 
 
@@ -104,7 +104,7 @@ def test_what_differs_is_printed_with_its_seed(tmp_path: Path) -> None:
 def test_what_is_not_drawn_for_the_program_fails(row: str, tmp_path: Path) -> None:
     file = tmp_path / "a.cases"
     file.write_text(f"[a] random rows of test_sender\n{row}\n")
-    (group,) = groups_of(file)
+    (group,) = read_groups(file)
     assert [bool(case.error) for case in group.cases] == [True]
 
 
@@ -149,26 +149,26 @@ def trace_of(transfer: Transfer) -> str:
 def test_recoveries_are_played_as_the_second_reading_has_it(
     change: Callable[[str], str], fault: str, tmp_path: Path
 ) -> None:
-    traces = {it.script.encode(): trace_of(it) for it in drawn_transfers(5, "rfc6675", 3)}
+    traces = {it.script.encode(): trace_of(it) for it in draw_transfers(5, "rfc6675", 3)}
     file = tmp_path / "a.cases"
     file.write_text("[a] random rows of pdrecord\n5 recoveries by rfc6675 from 3\n")
-    (group,) = groups_of(file)
+    (group,) = read_groups(file)
 
     def play(calls: Sequence[ProgramCall]) -> Outputs:
         assert [it.given for it in calls] == list(traces) and len(calls) > 1
         return [ProgramOutput(change(traces[it.given]).encode(), b"", 0) for it in calls]
 
-    (found,) = run_steps(group.kind.check_cases(group.cases), play)
+    (found,) = run_test_alone(group.kind.check_cases(group.cases), play)
     assert group.cases[0].name == "5-recoveries-by-rfc6675-from-3"
     assert bool(found.fault) is bool(fault) and fault in found.fault
-    (refused,) = run_steps(
+    (refused,) = run_test_alone(
         group.kind.check_cases(group.cases), lambda calls: [ProgramOutput(b"", b"17 Read\n", 2) for _ in calls]
     )
     assert "status 2: 17 Read" in refused.fault
 
 
 def test_a_seed_draws_the_same_recoveries_under_many_settings() -> None:
-    first, again, other = (list(drawn_transfers(200, "rfc6675", seed)) for seed in (7, 7, 8))
+    first, again, other = (list(draw_transfers(200, "rfc6675", seed)) for seed in (7, 7, 8))
     assert first == again != other and 200 <= sum(it.recoveries for it in first) < 210
     settings = "\n".join(it.settings for it in first)
     keys = (
@@ -184,5 +184,5 @@ def test_a_seed_draws_the_same_recoveries_under_many_settings() -> None:
 
 
 def test_recoveries_are_drawn_that_begin_with_new_octets_and_that_lose_what_they_send_again() -> None:
-    drawn = list(drawn_transfers(200, "rfc9937", 0))
+    drawn = list(draw_transfers(200, "rfc9937", 0))
     assert sum(it.acknowledging for it in drawn) >= 3 and sum(it.lost_again for it in drawn) >= 20

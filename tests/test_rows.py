@@ -8,17 +8,17 @@ from typing import Any, Optional
 
 import pytest
 
-from harness.accept import accept_all
-from harness.calls import ProgramCall, ProgramOutput, run_steps
+from harness.accept import accept_files
+from harness.calls import ProgramCall, ProgramOutput, run_test_alone
 from harness.answered_tables import answered_tables_in
-from harness.compare import RowResult, report_of
-from harness.kinds import KINDS, groups_of
+from harness.compare import RowResult, report_of_verdicts
+from harness.kinds import KINDS, read_groups
 from harness.affected import affected_rows
 from harness.random_scripts import RandomScript
 from harness.recordings import check_recordings
 
 FakeProgram = Callable[[ProgramCall], Optional[ProgramOutput]]
-EMPTY_REPORT = report_of({})
+EMPTY_REPORT = report_of_verdicts({})
 
 
 @dataclass
@@ -34,9 +34,9 @@ class RowFixture:
 
     def results(self, text: str, program: FakeProgram) -> Iterator[tuple[str, RowResult]]:
         self.file.write_text(text)
-        for group in groups_of(self.file):
+        for group in read_groups(self.file):
             steps = group.kind.check_cases(group.cases)
-            results = run_steps(steps, lambda calls: [self.answer(program, it) for it in calls])
+            results = run_test_alone(steps, lambda calls: [self.answer(program, it) for it in calls])
             yield from zip((case.name for case in group.cases), results)
 
     def answer(self, program: FakeProgram, call: ProgramCall) -> Optional[ProgramOutput]:
@@ -58,12 +58,14 @@ def scripts_of(call: ProgramCall) -> dict[str, bytes]:
     return scripts
 
 
-def judge(call: ProgramCall) -> ProgramOutput:
+def answer_as_pdregress(call: ProgramCall) -> ProgramOutput:
     """A fake of pdregress: a script passes unless it has an x."""
-    return report_of({name: "fail 1 result" if b"x" in text else "pass 1" for name, text in scripts_of(call).items()})
+    return report_of_verdicts(
+        {name: "fail 1 result" if b"x" in text else "pass 1" for name, text in scripts_of(call).items()}
+    )
 
 
-def writes(output: str = "", errors: str = "", status: int = 0) -> FakeProgram:
+def always_writes(output: str = "", errors: str = "", status: int = 0) -> FakeProgram:
     return lambda _: ProgramOutput(output.encode(), errors.encode(), status)
 
 
@@ -71,7 +73,7 @@ SCRIPTS = "[a] scripts\npass 1: 0\nfail 1 result: x\npass 1 under mss 500, --a: 
 
 
 def test_scripts_are_run_together_and_where_that_differs_alone(fixture: RowFixture) -> None:
-    (name, fault), *others = fixture.faults(SCRIPTS, judge).items()
+    (name, fault), *others = fixture.faults(SCRIPTS, answer_as_pdregress).items()
     assert (name, others) == ("line-4", [])
     assert "\n-> a1 pass 1\n" in fault and "\n+> a1 fail 1 result\n" in fault
     together, under, alone = (it.given for it in fixture.calls)
@@ -80,7 +82,9 @@ def test_scripts_are_run_together_and_where_that_differs_alone(fixture: RowFixtu
 
 
 def test_what_differs_together_alone_is_a_fault_of_the_first(fixture: RowFixture) -> None:
-    faults = fixture.faults(SCRIPTS, lambda call: judge(call) if len(scripts_of(call)) == 1 else EMPTY_REPORT)
+    faults = fixture.faults(
+        SCRIPTS, lambda call: answer_as_pdregress(call) if len(scripts_of(call)) == 1 else EMPTY_REPORT
+    )
     assert faults["line-2"].startswith("run with those after it:\n")
 
 
@@ -96,11 +100,13 @@ def test_the_right_report_with_another_status_or_error_text_is_a_fault(
     change: dict[str, Any], shown: tuple[str, ...], fixture: RowFixture
 ) -> None:
     """Run together, and where that differs alone too."""
-    faults = fixture.faults("[a] scripts\npass 1: 0\nfail 1 result: x\n", lambda it: replace(judge(it), **change))
+    faults = fixture.faults(
+        "[a] scripts\npass 1: 0\nfail 1 result: x\n", lambda it: replace(answer_as_pdregress(it), **change)
+    )
     assert all(it in faults["line-3"] for it in shown)
     together = fixture.faults(
         "[a] scripts\nfail 1 result: x\nfail 1 result: xx\n",
-        lambda it: replace(judge(it), **change) if len(scripts_of(it)) == 2 else judge(it),
+        lambda it: replace(answer_as_pdregress(it), **change) if len(scripts_of(it)) == 2 else answer_as_pdregress(it),
     )
     assert list(together) == ["line-2"] and all(it in together["line-2"] for it in shown)
 
@@ -125,7 +131,7 @@ after before
 
 
 def test_a_story_is_run_with_workers_too(fixture: RowFixture) -> None:
-    assert fixture.faults(STORY, writes("1\ng\n", "h\n", 1)) == {}
+    assert fixture.faults(STORY, always_writes("1\ng\n", "h\n", 1)) == {}
     alone, with_workers = fixture.calls
     assert alone == ProgramCall("pdrecord", (b"-v",), b"0\nb1\nb2\nadd c 3\n0\nd\ne\nf")
     assert with_workers == ProgramCall("pdrecord", (b"-v", b"--workers", b"2"), alone.given)
@@ -133,7 +139,12 @@ def test_a_story_is_run_with_workers_too(fixture: RowFixture) -> None:
 
 @pytest.mark.parametrize(
     "answer",
-    [writes("1\ng\n", "h\n", 2), writes("1\n", "g\nh\n", 1), writes("1\ng\nh\n", "", 1), writes("1\ng", "h\n", 1)],
+    [
+        always_writes("1\ng\n", "h\n", 2),
+        always_writes("1\n", "g\nh\n", 1),
+        always_writes("1\ng\nh\n", "", 1),
+        always_writes("1\ng", "h\n", 1),
+    ],
 )
 def test_another_answer_to_a_story_is_seen(answer: FakeProgram, fixture: RowFixture) -> None:
     assert list(fixture.faults(STORY, answer)) == ["the-title", "the-title-2"]
@@ -141,8 +152,8 @@ def test_another_answer_to_a_story_is_seen(answer: FakeProgram, fixture: RowFixt
 
 def test_blocks_are_compared_by_their_first_lines(fixture: RowFixture) -> None:
     text = "[a] stories\n# b\n!~ a:1:\n!~ {}\n! c\n= 0\n"
-    assert fixture.faults(text, writes("", 'a:1: fail\n  more\n{"b": 1}\nc\n')) == {}
-    assert list(fixture.faults(text, writes("", "a:2: fail\n{}\nc\n"))) == ["b"]
+    assert fixture.faults(text, always_writes("", 'a:1: fail\n  more\n{"b": 1}\nc\n')) == {}
+    assert list(fixture.faults(text, always_writes("", "a:2: fail\n{}\nc\n"))) == ["b"]
 
 
 def test_arguments_are_refused_before_anything_is_read(fixture: RowFixture) -> None:
@@ -167,7 +178,7 @@ def test_arguments_are_refused_before_anything_is_read(fixture: RowFixture) -> N
 def test_settings_lines_and_cut_inputs(fixture: RowFixture) -> None:
     rows = "ok | < set mss 500\n4 BadValue | < set mss 500\n15 BadCommand | < bye\n"
     text = f"[a] refusals\n{rows}[c] cuts\npass 1 | add a 1\\n\n16 Truncated | 0\n"
-    faults = fixture.faults(text, writes("", "pdregress: 16 Truncated\n", 2))
+    faults = fixture.faults(text, always_writes("", "pdregress: 16 Truncated\n", 2))
     assert list(faults) == ["line-2", "line-3", "line-4", "line-6"]
     assert fixture.calls[:2] == [
         ProgramCall("pdregress", (), b"set mss 500\n"),
@@ -219,7 +230,7 @@ def test_an_explanation_of_a_limit_has_its_number(fixture: RowFixture) -> None:
 
 def test_octets_and_cuts(fixture: RowFixture) -> None:
     text = "[a] octets\n= pass 1: 0@\n- fail 1 result: x\n[b] cuts\nsyntax 1 | x\nfail 1 result | y\\n\npass 1 | x\n"
-    faults = fixture.faults(text, judge)
+    faults = fixture.faults(text, answer_as_pdregress)
     assert list(faults) == ["line-5", "line-7"] and "syntax 1" in faults["line-5"]
     assert len(scripts_of(fixture.calls[0])) == 255
 
@@ -235,7 +246,7 @@ def test_what_holds_of_each_recording(change: Callable[[bytes], bytes], fault: s
     def record(call: ProgramCall) -> ProgramOutput:
         """Writes the events, and with --trace their times."""
         if call.program == "pdregress":
-            return report_of({name: "pass 1" for name in scripts_of(call)})
+            return report_of_verdicts({name: "pass 1" for name in scripts_of(call)})
         plain = b"\n".join(it for it in call.given.split(b"\n") if not it.startswith(b"//="))
         trace = b"//= at 0.000000 CLOSED\n" if b"--trace" in call.arguments else b""
         return ProgramOutput(plain + trace, b"", 0)
@@ -246,9 +257,9 @@ def test_what_holds_of_each_recording(change: Callable[[bytes], bytes], fault: s
 
     scripts = [RandomScript("a", "", b"0 b /**/\n"), RandomScript("d", "", b"0 e\n")]
     for program, wanted in ((record, ["", ""]), (record_wrongly, [f"a: {fault}", f"d: {other}" if other else ""])):
-        found = run_steps(check_recordings(scripts), lambda calls: [program(it) for it in calls])
+        found = run_test_alone(check_recordings(scripts), lambda calls: [program(it) for it in calls])
         assert [(it.fault.split("\n")[0], it.is_unanswered) for it in found] == [(it, False) for it in wanted]
-    unanswered = run_steps(
+    unanswered = run_test_alone(
         check_recordings(scripts), lambda calls: [None if it.program == "pdrecord" else EMPTY_REPORT for it in calls]
     )
     assert [it.is_unanswered for it in unanswered] == [True, True]
@@ -261,11 +272,11 @@ def test_what_holds_of_each_recording(change: Callable[[bytes], bytes], fault: s
 def test_a_recording_passes_with_all_of_its_events(row: str, fault: str) -> None:
     def answer(call: ProgramCall) -> ProgramOutput:
         if call.program == "pdregress":
-            return report_of({name: row for name in scripts_of(call)})
+            return report_of_verdicts({name: row for name in scripts_of(call)})
         trace = b"//= at 0.000000 CLOSED\n" if b"--trace" in call.arguments else b""
         return ProgramOutput(call.given.split(b"//=")[0] + trace, b"", 0)
 
-    (found,) = run_steps(
+    (found,) = run_test_alone(
         check_recordings([RandomScript("a", "", b"0 b\n")]), lambda calls: [answer(it) for it in calls]
     )
     assert found == RowResult(fault)
@@ -295,7 +306,7 @@ REFUSED = "a refusal is of `$ ARGUMENTS`, `< set KEY VALUE`, or with 15 BadComma
     ],
 )
 def test_what_is_not_written_as_its_kind_wants_it_fails(text: str, why: str, fixture: RowFixture) -> None:
-    (fault,) = fixture.faults(text, judge).values()
+    (fault,) = fixture.faults(text, answer_as_pdregress).values()
     assert fault.endswith(why) and not fixture.calls
 
 
@@ -311,7 +322,7 @@ class AcceptFixture:
         """The file after that."""
         self.fixture.file.write_text(text)
         above = f"{self.fixture.file.parent}/"
-        for rows, others in accept_all([self.fixture.file], lambda calls: [program(it) for it in calls]):
+        for rows, others in accept_files([self.fixture.file], lambda calls: [program(it) for it in calls]):
             self.accepted += [it.removeprefix(above) for it in rows]
             self.refused += [it.removeprefix(above) for it in others]
         return self.fixture.file.read_text()
@@ -329,28 +340,28 @@ def test_verdicts_are_accepted_each_with_a_mark(accepting: AcceptFixture) -> Non
     text = "[a] scripts\n# b\npass 1: 0\npass 1 under mss 500: a: x\nfail 1 result: x\n\npass 2: y\n"
     wanted = text.replace("pass 1 under mss 500: a", f"{MARKED}fail 1 result under mss 500: a")
     wanted = wanted.replace("pass 2", f"{MARKED}pass 1")
-    assert accepting.text(text, judge) == wanted
+    assert accepting.text(text, answer_as_pdregress) == wanted
     assert accepting.accepted == ["a.cases:5: taken: fail 1 result, was pass 1", "a.cases:9: taken: pass 1, was pass 2"]
-    assert accepting.text(wanted, judge) == wanted and len(accepting.accepted) == 2
+    assert accepting.text(wanted, answer_as_pdregress) == wanted and len(accepting.accepted) == 2
 
 
 def test_a_marked_row_fails_by_name_and_line_until_its_mark_is_taken_away(fixture: RowFixture) -> None:
     rows = "[a] scripts\npass 1: 0\n{}pass 1: 1\npass 1: 2\n"
-    (name, fault), *others = fixture.faults(rows.format(MARKED), judge).items()
+    (name, fault), *others = fixture.faults(rows.format(MARKED), answer_as_pdregress).items()
     assert (name, others) == ("line-4", [])
     does = "work it out by hand, from docs/SENDER.md and docs/SCRIPTS.md, and take away line 3"
     assert fault.endswith(f"/a.cases:3: this answer was taken from the program: {does}")
-    assert fixture.faults(rows.format(""), judge) == {}
+    assert fixture.faults(rows.format(""), answer_as_pdregress) == {}
 
 
 @pytest.mark.parametrize("text", [f"[a] scripts\npass 1: 0\n{MARKED}", f"{MARKED}[a] scripts\npass 1: 0\n"])
 def test_a_mark_without_a_row_fails(text: str, fixture: RowFixture) -> None:
-    assert len(fixture.faults(text, judge)) == 1
+    assert len(fixture.faults(text, answer_as_pdregress)) == 1
 
 
 def test_a_row_that_is_marked_and_turns_again_keeps_one_mark(accepting: AcceptFixture) -> None:
     text = f"[a] scripts\n{MARKED}fail 1 result: 0\n"
-    assert accepting.text(text, judge) == f"[a] scripts\n{MARKED}pass 1: 0\n"
+    assert accepting.text(text, answer_as_pdregress) == f"[a] scripts\n{MARKED}pass 1: 0\n"
     assert accepting.accepted == ["a.cases:3: taken: pass 1, was fail 1 result"]
 
 
@@ -393,10 +404,10 @@ def test_a_story_keeps_the_lines_whose_output_is_the_same(accepting: AcceptFixtu
 @pytest.mark.parametrize(
     "answer, why",
     [
-        (writes("1\n"), "'after before' differs now: change what it names"),
-        (writes("0\n1"), "the output has no newline at its end"),
-        (writes(status=-1), "the program came to no end, by this row or by one that is run with it"),
-        (writes(status=3), "the program came to no end"),
+        (always_writes("1\n"), "'after before' differs now: change what it names"),
+        (always_writes("0\n1"), "the output has no newline at its end"),
+        (always_writes(status=-1), "the program came to no end, by this row or by one that is run with it"),
+        (always_writes(status=3), "the program came to no end"),
     ],
 )
 def test_what_a_row_cannot_write_is_not_accepted(answer: FakeProgram, why: str, accepting: AcceptFixture) -> None:
@@ -427,13 +438,15 @@ def test_a_row_is_affected_that_is_answered_wrongly_and_otherwise_than_before(
     before: str, after: str, lines: list[int], fixture: RowFixture
 ) -> None:
     fixture.file.write_text("[a] scripts\npass 1: 0\n")
-    outputs: list[list[Optional[ProgramOutput]]] = [[report_of({"a1": it}) if it else None] for it in (before, after)]
+    outputs: list[list[Optional[ProgramOutput]]] = [
+        [report_of_verdicts({"a1": it}) if it else None] for it in (before, after)
+    ]
     assert [it.line for it in affected_rows(list(answered_tables_in(fixture.file)), *outputs)] == lines
 
 
 def test_a_row_of_another_kind_is_changed_by_hand(accepting: AcceptFixture) -> None:
     text = "[a] cuts\npass 1 | x\n[b] refusals\n4 BadValue | < set mss 500\n"
-    assert accepting.text(text, judge) == text
+    assert accepting.text(text, answer_as_pdregress) == text
     by_hand = "not taken: a row of this kind is changed by hand"
     assert (accepting.accepted, accepting.refused) == ([], [f"a.cases:2: {by_hand}", f"a.cases:4: {by_hand}"])
 
@@ -456,7 +469,9 @@ def test_an_explanation_stands_before_its_scripts(before: str, after: str, accep
             blocks += (
                 f'{{"name": "{name}", "verdict": "syntax", "line": 1, "column": null, "expected": ["{expected}"]}}\n'
             )
-        return ProgramOutput(report_of({name: "syntax 1" for name in scripts_of(call)}).output, blocks.encode(), 1)
+        return ProgramOutput(
+            report_of_verdicts({name: "syntax 1" for name in scripts_of(call)}).output, blocks.encode(), 1
+        )
 
     def table(rows: str) -> str:
         return "[a] explained\n" + rows.replace("> A", "> syntax 1 end: a").replace("> B", "> syntax 1 end: b")

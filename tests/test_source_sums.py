@@ -11,8 +11,8 @@ import pytest
 TOP = Path(__file__).resolve().parents[1]
 sys.path.insert(0, str(TOP / "tools"))
 
-from kit import kit_identity  # noqa: E402
-from source_sums import Unreadable, sources_below, sums  # noqa: E402
+from kit import kit_id_on_path  # noqa: E402
+from source_sums import Unreadable, sources_of_proof, sums_of_proof  # noqa: E402
 
 READ = [
     "HANDLES",
@@ -36,38 +36,42 @@ def tree(tmp_path: Path) -> Path:
 
 
 def test_a_proof_reads_the_sources_of_its_crate_and_of_those_below(tree: Path) -> None:
-    assert sources_below(str(tree), "high") == READ
-    assert sources_below(str(tree), "low") == [it for it in READ if "high" not in it]
-    found = sums(str(tree), "high")
+    assert sources_of_proof(str(tree), "high") == READ
+    assert sources_of_proof(str(tree), "low") == [it for it in READ if "high" not in it]
+    found = sums_of_proof(str(tree), "high")
     assert list(found) == READ
     assert found["crates/low/src/lib.rt"] == hashlib.sha256(b"crates/low/src/lib.rt").hexdigest()
 
 
-def linked(path: Path) -> None:
+def replace_by_link(path: Path) -> None:
     """Puts a link in the place of a file or a folder."""
     path.rename(path.with_name("elsewhere"))
     path.symlink_to("elsewhere")
 
 
-def piped(path: Path) -> None:
+def replace_by_pipe(path: Path) -> None:
     path.unlink()
     os.mkfifo(path)
 
 
-def removed(path: Path) -> None:
+def move_elsewhere(path: Path) -> None:
     path.rename(path.with_name("elsewhere"))
 
 
 @pytest.mark.parametrize(
     ("change", "path", "why"),
     [
-        (linked, "crates/low", "crates/low is a link: put the file or folder itself there"),
-        (linked, "crates/low/src", "crates/low/src is a link: put the file or folder itself there"),
-        (linked, "crates/low/proofs/f", "crates/low/proofs/f is a link: put the file or folder itself there"),
-        (linked, "crates/low/src/lib.rt", "crates/low/src/lib.rt is a link: put the file or folder itself there"),
-        (piped, "crates/low/src/lib.rt", "crates/low/src/lib.rt is no plain file"),
-        (removed, "crates/low", "crates/low is no folder"),
-        (removed, "crates.txt", "crates.txt: No such file or directory"),
+        (replace_by_link, "crates/low", "crates/low is a link: put the file or folder itself there"),
+        (replace_by_link, "crates/low/src", "crates/low/src is a link: put the file or folder itself there"),
+        (replace_by_link, "crates/low/proofs/f", "crates/low/proofs/f is a link: put the file or folder itself there"),
+        (
+            replace_by_link,
+            "crates/low/src/lib.rt",
+            "crates/low/src/lib.rt is a link: put the file or folder itself there",
+        ),
+        (replace_by_pipe, "crates/low/src/lib.rt", "crates/low/src/lib.rt is no plain file"),
+        (move_elsewhere, "crates/low", "crates/low is no folder"),
+        (move_elsewhere, "crates.txt", "crates.txt: No such file or directory"),
     ],
 )
 def test_what_no_proof_reads_is_refused_by_name(
@@ -75,18 +79,18 @@ def test_what_no_proof_reads_is_refused_by_name(
 ) -> None:
     change(tree / path)
     with pytest.raises(Unreadable) as refused:
-        sums(str(tree), "high")
+        sums_of_proof(str(tree), "high")
     assert str(refused.value) == why
 
 
 def test_a_crate_that_is_not_named_is_refused(tree: Path) -> None:
     with pytest.raises(Unreadable, match="crates.txt names no crate higher"):
-        sources_below(str(tree), "higher")
+        sources_of_proof(str(tree), "higher")
 
 
 def test_a_link_of_an_editor_that_leads_nowhere_is_not_read(tree: Path) -> None:
     (tree / "crates/low/src/.#lib.rt").symlink_to("me@here.123")
-    assert sources_below(str(tree), "high") == READ
+    assert sources_of_proof(str(tree), "high") == READ
 
 
 def test_a_kit_is_named_by_the_file_beside_the_folder_of_its_command(
@@ -101,4 +105,4 @@ def test_a_kit_is_named_by_the_file_beside_the_folder_of_its_command(
     (tmp_path / "empty/rt").touch(mode=0o644)
     for folders, named in ((["empty"], None), (["empty", "links", "own"], "kit-1 logic 2"), (["own", "links"], "")):
         monkeypatch.setenv("PATH", ":".join(str(tmp_path / it) for it in folders))
-        assert kit_identity() == named
+        assert kit_id_on_path() == named

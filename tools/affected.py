@@ -24,13 +24,13 @@ from dataclasses import asdict
 from pathlib import Path
 from typing import Optional
 
-from affected_sections import affected_paragraphs, names_changed
+from affected_sections import affected_paragraphs, changed_names
 
 TOP = Path(__file__).resolve().parents[1]
 sys.path.insert(0, str(TOP / "tests"))
 
 from harness.calls import ProgramCall, ProgramOutput  # noqa: E402
-from harness.affected import affected_rows, answered_tables, calls_of, count_unanswered  # noqa: E402
+from harness.affected import affected_rows, tables_about_sender, calls_of_tables, count_unanswered_cases  # noqa: E402
 
 NUMBER = re.compile(rb"(\d+)\n")
 # A program writes so many octets at most, and so many for each octet of its input, also where it explains.
@@ -39,15 +39,15 @@ OUTPUT_PER_OCTET = 2
 EXPLANATION_PER_OCTET = 24
 
 
-def part(octets: bytes) -> bytes:
+def length_prefixed(octets: bytes) -> bytes:
     """A part, after the number of its octets."""
     return b"%d\n%b" % (len(octets), octets)
 
 
-def parts(octets: bytes) -> Iterator[bytes]:
+def split_parts(octets: bytes) -> Iterator[bytes]:
     """The parts of a text.
 
-    >>> list(parts(part(b"a") + part(b"") + part(b"1\\n2")))
+    >>> list(split_parts(length_prefixed(b"a") + length_prefixed(b"") + length_prefixed(b"1\\n2")))
     [b'a', b'', b'1\\n2']
     """
     at = 0
@@ -56,29 +56,29 @@ def parts(octets: bytes) -> Iterator[bytes]:
         yield octets[found.end() : at]
 
 
-def start_of(call: ProgramCall) -> bytes:
+def encode_start(call: ProgramCall) -> bytes:
     """A start of a program."""
     per_octet = EXPLANATION_PER_OCTET if b"--explain" in call.arguments else OUTPUT_PER_OCTET
     most = OUTPUT + per_octet * len(call.given)
     command = b"\0".join([call.program.encode(), *call.arguments])
-    return b"".join(map(part, (command, call.given, b"%d" % most)))
+    return b"".join(map(length_prefixed, (command, call.given, b"%d" % most)))
 
 
-def answer_of(output: bytes, errors: bytes, status: bytes) -> Optional[ProgramOutput]:
+def answer_if_any(output: bytes, errors: bytes, status: bytes) -> Optional[ProgramOutput]:
     """The answer to a start, if there is one."""
     return ProgramOutput(output, errors, int(status)) if status.strip().isdigit() else None
 
 
-def listed(answers: bytes, before: Optional[Path]) -> dict[str, object]:
+def list_affected(answers: bytes, before: Optional[Path]) -> dict[str, object]:
     """The rows and paragraphs that are affected."""
-    tables = answered_tables()
-    each = list(zip(*[parts(answers)] * 6))
-    old = [answer_of(*it[:3]) for it in each]
-    new = [answer_of(*it[3:]) for it in each]
+    tables = tables_about_sender()
+    each = list(zip(*[split_parts(answers)] * 6))
+    old = [answer_if_any(*it[:3]) for it in each]
+    new = [answer_if_any(*it[3:]) for it in each]
     paragraphs = None if before is None else [asdict(it) for it in affected_paragraphs(before, TOP)]
     return {
         "rows": [asdict(it) for it in affected_rows(tables, old, new)],
-        "unheard": count_unanswered(tables, new),
+        "unheard": count_unanswered_cases(tables, new),
         "sections": paragraphs,
     }
 
@@ -95,11 +95,11 @@ def main(arguments: Sequence[str]) -> int:
     changed_command.add_argument("--after", metavar="FOLDER", type=Path, default=TOP)
     options = parser.parse_args(arguments)
     if options.command == "changed":
-        print(json.dumps([asdict(it) for it in names_changed(options.before, options.after)]))
+        print(json.dumps([asdict(it) for it in changed_names(options.before, options.after)]))
     elif options.command == "starts":
-        sys.stdout.buffer.writelines(start_of(it) for it in calls_of(answered_tables()))
+        sys.stdout.buffer.writelines(encode_start(it) for it in calls_of_tables(tables_about_sender()))
     else:
-        print(json.dumps(listed(options.answers.read_bytes(), options.before)))
+        print(json.dumps(list_affected(options.answers.read_bytes(), options.before)))
     return 0
 
 

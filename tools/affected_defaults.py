@@ -57,14 +57,16 @@ def changed_defaults(before: Path, tree: Path) -> Iterator[ChangedDefault]:
             yield ChangedDefault(key, line, old[key][1], value)
 
 
-def places_of(key: str, tree: Path) -> Iterator[tuple[str, int]]:
+def places_of_default(key: str, tree: Path) -> Iterator[tuple[str, int]]:
     """The files of a tree that say a setting's default, each with the line."""
     for name, begin in PLACES:
         file = tree / name
         lines = file.read_text(encoding="utf-8").split("\n") if file.is_file() else []
-        yield from ((name, number) for number, line in enumerate(lines, 1) if _begins(line, begin.format(key=key)))
+        yield from (
+            (name, number) for number, line in enumerate(lines, 1) if _is_line_of_default(line, begin.format(key=key))
+        )
 
 
-def _begins(line: str, begin: str) -> bool:
+def _is_line_of_default(line: str, begin: str) -> bool:
     """Whether a line begins so; an item of a man page is all of its line."""
     return line == begin if begin.startswith(".") else line.startswith(begin)

@@ -13,8 +13,8 @@ from collections.abc import Iterator
 from dataclasses import dataclass, field, replace
 from pathlib import Path
 
-from changed_rules import Key, SpecRule, files_of, named_in, names_of, rules_in
-from affected_defaults import changed_defaults, places_of
+from changed_rules import Key, SpecRule, spec_files_of, definitions_by_word, definitions_named_by, rules_in
+from affected_defaults import changed_defaults, places_of_default
 
 # The pages whose paragraphs, or rows of tables, are about rules.
 PAGES = ("docs/SENDER.md", "docs/LINUX.md")
@@ -42,7 +42,7 @@ class Citation:
     section: str = ""
     parts: frozenset[str] = frozenset()
 
-    def is_about(self, other: Citation) -> bool:
+    def is_same_subject(self, other: Citation) -> bool:
         """Whether both are about the same."""
         is_same = (self.rfc, self.section) == (other.rfc, other.section) and self.section
         return bool(is_same and (not self.parts or not other.parts or self.parts & other.parts))
@@ -54,19 +54,19 @@ class Citation:
 NOTHING = Citation("")
 
 
-def numbers(text: str) -> list[str]:
+def split_numbers(text: str) -> list[str]:
     """The numbers of a list, as `5.2 and 5.3`."""
     return [it for it in re.split(r", and |, | and | to ", text) if it]
 
 
-def cited_in(text: str, above: Citation = NOTHING) -> list[Citation]:
+def citations_in(text: str, above: Citation = NOTHING) -> list[Citation]:
     """What a comment or a paragraph cites.
 
-    >>> [str(it) for it in cited_in("a (RFC 6298, sections 3 and 5.6; RFC 2018, section 5)")]
+    >>> [str(it) for it in citations_in("a (RFC 6298, sections 3 and 5.6; RFC 2018, section 5)")]
     ['RFC 6298, section 3', 'RFC 6298, section 5.6', 'RFC 2018, section 5']
-    >>> [str(it) for it in cited_in("RFC 6298, 5: a; RFC 8985, 7: b")]
+    >>> [str(it) for it in citations_in("RFC 6298, 5: a; RFC 8985, 7: b")]
     ['RFC 6298, section 5', 'RFC 8985, section 7']
-    >>> cited_in("b (step 4.3)", Citation("6675", "5"))
+    >>> citations_in("b (step 4.3)", Citation("6675", "5"))
     [Citation(rfc='6675', section='5', parts=frozenset({'4'}))]
     """
     found: list[Citation] = []
@@ -76,20 +76,20 @@ def cited_in(text: str, above: Citation = NOTHING) -> list[Citation]:
             rfc = token["rfc"]
             found += [Citation(rfc, token["bare"])] if token["bare"] else []
         elif token["sections"]:
-            found += [Citation(rfc, it) for it in numbers(token["sections"])]
+            found += [Citation(rfc, it) for it in split_numbers(token["sections"])]
         elif token["name"]:
             names.add(token["name"])
         else:
             part = token["check"] or ""
-            parts = {part} if part else {it.partition(".")[0] for it in numbers(token["steps"])}
+            parts = {part} if part else {it.partition(".")[0] for it in split_numbers(token["steps"])}
             found = found or [replace(above, parts=frozenset())]
             found[-1] = replace(found[-1], parts=found[-1].parts | parts)
     return [replace(it, parts=it.parts | names) for it in found if it.section]
 
 
-def heading_in(text: str, above: Citation = NOTHING) -> Citation:
+def citation_of_heading(text: str, above: Citation = NOTHING) -> Citation:
     """What a heading puts above what has no citation of its own: the only section that it names, or an RFC alone."""
-    found = cited_in(text, above)
+    found = citations_in(text, above)
     rfc = re.search(r"RFC (\d+)", text)
     if len({(it.rfc, it.section) for it in found}) == 1:
         return replace(found[0], parts=frozenset())
@@ -111,20 +111,20 @@ class SourceItem:
 
 def definitions_in(crate: str, file: str, text: str) -> Iterator[tuple[SpecRule, list[Citation]]]:
     """The definitions of a file, each with what it cites."""
-    above = heading_in(text.partition("\n")[0])
+    above = citation_of_heading(text.partition("\n")[0])
     head, line = above, 0
     for block in text.split("\n\n"):
         rule = next(rules_in(crate, file, block), None)
         comment = " ".join(re.findall(r"^\s*--(.*)", block, re.MULTILINE))
         if rule is None and line:
-            head = heading_in(comment, above) if comment else head
+            head = citation_of_heading(comment, above) if comment else head
         elif rule is not None:
-            own = cited_in(comment, head)
+            own = citations_in(comment, head)
             yield replace(rule, line=rule.line + line), own or [head] * bool(head.section)
         line += block.count("\n") + 2
 
 
-def items_of_code(text: str) -> Iterator[tuple[re.Match[str], int, list[str]]]:
+def functions_and_constants(text: str) -> Iterator[tuple[re.Match[str], int, list[str]]]:
     """The functions and constants of a file of code: each with its line, and its lines from its comment to its end."""
     lines = text.split("\n")
     for number, line in enumerate(lines):
@@ -143,21 +143,21 @@ def items_of_code(text: str) -> Iterator[tuple[re.Match[str], int, list[str]]]:
         yield found, number + 1, lines[begin : end + 1]
 
 
-def code_in(crate: str, path: str, text: str) -> Iterator[SourceItem]:
+def source_items_in(crate: str, path: str, text: str) -> Iterator[SourceItem]:
     """The functions and constants of a file."""
     used = {
         name.partition(" as ")[0]: (low, file, name.partition(" as ")[0])
         for low, file, names in GHOST_USE.findall(text)
         for name in (it.strip() for it in names.split(","))
     }
-    for found, line, lines in items_of_code(text):
+    for found, line, lines in functions_and_constants(text):
         comment = " ".join(it.strip().removeprefix("///") for it in lines if it.lstrip().startswith("///"))
         body = [it.strip() for it in lines if not it.lstrip().startswith("//")]
         contract = " ".join(it for it in body if it.startswith(("ensures", "requires")))
         named = frozenset(used[it] for it in IDENTIFIER.findall(contract) if it in used)
         place = f"crates/{crate}/{path}:{line}"
         yield SourceItem(
-            found["name"], place, "\n".join(body), tuple(cited_in(comment)), named, found["kind"] == "const"
+            found["name"], place, "\n".join(body), tuple(citations_in(comment)), named, found["kind"] == "const"
         )
 
 
@@ -173,26 +173,26 @@ class SenderSources:
         return self.definitions[key].cited if key in self.definitions else ()
 
 
-def sources_of(tree: Path) -> SenderSources:
+def read_sender_sources(tree: Path) -> SenderSources:
     """The crates of a tree's sender."""
     sources = SenderSources()
     for crate in CRATES:
         folder = tree / "crates" / crate
-        for file, text in files_of(folder):
+        for file, text in spec_files_of(folder):
             rules = list(definitions_in(crate, file, text))
-            names = named_in(crate, file, text, {rule.name for rule, _ in rules})
+            names = definitions_by_word(crate, file, text, {rule.name for rule, _ in rules})
             for rule, cited in rules:
-                named = frozenset(names_of(rule, names) - {rule.key})
+                named = frozenset(definitions_named_by(rule, names) - {rule.key})
                 sources.definitions[rule.key] = SourceItem(rule.name, rule.place, rule.text, tuple(cited), named)
         for path in sorted(folder.glob("src/**/*.rt")):
             inner = str(path.relative_to(folder))
-            for item in code_in(crate, inner, path.read_text(encoding="utf-8")):
+            for item in source_items_in(crate, inner, path.read_text(encoding="utf-8")):
                 count = sum(key[:3] == (crate, inner, item.name) for key in sources.code)
                 sources.code[crate, inner, item.name, count] = item
     return sources
 
 
-def changed_in(before: dict, after: dict) -> list[SourceItem]:  # type: ignore[type-arg]
+def changed_or_gone_items(before: dict, after: dict) -> list[SourceItem]:  # type: ignore[type-arg]
     """The items that are others, or are new; and those that are gone, as they were."""
     others = [it for key, it in after.items() if key not in before or before[key].text != it.text]
     return others + [it for key, it in before.items() if key not in after]
@@ -212,9 +212,9 @@ class ChangedNames:
     whole: tuple[str, ...]
 
 
-def names_changed(before: Path, tree: Path) -> Iterator[ChangedNames]:
+def changed_names(before: Path, tree: Path) -> Iterator[ChangedNames]:
     """The names in the functions and constants of the sender that changed."""
-    old, after = sources_of(before).code, sources_of(tree)
+    old, after = read_sender_sources(before).code, read_sender_sources(tree)
     new = after.code
     for key, item in new.items():
         lines = set(old[key].text.split("\n")) if key in old else set()
@@ -232,12 +232,14 @@ def names_changed(before: Path, tree: Path) -> Iterator[ChangedNames]:
         yield ChangedNames(item.name, item.place, sections, tuple(sorted(changed)), whole)
 
 
-def changed_items(before: SenderSources, after: SenderSources) -> Iterator[tuple[SourceItem, set[Citation]]]:
+def changed_items_with_citations(
+    before: SenderSources, after: SenderSources
+) -> Iterator[tuple[SourceItem, set[Citation]]]:
     """What changed, each with all that it cites: a function nothing, since its rule is what its contract names."""
-    for item in changed_in(before.definitions, after.definitions):
+    for item in changed_or_gone_items(before.definitions, after.definitions):
         users = [it for it in after.definitions.values() if any(after.definitions.get(key) is item for key in it.names)]
         yield item, {*item.cited, *(cited for it in users for cited in it.cited)}
-    for item in changed_in(before.code, after.code):
+    for item in changed_or_gone_items(before.code, after.code):
         if not item.is_constant:
             yield item, set()
             continue
@@ -257,7 +259,7 @@ class CitingParagraph:
     cited: tuple[Citation, ...]
 
 
-def paragraphs_in(page: str) -> Iterator[CitingParagraph]:
+def citing_paragraphs_in(page: str) -> Iterator[CitingParagraph]:
     """The paragraphs of the page that cite something."""
     heading, above = "", NOTHING
     for number, line in enumerate(page.split("\n"), 1):
@@ -265,21 +267,21 @@ def paragraphs_in(page: str) -> Iterator[CitingParagraph]:
             heading, above = line.removeprefix("## "), NOTHING
         elif heading and line:
             if not line.lstrip().startswith(("-", "|")) and above == NOTHING:
-                above = heading_in(line)
-            cited = tuple(cited_in(line, above))
+                above = citation_of_heading(line)
+            cited = tuple(citations_in(line, above))
             if cited:
-                yield CitingParagraph(number, heading, name_of(line), cited)
+                yield CitingParagraph(number, heading, paragraph_name(line), cited)
 
 
-def paragraphs_of(page: Path) -> Iterator[CitingParagraph]:
+def citing_paragraphs_of_page(page: Path) -> Iterator[CitingParagraph]:
     """The paragraphs of a page, if it is there."""
-    return paragraphs_in(page.read_text(encoding="utf-8")) if page.exists() else iter(())
+    return citing_paragraphs_in(page.read_text(encoding="utf-8")) if page.exists() else iter(())
 
 
-def name_of(line: str) -> str:
+def paragraph_name(line: str) -> str:
     """What a paragraph is called: its bold words, the first cell of its row, or else its first words.
 
-    >>> [name_of(it) for it in ("- a **b c** d", "| [e f](#e) | g |", "1. h i j k l m n")]
+    >>> [paragraph_name(it) for it in ("- a **b c** d", "| [e f](#e) | g |", "1. h i j k l m n")]
     ['b c', 'e f', 'h i j k l m']
     """
     bold = re.search(r"\*\*(.+?)\*\*", line)
@@ -306,12 +308,12 @@ def affected_paragraphs(before: Path, tree: Path) -> Iterator[AffectedParagraph]
     """Where changed defaults are written, the paragraphs of changed rules, and last what changed without one."""
     for default in changed_defaults(before, tree):
         reason = f"its default is {default.after}, and was {default.before}"
-        for page, line in places_of(default.key, tree):
+        for page, line in places_of_default(default.key, tree):
             yield AffectedParagraph(page, line, "a default", default.key, (reason,), (default.place,))
-    changed = list(changed_items(sources_of(before), sources_of(tree)))
+    changed = list(changed_items_with_citations(read_sender_sources(before), read_sender_sources(tree)))
     listed: set[str] = set()
-    for page, it in ((page, it) for page in PAGES for it in paragraphs_of(tree / page)):
-        common = [(item, one) for item, cited in changed for one in it.cited if any(map(one.is_about, cited))]
+    for page, it in ((page, it) for page in PAGES for it in citing_paragraphs_of_page(tree / page)):
+        common = [(item, one) for item, cited in changed for one in it.cited if any(map(one.is_same_subject, cited))]
         if common:
             rules = tuple(dict.fromkeys(f"{item.name} ({item.place})" for item, _ in common))
             listed |= set(rules)

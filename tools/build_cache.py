@@ -19,7 +19,7 @@ from dataclasses import dataclass
 from pathlib import Path
 
 import source_sums
-from kit_tools import BuildKit, UnknownKitError, known_kit
+from kit_tools import BuildKit, UnknownKitError, find_known_kit
 
 TOOLS = Path(__file__).resolve().parent
 PROGRAMS = ("pdregress", "pdrecord")
@@ -48,11 +48,11 @@ class CachedBuild:
 
     folder: Path
 
-    def programs(self, way: str) -> Path | None:
+    def intact_program_folder(self, way: str) -> Path | None:
         """The folder of the two programs that were built so, if they are there as they were put there."""
         folder = self.folder / way
         try:
-            if any(not is_own(it) for it in (self.folder.parent, self.folder, folder)):
+            if any(not is_private_folder(it) for it in (self.folder.parent, self.folder, folder)):
                 return None
             written = (folder / SUM).read_text()
             if sums_of_programs(folder) != {written}:
@@ -63,12 +63,12 @@ class CachedBuild:
         return folder
 
     @contextlib.contextmanager
-    def alone(self, turn: Callable[[], None]) -> Iterator[None]:
+    def lock_for_building(self, turn: Callable[[], None]) -> Iterator[None]:
         """Lets one call at a time build it; the others wait, each with a turn now and then. Who ends lets others go."""
         file = self.folder.with_name(f"{self.folder.name}.lock")
         descriptor = os.open(file, os.O_RDWR | os.O_CREAT | os.O_NOFOLLOW | os.O_CLOEXEC, 0o600)
         try:
-            while not is_locked(descriptor):
+            while not try_lock(descriptor):
                 turn()
                 time.sleep(BETWEEN)
             yield
@@ -76,63 +76,65 @@ class CachedBuild:
             os.close(descriptor)
 
 
-def cached_programs(top: Path, ways: tuple[str, ...]) -> Path | None:
+def cached_program_folder(top: Path, ways: tuple[str, ...]) -> Path | None:
     """The folder of both programs of a tree, in the first of these ways in which they are kept, if they are."""
     try:
-        kept = cached_build(top, known_kit())
+        kept = place_of_build(top, find_known_kit())
     except (UnknownKitError, CacheError, source_sums.Unreadable, OSError):
         return None
-    return next((it for it in map(kept.programs, ways) if it is not None), None)
+    return next((it for it in map(kept.intact_program_folder, ways) if it is not None), None)
 
 
-def cached_build(top: Path, kit: BuildKit) -> CachedBuild:
+def place_of_build(top: Path, kit: BuildKit) -> CachedBuild:
     """Where the build of a tree by this kit is kept."""
-    return CachedBuild(folder_of_all(top) / key_of(top, kit))
+    return CachedBuild(folder_of_builds(top) / build_key_of(top, kit))
 
 
-def key_of(top: Path, kit: BuildKit) -> str:
+def build_key_of(top: Path, kit: BuildKit) -> str:
     """The checksum of what a build is made of: the sources that are read, what builds them, and the kit."""
-    paths = sorted({it for name in PROGRAMS for it in source_sums.sources_below(str(top), name) if is_read(it)})
-    sources = source_sums.lines_of(source_sums.sums_of(str(top), paths))
-    own = source_sums.lines_of(source_sums.sums_of(str(TOOLS), MADE_BY))
-    main = hashlib.sha256(main_of(top).read_bytes()).hexdigest()
-    return hashlib.sha256(b"\0".join([sources, own, main.encode(), kit.identity().encode()])).hexdigest()
+    paths = sorted(
+        {it for name in PROGRAMS for it in source_sums.sources_of_proof(str(top), name) if is_read_by_build(it)}
+    )
+    sources = source_sums.checksum_lines(source_sums.sums_of_files(str(top), paths))
+    own = source_sums.checksum_lines(source_sums.sums_of_files(str(TOOLS), MADE_BY))
+    main = hashlib.sha256(combined_main_file(top).read_bytes()).hexdigest()
+    return hashlib.sha256(b"\0".join([sources, own, main.encode(), kit.tools_identity().encode()])).hexdigest()
 
 
-def is_read(path: str) -> bool:
+def is_read_by_build(path: str) -> bool:
     """Whether a build reads this file of a tree: a definition or a proof it doesn't.
 
-    >>> [is_read(it) for it in ("crates.txt", "crates/low/src/lib.rt", "crates/low/specs/Low.antt")]
+    >>> [is_read_by_build(it) for it in ("crates.txt", "crates/low/src/lib.rt", "crates/low/specs/Low.antt")]
     [True, True, False]
     """
     parts = path.split("/")
     return parts[0] != "crates" or (parts[2] == "src" and path.endswith(".rt"))
 
 
-def main_of(top: Path) -> Path:
+def combined_main_file(top: Path) -> Path:
     """The main file that makes one program of both: the tree's own, or where it has none this tree's."""
     own = top / "tools" / "combined.rattle"
     return own if own.is_file() else TOOLS / "combined.rattle"
 
 
-def folder_of_all(top: Path) -> Path:
+def folder_of_builds(top: Path) -> Path:
     """The folder of all builds: the user's own, or else the tree's."""
-    for folder in (*cache(), top / "crates" / PROGRAMS[0] / "out" / "builds"):
+    for folder in (*user_builds_folder(), top / "crates" / PROGRAMS[0] / "out" / "builds"):
         with contextlib.suppress(OSError):
             folder.mkdir(mode=0o700, parents=True, exist_ok=True)
-            if is_own(folder) and os.access(folder, os.W_OK | os.X_OK):
+            if is_private_folder(folder) and os.access(folder, os.W_OK | os.X_OK):
                 return folder
     raise CacheError("no folder of this user's own can be written")
 
 
-def cache() -> Iterator[Path]:
+def user_builds_folder() -> Iterator[Path]:
     """The folder below that which users have for what can be made again."""
     above = os.environ.get("XDG_CACHE_HOME", "")
     with contextlib.suppress(RuntimeError):
         yield (Path(above) if os.path.isabs(above) else Path.home() / ".cache") / "pdregress" / "builds"
 
 
-def is_own(folder: Path) -> bool:
+def is_private_folder(folder: Path) -> bool:
     """Whether a folder is one, no link, is this user's, and nobody else may look into it or change it."""
     found = folder.lstat()
     return stat.S_ISDIR(found.st_mode) and found.st_uid == os.geteuid() and not found.st_mode & 0o077
@@ -142,16 +144,16 @@ def sums_of_programs(folder: Path) -> set[str]:
     """The checksums of the programs in a folder. What is one file by several names is read once."""
     found = {name: (folder / name).lstat() for name in PROGRAMS}
     files = {(it.st_dev, it.st_ino): name for name, it in found.items()}
-    return {sum_of(folder / name) for name in files.values()}
+    return {sha256_of_program(folder / name) for name in files.values()}
 
 
-def sum_of(file: Path) -> str:
+def sha256_of_program(file: Path) -> str:
     """The SHA-256 of a program that is a file by itself."""
     with open(os.open(file, os.O_RDONLY | os.O_NOFOLLOW | os.O_CLOEXEC), "rb") as opened:
         return hashlib.sha256(opened.read()).hexdigest()
 
 
-def is_locked(descriptor: int) -> bool:
+def try_lock(descriptor: int) -> bool:
     """Whether this file is locked now for whoever asks."""
     try:
         fcntl.flock(descriptor, fcntl.LOCK_EX | fcntl.LOCK_NB)
@@ -164,15 +166,15 @@ def remove_old_builds(all_builds: Path, own: Path) -> None:
     """Removes builds that weren't used for the longest time, where all of them are too large; never the own one."""
     with contextlib.suppress(OSError):
         found = sorted((it.stat().st_mtime, it) for it in all_builds.iterdir() if it.is_dir() and it != own)
-        left = sum(size_of(it) for _, it in found) + size_of(own)
+        left = sum(build_size(it) for _, it in found) + build_size(own)
         for used, folder in found:
             if left > MOST and time.time() - used > RECENT:
-                left -= size_of(folder)
+                left -= build_size(folder)
                 shutil.rmtree(folder, ignore_errors=True)
                 folder.with_name(f"{folder.name}.lock").unlink(missing_ok=True)
 
 
-def size_of(folder: Path) -> int:
+def build_size(folder: Path) -> int:
     """How many octets a build has; a program is counted once."""
     files = {(it.stat().st_ino, it.stat().st_size) for it in folder.rglob("*") if it.is_file()}
     return sum(size for _, size in files)

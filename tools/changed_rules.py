@@ -58,41 +58,41 @@ def rules_in(crate: str, file: str, text: str) -> Iterator[SpecRule]:
         line += len(lines) + 1
 
 
-def files_of(folder: Path) -> Iterator[tuple[str, str]]:
+def spec_files_of(folder: Path) -> Iterator[tuple[str, str]]:
     """The names and texts of a crate's files of definitions."""
     for path in sorted(folder.glob("specs/*.antt")):
         yield path.stem, path.read_text(encoding="utf-8")
 
 
-def rules_of(folders: Iterable[Path]) -> Iterator[SpecRule]:
+def rules_of_crates(folders: Iterable[Path]) -> Iterator[SpecRule]:
     """The definitions of crates."""
     for folder in folders:
-        for file, text in files_of(folder):
+        for file, text in spec_files_of(folder):
             yield from rules_in(folder.name, file, text)
 
 
-def keep(out: Path, folders: Iterable[Path]) -> None:
+def keep_definitions(out: Path, folders: Iterable[Path]) -> None:
     """Keeps the definitions by which a crate was proved just now, in what is kept of it."""
-    texts = {".".join(it.key): it.text for it in rules_of(folders)}
+    texts = {".".join(it.key): it.text for it in rules_of_crates(folders)}
     fresh = out / f"{KEPT}.new"
     fresh.write_text(json.dumps(texts, ensure_ascii=False), encoding="utf-8")
     # Another tree may have the same file by a hard link.
     fresh.replace(out / KEPT)
 
 
-def changed(out: Path, folders: Iterable[Path]) -> list[SpecRule]:
+def changed_since_proof(out: Path, folders: Iterable[Path]) -> list[SpecRule]:
     """The definitions that aren't those by which a crate was proved; none where nothing is kept of that."""
     try:
         kept = json.loads((out / KEPT).read_text(encoding="utf-8"))
     except (OSError, ValueError):
         return []
-    return [it for it in rules_of(folders) if kept.get(".".join(it.key)) != it.text]
+    return [it for it in rules_of_crates(folders) if kept.get(".".join(it.key)) != it.text]
 
 
-def named_in(crate: str, file: str, text: str, own: set[str]) -> dict[str, Key]:
+def definitions_by_word(crate: str, file: str, text: str, own: set[str]) -> dict[str, Key]:
     """What each word of a file names: a definition of its own, or one that it imports.
 
-    >>> named_in("c", "F", "use Rattle.low.specs.G.{a as b, d}\\nuse Rattle.low.specs.H as h\\n", {"own"})
+    >>> definitions_by_word("c", "F", "use Rattle.low.specs.G.{a as b, d}\\nuse Rattle.low.specs.H as h\\n", {"own"})
     {'own': ('c', 'F', 'own'), 'b': ('low', 'G', 'a'), 'd': ('low', 'G', 'd'), 'h.': ('low', 'H', '')}
     """
     found = {name: (crate, file, name) for name in own}
@@ -105,7 +105,7 @@ def named_in(crate: str, file: str, text: str, own: set[str]) -> dict[str, Key]:
     return found
 
 
-def names_of(rule: SpecRule, names: dict[str, Key]) -> set[Key]:
+def definitions_named_by(rule: SpecRule, names: dict[str, Key]) -> set[Key]:
     """The definitions that a definition names."""
     found = set()
     for word in WORD.findall(rule.text):
@@ -122,19 +122,19 @@ def laws_naming(rule: SpecRule, folders: list[Path]) -> list[SpecRule]:
     """The laws of these crates that name a definition, also through others."""
     named: dict[SpecRule, set[Key]] = {}
     for folder in folders:
-        for file, text in files_of(folder):
+        for file, text in spec_files_of(folder):
             rules = list(rules_in(folder.name, file, text))
-            names = named_in(folder.name, file, text, {it.name for it in rules})
-            named.update((it, names_of(it, names)) for it in rules)
+            names = definitions_by_word(folder.name, file, text, {it.name for it in rules})
+            named.update((it, definitions_named_by(it, names)) for it in rules)
     reached = {rule.key}
     while more := {it.key for it, those in named.items() if it.key not in reached and those & reached}:
         reached |= more
     return [it for it in named if it.key in reached and LAWS.search(it.file)]
 
 
-def change_lines(out: Path, folders: list[Path]) -> Iterator[str]:
+def change_report_lines(out: Path, folders: list[Path]) -> Iterator[str]:
     """What changed in the definitions of a crate and those below it since it was proved, and the laws that name it."""
-    for rule in changed(out, folders):
+    for rule in changed_since_proof(out, folders):
         yield f"{rule.place}: `{rule.name}` isn't as it was when this was proved last"
         laws = [f"{law.name} ({law.place})" for law in laws_naming(rule, folders)]
         yield f"  laws that name it: {', '.join(laws) or 'none'}"

@@ -11,7 +11,7 @@ from dataclasses import dataclass
 from itertools import islice
 from pathlib import Path
 
-from changed_rules import Key, SpecRule, files_of, named_in, names_of, rules_in
+from changed_rules import Key, SpecRule, spec_files_of, definitions_by_word, definitions_named_by, rules_in
 
 HEAD = re.compile(r"\s*(?:pub(?:\([^)]*\))? )?(?:(?:final|const|unsafe) )*fn (?P<name>\w+)[<(]")
 CLAUSE = re.compile(r"\s+(?:requires|ensures)\b")
@@ -62,16 +62,16 @@ class Definitions:
         self._rules: dict[Key, SpecRule] = {}
         self._named: dict[Key, set[Key]] = {}
         for folder in folders:
-            for file, text in files_of(folder):
+            for file, text in spec_files_of(folder):
                 rules = list(rules_in(folder.name, file, text))
-                names = named_in(folder.name, file, text, {it.name for it in rules})
+                names = definitions_by_word(folder.name, file, text, {it.name for it in rules})
                 self._rules.update((it.key, it) for it in rules)
-                self._named.update((it.key, names_of(it, names)) for it in rules)
+                self._named.update((it.key, definitions_named_by(it, names)) for it in rules)
 
-    def cited(self, contract: Contract, text: str) -> Iterator[SpecRule]:
+    def cited_by_contract(self, contract: Contract, text: str) -> Iterator[SpecRule]:
         """The definitions that a contract of a file with this text names, then those that these name, and so on."""
-        names = named_in("", "", "\n".join(USE.findall(text)), set())
-        level = names_of(SpecRule("", "", "", 0, " ".join(contract.clauses)), names)
+        names = definitions_by_word("", "", "\n".join(USE.findall(text)), set())
+        level = definitions_named_by(SpecRule("", "", "", 0, " ".join(contract.clauses)), names)
         seen: set[Key] = set()
         while level:
             seen |= level
@@ -80,7 +80,7 @@ class Definitions:
             level = {below for it in found for below in self._named[it.key]} - seen
 
 
-def with_contracts(errors: Iterable[str], definitions: Definitions, top: Path) -> Iterator[str]:
+def add_contracts_to_errors(errors: Iterable[str], definitions: Definitions, top: Path) -> Iterator[str]:
     """Errors, and below those of a function its contract; a definition's place is shown as one below this folder."""
     last: list[str] = []
     for error in errors:
@@ -102,7 +102,7 @@ def contract_lines(file: Path, line: int, definitions: Definitions, top: Path) -
         return
     yield f"  the contract of {contract.function}:"
     yield from (f"    {it}" for it in contract.clauses)
-    cited = [f"    {it.name} ({top / it.place})" for it in islice(definitions.cited(contract, text), MOST)]
+    cited = [f"    {it.name} ({top / it.place})" for it in islice(definitions.cited_by_contract(contract, text), MOST)]
     if cited:
         yield "  cites"
         yield from cited

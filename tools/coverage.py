@@ -41,7 +41,7 @@ passes with one, `./pdsuite compare --search` makes a script that sees it.
 """
 
 
-def sections(line: str) -> Iterator[tuple[int, str]]:
+def cited_sections(line: str) -> Iterator[tuple[int, str]]:
     """The RFCs and sections that a script's first line names, but for those in parentheses."""
     for rfc, text in CITATION.findall(re.sub(r"\(.*?\)", "", line)):
         for first, last in SECTION.findall(POINT.sub("", text)):
@@ -50,7 +50,7 @@ def sections(line: str) -> Iterator[tuple[int, str]]:
             yield from ((int(rfc), f"{chapter}{dot}{number}") for number in range(int(begin), int(end) + 1))
 
 
-def link(script: Path) -> str:
+def script_link(script: Path) -> str:
     return f"[`{script.stem}`](../{script.relative_to(SUITE.parent.parent)})"
 
 
@@ -61,25 +61,25 @@ def rfc_lines(rfc: dict[str, Any], tests: dict[tuple[int, str], list[Path]]) -> 
         if bool(scripts) == bool(row.keys() & {"none", "see"}):
             raise ValueError(f"RFC {rfc['number']}, section {row['section']}: wants either scripts or `none` or `see`")
         why = row["see"] if "see" in row else f"none: {row.get('none')}"
-        yield f"- **{row['section']}** {row['subject']}: {', '.join(map(link, scripts)) or why}"
+        yield f"- **{row['section']}** {row['subject']}: {', '.join(map(script_link, scripts)) or why}"
 
 
 def bug_lines(bugs: dict[str, list[dict[str, Any]]], scripts: dict[str, Path]) -> Iterator[str]:
     for crate, rows in bugs.items():
         yield f"\n### `{crate}`\n"
         for row in rows:
-            seen = ", ".join(link(scripts[name]) for name in row.get("scripts", "").split())
+            seen = ", ".join(script_link(scripts[name]) for name in row.get("scripts", "").split())
             more = " and others" if row.get("has_more") else ""
             yield f"- {row['bug']}: {seen + more if seen else 'none: ' + row['unseen']}"
 
 
-def page() -> Iterator[str]:
+def page_lines() -> Iterator[str]:
     scripts = {path.stem: path for path in sorted(SUITE.glob("*/*.pkt"), key=lambda path: path.stem)}
     data = tomllib.loads((SUITE / "coverage.toml").read_text(encoding="utf-8"))
     tests: dict[tuple[int, str], list[Path]] = {}
     for script in scripts.values():
         first, second = script.read_text(encoding="utf-8").split("\n")[:2]
-        named = dict.fromkeys(sections(first))
+        named = dict.fromkeys(cited_sections(first))
         if not named or not second.startswith("// If it fails, "):
             raise ValueError(
                 f"{script}: the first two lines don't name a section and what is wrong if the script fails"
@@ -98,6 +98,6 @@ def page() -> Iterator[str]:
 
 if __name__ == "__main__":
     try:
-        print("\n".join(page()))
+        print("\n".join(page_lines()))
     except (KeyError, ValueError) as fault:
         sys.exit(f"coverage: {fault}")

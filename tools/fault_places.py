@@ -21,36 +21,36 @@ LIKELY = {
 }
 
 
-def places_of(top: Path) -> dict[str, Module]:
+def modules_of_tree(top: Path) -> dict[str, Module]:
     """The modules of a tree by their paths in Rattle, each with its file, below the tree, and its functions."""
     files = sorted((top / "crates").glob("*/src/**/*.rt"))
-    return {module_of(it.relative_to(top)): module_in(it, top) for it in files}
+    return {module_path_of(it.relative_to(top)): read_module(it, top) for it in files}
 
 
-def module_of(file: Path) -> str:
+def module_path_of(file: Path) -> str:
     """The path of the module that a file is.
 
-    >>> module_of(Path("crates/low/src/lib.rt")), module_of(Path("crates/low/src/high/top.rt"))
+    >>> module_path_of(Path("crates/low/src/lib.rt")), module_path_of(Path("crates/low/src/high/top.rt"))
     ('low', 'low::high::top')
     """
     _, crate, _, *parts = file.with_suffix("").parts
     return "::".join([crate, *(it for it in parts if it not in ("lib", "main", "mod"))])
 
 
-def module_in(file: Path, top: Path) -> Module:
-    found = list(functions_in(file.read_text(encoding="utf-8", errors="replace").splitlines()))
+def read_module(file: Path, top: Path) -> Module:
+    found = list(functions_and_fault_lines(file.read_text(encoding="utf-8", errors="replace").splitlines()))
     names = [name for name, _ in found]
     # A name that several types have is known with its type alone.
-    functions = {name.rpartition("::")[2]: it for name, it in found if ends_once(name, names)}
+    functions = {name.rpartition("::")[2]: it for name, it in found if is_last_part_unique(name, names)}
     return {"path": str(file.relative_to(top)), "functions": {**functions, **dict(found)}}
 
 
-def ends_once(name: str, names: list[str]) -> bool:
+def is_last_part_unique(name: str, names: list[str]) -> bool:
     """Whether no other of these names has the same last part."""
     return [it.rpartition("::")[2] for it in names].count(name.rpartition("::")[2]) == 1
 
 
-def functions_in(lines: list[str]) -> Iterator[tuple[str, Function]]:
+def functions_and_fault_lines(lines: list[str]) -> Iterator[tuple[str, Function]]:
     """The functions on these lines: their first and their last line, and the lines in between that can have a fault."""
     block = ""
     for first, line in enumerate(lines, 1):
@@ -61,17 +61,19 @@ def functions_in(lines: list[str]) -> Iterator[tuple[str, Function]]:
             continue
         ends = (last for last, it in enumerate(lines[first - 1 :], first) if it.rstrip() == f"{head[1]}}}")
         last = first if line.rstrip().endswith("}") else next(ends, first)
-        body = {number: bare(lines[number - 1]) for number in range(first + 1, last + 1)} or {first: bare(line)}
+        body = {number: code_of_line(lines[number - 1]) for number in range(first + 1, last + 1)} or {
+            first: code_of_line(line)
+        }
         name = f"{block if head[1] else ''}{head[2]}"
         yield name, (first, last, {k: [n for n, it in body.items() if v.search(it)] for k, v in LIKELY.items()})
 
 
-def bare(line: str) -> str:
+def code_of_line(line: str) -> str:
     """A line without what it quotes and its comment; a clause of a contract is no code.
 
-    >>> bare('let a = "x + y" + b; // c + d')
+    >>> code_of_line('let a = "x + y" + b; // c + d')
     'let a =  + b; '
-    >>> bare('    ensures { a + b ≡ c }')
+    >>> code_of_line('    ensures { a + b ≡ c }')
     ''
     """
     code = COMMENT.sub("", QUOTED.sub("", line))

@@ -12,7 +12,7 @@ from pathlib import Path
 
 sys.path.insert(0, str(Path(__file__).resolve().parents[1] / "tests"))
 
-from harness.comparing import add_command  # noqa: E402
+from harness.compare import add_script_command  # noqa: E402
 
 OCTETS = 1_000_000
 SECONDS = 60
@@ -61,11 +61,11 @@ TRAFFIC = [
 ]
 
 
-def octets_of(dice, count):
+def random_octets(dice, count):
     return dice.randbytes(count)
 
 
-def pieces(dice, count):
+def random_pieces(dice, count):
     """About so many octets of what scripts are made of, in any order."""
     parts, size = [], 0
     while size < count:
@@ -75,7 +75,7 @@ def pieces(dice, count):
     return b"".join(parts)
 
 
-def traffic(dice, count):
+def random_traffic(dice, count):
     """About so many octets of a connection with any packets and calls."""
     lines, size = list(LINES), 0
     while size < count:
@@ -88,16 +88,16 @@ def traffic(dice, count):
     return b"\n".join(lines)
 
 
-def added(name, text):
-    return add_command(name.decode(), text)
+def add_script_command_of(name, text):
+    return add_script_command(name.decode(), text)
 
 
-def scripts(dice, make):
+def random_scripts_input(dice, make):
     """Scripts of up to 60,000 octets each, some of them edited."""
     parts, size, number = [], 0, 0
     while size < OCTETS:
         number += 1
-        part = added(b"s%d" % number, make(dice, dice.randrange(1, 60_000)))
+        part = add_script_command_of(b"s%d" % number, make(dice, dice.randrange(1, 60_000)))
         if dice.random() < 0.3:
             part += b"edit s%d %d %d 1\n+0 close(4) = 0\n" % (number, dice.randrange(1, 40), dice.randrange(8))
         parts.append(part)
@@ -105,13 +105,13 @@ def scripts(dice, make):
     return b"".join(parts)
 
 
-def commands(dice):
+def random_commands(dice):
     """Commands in any order with any arguments, which a first bad one would end: each is well formed."""
     parts, size = [], 0
     while size < OCTETS:
         kind, name = dice.randrange(8), dice.choice(NAMES)
         if kind < 3:
-            part = added(name, traffic(dice, dice.randrange(1, 2_000)))
+            part = add_script_command_of(name, random_traffic(dice, dice.randrange(1, 2_000)))
         elif kind < 5:
             lines = [dice.randbytes(dice.randrange(60)).replace(b"\n", b"") for _ in range(dice.randrange(5))]
             part = b"edit %s %d %d %d\n" % (name, dice.randrange(12), dice.randrange(4), len(lines))
@@ -127,7 +127,7 @@ def commands(dice):
     return b"".join(parts)
 
 
-def settings(dice):
+def random_settings(dice):
     """One settings text as long as a word can be: comments and settings, and in every other one noise."""
     keys = dice.sample(KEYS, dice.randrange(len(KEYS)))
     is_noisy = dice.random() < 0.5
@@ -146,13 +146,13 @@ def settings(dice):
     return b"".join(parts).replace(b"\0", b"0")[:WORD]
 
 
-def stream(dice):
+def random_command_stream(dice):
     """Up to sixty commands without `show`, on scripts of up to 20,000 octets; one in five ends in what is no command."""
     parts = []
     for _ in range(dice.randrange(1, 60)):
         draw, name = dice.random(), dice.choice(NAMES)
         if draw < 0.4:
-            part = added(name, traffic(dice, dice.choice((1, 200, 2_000, 20_000))))
+            part = add_script_command_of(name, random_traffic(dice, dice.choice((1, 200, 2_000, 20_000))))
         elif draw < 0.7:
             lines = [dice.choice((b"+0 close(4) = 0", b"+0 > . 1:1001(1000) ack 1", b"/*", b"*/", b"x"))][: dice.randrange(2)]
             part = b"edit %s %d %d %d\n" % (name, dice.randrange(12), dice.randrange(4), len(lines))
@@ -170,15 +170,15 @@ def stream(dice):
 
 
 KINDS = {
-    "octets as commands": lambda dice: [([], octets_of(dice, OCTETS))],
-    "commands": lambda dice: [([], commands(dice))],
-    "octets as scripts": lambda dice: [([], scripts(dice, octets_of))],
-    "pieces as scripts": lambda dice: [([], scripts(dice, pieces))],
-    "traffic as scripts": lambda dice: [([], scripts(dice, traffic))],
+    "octets as commands": lambda dice: [([], random_octets(dice, OCTETS))],
+    "commands": lambda dice: [([], random_commands(dice))],
+    "octets as scripts": lambda dice: [([], random_scripts_input(dice, random_octets))],
+    "pieces as scripts": lambda dice: [([], random_scripts_input(dice, random_pieces))],
+    "traffic as scripts": lambda dice: [([], random_scripts_input(dice, random_traffic))],
     "octets as settings": lambda dice: [
-        ([b"--settings", octets_of(dice, WORD).replace(b"\0", b"0")], b"") for _ in range(OCTETS // WORD)
+        ([b"--settings", random_octets(dice, WORD).replace(b"\0", b"0")], b"") for _ in range(OCTETS // WORD)
     ],
-    "settings": lambda dice: [([b"--settings", settings(dice)], b"") for _ in range(OCTETS // WORD)],
+    "settings": lambda dice: [([b"--settings", random_settings(dice)], b"") for _ in range(OCTETS // WORD)],
 }
 
 
@@ -187,7 +187,7 @@ class RunFigures:
         self.runs, self.ends, self.seconds, self.kib, self.last_kib, self.octets = 0, {}, 0.0, 0, 0, 0
 
 
-def timed(command, text, figures):
+def run_timed(command, text, figures):
     """Runs a program, its time and memory added to the figures; how it ended, or none where it came to no end."""
     with tempfile.NamedTemporaryFile() as resident:
         bound = ["timeout", str(SECONDS), "/usr/bin/time", "-f", "%M", "-o", resident.name]
@@ -202,21 +202,21 @@ def timed(command, text, figures):
     return ended
 
 
-def run(program, arguments, text, figures):
+def run_and_check(program, arguments, text, figures):
     """One run, its figures added; what was wrong, if something was."""
     figures.runs += 1
-    ended = timed([program, *arguments], text, figures)
+    ended = run_timed([program, *arguments], text, figures)
     if ended is None:
         return "no end within %d s" % SECONDS
     figures.ends[ended.returncode] = figures.ends.get(ended.returncode, 0) + 1
-    return fault_of(ended.returncode, ended.stdout, ended.stderr, figures.last_kib)
+    return fault_in_result(ended.returncode, ended.stdout, ended.stderr, figures.last_kib)
 
 
-def run_with_workers(program, text, figures):
+def compare_with_workers(program, text, figures):
     """One stream without workers and with some; how the outputs differ, if they do."""
     outputs = []
     for workers in (0, WORKERS):
-        ended = timed([program, "--workers", str(workers)], text, figures)
+        ended = run_timed([program, "--workers", str(workers)], text, figures)
         if ended is None:
             return "no end within %d s with %d workers" % (SECONDS, workers)
         if figures.last_kib > MOST_KIB:
@@ -233,7 +233,7 @@ def run_with_workers(program, text, figures):
     return None
 
 
-def run_explaining(program, text, figures):
+def compare_explaining(program, text, figures):
     """One stream without and with reasons; how the outputs differ, if they do."""
     plain = subprocess.run([program], input=text, capture_output=True, timeout=SECONDS)
     with open("/dev/full", "wb") as full:
@@ -241,21 +241,21 @@ def run_explaining(program, text, figures):
     if (unread.returncode, unread.stdout) != (plain.returncode, plain.stdout):
         return "another report or status where nobody reads"
     for options in ([], ["--only", "a"], ["--json"]):
-        ended = timed([program, "--explain", *options], text, figures)
+        ended = run_timed([program, "--explain", *options], text, figures)
         if ended is None:
             return "no end within %d s with %s" % (SECONDS, options)
         if figures.last_kib > MOST_KIB:
             return "%d KiB with %s" % (figures.last_kib, options)
         if (ended.returncode, ended.stdout) != (plain.returncode, plain.stdout):
             return "another report or status with %s" % options
-        if not ended.stderr.endswith(plain.stderr) or not are_blocks(ended.stderr[: -len(plain.stderr) or None], options):
+        if not ended.stderr.endswith(plain.stderr) or not are_explanation_blocks(ended.stderr[: -len(plain.stderr) or None], options):
             return "wrote %r with %s" % (ended.stderr[-200:], options)
         figures.octets += len(ended.stderr)
     figures.runs += 1
     return None
 
 
-def are_blocks(text, options):
+def are_explanation_blocks(text, options):
     """Whether a text is blocks, or with --json an object a line."""
     if "--json" not in options:
         return bool(BLOCKS.fullmatch(text)) and (not options or all(it.startswith((b"a:", b"  ")) for it in text.split(b"\n")[:-1]))
@@ -265,7 +265,7 @@ def are_blocks(text, options):
         return False
 
 
-def run_closed(program, text, workers):
+def check_failing_streams(program, text, workers):
     """One stream whose output or whose input fails; what is wrong about the fault, if something."""
     command = [program, "--workers", str(workers)]
     with open("/dev/full", "wb") as full:
@@ -287,8 +287,8 @@ def fuzz_workers(program, rounds, seed):
     figures, wrong = RunFigures(), 0
     for number in range(seed, seed + rounds):
         dice = random.Random(f"beside {number}")
-        faults = [run_with_workers(program, stream(dice), figures) for _ in range(STREAMS)]
-        faults += [run_closed(program, added(b"a", traffic(dice, 200)), workers) for workers in (0, WORKERS)]
+        faults = [compare_with_workers(program, random_command_stream(dice), figures) for _ in range(STREAMS)]
+        faults += [check_failing_streams(program, add_script_command_of(b"a", random_traffic(dice, 200)), workers) for workers in (0, WORKERS)]
         for fault in filter(None, faults):
             wrong += 1
             print(f"with workers, seed {number}: {fault}")
@@ -305,7 +305,7 @@ def fuzz_explaining(program, rounds, seed):
     figures, wrong = RunFigures(), 0
     for number in range(seed, seed + rounds):
         dice = random.Random(f"explaining {number}")
-        for fault in filter(None, (run_explaining(program, stream(dice), figures) for _ in range(STREAMS))):
+        for fault in filter(None, (compare_explaining(program, random_command_stream(dice), figures) for _ in range(STREAMS))):
             wrong += 1
             print(f"explaining, seed {number}: {fault}")
     print(
@@ -315,7 +315,7 @@ def fuzz_explaining(program, rounds, seed):
     return wrong
 
 
-def fault_of(status, output, errors, kib):
+def fault_in_result(status, output, errors, kib):
     if status not in (0, 1, 2):
         return "status %d" % status
     if status < 2 and (errors or not LAST_LINE.search(output)):
@@ -334,7 +334,7 @@ def main():
         figures = RunFigures()
         for number in range(seed, seed + rounds):
             for arguments, text in make(random.Random(f"{kind} {number}")):
-                fault = run(program, arguments, text, figures)
+                fault = run_and_check(program, arguments, text, figures)
                 if fault:
                     wrong += 1
                     print(f"{kind}, seed {number}: {fault}")

@@ -114,7 +114,7 @@ def spoil_line(line: str, chance: random.Random) -> str | None:
     return None
 
 
-def spoil(scripts: Sequence[Script], chance: random.Random) -> Spoiled:
+def spoil_random_script(scripts: Sequence[Script], chance: random.Random) -> Spoiled:
     """A script with one line spoiled."""
     while True:
         script = chance.choice(scripts)
@@ -124,7 +124,7 @@ def spoil(scripts: Sequence[Script], chance: random.Random) -> Spoiled:
             return Spoiled(script, number, old, [*old[:number], line, *old[number + 1 :]])
 
 
-def is_same_time(one: str, other: str) -> bool:
+def is_same_but_for_time(one: str, other: str) -> bool:
     """Whether two lines are the same but for times within the tolerance, or written with other digits."""
     first, second = SINGLE.match(one), SINGLE.match(other)
     if first is None or second is None or first[1] != second[1]:
@@ -133,7 +133,7 @@ def is_same_time(one: str, other: str) -> bool:
     return apart <= TOLERANCE + 1e-9 and one[first.end() :].split() == other[second.end() :].split()
 
 
-def judge(it: Spoiled, answer: rt_try.TryResult) -> tuple[bool, bool, list[str]]:
+def judge_mend(it: Spoiled, answer: rt_try.TryResult) -> tuple[bool, bool, list[str]]:
     """Whether only the spoiled line was changed, whether it came back, and what was made."""
     if not isinstance(answer, rt_try.TryOutput) or answer.status != 0:
         return False, False, [str(answer)]
@@ -141,11 +141,11 @@ def judge(it: Spoiled, answer: rt_try.TryResult) -> tuple[bool, bool, list[str]]
     others = len(made) == len(it.new) and all(
         one == other for number, (one, other) in enumerate(zip(made, it.new)) if number != it.number
     )
-    back = others and (made[it.number] == it.old[it.number] or is_same_time(made[it.number], it.old[it.number]))
+    back = others and (made[it.number] == it.old[it.number] or is_same_but_for_time(made[it.number], it.old[it.number]))
     return others, back, made
 
 
-def shown(it: Spoiled, made: Sequence[str]) -> Iterator[str]:
+def case_lines(it: Spoiled, made: Sequence[str]) -> Iterator[str]:
     yield f"{it.script.path}:{it.number + 1}"
     yield f"  old {it.old[it.number]}"
     yield f"  new {it.new[it.number]}"
@@ -169,33 +169,33 @@ def main() -> int:
             it for it in make_scripts(find_selected_scripts(options.paths, [], suite, stop), suite) if not it.fault
         ]
     chance = random.Random(options.seed)
-    cases = [spoil(scripts, chance) for _ in range(options.count)]
-    judged = [judge(it, answer) for it, answer in zip(cases, answers_of(cases, options.program))]
+    cases = [spoil_random_script(scripts, chance) for _ in range(options.count)]
+    judged = [judge_mend(it, answer) for it, answer in zip(cases, mend_all(cases, options.program))]
     for it, (_, back, made) in zip(cases, judged):
         if options.show and not back:
-            print(*shown(it, made), sep="\n")
+            print(*case_lines(it, made), sep="\n")
     others, back = sum(one for one, _, _ in judged), sum(it for _, it, _ in judged)
     print(f"{len(cases)} cases, only the line changed in {others}, its old text back in {back}")
     return 0 if back == len(cases) else 1
 
 
-def answers_of(cases: Sequence[Spoiled], program: Path | None) -> list[rt_try.TryResult]:
+def mend_all(cases: Sequence[Spoiled], program: Path | None) -> list[rt_try.TryResult]:
     """What the program answers to each."""
     if program is None:
-        return unproved_answers(cases)
+        return mend_all_unproved(cases)
     with ThreadPoolExecutor() as pool:
-        return list(pool.map(lambda it: answer_of(case_of(it), program), cases))
+        return list(pool.map(lambda it: run_minimal(try_case_of(it), program), cases))
 
 
-def answer_of(case: rt_try.TryCase, program: Path) -> rt_try.TryResult:
+def run_minimal(case: rt_try.TryCase, program: Path) -> rt_try.TryResult:
     done = subprocess.run([program, *case.arguments, b"--minimal"], input=case.given, capture_output=True)
     return rt_try.TryOutput(done.stdout, done.stderr, done.returncode)
 
 
-def unproved_answers(cases: Sequence[Spoiled]) -> list[rt_try.TryResult]:
+def mend_all_unproved(cases: Sequence[Spoiled]) -> list[rt_try.TryResult]:
     """The same unproved. A word of a case has no newline, so settings of two keys have a build of their own."""
     groups: dict[tuple[bytes, ...], list[int]] = {}
-    runs = [case_of(it) for it in cases]
+    runs = [try_case_of(it) for it in cases]
     for number, case in enumerate(runs):
         groups.setdefault(case.arguments if any(b"\n" in it for it in case.arguments) else (), []).append(number)
     found: dict[int, rt_try.TryResult] = {}
@@ -207,7 +207,7 @@ def unproved_answers(cases: Sequence[Spoiled]) -> list[rt_try.TryResult]:
     return [found[number] for number in range(len(cases))]
 
 
-def case_of(it: Spoiled) -> rt_try.TryCase:
+def try_case_of(it: Spoiled) -> rt_try.TryCase:
     text = settings_as_toml(it.script.settings)
     arguments = (b"--settings", text.encode()) if text else ()
     return rt_try.TryCase(arguments, "".join(f"{line}\n" for line in it.new).encode())

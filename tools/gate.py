@@ -12,12 +12,12 @@ import sys
 
 import proof_sums
 import stamps
-from copies import checked_copy
+from copies import copy_with_settled_stamps
 from crate_graph import dependencies
-from proof_sums import path_of
+from proof_sums import program_path
 from proofs import TOP
-from proving_kit import ProvingKit, ProofRefusedError, working
-from source_sums import TABLE, Unreadable, places_of, sources_below, sources_in, sums_of
+from proving_kit import ProvingKit, ProofRefusedError, kit_with_checked_version
+from source_sums import TABLE, Unreadable, places_in_crates, sources_of_proof, files_among_places, sums_of_files
 
 COUNTS = re.compile(r"(\d+) passed, (\d+) failed\b")
 
@@ -35,31 +35,35 @@ def run_gate(kit: ProvingKit) -> tuple[str, int]:
     return last, gate.returncode
 
 
-def keep_sums(programs: list[str], sums: dict[str, str], kit: ProvingKit) -> None:
+def keep_program_sums(programs: list[str], sums: dict[str, str], kit: ProvingKit) -> None:
     """Keeps the checksums of programs and of what their proofs read beside them."""
     top = str(TOP)
     for program in programs:
-        path = path_of(program)
-        read = {it: sums[it] for it in sources_below(top, program)}
-        proof_sums.put(f"{top}/{path}.sums", proof_sums.record(sums_of(top, [path]), read, kit.name))
+        path = program_path(program)
+        read = {it: sums[it] for it in sources_of_proof(top, program)}
+        proof_sums.replace_file(
+            f"{top}/{path}.sums", proof_sums.sums_file_text(sums_of_files(top, [path]), read, kit.name)
+        )
 
 
-def prove_all() -> int:
-    kit = working()
+def run_gate_and_keep_sums() -> int:
+    kit = kit_with_checked_version()
     top = str(TOP)
     crates = tuple(dependencies((TOP / TABLE).read_text()))
-    programs = {it: stamps.stamp_of(f"{top}/{path_of(it)}") for it in crates}
-    before = checked_copy(TOP, crates)
-    sums = sums_of(top, sources_in(places_of(top, crates)))
+    programs = {it: stamps.stamp_of(f"{top}/{program_path(it)}") for it in crates}
+    before = copy_with_settled_stamps(TOP, crates)
+    sums = sums_of_files(top, files_among_places(places_in_crates(top, crates)))
     last, status = run_gate(kit)
     built = [
-        it for it, stamp in programs.items() if stamps.stamp_of(f"{top}/{path_of(it)}") not in (stamp, stamps.ABSENT)
+        it
+        for it, stamp in programs.items()
+        if stamps.stamp_of(f"{top}/{program_path(it)}") not in (stamp, stamps.ABSENT)
     ]
     try:
-        if changed := before.changed():
+        if changed := before.changed_path():
             raise ProofRefusedError(f"{changed} has changed while rt ci ran: no program is taken for proved")
-        kit.check()
-        keep_sums(built, sums, kit)
+        kit.check_unchanged()
+        keep_program_sums(built, sums, kit)
     except (ProofRefusedError, Unreadable) as why:
         print(f"gate: {why}")
         last = COUNTS.sub(lambda it: f"{it[1]} passed, {int(it[2]) + 1} failed", last)
@@ -70,7 +74,7 @@ def prove_all() -> int:
 
 def main() -> int:
     try:
-        return prove_all()
+        return run_gate_and_keep_sums()
     except (ProofRefusedError, Unreadable, OSError) as why:
         print(f"gate: {why}", file=sys.stderr)
         return 2

@@ -19,21 +19,21 @@ def command_of_kit() -> str | None:
     return None
 
 
-def file_of_identity(command: str) -> str:
+def kit_id_file(command: str) -> str:
     """The file that names the kit of a command, all links followed."""
     return os.path.join(os.path.dirname(os.path.dirname(os.path.realpath(command))), NAME)
 
 
-def identity_of(command: str) -> str:
+def kit_id_of_command(command: str) -> str:
     """What names the kit of a command: the words of that file. Without one it is empty, which is the name of no kit."""
     try:
-        with open(file_of_identity(command), encoding="utf-8", errors="replace") as file:
+        with open(kit_id_file(command), encoding="utf-8", errors="replace") as file:
             return " ".join(file.read().split())
     except OSError:
         return ""
 
 
-def kit_identity() -> str | None:
+def kit_id_on_path() -> str | None:
     """What names the kit that is on the PATH, or None where there is none."""
     command = command_of_kit()
-    return None if command is None else identity_of(command)
+    return None if command is None else kit_id_of_command(command)

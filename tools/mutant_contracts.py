@@ -9,7 +9,7 @@ from pathlib import Path
 from crate_graph import dependencies, libraries_below
 from mutant_files import Mutant, MutantError
 from parallel import Commands
-from proofs import TOP, copy_crates, free_memory, link
+from proofs import TOP, copy_crates, free_memory, link_or_copy
 
 # The memory that the check of a crate takes at most, in octets.
 MEMORY = 4_000_000_000
@@ -18,18 +18,18 @@ REFUSED = ": refused, as it must be"
 EMPTY = "says little of the contract"
 
 
-def most_at_once() -> int:
+def crates_at_once() -> int:
     """How many crates are tried at once where nobody says: each takes a processor and its memory."""
     return max(1, min(len(os.sched_getaffinity(0)), free_memory() // MEMORY))
 
 
-def size(crate: str) -> int:
+def crate_size(crate: str) -> int:
     """How many octets of code, definitions and proofs a crate has."""
     folders = (TOP / "crates" / crate / part for part in ("src", "specs", "proofs"))
     return sum(file.stat().st_size for folder in folders for file in folder.rglob("*") if file.is_file())
 
 
-def copy_tree(mutants: dict[str, list[Mutant]], libraries: list[str], tree: Path) -> None:
+def copy_crates_with_mutants(mutants: dict[str, list[Mutant]], libraries: list[str], tree: Path) -> None:
     """A tree of the crates to be tried and those below them, with these mutants in place of those of the gate."""
     (tree / ".git").mkdir(parents=True)
     crates = list(dict.fromkeys([*libraries, *mutants]))
@@ -37,21 +37,21 @@ def copy_tree(mutants: dict[str, list[Mutant]], libraries: list[str], tree: Path
     for crate in crates:
         out = TOP / "crates" / crate / "out"
         if out.is_dir():
-            shutil.copytree(out, tree / "crates" / crate / "out", copy_function=link, symlinks=True)
+            shutil.copytree(out, tree / "crates" / crate / "out", copy_function=link_or_copy, symlinks=True)
         shutil.rmtree(tree / "crates" / crate / "must-fail", ignore_errors=True)
     for crate, its_mutants in mutants.items():
         folder = tree / "crates" / crate / "must-fail"
         folder.mkdir()
         for mutant in its_mutants:
-            (folder / f"{mutant.name}.edit").write_text(mutant.text)
+            (folder / f"{mutant.name}.edit").write_text(mutant.edit_file_text)
 
 
-def build(libraries: list[str], tree: Path, commands: Commands) -> None:
+def build_libraries(libraries: list[str], tree: Path, commands: Commands) -> None:
     """Builds the libraries below the crates where that isn't done, one after another."""
     log = tree / "log"
     for name in libraries:
         print(f"mutants: building {name}, where that isn't done", file=sys.stderr, flush=True)
-        if commands.call(["rt", "lib"], tree / "crates" / name, log):
+        if commands.run_command(["rt", "lib"], tree / "crates" / name, log):
             last = log.read_text(errors="replace").splitlines()[-5:]
             raise MutantError("\n".join([f"{name} isn't proved:", *last]))
 
@@ -65,29 +65,29 @@ def count_refused(printed: str) -> int:
     return sum(REFUSED in line and EMPTY not in line for line in printed.splitlines())
 
 
-def try_contracts(mutants: dict[str, list[Mutant]], at_once: int, work: Path) -> int:
+def try_contract_mutants(mutants: dict[str, list[Mutant]], at_once: int, work: Path) -> int:
     """Tries the mutants of some crates, the largest crate first; the status is 0 if all are refused.
 
     Each crate is proved once and its mutants after it, with one check at a time, else each would begin as many as the
     memory holds.
     """
     uses = dependencies((TOP / "crates.txt").read_text())
-    order = sorted(mutants, key=lambda crate: -size(crate))
+    order = sorted(mutants, key=lambda crate: -crate_size(crate))
     libraries = list(dict.fromkeys(it for crate in order for it in libraries_below(crate, uses)))
     tree, commands, refused = work / "tree", Commands(), dict.fromkeys(order, 0)
-    copy_tree(mutants, libraries, tree)
+    copy_crates_with_mutants(mutants, libraries, tree)
     try:
-        build(libraries, tree, commands)
+        build_libraries(libraries, tree, commands)
     except BaseException:
-        commands.stop()
+        commands.stop_all()
         raise
 
     def try_crate(crate: str) -> tuple[str, str]:
         log = work / crate
-        commands.call(["rt", "must-fail", crate], tree, log, RT_JOBS="1")
+        commands.run_command(["rt", "must-fail", crate], tree, log, RT_JOBS="1")
         return crate, log.read_text(errors="replace")
 
-    for crate, printed in commands.each(order, at_once, try_crate):
+    for crate, printed in commands.map_unordered(order, at_once, try_crate):
         print(printed, end="", flush=True)
         refused[crate] = count_refused(printed)
     for crate in order:

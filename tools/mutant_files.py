@@ -46,7 +46,7 @@ class Mutant:
     changes: list[TextChange] = field(default_factory=list)
 
     @property
-    def text(self) -> str:
+    def edit_file_text(self) -> str:
         """The text of a file of its own, as the kit reads it."""
         return "".join(f"{line}\n" for line in self.lines)
 
@@ -64,17 +64,17 @@ class Reader:
 
     def read_line(self, line: str) -> None:
         if line.startswith("# "):
-            self.end()
-            self.begin(line[2:])
+            self.end_mutant()
+            self.begin_mutant(line[2:])
         elif not line:
-            self.end()
+            self.end_mutant()
         elif self.has_ended or not self.mutants:
             raise MutantError("a line of no mutant: a title has to stand before it")
         else:
             self.mutants[-1].lines.append(line)
             self.read_field(self.mutants[-1], *line.partition(":")[::2])
 
-    def begin(self, name: str) -> None:
+    def begin_mutant(self, name: str) -> None:
         if not NAME.fullmatch(name):
             raise MutantError(f"'{name}' is no name: letters, digits, '_', '-' and '.'")
         if name in (it.name for it in self.mutants):
@@ -104,7 +104,7 @@ class Reader:
             raise MutantError(f"'file: {path}' has to name {where}, before 'old:'")
         return path
 
-    def end(self) -> None:
+    def end_mutant(self) -> None:
         """Ends a mutant, if one has begun and not ended."""
         if not self.mutants or self.has_ended:
             return
@@ -116,7 +116,7 @@ class Reader:
         self.has_ended = True
 
 
-def read_text(text: str, need_tests: bool = False, folders: tuple[str, ...] = CRATE_FOLDERS) -> list[Mutant]:
+def read_mutants(text: str, need_tests: bool = False, folders: tuple[str, ...] = CRATE_FOLDERS) -> list[Mutant]:
     """The mutants of a text; an error has the number of its line."""
     reader = Reader(need_tests, folders)
     lines = text.removesuffix("\n").split("\n")
@@ -128,28 +128,28 @@ def read_text(text: str, need_tests: bool = False, folders: tuple[str, ...] = CR
     return reader.mutants
 
 
-def read_file(path: Path, is_python: bool = False) -> list[Mutant]:
+def read_mutants_file(path: Path, is_python: bool = False) -> list[Mutant]:
     """The mutants of a file of a crate, or of Python and shell."""
     try:
         if is_python:
-            return read_text(path.read_bytes().decode(), True, ())
-        return read_text(path.read_bytes().decode(), path.name == TESTS_FILE)
+            return read_mutants(path.read_bytes().decode(), True, ())
+        return read_mutants(path.read_bytes().decode(), path.name == TESTS_FILE)
     except MutantError as why:
         raise MutantError(f"{path}:{why}") from None
 
 
-def read_crates(top: Path, kind: str) -> dict[str, list[Mutant]]:
+def read_crate_mutants(top: Path, kind: str) -> dict[str, list[Mutant]]:
     """The mutants of each crate that has a file of this kind, `contracts` or `tests`."""
-    return {file.parent.name: read_file(file) for file in sorted(top.glob(f"crates/*/{kind}.mutants"))}
+    return {file.parent.name: read_mutants_file(file) for file in sorted(top.glob(f"crates/*/{kind}.mutants"))}
 
 
-def read_python(top: Path) -> dict[str, list[Mutant]]:
+def read_python_mutants(top: Path) -> dict[str, list[Mutant]]:
     """The mutants of Python and shell, by the paths of their files."""
     files = [file for folder in PYTHON_FOLDERS for file in sorted((top / folder).glob("*.mutants"))]
-    return {str(file.relative_to(top)): read_file(file, is_python=True) for file in files}
+    return {str(file.relative_to(top)): read_mutants_file(file, is_python=True) for file in files}
 
 
-def place_of(change: TextChange, text: str, any_blanks: bool) -> tuple[int, int]:
+def place_of_old_text(change: TextChange, text: str, any_blanks: bool) -> tuple[int, int]:
     """The place of the old text, which comes just once, perhaps whatever blanks and newlines part its words."""
     pattern = r"\s+".join(map(re.escape, change.old.split())) if any_blanks else re.escape(change.old)
     found = list(re.finditer(pattern, text))
@@ -158,7 +158,7 @@ def place_of(change: TextChange, text: str, any_blanks: bool) -> tuple[int, int]
     return found[0].span()
 
 
-def changed_files(mutant: Mutant, folder: Path) -> Iterator[tuple[Path, str]]:
+def changed_texts(mutant: Mutant, folder: Path) -> Iterator[tuple[Path, str]]:
     """Each file below a folder, a crate or a tree, that a mutant changes, and its text then.
 
     All old texts are looked for in the files as they are. Those of a mutant that names a test may be broken into lines.
@@ -169,7 +169,7 @@ def changed_files(mutant: Mutant, folder: Path) -> Iterator[tuple[Path, str]]:
             raise MutantError(f"there is no file {name}")
         text = before = path.read_text()
         changes = [it for it in mutant.changes if it.file == name]
-        places = sorted(((place_of(it, before, bool(mutant.test)), it.new) for it in changes), reverse=True)
+        places = sorted(((place_of_old_text(it, before, bool(mutant.test)), it.new) for it in changes), reverse=True)
         for (start, end), new in places:
             text = text[:start] + new + text[end:]
         if text == before:
@@ -177,7 +177,7 @@ def changed_files(mutant: Mutant, folder: Path) -> Iterator[tuple[Path, str]]:
         yield path, text
 
 
-def apply(mutant: Mutant, folder: Path) -> None:
+def apply_mutant(mutant: Mutant, folder: Path) -> None:
     """Makes the changes of a mutant in a copy of its crate or tree."""
-    for path, text in list(changed_files(mutant, folder)):
+    for path, text in list(changed_texts(mutant, folder)):
         path.write_text(text)

@@ -15,7 +15,7 @@ from pathlib import Path
 from queue import Queue
 from typing import Optional, Union
 
-from mutant_files import Mutant, MutantError, apply, changed_files
+from mutant_files import Mutant, MutantError, apply_mutant, changed_texts
 from parallel import Commands
 from proofs import TOP
 
@@ -84,7 +84,7 @@ class TreeCopies:
     commands: Commands = field(default_factory=Commands)
     idle: "Queue[Path]" = field(default_factory=Queue)
 
-    def make(self, count: int) -> None:
+    def make_trees(self, count: int) -> None:
         """Makes so many copies of the tree's files, but for those that git ignores."""
         self.folder.chmod(0o755)  # Tests run some of it as another user.
         listed = subprocess.run(
@@ -95,11 +95,11 @@ class TreeCopies:
             raise MutantError("the files of the tree aren't known: it has to be a clone, and git there")
         for number in range(count):
             tree = self.folder / f"tree{number}"
-            copy_files(files, tree)
+            copy_files_into_git(files, tree)
             self.idle.put(tree)
 
     @contextmanager
-    def one(self) -> Iterator[Path]:
+    def lend_tree(self) -> Iterator[Path]:
         """A copy that nothing else uses."""
         tree = self.idle.get()
         try:
@@ -115,11 +115,11 @@ class TreeCopies:
             variables["SHELL_TEST"] = line
         log = tree.with_suffix(".log")
         limited = ["timeout", "-k", "10", str(self.seconds), *command]
-        status = self.commands.call(limited, folder, log, PYTHONDONTWRITEBYTECODE="1", **variables)
+        status = self.commands.run_command(limited, folder, log, PYTHONDONTWRITEBYTECODE="1", **variables)
         return status, log.read_text(errors="replace")
 
 
-def copy_files(files: Iterable[Path], tree: Path) -> None:
+def copy_files_into_git(files: Iterable[Path], tree: Path) -> None:
     """Copies files of this tree to another, and adds them to git there."""
     for file in files:
         if (TOP / file).is_symlink() or (TOP / file).is_file():
@@ -130,22 +130,22 @@ def copy_files(files: Iterable[Path], tree: Path) -> None:
 
 
 @contextmanager
-def applied(mutant: FileMutant, tree: Path) -> Iterator[None]:
+def mutant_applied(mutant: FileMutant, tree: Path) -> Iterator[None]:
     """Applies a mutant to a copy, and takes it back at the end."""
-    before = {path: path.read_bytes() for path, _ in changed_files(mutant.mutant, tree)}
+    before = {path: path.read_bytes() for path, _ in changed_texts(mutant.mutant, tree)}
     try:
-        apply(mutant.mutant, tree)
+        apply_mutant(mutant.mutant, tree)
         yield
     finally:
         for path, text in before.items():
             path.write_bytes(text)
 
 
-def is_seen(mutant: FileMutant, copies: TreeCopies) -> bool:
+def try_and_print_mutant(mutant: FileMutant, copies: TreeCopies) -> bool:
     """Applies a mutant; whether its test sees it. Prints a line."""
     test = named_test(mutant)
     try:
-        with copies.one() as tree, applied(mutant, tree):
+        with copies.lend_tree() as tree, mutant_applied(mutant, tree):
             status, printed = copies.run_tests(test.kind, [test.place], tree, test.line)
     except MutantError as reason:
         print(f"{mutant.name}: {reason}", flush=True)
@@ -155,15 +155,15 @@ def is_seen(mutant: FileMutant, copies: TreeCopies) -> bool:
     return seen
 
 
-def failure(tests: Sequence[NamedTest], copies: TreeCopies) -> str:
+def failure_output(tests: Sequence[NamedTest], copies: TreeCopies) -> str:
     """What tests of a kind print without a mutant, if one of them doesn't pass; a line of tests/shell is run alone."""
     places = list(dict.fromkeys(it.place for it in tests))
-    with copies.one() as tree:
+    with copies.lend_tree() as tree:
         status, printed = copies.run_tests(tests[0].kind, places, tree, tests[0].line)
     return "" if all(it.passes(status, printed) for it in tests) else printed[-2000:]
 
 
-def refuse_failing(tests: Iterable[NamedTest], copies: TreeCopies, at_once: int) -> None:
+def refuse_failing_tests(tests: Iterable[NamedTest], copies: TreeCopies, at_once: int) -> None:
     """Refuses to go on where a test doesn't pass on the tree as it is; those of a kind of pytest are run together.
 
     A line of tests/shell is run alone, as it is with a mutant: one that needs those before it would fail with any.
@@ -171,17 +171,21 @@ def refuse_failing(tests: Iterable[NamedTest], copies: TreeCopies, at_once: int)
     parts: dict[tuple[str, str, str], list[NamedTest]] = {}
     for it in tests:
         parts.setdefault((it.kind, it.place, it.line) if it.line else (it.kind, "", ""), []).append(it)
-    failures = [it for it in copies.commands.each(list(parts.values()), at_once, lambda it: failure(it, copies)) if it]
+    failures = [
+        it
+        for it in copies.commands.map_unordered(list(parts.values()), at_once, lambda it: failure_output(it, copies))
+        if it
+    ]
     if failures:
         raise MutantError("tests fail without a mutant:\n" + "\n".join(failures))
 
 
-def try_python(mutants: dict[str, list[Mutant]], at_once: int, copies: TreeCopies) -> int:
+def try_python_mutants(mutants: dict[str, list[Mutant]], at_once: int, copies: TreeCopies) -> int:
     """Tries mutants, one at a time in each copy; the status is 0 if all are seen."""
     file_mutants = [FileMutant(file, mutant) for file, each in mutants.items() for mutant in each]
     tests = [named_test(mutant) for mutant in file_mutants]
-    copies.make(at_once)
-    refuse_failing(tests, copies, at_once)
-    seen = list(copies.commands.each(file_mutants, at_once, lambda it: is_seen(it, copies)))
+    copies.make_trees(at_once)
+    refuse_failing_tests(tests, copies, at_once)
+    seen = list(copies.commands.map_unordered(file_mutants, at_once, lambda it: try_and_print_mutant(it, copies)))
     print(f"{sum(seen)} seen, {len(seen) - sum(seen)} not seen")
     return 0 if all(seen) else 1

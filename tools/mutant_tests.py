@@ -14,7 +14,7 @@ from dataclasses import dataclass
 from pathlib import Path
 
 from crate_graph import dependencies, libraries_below
-from mutant_files import Mutant, MutantError, apply
+from mutant_files import Mutant, MutantError, apply_mutant
 from parallel import Commands
 from proofs import TOP, copy_crates
 
@@ -65,14 +65,14 @@ def named_test(mutant: CrateMutant) -> ProgramTest:
     return ProgramTest(runs[0].program, tuple(runs))
 
 
-def copy_tree(program: str, tree: Path) -> None:
+def copy_program_crates(program: str, tree: Path) -> None:
     """A tree of a program and the libraries below it."""
     (tree / ".git").mkdir(parents=True)
     uses = dependencies((TOP / "crates.txt").read_text())
     copy_crates([*libraries_below(program, uses), program], tree)
 
 
-def count_failed(test: ProgramTest, tree: Path, times: int, limits: RunLimits) -> int:
+def count_failed_runs(test: ProgramTest, tree: Path, times: int, limits: RunLimits) -> int:
     """How many of the test's runs, each made so many times, differ from what is wanted."""
     runs = {f"{number:05}": run for number, run in enumerate(test.runs * times)}
     cases, answers = tree / "cases", tree / "answers"
@@ -83,12 +83,12 @@ def count_failed(test: ProgramTest, tree: Path, times: int, limits: RunLimits) -
         (cases / f"{name}.args").write_bytes(b"".join(it + b"\n" for it in run.arguments))
     arguments: list[str | Path] = ["--seconds", str(limits.seconds), "--tree", tree, test.program, cases, answers]
     log = tree / "log"
-    if limits.commands.call([sys.executable, "-B", TOP / "tools" / "run_cases.py", *arguments], tree, log):
+    if limits.commands.run_command([sys.executable, "-B", TOP / "tools" / "run_cases.py", *arguments], tree, log):
         raise MutantError(f"{test.program} isn't built:\n{log.read_text(errors='replace')[-1000:]}")
-    return sum(bool(run_fault(run, answer(answers, name))) for name, run in runs.items())
+    return sum(bool(run_fault(run, read_answer(answers, name))) for name, run in runs.items())
 
 
-def answer(folder: Path, name: str) -> ProgramOutput:
+def read_answer(folder: Path, name: str) -> ProgramOutput:
     """What was answered to a case; one that didn't end has no status."""
     output, errors = ((folder / f"{name}.{kind}").read_bytes() for kind in ("output", "errors"))
     status = (folder / f"{name}.status").read_text()
@@ -96,33 +96,33 @@ def answer(folder: Path, name: str) -> ProgramOutput:
 
 
 @contextlib.contextmanager
-def tree_of(program: str, name: str, work: Path) -> Iterator[Path]:
+def temporary_tree_of(program: str, name: str, work: Path) -> Iterator[Path]:
     """A tree of a program that is removed at the end."""
     tree = work / name
     try:
-        copy_tree(program, tree)
+        copy_program_crates(program, tree)
         yield tree
     finally:
         shutil.rmtree(tree, ignore_errors=True)
 
 
-def refuse_failing(tests: list[ProgramTest], limits: RunLimits) -> None:
+def refuse_failing_tests(tests: list[ProgramTest], limits: RunLimits) -> None:
     """Refuses to go on where a test doesn't pass on the crates as they are."""
     for program in sorted({it.program for it in tests}):
         runs = tuple(dict.fromkeys(run for it in tests if it.program == program for run in it.runs))
-        with tree_of(program, f"{program}.as-it-is", limits.work) as tree:
-            failed = count_failed(ProgramTest(program, runs), tree, 1, limits)
+        with temporary_tree_of(program, f"{program}.as-it-is", limits.work) as tree:
+            failed = count_failed_runs(ProgramTest(program, runs), tree, 1, limits)
         if failed:
             raise MutantError(f"{failed} of {len(runs)} runs of {program} fail without a mutant")
 
 
-def is_seen(mutant: CrateMutant, test: ProgramTest, limits: RunLimits) -> bool:
+def try_and_print_mutant(mutant: CrateMutant, test: ProgramTest, limits: RunLimits) -> bool:
     """Applies a mutant to a copy of its own; whether each run of its test fails. Prints a line."""
     count = len(test.runs) * limits.times
     try:
-        with tree_of(test.program, f"{mutant.crate}.{mutant.mutant.name}", limits.work) as tree:
-            apply(mutant.mutant, tree / "crates" / mutant.crate)
-            failed = count_failed(test, tree, limits.times, limits)
+        with temporary_tree_of(test.program, f"{mutant.crate}.{mutant.mutant.name}", limits.work) as tree:
+            apply_mutant(mutant.mutant, tree / "crates" / mutant.crate)
+            failed = count_failed_runs(test, tree, limits.times, limits)
     except MutantError as reason:
         print(f"{mutant.name}: {reason}", flush=True)
         return False
@@ -130,15 +130,15 @@ def is_seen(mutant: CrateMutant, test: ProgramTest, limits: RunLimits) -> bool:
     return failed == count
 
 
-def try_tests(mutants: dict[str, list[Mutant]], at_once: int, limits: RunLimits) -> int:
+def try_test_mutants(mutants: dict[str, list[Mutant]], at_once: int, limits: RunLimits) -> int:
     """Tries the mutants of some crates, each in a copy of its own; the status is 0 if all are seen."""
     crate_mutants = [CrateMutant(crate, mutant) for crate, each in mutants.items() for mutant in each]
     with_tests = [(mutant, named_test(mutant)) for mutant in crate_mutants]
     try:
-        refuse_failing([test for _, test in with_tests], limits)
+        refuse_failing_tests([test for _, test in with_tests], limits)
     except BaseException:
-        limits.commands.stop()
+        limits.commands.stop_all()
         raise
-    seen = list(limits.commands.each(with_tests, at_once, lambda it: is_seen(*it, limits)))
+    seen = list(limits.commands.map_unordered(with_tests, at_once, lambda it: try_and_print_mutant(*it, limits)))
     print(f"{sum(seen)} seen, {len(seen) - sum(seen)} not seen")
     return 0 if all(seen) else 1

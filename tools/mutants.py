@@ -25,13 +25,13 @@ import tempfile
 from pathlib import Path
 
 import signals
-from mutant_contracts import most_at_once, try_contracts
-from mutant_files import Mutant, MutantError, read_crates, read_python
-from mutant_python import TreeCopies, try_python
-from mutant_tests import RunLimits, try_tests
+from mutant_contracts import crates_at_once, try_contract_mutants
+from mutant_files import Mutant, MutantError, read_crate_mutants, read_python_mutants
+from mutant_python import TreeCopies, try_python_mutants
+from mutant_tests import RunLimits, try_test_mutants
 from parallel import Commands
 from proofs import TOP
-from rt_try import NotRunError, find_kit
+from rt_try import NotRunError, check_kit_on_path
 
 
 CONTRACTS, TESTS, PYTHON = "contracts", "tests", "python"
@@ -40,7 +40,7 @@ CONTRACTS, TESTS, PYTHON = "contracts", "tests", "python"
 def chosen_mutants(options: argparse.Namespace) -> dict[str, list[Mutant]]:
     """The mutants that the options choose, by their crates or files."""
     is_python = options.kind == PYTHON
-    mutants = read_python(TOP) if is_python else read_crates(TOP, options.kind)
+    mutants = read_python_mutants(TOP) if is_python else read_crate_mutants(TOP, options.kind)
     for place in options.places:
         if place not in mutants:
             raise MutantError(f"there is no {place if is_python else f'crates/{place}/{options.kind}.mutants'}")
@@ -62,7 +62,7 @@ def positive(text: str) -> int:
     return number
 
 
-def parser() -> argparse.ArgumentParser:
+def make_parser() -> argparse.ArgumentParser:
     about = {"description": __doc__, "formatter_class": argparse.RawDescriptionHelpFormatter}
     whole = argparse.ArgumentParser(allow_abbrev=False, **about)  # type: ignore[arg-type]
     kinds = whole.add_subparsers(dest="kind", required=True, metavar="|".join((CONTRACTS, TESTS, PYTHON)))
@@ -84,32 +84,32 @@ def parser() -> argparse.ArgumentParser:
     return whole
 
 
-def try_all(options: argparse.Namespace) -> int:
+def try_chosen_mutants(options: argparse.Namespace) -> int:
     mutants = chosen_mutants(options)
     if options.kind != PYTHON:
-        find_kit()
+        check_kit_on_path()
     with tempfile.TemporaryDirectory(prefix="mutants-") as folder:
         work = Path(folder)
         os.environ["TMPDIR"] = str(work)
         if options.kind == CONTRACTS:
-            return try_contracts(mutants, options.at_once or most_at_once(), work)
+            return try_contract_mutants(mutants, options.at_once or crates_at_once(), work)
         at_once = options.at_once or len(os.sched_getaffinity(0))
         if options.kind == PYTHON:
             programs = options.programs and options.programs.absolute()
-            return try_python(mutants, at_once, TreeCopies(work, options.seconds, programs))
-        return try_tests(mutants, at_once, RunLimits(options.times, options.seconds, work, Commands()))
+            return try_python_mutants(mutants, at_once, TreeCopies(work, options.seconds, programs))
+        return try_test_mutants(mutants, at_once, RunLimits(options.times, options.seconds, work, Commands()))
 
 
 def main() -> int:
-    options = parser().parse_args()
-    signals.heed()
+    options = make_parser().parse_args()
+    signals.raise_at_first_signal()
     try:
-        return try_all(options)
+        return try_chosen_mutants(options)
     except (MutantError, NotRunError) as reason:
         print(f"mutants: {reason}", file=sys.stderr)
         return 2
     except signals.StoppedBySignal as signal:
-        signals.end_by(signal.number)
+        signals.end_process_by(signal.number)
 
 
 if __name__ == "__main__":

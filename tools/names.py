@@ -41,7 +41,7 @@ class SourceText:
         return ".sh" if self.text.startswith("#!/bin/sh") else Path(self.path).suffix
 
 
-def texts() -> Iterator[SourceText]:
+def git_text_files() -> Iterator[SourceText]:
     """The files that git has and that are text."""
     listed = subprocess.run(["git", "ls-files", "-z"], cwd=TOP, capture_output=True, check=True).stdout
     for path in map(TOP.joinpath, filter(None, listed.decode().split("\0"))):
@@ -94,7 +94,9 @@ def repeated_nouns(
             yield from ((place, noun) for place in each)
 
 
-def words_left(files: list[SourceText], words: dict[str, str], explained: dict[str, str]) -> Iterator[tuple[str, str]]:
+def words_to_avoid_in(
+    files: list[SourceText], words: dict[str, str], explained: dict[str, str]
+) -> Iterator[tuple[str, str]]:
     """The places of the words that prose is to avoid, each with what to write instead."""
     patterns = [(re.compile(rf"\b(?:{it})\b", re.IGNORECASE), instead) for it, instead in words.items()]
     for text in files:
@@ -109,9 +111,9 @@ def words_left(files: list[SourceText], words: dict[str, str], explained: dict[s
 def main() -> int:
     with (TOP / "tools" / "names.toml").open("rb") as file:
         table = tomllib.load(file)
-    files = list(texts())
+    files = list(git_text_files())
     nouns = repeated_nouns(files, table["nouns"], table["second_readings"])
-    left = [*nouns, *words_left(files, table["words"], table["explained"])]
+    left = [*nouns, *words_to_avoid_in(files, table["words"], table["explained"])]
     for place, word in left:
         print(f"{place}: {word}")
     return 1 if left else 0

@@ -28,7 +28,7 @@ class Commands:
     is_stopped: bool = False
     lock: Lock = field(default_factory=Lock)
 
-    def call(self, words: Sequence[Union[str, Path]], folder: Path, log: Path, **variables: str) -> int:
+    def run_command(self, words: Sequence[Union[str, Path]], folder: Path, log: Path, **variables: str) -> int:
         """Runs a command in a folder, with these variables, and writes its output to a file; its status."""
         with log.open("wb") as file:
             with self.lock:
@@ -50,7 +50,7 @@ class Commands:
                 with self.lock:
                     self.running.discard(process)
 
-    def stop(self) -> None:
+    def stop_all(self) -> None:
         """Ends those that run, and lets none begin."""
         with self.lock:
             self.is_stopped = True
@@ -58,14 +58,14 @@ class Commands:
                 with contextlib.suppress(ProcessLookupError):
                     os.killpg(process.pid, signal.SIGTERM)
 
-    def each(self, items: Sequence[T], at_once: int, do: Callable[[T], R]) -> Iterator[R]:
+    def map_unordered(self, items: Sequence[T], at_once: int, do: Callable[[T], R]) -> Iterator[R]:
         """What is done with each item, some of them at once and the first ones first, as it ends."""
         pool = ThreadPoolExecutor(max(1, at_once))
         try:
             for future in as_completed([pool.submit(do, item) for item in items]):
                 yield future.result()
         except BaseException:
-            self.stop()
+            self.stop_all()
             raise
         finally:
             pool.shutdown(cancel_futures=True)

@@ -11,8 +11,18 @@ import sys
 from collections.abc import Iterator
 
 import stamps
-from kit import command_of_kit, file_of_identity, kit_identity
-from source_sums import HANDLES, TABLE, NoFile, Unreadable, lines_of, places_below, sources_in, sums, sums_of
+from kit import command_of_kit, kit_id_file, kit_id_on_path
+from source_sums import (
+    HANDLES,
+    TABLE,
+    NoFile,
+    Unreadable,
+    checksum_lines,
+    places_of_proof,
+    files_among_places,
+    sums_of_proof,
+    sums_of_files,
+)
 
 KIT = b"kit: "
 # The files that decide. Where one is changed, what it found before doesn't count.
@@ -20,21 +30,21 @@ MADE_BY = [f"tools/{it}.py" for it in ("proved_program", "crate_graph", "proof_s
 FAULT = 2
 
 
-def path_of(program: str) -> str:
+def program_path(program: str) -> str:
     """Where a program is, from the top of the tree."""
     return f"crates/{program}/out/{program}"
 
 
-def record(program: dict[str, str], read: dict[str, str], name: str) -> bytes:
+def sums_file_text(program: dict[str, str], read: dict[str, str], name: str) -> bytes:
     """What is kept: the checksum of a program, those of what its proof read, and what names the kit."""
-    return lines_of({**program, **read}) + kit_line(name)
+    return checksum_lines({**program, **read}) + kit_line(name)
 
 
 def kit_line(name: str) -> bytes:
     return KIT + os.fsencode(name) + b"\n" if name else b""
 
 
-def kit_in(kept: bytes) -> str:
+def kit_in_sums(kept: bytes) -> str:
     """What names the kit in what is kept, or nothing."""
     last = kept[kept[:-1].rfind(b"\n") + 1 : -1]
     return os.fsdecode(last[len(KIT) :]) if last.startswith(KIT) else ""
@@ -45,33 +55,33 @@ def is_proved(top: str, program: str) -> bool:
 
     Raises Unreadable where no proof could read it now.
     """
-    path = path_of(program)
-    kept = octets_of(f"{top}/{path}.sums")
-    here = kit_identity()
-    name = kit_in(kept) if here is None else here
+    path = program_path(program)
+    kept = read_or_empty(f"{top}/{path}.sums")
+    here = kit_id_on_path()
+    name = kit_in_sums(kept) if here is None else here
     if not name or not os.access(f"{top}/{path}", os.X_OK):
         return False
-    places = list(places_below(top, program))
+    places = list(places_of_proof(top, program))
     looked_at = list(dict.fromkeys([*MADE_BY, path, f"{path}.sums", TABLE, HANDLES, *(it for it, _ in places)]))
     before = stamps.stamps_of(top, looked_at)
-    probe = stamps.probe_in(os.path.dirname(f"{top}/{path}"))
-    if record(sums_of(top, [path]), sums_of(top, sources_in(places)), name) != kept:
+    probe = stamps.make_probe(os.path.dirname(f"{top}/{path}"))
+    if sums_file_text(sums_of_files(top, [path]), sums_of_files(top, files_among_places(places)), name) != kept:
         return False
-    if probe and stamps.are_settled(before, probe) and places == list(places_below(top, program)):
+    if probe and stamps.are_settled(before, probe) and places == list(places_of_proof(top, program)):
         # What was read is what has these stamps only where all still have them.
         if before == stamps.stamps_of(top, looked_at):
-            put(f"{top}/{path}.stamps", stamps.kept_text(program, name, before))
+            replace_file(f"{top}/{path}.stamps", stamps.stamps_file_text(program, name, before))
     return True
 
 
-def octets_of(path: str) -> bytes:
+def read_or_empty(path: str) -> bytes:
     """What a file has; nothing where it can't be read."""
     with contextlib.suppress(OSError), open(path, "rb") as file:
         return file.read()
     return b""
 
 
-def put(path: str, octets: bytes) -> None:
+def replace_file(path: str, octets: bytes) -> None:
     """Puts a file in the place of what is there, if that can be."""
     fresh = f"{path}.{os.getpid()}"
     with contextlib.suppress(OSError):
@@ -80,23 +90,23 @@ def put(path: str, octets: bytes) -> None:
         os.replace(fresh, path)
 
 
-def looked_at(top: str, program: str) -> Iterator[str]:
+def paths_deciding_proof(top: str, program: str) -> Iterator[str]:
     """The whole paths of all on which it depends whether a program is proved, also of what isn't there."""
-    path = path_of(program)
+    path = program_path(program)
     yield from (f"{top}/{it}" for it in (TABLE, HANDLES, path, f"{path}.sums"))
     command = command_of_kit()
     if command is not None:
-        yield from (os.path.abspath(command), file_of_identity(command))
+        yield from (os.path.abspath(command), kit_id_file(command))
     with contextlib.suppress(Unreadable):
-        yield from (f"{top}/{it}" for it, _ in places_below(top, program) if it not in (TABLE, HANDLES))
+        yield from (f"{top}/{it}" for it, _ in places_of_proof(top, program) if it not in (TABLE, HANDLES))
 
 
-def answer(top: str, arguments: list[str]) -> int:
+def print_answer(top: str, arguments: list[str]) -> int:
     """Prints the answer of tools/proved_program.sh to [--sums | --files] NAME, and gives the status."""
     *options, program = arguments
     message = f"{program} isn't proved and built, or has changed since: run ./prove {program}"
     try:
-        octets = output_for(options, top, program)
+        octets = output_for_options(options, top, program)
     except NoFile as why:
         octets, message = b"", f"{program} isn't proved: {why}"
     except Unreadable as why:
@@ -108,10 +118,10 @@ def answer(top: str, arguments: list[str]) -> int:
     return 0
 
 
-def output_for(options: list[str], top: str, program: str) -> bytes:
+def output_for_options(options: list[str], top: str, program: str) -> bytes:
     """What is printed with these options: nothing where a program isn't proved."""
     if options == ["--files"]:
-        return b"".join(os.fsencode(it) + b"\0" for it in looked_at(top, program))
+        return b"".join(os.fsencode(it) + b"\0" for it in paths_deciding_proof(top, program))
     if options == ["--sums"]:
-        return lines_of(sums(top, program)) + kit_line(kit_identity() or "")
-    return os.fsencode(f"{top}/{path_of(program)}\n") if is_proved(top, program) else b""
+        return checksum_lines(sums_of_proof(top, program)) + kit_line(kit_id_on_path() or "")
+    return os.fsencode(f"{top}/{program_path(program)}\n") if is_proved(top, program) else b""

@@ -70,12 +70,12 @@ class Lane:
     def tree(self) -> Path:
         return self.copy.tree
 
-    def out(self, crate: str) -> Path:
+    def out_folder(self, crate: str) -> Path:
         return self.tree / "crates" / crate / "out"
 
-    def call(self, crate: str, *words: str) -> int:
+    def call_rt(self, crate: str, *words: str) -> int:
         """Calls rt on a crate, in a session of its own, and gives its status; the crate's log has its output."""
-        out = self.out(crate)
+        out = self.out_folder(crate)
         out.mkdir(parents=True, exist_ok=True)
         log_file = out / "build.log"
         log_file.unlink(missing_ok=True)
@@ -97,14 +97,14 @@ class Lane:
         return status
 
     def prove_library(self, library: str) -> None:
-        if self.call(library, "lib", *self.flags):
+        if self.call_rt(library, "lib", *self.flags):
             raise Unproved(library)
 
     def prove_program(self, program: str) -> None:
-        built = self.out(program) / program
+        built = self.out_folder(program) / program
         built.unlink(missing_ok=True)
         # Its status is that of a run without input, too.
-        self.call(program, "run", *self.flags)
+        self.call_rt(program, "run", *self.flags)
         if not os.access(built, os.X_OK):
             raise Unproved(program)
 
@@ -118,7 +118,7 @@ class Lane:
             self.proving.wait()
 
 
-def hand_over(source: Path, to: Path, folder: Path) -> None:
+def hand_over_parts(source: Path, to: Path, folder: Path) -> None:
     """Puts the parts of a folder, lanes apart, in another place, by hard links if possible, instead of what is there.
 
     Each part is made first in a further folder of the same file system, so that who is killed leaves either whole.
@@ -127,26 +127,26 @@ def hand_over(source: Path, to: Path, folder: Path) -> None:
         return
     to.mkdir(parents=True, exist_ok=True)
     for part in (it for it in source.iterdir() if not it.name.startswith(LANE)):
-        hand_over_part(part, to / part.name, folder)
+        replace_part(part, to / part.name, folder)
 
 
-def hand_over_part(part: Path, to: Path, folder: Path) -> None:
+def replace_part(part: Path, to: Path, folder: Path) -> None:
     """Puts a folder or a file in another place, instead of what stands there."""
     fresh, before = folder / "fresh", folder / "before"
     for left in (fresh, before):
         shutil.rmtree(left, ignore_errors=True)
         left.unlink(missing_ok=True)
     if part.is_dir():
-        shutil.copytree(part, fresh, copy_function=link, symlinks=True)
+        shutil.copytree(part, fresh, copy_function=link_or_copy, symlinks=True)
     else:
-        link(str(part), str(fresh))
+        link_or_copy(str(part), str(fresh))
     if to.is_dir():
         to.rename(before)
     fresh.replace(to)
     shutil.rmtree(before, ignore_errors=True)
 
 
-def link(file: str, to: str) -> None:
+def link_or_copy(file: str, to: str) -> None:
     try:
         os.link(file, to, follow_symlinks=False)
     except OSError:
@@ -154,7 +154,7 @@ def link(file: str, to: str) -> None:
 
 
 @contextlib.contextmanager
-def held(crate: str, waits: bool = True) -> Iterator[bool]:
+def lock_crate(crate: str, waits: bool = True) -> Iterator[bool]:
     """Lets no `rt` work in a crate of the tree meanwhile. It yields whether it came to that."""
     folder = os.open(TOP / "crates" / crate, os.O_RDONLY)
     is_held = True
@@ -178,7 +178,7 @@ def copy_crates(crates: list[str], tree: Path) -> None:
         shutil.copytree(TOP / "crates" / crate, tree / "crates" / crate, ignore=shutil.ignore_patterns("out"))
 
 
-def number_in(file: str, pattern: str) -> int | None:
+def number_in_file(file: str, pattern: str) -> int | None:
     """The number of the line that fits a pattern, if there are the file and the line."""
     with contextlib.suppress(OSError):
         found = re.search(pattern, Path(file).read_text(), re.MULTILINE)
@@ -188,18 +188,18 @@ def number_in(file: str, pattern: str) -> int | None:
 
 def free_memory() -> int:
     """The octets that may still be taken here, within the limit of the group of processes too."""
-    free = 1024 * (number_in("/proc/meminfo", r"^MemAvailable:\s+(\d+)") or 0)
-    limit = number_in("/sys/fs/cgroup/memory.max", r"^(\d+)$")
-    taken = number_in("/sys/fs/cgroup/memory.stat", r"^anon (\d+)$")
+    free = 1024 * (number_in_file("/proc/meminfo", r"^MemAvailable:\s+(\d+)") or 0)
+    limit = number_in_file("/sys/fs/cgroup/memory.max", r"^(\d+)$")
+    taken = number_in_file("/sys/fs/cgroup/memory.stat", r"^anon (\d+)$")
     return free if limit is None else min(free, limit - (taken or 0))
 
 
-def has_memory() -> bool:
+def fits_two_lanes() -> bool:
     """Whether there are the processors and the memory for two lanes."""
     return len(os.sched_getaffinity(0)) >= 2 * JOBS and free_memory() >= FOLDER
 
 
-def file_of_times() -> Path:
+def times_file() -> Path:
     """Where the times of this machine are kept."""
     cache = os.environ.get("XDG_CACHE_HOME", "")
     folder = Path(cache) if os.path.isabs(cache) else Path.home() / ".cache"
@@ -215,17 +215,17 @@ class Times:
     @staticmethod
     def read() -> Times:
         with contextlib.suppress(OSError, ValueError, TypeError, AttributeError, RuntimeError):
-            kept = json.loads(file_of_times().read_text())
+            kept = json.loads(times_file().read_text())
             return Times({str(it): float(seconds) for it, seconds in kept.items()})
         return Times()
 
-    def expected(self, uses: dict[str, list[str]]) -> dict[str, float]:
+    def expected_seconds(self, uses: dict[str, list[str]]) -> dict[str, float]:
         """The seconds that each crate takes as it is now, the crates being in the order of crates.txt."""
         changed: dict[str, float] = {}
         octets: dict[str, int] = {}
         found: dict[str, float] = {}
         for crate, below in uses.items():
-            files = [it.stat() for it in sources(crate)]
+            files = [it.stat() for it in proof_sources(crate)]
             octets[crate] = sum(it.st_size for it in files)
             changed[crate] = max([it.st_mtime for it in files] + [changed.get(it, 0.0) for it in below])
             if changed[crate] <= time_of_proof(TOP / "crates" / crate / "out"):
@@ -233,22 +233,22 @@ class Times:
             else:
                 whole = sum(octets.get(it, 0) for it in libraries_below(crate, uses))
                 guess = EACH + EACH_OCTET * octets[crate] + EACH_OCTET_BELOW * whole
-                key = key_of(crate)
+                key = times_key_of(crate)
                 found[crate] = self.seconds.get(key, guess if key == crate else AGAIN * guess)
         return found
 
-    def keep(self, key: str, seconds: float) -> None:
+    def keep_seconds(self, key: str, seconds: float) -> None:
         """Keeps what a proof took, for later calls too where that can be written."""
         self.seconds = {**Times.read().seconds, key: round(seconds, 1)}
         with contextlib.suppress(OSError, RuntimeError):
-            file = file_of_times()
+            file = times_file()
             file.parent.mkdir(parents=True, exist_ok=True)
             fresh = file.with_name(f"{file.name}.{os.getpid()}")
             fresh.write_text(json.dumps(self.seconds, indent=0, sort_keys=True) + "\n")
             fresh.replace(file)
 
 
-def sources(crate: str) -> Iterator[Path]:
+def proof_sources(crate: str) -> Iterator[Path]:
     """The files that the proof of a crate reads."""
     for folder in ("src", "specs", "proofs"):
         for kind in ("*.rt", "*.antt"):
@@ -263,18 +263,18 @@ def time_of_proof(out: Path) -> float:
     return 0.0
 
 
-def key_of(crate: str) -> str:
+def times_key_of(crate: str) -> str:
     """What the times call a proof of a crate: one over what is kept is another than one from nothing."""
     kept = TOP / "crates" / crate / "out" / "incremental"
     return f"{crate} again" if kept.is_dir() else crate
 
 
-def amount(crates: int, seconds: float) -> str:
+def remaining_in_words(crates: int, seconds: float) -> str:
     """What is left, in words.
 
-    >>> amount(24, 1561.0)
+    >>> remaining_in_words(24, 1561.0)
     '24 crates and about 26 minutes'
-    >>> amount(1, 59.0)
+    >>> remaining_in_words(1, 59.0)
     '1 crate and less than a minute'
     """
     minutes = round(seconds / 60)
@@ -300,12 +300,12 @@ class SeenProcesses:
     clock: dict[str, float] = field(default_factory=lambda: defaultdict(float))
 
 
-def work_of(words: list[str], folder: str) -> Work | None:
+def work_of_process(words: list[str], folder: str) -> Work | None:
     """What a process does, by its words and its folder; none where these tell nothing.
 
-    >>> work_of(["rattle", "build", "--crate-name", "pd_lex"], "/tmp/x/crates/pd_lex")
+    >>> work_of_process(["rattle", "build", "--crate-name", "pd_lex"], "/tmp/x/crates/pd_lex")
     ('pd_lex', 'proof')
-    >>> work_of(["rattle", "check", "--crate-name", "pd_lex"], "/tmp/rt-edit-7-x1")
+    >>> work_of_process(["rattle", "check", "--crate-name", "pd_lex"], "/tmp/rt-edit-7-x1")
     ('pd_lex', 'edits')
     """
     if ran := next((it for it in words if re.match(r".*/rt-run-[^/]+/bin/", it)), ""):
@@ -316,7 +316,7 @@ def work_of(words: list[str], folder: str) -> Work | None:
     return (os.path.basename(folder), "proof") if re.search(r"/crates/\w+$", folder) else None
 
 
-def look(seen: SeenProcesses, root: psutil.Process, now: float, passed: float) -> None:
+def look_at_processes(seen: SeenProcesses, root: psutil.Process, now: float, passed: float) -> None:
     """Looks at a process and those below it, at a moment by the clock, so many seconds after the last look."""
     import psutil
 
@@ -326,7 +326,7 @@ def look(seen: SeenProcesses, root: psutil.Process, now: float, passed: float) -
         with contextlib.suppress(psutil.Error):
             parent = found.get(it.ppid())
             known = [one.work for one in map(seen.processes.get, (it, parent)) if one and one.work]
-            work = known[0] if known else work_of(it.cmdline(), it.cwd())
+            work = known[0] if known else work_of_process(it.cmdline(), it.cwd())
             used = it.cpu_times()
             seen.processes[it] = Used(work, parent, sum(used[:2]), sum(used[2:4]))
             works |= {work} if work else set()
@@ -336,7 +336,7 @@ def look(seen: SeenProcesses, root: psutil.Process, now: float, passed: float) -
         seen.clock[crate] += passed
 
 
-def charged(seen: SeenProcesses) -> dict[str, float]:
+def seconds_by_crate(seen: SeenProcesses) -> dict[str, float]:
     """The processor seconds of each crate: of its processes, and of their children that ended between two looks."""
     by_children: dict[psutil.Process, float] = defaultdict(float)
     seconds: dict[str, float] = defaultdict(float)
@@ -365,8 +365,8 @@ def longest_chain(spans: dict[Work, tuple[float, float]], uses: dict[str, list[s
     return chain
 
 
-def report(seen: SeenProcesses, uses: dict[str, list[str]], processor: float, clock: float) -> Iterator[str]:
-    seconds = {crate: it for crate, it in charged(seen).items() if crate in uses}
+def cost_lines(seen: SeenProcesses, uses: dict[str, list[str]], processor: float, clock: float) -> Iterator[str]:
+    seconds = {crate: it for crate, it in seconds_by_crate(seen).items() if crate in uses}
     rest = processor - sum(seconds.values())
     yield "minutes of processors and by the clock:"
     crates = [(*it, seen.clock[it[0]]) for it in seconds.items()]
@@ -377,7 +377,7 @@ def report(seen: SeenProcesses, uses: dict[str, list[str]], processor: float, cl
         yield "{:8.1f} {:8.1f}  {} {}".format(*(it / 60 for it in seen.spans[work]), *work)
 
 
-def run_gate(command: list[str], clone: Path) -> int:
+def run_and_print_cost(command: list[str], clone: Path) -> int:
     """Runs the command in the clone, and prints what it cost; the status is its."""
     import psutil  # ./prove does without.
 
@@ -385,11 +385,11 @@ def run_gate(command: list[str], clone: Path) -> int:
     started = subprocess.Popen(command, cwd=clone, stdin=subprocess.DEVNULL, stdout=sys.stderr)
     while started.poll() is None:
         before, now = now, time.monotonic() - began
-        look(seen, psutil.Process(started.pid), now, now - before)
+        look_at_processes(seen, psutil.Process(started.pid), now, now - before)
         time.sleep(0.5)
     used = os.times()
     uses = dependencies((clone / "crates.txt").read_text())
-    print(*report(seen, uses, used.children_user + used.children_system, time.monotonic() - began), sep="\n")
+    print(*cost_lines(seen, uses, used.children_user + used.children_system, time.monotonic() - began), sep="\n")
     return started.returncode
 
 
@@ -399,7 +399,7 @@ def main() -> int:
     with tempfile.TemporaryDirectory() as work:
         os.chmod(work, 0o755)  # A test of the client reads the clone as another user.
         subprocess.run(["git", "clone", "-q", TOP, f"{work}/clone"], check=True)
-        return run_gate(sys.argv[1:] or ["rt", "ci", "--anew"], Path(work, "clone"))
+        return run_and_print_cost(sys.argv[1:] or ["rt", "ci", "--anew"], Path(work, "clone"))
 
 
 if __name__ == "__main__":

@@ -34,15 +34,28 @@ from pathlib import Path
 import proof_sums
 import proving_kit
 import signals
-from changed_rules import change_lines, keep
-from cited import Definitions, with_contracts
-from copies import copied
+from changed_rules import change_report_lines, keep_definitions
+from cited import Definitions, add_contracts_to_errors
+from copies import copy_proof_sources
 from crate_graph import dependencies, libraries_below
 from last_proved import keep_programs
-from proofs import JOBS, LANE, TOP, Lane, Times, Unproved, amount, hand_over, has_memory, held, key_of, time_of_proof
-from prove_errors import errors
+from proofs import (
+    JOBS,
+    LANE,
+    TOP,
+    Lane,
+    Times,
+    Unproved,
+    remaining_in_words,
+    hand_over_parts,
+    fits_two_lanes,
+    lock_crate,
+    times_key_of,
+    time_of_proof,
+)
+from prove_errors import errors_in_log
 from proving_kit import ProvingKit, ProofRefusedError
-from source_sums import TABLE, Unreadable, places_of, sources_below, sources_in, sums_of
+from source_sums import TABLE, Unreadable, places_in_crates, sources_of_proof, files_among_places, sums_of_files
 
 
 # The last message about a proof that was refused.
@@ -80,41 +93,41 @@ class Work:
     proved: set[str] = field(default_factory=set)
     running: dict[Future[None], RunningProof] = field(default_factory=dict)
 
-    def print_begun(self, crate: str, lanes: int) -> None:
+    def print_crate_begun(self, crate: str, lanes: int) -> None:
         """Prints that a crate is begun, and what is left."""
         left = {*self.waiting, crate, *(it.crate for it in self.running.values())}
-        seconds = max([sum(map(self.expected.__getitem__, left)) / lanes, *map(self.chain_above, left)])
-        print_line(f"proving {crate}; {amount(len(left), seconds)} are left")
+        seconds = max([sum(map(self.expected.__getitem__, left)) / lanes, *map(self.seconds_of_chain_above, left)])
+        print_message(f"proving {crate}; {remaining_in_words(len(left), seconds)} are left")
 
     def next_crate(self) -> str | None:
         """Of the crates whose libraries are proved the one with the longest chain of others above it."""
         ready = [it for it in self.waiting if self.proved.issuperset(self.uses[it])]
-        return max(ready, key=self.chain_above) if ready else None
+        return max(ready, key=self.seconds_of_chain_above) if ready else None
 
-    def chain_above(self, crate: str) -> float:
+    def seconds_of_chain_above(self, crate: str) -> float:
         """The seconds of a crate and the longest chain of others above it."""
-        above = max((self.chain_above(it) for it in self.waiting if crate in self.uses[it]), default=0.0)
+        above = max((self.seconds_of_chain_above(it) for it in self.waiting if crate in self.uses[it]), default=0.0)
         return self.expected[crate] + above
 
-    def prove(self, lanes: list[Lane]) -> None:
+    def prove_all(self, lanes: list[Lane]) -> None:
         """Proves the crates, one in each lane at a time."""
         pool = ThreadPoolExecutor(len(lanes))
         try:
             while self.waiting or self.running:
-                self.begin(pool, lanes)
+                self.fill_free_lanes(pool, lanes)
                 for future in wait(self.running, return_when=FIRST_COMPLETED).done:
-                    self.end(future, lanes)
+                    self.finish_proof(future, lanes)
         finally:
             for lane in lanes:
                 lane.stop()
             pool.shutdown()
             for it in self.running.values():
-                with contextlib.suppress(ProofRefusedError), held(it.crate, waits=False) as is_held:
+                with contextlib.suppress(ProofRefusedError), lock_crate(it.crate, waits=False) as is_held:
                     if is_held:
-                        self.check(it.lane)
-                        hand_over(it.lane.out(it.crate), out_of(it.crate), self.folder)
+                        self.check_lane(it.lane)
+                        hand_over_parts(it.lane.out_folder(it.crate), out_folder_of(it.crate), self.folder)
 
-    def begin(self, pool: ThreadPoolExecutor, lanes: list[Lane]) -> None:
+    def fill_free_lanes(self, pool: ThreadPoolExecutor, lanes: list[Lane]) -> None:
         """Gives each lane that is free a crate, with what is kept of it."""
         busy = [it.lane.tree for it in self.running.values()]
         for lane in (it for it in lanes if it.tree not in busy):
@@ -122,55 +135,57 @@ class Work:
             if crate is None:
                 return
             self.waiting.remove(crate)
-            with held(crate):
-                hand_over(out_of(crate), lane.out(crate), self.folder)
-            self.print_begun(crate, len(lanes))
-            running = RunningProof(crate, lane, key_of(crate), time.time())
+            with lock_crate(crate):
+                hand_over_parts(out_folder_of(crate), lane.out_folder(crate), self.folder)
+            self.print_crate_begun(crate, len(lanes))
+            running = RunningProof(crate, lane, times_key_of(crate), time.time())
             prove_crate = lane.prove_program if is_program(lane.tree, crate) else lane.prove_library
             self.running[pool.submit(prove_crate, crate)] = running
 
-    def end(self, future: Future[None], lanes: list[Lane]) -> None:
+    def finish_proof(self, future: Future[None], lanes: list[Lane]) -> None:
         """Gives the other lane what it reads of a crate that was proved, and the tree all that is kept of it."""
         future.result()
         it = self.running[future]
-        self.check(it.lane)
-        self.keep_time(it)
-        out = it.lane.out(it.crate)
-        keep(out, folders_for(it.lane.tree, it.crate, self.uses))
+        self.check_lane(it.lane)
+        self.keep_proof_time(it)
+        out = it.lane.out_folder(it.crate)
+        keep_definitions(out, folders_of_crate_and_below(it.lane.tree, it.crate, self.uses))
         if is_program(it.lane.tree, it.crate):
-            self.keep_sums(it.crate, it.lane.tree)
+            self.keep_program_sums(it.crate, it.lane.tree)
         else:
             for other in (lane for lane in lanes if lane.tree != it.lane.tree):
-                hand_over(out / "rlib", other.out(it.crate) / "rlib", self.folder)
-        with held(it.crate):
-            hand_over(out, out_of(it.crate), self.folder)
+                hand_over_parts(out / "rlib", other.out_folder(it.crate) / "rlib", self.folder)
+        with lock_crate(it.crate):
+            hand_over_parts(out, out_folder_of(it.crate), self.folder)
         # Only now, so that what was proved isn't lost where a signal comes in the midst.
         del self.running[future]
         self.proved.add(it.crate)
 
-    def check(self, lane: Lane) -> None:
+    def check_lane(self, lane: Lane) -> None:
         """Checks that what is proved in a lane is what was copied, by the kit that was there at the beginning."""
-        if changed := lane.copy.changed():
+        if changed := lane.copy.changed_path():
             raise ProofRefusedError(f"{lane.tree}/{changed} has changed while it was proved: run this again")
-        self.kit.check()
+        self.kit.check_unchanged()
 
-    def keep_time(self, it: RunningProof) -> None:
+    def keep_proof_time(self, it: RunningProof) -> None:
         """Keeps what a proof took, if it was one: a crate that hasn't changed isn't proved again."""
-        if time_of_proof(it.lane.out(it.crate)) >= it.begun:
-            self.times.keep(it.key, time.time() - it.begun)
+        if time_of_proof(it.lane.out_folder(it.crate)) >= it.begun:
+            self.times.keep_seconds(it.key, time.time() - it.begun)
 
-    def keep_sums(self, program: str, tree: Path) -> None:
+    def keep_program_sums(self, program: str, tree: Path) -> None:
         """Keeps the checksums of a program and of what its proof read beside it."""
-        path = proof_sums.path_of(program)
-        read = {it: self.sums[it] for it in sources_below(str(tree), program)}
-        proof_sums.put(f"{tree}/{path}.sums", proof_sums.record(sums_of(str(tree), [path]), read, self.kit.name))
+        path = proof_sums.program_path(program)
+        read = {it: self.sums[it] for it in sources_of_proof(str(tree), program)}
+        proof_sums.replace_file(
+            f"{tree}/{path}.sums", proof_sums.sums_file_text(sums_of_files(str(tree), [path]), read, self.kit.name)
+        )
 
 
-def print_line(text: str) -> None:
+def print_message(text: str) -> None:
     print(f"prove: {text}", file=sys.stderr, flush=True)
 
 
-def out_of(crate: str) -> Path:
+def out_folder_of(crate: str) -> Path:
     """The folder of what is kept of a crate of the tree."""
     return TOP / "crates" / crate / "out"
 
@@ -179,51 +194,53 @@ def is_program(tree: Path, crate: str) -> bool:
     return (tree / "crates" / crate / "src" / "main.rt").exists()
 
 
-def prove(named: list[str], uses: dict[str, list[str]], lanes: int, kit: ProvingKit) -> str | None:
+def prove_in_lanes(named: list[str], uses: dict[str, list[str]], lanes: int, kit: ProvingKit) -> str | None:
     """Proves crates and those below them. If the tree has other files than their proofs read, the answer says so."""
     crates = tuple(dict.fromkeys(low for it in named for low in [*libraries_below(it, uses), it]))
     times = Times.read()
-    out = out_of(named[0])
+    out = out_folder_of(named[0])
     out.mkdir(parents=True, exist_ok=True)
     for left in TOP.glob(f"crates/*/out/{LANE}*"):
         shutil.rmtree(left, ignore_errors=True)
     with tempfile.TemporaryDirectory(prefix=LANE, dir=out) as folder:
         trees = [Path(folder) / str(number) for number in range(lanes)]
-        read, copies = copied(TOP, crates, trees)
-        work = Work(kit, read, Path(folder), uses, list(crates), times, times.expected(uses))
+        read, copies = copy_proof_sources(TOP, crates, trees)
+        work = Work(kit, read, Path(folder), uses, list(crates), times, times.expected_seconds(uses))
         flags = ["--jobs", str(JOBS)] if lanes > 1 else []
         try:
-            work.prove([Lane(copy, kit.command, flags) for copy in copies])
+            work.prove_all([Lane(copy, kit.command, flags) for copy in copies])
         except KeyboardInterrupt:
             raise Interrupted(" and ".join(it.crate for it in work.running.values())) from None
     try:
-        differing = read.items() ^ sums_of(str(TOP), sources_in(places_of(str(TOP), crates))).items()
+        differing = (
+            read.items() ^ sums_of_files(str(TOP), files_among_places(places_in_crates(str(TOP), crates))).items()
+        )
     except Unreadable as why:
         return str(why)
     return f"{min(differing)[0]} has changed since this began" if differing else None
 
 
 @contextlib.contextmanager
-def alone() -> Iterator[None]:
+def lock_tree() -> Iterator[None]:
     """Lets no other call work in this tree meanwhile."""
     tree = os.open(TOP, os.O_RDONLY)
     try:
         try:
             fcntl.flock(tree, fcntl.LOCK_EX | fcntl.LOCK_NB)
         except BlockingIOError:
-            print_line("waiting for another call that proves here")
+            print_message("waiting for another call that proves here")
             fcntl.flock(tree, fcntl.LOCK_EX)
         yield
     finally:
         os.close(tree)
 
 
-def folders_for(tree: Path, crate: str, uses: dict[str, list[str]]) -> list[Path]:
+def folders_of_crate_and_below(tree: Path, crate: str, uses: dict[str, list[str]]) -> list[Path]:
     """The folders of a crate and of those below it."""
     return [tree / "crates" / it for it in [*libraries_below(crate, uses), crate]]
 
 
-def refusal(crate: str, folders: list[Path], shown: Callable[[str], str], top: Path) -> Iterator[str]:
+def refusal_lines(crate: str, folders: list[Path], shown: Callable[[str], str], top: Path) -> Iterator[str]:
     """Why a crate isn't proved, with each contract that is refused, and which definitions have changed since it was.
 
     Paths of errors are as they are shown, those of definitions below a folder.
@@ -231,35 +248,35 @@ def refusal(crate: str, folders: list[Path], shown: Callable[[str], str], top: P
     folder = TOP / "crates" / crate
     log = folder / "out" / "build.log"
     text = log.read_text(errors="replace")
-    found = with_contracts(errors(text, folder, shown), Definitions(folders), top)
+    found = add_contracts_to_errors(errors_in_log(text, folder, shown), Definitions(folders), top)
     yield f"prove: {crate} isn't proved, or wasn't built:"
     yield from list(found) or text.splitlines()[-5:] or [""]
-    yield from change_lines(log.parent, folders)
+    yield from change_report_lines(log.parent, folders)
     yield f"prove: the whole log: {log}"
 
 
-def print_errors(crate: str, uses: dict[str, list[str]]) -> None:
+def report_refusal(crate: str, uses: dict[str, list[str]]) -> None:
     """Prints why a crate isn't proved, and leaves that for `watch` and editors, which may be called from elsewhere."""
-    folders = folders_for(TOP, crate, uses)
-    print(*refusal(crate, folders, os.path.relpath, Path()), sep="\n", file=sys.stderr, flush=True)
+    folders = folders_of_crate_and_below(TOP, crate, uses)
+    print(*refusal_lines(crate, folders, os.path.relpath, Path()), sep="\n", file=sys.stderr, flush=True)
     with contextlib.suppress(OSError):
         REFUSED.parent.mkdir(parents=True, exist_ok=True)
         beside = REFUSED.with_suffix(".new")
-        beside.write_text("".join(f"{line}\n" for line in refusal(crate, folders, os.path.abspath, TOP)))
+        beside.write_text("".join(f"{line}\n" for line in refusal_lines(crate, folders, os.path.abspath, TOP)))
         beside.replace(REFUSED)
 
 
-def run(named: list[str], every: list[str], lanes: int) -> None:
+def prove_named(named: list[str], every: list[str], lanes: int) -> None:
     """Proves crates that are named, those that aren't proved, by the kit that is there before and after."""
-    kit = proving_kit.working()
-    with alone():
+    kit = proving_kit.kit_with_checked_version()
+    with lock_tree():
         REFUSED.unlink(missing_ok=True)
         uses = dependencies((TOP / TABLE).read_text())
         left = [it for it in named if not (is_program(TOP, it) and proof_sums.is_proved(str(TOP), it))]
-        changed = prove(left, uses, lanes, kit) if left else None
+        changed = prove_in_lanes(left, uses, lanes, kit) if left else None
         # Also where nothing was left to prove, and by what its command says.
-        kit.check()
-        proving_kit.working()
+        kit.check_unchanged()
+        proving_kit.kit_with_checked_version()
         if changed:
             raise ProofRefusedError(f"{changed}, and what was proved is as all was before: run this again")
         proved = [it for it in every if proof_sums.is_proved(str(TOP), it)]
@@ -271,9 +288,9 @@ def run(named: list[str], every: list[str], lanes: int) -> None:
 def print_proved(crates: list[str]) -> None:
     programs = [it for it in crates if is_program(TOP, it)]
     if programs:
-        print_line(f"proved and built: {', '.join(programs)}")
+        print_message(f"proved and built: {', '.join(programs)}")
     if libraries := [it for it in crates if it not in programs]:
-        print_line(f"proved: {', '.join(libraries)}")
+        print_message(f"proved: {', '.join(libraries)}")
 
 
 def main() -> int:
@@ -286,21 +303,21 @@ def main() -> int:
     named = list(dict.fromkeys(options.crates)) or every
     for unknown in (it for it in named if it not in uses):
         parser.error(f"there is no crate {unknown}; there are {', '.join(uses)}")
-    signals.heed()
+    signals.raise_at_first_signal()
     try:
-        run(named, every, options.lanes or (2 if has_memory() else 1))
+        prove_named(named, every, options.lanes or (2 if fits_two_lanes() else 1))
         print_proved(named)
     except Unproved as crate:
-        print_errors(str(crate), uses)
+        report_refusal(str(crate), uses)
         return 2
     except Interrupted as at:
-        print_line(f"interrupted at {at}; what was proved is kept: run it again to go on")
+        print_message(f"interrupted at {at}; what was proved is kept: run it again to go on")
         return 2
     except (ProofRefusedError, Unreadable) as why:
-        print_line(str(why))
+        print_message(str(why))
         return 2
     except OSError as error:
-        print_line(f"can't go on: {error}")
+        print_message(f"can't go on: {error}")
         return 2
     except KeyboardInterrupt:
         return 2

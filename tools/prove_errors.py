@@ -13,14 +13,14 @@ PLAIN = re.compile(r"error\b|fn \S+: no proof: (?!it calls )")
 DIFFERENCE = "differ "
 
 
-def errors(log: str, folder: Path, shown: Callable[[str], str] = os.path.relpath) -> Iterator[str]:
+def errors_in_log(log: str, folder: Path, shown: Callable[[str], str] = os.path.relpath) -> Iterator[str]:
     """The lines of the errors in a log, with those that go on below one. Paths are from here, or as they are shown.
 
     >>> log = "note: a\\n./src/a.rt:1:2: error: b\\n  the two first differ where c\\nnote: d\\n"
-    >>> print(*errors(log, Path.cwd()), sep="\\n")
+    >>> print(*errors_in_log(log, Path.cwd()), sep="\\n")
     src/a.rt:1:2: error: b
       the two first differ where c
-    >>> list(errors("note: a\\n  the two first differ where b\\n", Path.cwd()))
+    >>> list(errors_in_log("note: a\\n  the two first differ where b\\n", Path.cwd()))
     ['  the two first differ where b']
     """
     is_within = False

@@ -9,27 +9,27 @@ import os
 import sys
 
 import stamps
-from kit import kit_identity
+from kit import kit_id_on_path
 
 TOP = os.path.dirname(os.path.dirname(os.path.realpath(__file__)))
 
 
-def is_unchanged(program: str) -> bool:
+def is_unchanged_since_proved(program: str) -> bool:
     """Whether nothing has changed since a program was found to be proved."""
     try:
         with open(f"{TOP}/crates/{program}/out/{program}.stamps", "rb", buffering=0) as file:
-            return stamps.is_as_kept(TOP, program, kit_identity(), file.read())
+            return stamps.are_stamps_unchanged(TOP, program, kit_id_on_path(), file.read())
     except OSError:
         return False
 
 
 def main(arguments: list[str]) -> int:
-    if len(arguments) == 1 and is_unchanged(arguments[0]):
+    if len(arguments) == 1 and is_unchanged_since_proved(arguments[0]):
         os.write(1, os.fsencode(f"{TOP}/crates/{arguments[0]}/out/{arguments[0]}\n"))
         return 0
-    from proof_sums import answer  # Imported late, since it takes time.
+    from proof_sums import print_answer  # Imported late, since it takes time.
 
-    return answer(TOP, arguments)
+    return print_answer(TOP, arguments)
 
 
 if __name__ == "__main__":

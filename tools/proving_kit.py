@@ -7,7 +7,7 @@ import subprocess
 from dataclasses import dataclass
 from pathlib import Path
 
-from kit import command_of_kit, file_of_identity, identity_of
+from kit import command_of_kit, kit_id_file, kit_id_of_command
 from stamps import stamps_of
 
 
@@ -23,28 +23,28 @@ class ProvingKit:
     name: str
     stamps: dict[str, str]
 
-    def check(self) -> None:
+    def check_unchanged(self) -> None:
         """Checks that this kit is the one that is on the PATH, and as it was."""
-        if found() != self:
+        if kit_on_path() != self:
             raise ProofRefusedError(f"the kit of {self.command} has changed while it proved: run this again")
 
 
-def found() -> ProvingKit:
+def kit_on_path() -> ProvingKit:
     """The kit whose command is on the PATH, by its files alone."""
     command = command_of_kit()
     if command is None:
         raise ProofRefusedError("the Rattle kit's command 'rt' has to be on the PATH")
-    place = Path(file_of_identity(command))
-    name = identity_of(command)
+    place = Path(kit_id_file(command))
+    name = kit_id_of_command(command)
     if not name:
         raise ProofRefusedError(f"{command} is of no kit: {place} doesn't say which")
     programs = sorted(str(it) for it in Path(os.path.realpath(command)).parent.iterdir())
     return ProvingKit(os.path.abspath(command), name, stamps_of("", [str(place), *programs]))
 
 
-def working() -> ProvingKit:
+def kit_with_checked_version() -> ProvingKit:
     """The kit whose command is on the PATH, if it prints the name that its file has."""
-    it = found()
+    it = kit_on_path()
     call = shlex.join([it.command, "--version"])
     try:
         printed = subprocess.run(
@@ -56,6 +56,6 @@ def working() -> ProvingKit:
         raise ProofRefusedError(f"{call} ends with status {printed.returncode}")
     if " ".join(printed.stdout.split()) != it.name:
         raise ProofRefusedError(
-            f"{call} prints {printed.stdout.strip()!r}, and {file_of_identity(it.command)} has {it.name!r}"
+            f"{call} prints {printed.stdout.strip()!r}, and {kit_id_file(it.command)} has {it.name!r}"
         )
     return it

@@ -32,12 +32,12 @@ class Definition:
     body: tuple[str, ...]
 
     @property
-    def own(self) -> list[str]:
+    def distinctive_words(self) -> list[str]:
         """The words of the body that are no parameters, and that few bodies have."""
         return [it for it in self.body if it not in COMMON and it.partition(".")[0] not in self.parameters]
 
 
-def definitions() -> Iterator[Definition]:
+def read_definitions() -> Iterator[Definition]:
     """The definitions that are one clause."""
     for path in sorted(TOP.glob("crates/*/specs/*.antt")):
         for name, parameters, body in CLAUSE.findall(UNREAD.sub("", path.read_text(encoding="utf-8"))):
@@ -47,7 +47,7 @@ def definitions() -> Iterator[Definition]:
                 yield Definition(module, name, frozenset(parameters.split()), words)
 
 
-def after_term(words: list[str], at: int) -> int:
+def place_after_term(words: list[str], at: int) -> int:
     """The place after one term: a word, or what stands in brackets."""
     depth = 0
     for place in range(at, len(words)):
@@ -57,14 +57,14 @@ def after_term(words: list[str], at: int) -> int:
     return len(words)
 
 
-def repeats(it: Definition, words: list[str], at: int) -> bool:
+def is_body_at(it: Definition, words: list[str], at: int) -> bool:
     """Whether the body stands at a place of a proof."""
     for word in it.body:
         head, dot, field = word.partition(".")
         if at >= len(words):
             return False
         if head in it.parameters and not dot:
-            at = after_term(words, at)
+            at = place_after_term(words, at)
         elif word == words[at] or (head in it.parameters and words[at].endswith(f".{field}")):
             at += 1
         else:
@@ -72,7 +72,7 @@ def repeats(it: Definition, words: list[str], at: int) -> bool:
     return True
 
 
-def repetitions(each: list[Definition], path: Path) -> Iterator[tuple[int, str]]:
+def repetitions_in(each: list[Definition], path: Path) -> Iterator[tuple[int, str]]:
     """The rules that one file repeats, with its lines."""
     text = path.read_text(encoding="utf-8")
     found = [
@@ -86,10 +86,12 @@ def repetitions(each: list[Definition], path: Path) -> Iterator[tuple[int, str]]
         places[word].append(at)
     numbers: dict[str, list[str]] = defaultdict(list)
     for it in each:
-        if len(it.own) >= OWN and it.body[0] == it.own[0]:
-            yield from ((found[at][1], f"says {it.name} again") for at in places[it.body[0]] if repeats(it, words, at))
+        if len(it.distinctive_words) >= OWN and it.body[0] == it.distinctive_words[0]:
+            yield from (
+                (found[at][1], f"says {it.name} again") for at in places[it.body[0]] if is_body_at(it, words, at)
+            )
         if it.module in text:
-            for number in {word for word in it.own if word.isdigit() and int(word) > 2}:
+            for number in {word for word in it.distinctive_words if word.isdigit() and int(word) > 2}:
                 numbers[number].append(it.name)
     for number, names in numbers.items():
         yield from ((found[at][1], f"has {number} of {', '.join(names)}") for at in places[number])
@@ -97,11 +99,11 @@ def repetitions(each: list[Definition], path: Path) -> Iterator[tuple[int, str]]
 
 def main(crates: list[str]) -> int:
     """Prints what the proofs of these crates repeat, of any crate's definitions."""
-    each = list(definitions())
+    each = list(read_definitions())
     for path in sorted(TOP.glob("crates/*/proofs/**/*.antt")):
         name = path.relative_to(TOP)
         if not crates or name.parts[1] in crates:
-            for line, what in sorted(set(repetitions(each, path))):
+            for line, what in sorted(set(repetitions_in(each, path))):
                 print(f"{name}:{line}: {what}")
     return 0
 

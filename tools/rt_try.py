@@ -85,8 +85,8 @@ def run_once(program: str, arguments: Sequence[bytes], given: Path, folder: Path
     """The result of a program with these arguments, and a file as its input."""
     if given.stat().st_size >= MOST_INPUT:
         raise NotRunError(NoAnswer("TooMuchInput", "the input has 64 MiB or more"))
-    called = call(program, [b"--seconds", b"%d" % seconds, b"--", *arguments], given, folder)
-    return result_of(called, called.output, called.printed, seconds)
+    called = call_rt_try(program, [b"--seconds", b"%d" % seconds, b"--", *arguments], given, folder)
+    return result_from_last_line(called, called.output, called.printed, seconds)
 
 
 def run_cases(
@@ -113,11 +113,11 @@ def run_cases(
         write_case(case_folder / name.decode(), case)
     options = [b"--seconds", b"%d" % seconds, b"--cases", os.fsencode(case_folder)]
     options += [] if steps is None else [b"--steps", b"%d" % steps]
-    called = call(program, options + ([b"--", *arguments] if arguments else []), Path(os.devnull), folder, top)
+    called = call_rt_try(program, options + ([b"--", *arguments] if arguments else []), Path(os.devnull), folder, top)
     shutil.rmtree(case_folder)
-    outputs = dict(parted(rb"^== (%b-\d+)\n" % token.encode(), called.output))
+    outputs = dict(split_by_heading(rb"^== (%b-\d+)\n" % token.encode(), called.output))
     return [
-        result_of(called, outputs.get(name, b""), printed, seconds)
+        result_from_last_line(called, outputs.get(name, b""), printed, seconds)
         for name, printed in zip(names, printed_by_case(names, called))
     ]
 
@@ -141,13 +141,13 @@ def printed_by_case(names: Sequence[bytes], called: TryCall) -> Iterator[bytes]:
         begin = end.end()
 
 
-def parted(heading: bytes, text: bytes) -> Iterator[tuple[bytes, bytes]]:
+def split_by_heading(heading: bytes, text: bytes) -> Iterator[tuple[bytes, bytes]]:
     """The name in each heading with what stands below it."""
     _, *parts = re.split(heading, text, flags=re.MULTILINE)
     return zip(parts[::2], parts[1::2])
 
 
-def result_of(called: TryCall, output: bytes, printed: bytes, seconds: int) -> TryResult:
+def result_from_last_line(called: TryCall, output: bytes, printed: bytes, seconds: int) -> TryResult:
     """The result, by the last line that was printed."""
     last = LAST.search(printed)
     if last is None or last[1] == b"none":
@@ -173,21 +173,21 @@ def why_not_run(called: TryCall) -> NoAnswer:
     return NoAnswer("ToolFailed", f"`rt try` ended with status {called.status}", printed)
 
 
-def find_kit() -> None:
+def check_kit_on_path() -> None:
     """Checks that there is the kit's command."""
     if shutil.which("rt") is None:
         raise NotRunError(NoAnswer("NoKit", "the Rattle kit's command 'rt' has to be on the PATH"))
 
 
-def placed(program: str, printed: bytes, top: Path = TOP) -> bytes:
+def with_whole_paths(program: str, printed: bytes, top: Path = TOP) -> bytes:
     """Printed lines, with whole paths of the files of the program's own crate."""
     folder = os.fsencode(top / "crates" / program)
     return re.sub(rb"^(?=src/|specs/|proofs/)", lambda _: folder + b"/", printed, flags=re.MULTILINE)
 
 
-def call(program: str, arguments: Sequence[bytes], given: Path, folder: Path, top: Path = TOP) -> TryCall:
+def call_rt_try(program: str, arguments: Sequence[bytes], given: Path, folder: Path, top: Path = TOP) -> TryCall:
     """Calls `rt try` on a program. Whatever ends this, ends what was started."""
-    find_kit()
+    check_kit_on_path()
     output, log = folder / "output", folder / "log"
     with given.open("rb") as input_file, output.open("wb") as output_file, log.open("wb") as log_file:
         process = subprocess.Popen(
@@ -202,11 +202,11 @@ def call(program: str, arguments: Sequence[bytes], given: Path, folder: Path, to
         try:
             status = process.wait()
         finally:
-            end(process)
+            end_session(process)
     return TryCall(status, output.read_bytes(), log.read_bytes())
 
 
-def end(process: subprocess.Popen[bytes]) -> None:
+def end_session(process: subprocess.Popen[bytes]) -> None:
     """Ends a session, if it hasn't ended, which ends its own."""
     for number in (signal.SIGTERM, signal.SIGKILL):
         if process.poll() is None:

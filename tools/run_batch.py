@@ -20,7 +20,7 @@ from pathlib import Path
 
 import rt_try
 import signals
-from run_cases import FAULT, put
+from run_cases import FAULT, write_result
 
 # batch.rattle replaces this program's main file, and needs the libraries of the other one, too.
 PROGRAM = "pdrecord"
@@ -31,7 +31,7 @@ MODULE = "mod record_program;"
 PART = "src"
 
 
-def put_tree(tree: Path, folder: Path) -> None:
+def make_batch_tree(tree: Path, folder: Path) -> None:
     """Puts into a folder a tree of the same crates, in which batch.rattle is the main file of its program."""
     for crate in (tree / "crates").iterdir():
         if (crate / PART).is_dir():
@@ -40,13 +40,13 @@ def put_tree(tree: Path, folder: Path) -> None:
     modules = sorted(it.stem for it in sources.glob("*.rt") if it.stem != "main")
     # On one line, so that each line keeps its number.
     declared = " ".join(f"mod {it};" for it in modules)
-    (sources / "main.rt").write_text(main_of(tree).read_text().replace(MODULE, declared))
+    (sources / "main.rt").write_text(batch_main_file(tree).read_text().replace(MODULE, declared))
     (folder / "crates.txt").write_text(with_other_libraries((tree / "crates.txt").read_text()))
     if (tree / "HANDLES").exists():
         shutil.copy(tree / "HANDLES", folder)
 
 
-def main_of(tree: Path) -> Path:
+def batch_main_file(tree: Path) -> Path:
     """The main file that fits a tree's crates: its own, or where it has none this tree's."""
     own = tree / MAIN.relative_to(rt_try.TOP)
     return own if own.is_file() else MAIN
@@ -62,30 +62,32 @@ def with_other_libraries(table: str) -> str:
     return re.sub(rf"^{PROGRAM}\b.*$", rf"\g<0> {found[1] if found else ''}", table, flags=re.MULTILINE)
 
 
-def placed(printed: bytes, folder: Path, tree: Path) -> bytes:
+def with_tree_places(printed: bytes, folder: Path, tree: Path) -> bytes:
     """What `rt try` printed, with the places in the tree."""
-    printed = rt_try.placed(PROGRAM, printed, folder)
-    printed = printed.replace(os.fsencode(folder / "crates" / PROGRAM / "src" / "main.rt"), os.fsencode(main_of(tree)))
+    printed = rt_try.with_whole_paths(PROGRAM, printed, folder)
+    printed = printed.replace(
+        os.fsencode(folder / "crates" / PROGRAM / "src" / "main.rt"), os.fsencode(batch_main_file(tree))
+    )
     return printed.replace(os.fsencode(folder / "crates"), os.fsencode(tree / "crates"))
 
 
-def run(options: argparse.Namespace, tree: Path) -> None:
+def run_batch(options: argparse.Namespace, tree: Path) -> None:
     """Builds, starts and answers."""
     files = sorted(options.starts.iterdir())
     cases = [rt_try.TryCase((), it.read_bytes()) for it in files]
     with tempfile.TemporaryDirectory(prefix="pdbatch-") as name:
         folder = Path(name).resolve()
-        put_tree(tree, folder)
+        make_batch_tree(tree, folder)
         try:
             # The program is built in any case, so that nothing has to be interpreted.
             answers = rt_try.run_cases(PROGRAM, cases, folder, options.seconds, top=folder, steps=1)
         except rt_try.NotRunError as error:
             reason = error.reason
             raise rt_try.NotRunError(
-                rt_try.NoAnswer(reason.name, reason.why, placed(reason.printed, folder, tree))
+                rt_try.NoAnswer(reason.name, reason.why, with_tree_places(reason.printed, folder, tree))
             ) from None
     for file, result in zip(files, answers):
-        put(options.answers, file.name, result)
+        write_result(options.answers, file.name, result)
 
 
 def main() -> int:
@@ -95,16 +97,16 @@ def main() -> int:
     parser.add_argument("starts", metavar="STARTS", type=Path)
     parser.add_argument("answers", metavar="ANSWERS", type=Path)
     options = parser.parse_args()
-    signals.heed()
+    signals.raise_at_first_signal()
     try:
-        run(options, options.tree.absolute())
+        run_batch(options, options.tree.absolute())
     except rt_try.NotRunError as error:
         print(f"{PROGRAM}: unproved: {error}", file=sys.stderr)
         sys.stderr.flush()
         sys.stderr.buffer.write(error.reason.printed)
         return FAULT
     except signals.StoppedBySignal as signal:
-        signals.end_by(signal.number)
+        signals.end_process_by(signal.number)
     return 0
 
 

@@ -22,17 +22,17 @@ import signals
 FAULT = 2
 
 
-def cases_in(folder: Path) -> dict[str, rt_try.TryCase]:
+def read_cases(folder: Path) -> dict[str, rt_try.TryCase]:
     """The cases of a folder by their names."""
     files = sorted(it for it in folder.iterdir() if it.suffix != ".args")
-    return {it.name: rt_try.TryCase(arguments_of(it.with_name(f"{it.name}.args")), it.read_bytes()) for it in files}
+    return {it.name: rt_try.TryCase(read_arguments(it.with_name(f"{it.name}.args")), it.read_bytes()) for it in files}
 
 
-def arguments_of(file: Path) -> tuple[bytes, ...]:
+def read_arguments(file: Path) -> tuple[bytes, ...]:
     return tuple(file.read_bytes().split(b"\n")[:-1])
 
 
-def put(folder: Path, name: str, result: rt_try.TryResult) -> None:
+def write_result(folder: Path, name: str, result: rt_try.TryResult) -> None:
     """Writes what a program answered."""
     if isinstance(result, rt_try.TryOutput):
         (folder / f"{name}.output").write_bytes(result.output)
@@ -44,15 +44,15 @@ def put(folder: Path, name: str, result: rt_try.TryResult) -> None:
         (folder / f"{name}.status").write_text(f"{result.name}: {result.why}")
 
 
-def run(options: argparse.Namespace) -> None:
-    cases = cases_in(options.cases)
+def run_all_cases(options: argparse.Namespace) -> None:
+    cases = read_cases(options.cases)
     with tempfile.TemporaryDirectory(prefix=f"{options.program}-") as folder:
         arguments = [os.fsencode(it) for it in options.arguments]
         results = rt_try.run_cases(
             options.program, list(cases.values()), Path(folder), options.seconds, arguments, options.tree
         )
     for name, result in zip(cases, results):
-        put(options.answers, name, result)
+        write_result(options.answers, name, result)
 
 
 def main() -> int:
@@ -64,16 +64,16 @@ def main() -> int:
     parser.add_argument("answers", metavar="ANSWERS", type=Path)
     parser.add_argument("arguments", metavar="ARGUMENT", nargs="*", help="an argument of every case")
     options = parser.parse_args()
-    signals.heed()
+    signals.raise_at_first_signal()
     try:
-        run(options)
+        run_all_cases(options)
     except rt_try.NotRunError as error:
         print(f"{options.program}: unproved: {error}", file=sys.stderr)
         sys.stderr.flush()
-        sys.stderr.buffer.write(rt_try.placed(options.program, error.reason.printed, options.tree.absolute()))
+        sys.stderr.buffer.write(rt_try.with_whole_paths(options.program, error.reason.printed, options.tree.absolute()))
         return FAULT
     except signals.StoppedBySignal as signal:
-        signals.end_by(signal.number)
+        signals.end_process_by(signal.number)
     return 0
 
 

@@ -21,7 +21,7 @@ from typing import NoReturn
 import building
 import rt_try
 import signals
-from build_cache import OPTIMISED, PLAIN, cached_programs
+from build_cache import OPTIMISED, PLAIN, cached_program_folder
 
 FAULT = 2
 BLOCK = 1 << 20
@@ -41,11 +41,11 @@ class StreamFault(Exception):
     """A fault of the streams, as the program names it."""
 
 
-def say(program: str, text: str) -> None:
-    put(2, f"{program}: {text}\n".encode(errors="replace"))
+def print_message(program: str, text: str) -> None:
+    write_octets(2, f"{program}: {text}\n".encode(errors="replace"))
 
 
-def put(descriptor: int, octets: bytes) -> bool:
+def write_octets(descriptor: int, octets: bytes) -> bool:
     """Writes to a descriptor; whether all was taken."""
     try:
         while octets:
@@ -55,7 +55,7 @@ def put(descriptor: int, octets: bytes) -> bool:
     return True
 
 
-def way_to_prove(program: str) -> str:
+def prove_command(program: str) -> str:
     """The command that proves a program, as it is written from here."""
     command = str(rt_try.TOP / "prove")
     with contextlib.suppress(OSError):
@@ -64,7 +64,7 @@ def way_to_prove(program: str) -> str:
     return f"{command} {program}"
 
 
-def check_arguments(arguments: list[str]) -> None:
+def check_arguments_are_text(arguments: list[str]) -> None:
     """Checks that the arguments are text: `rt try` takes no others, and no program does."""
     try:
         "".join(arguments).encode()
@@ -72,7 +72,7 @@ def check_arguments(arguments: list[str]) -> None:
         raise rt_try.NotRunError(rt_try.NoAnswer("NotText", "an argument isn't UTF-8")) from None
 
 
-def keep_input(file: Path) -> None:
+def copy_input_to(file: Path) -> None:
     """Reads standard input into a file, up to more than `rt try` takes."""
     left = rt_try.MOST_INPUT
     with file.open("wb") as kept:
@@ -95,36 +95,36 @@ class BuildProgress:
         self._is_shown = False
         self._phase, self._begin = "", 0.0
 
-    def note(self, phase: str) -> None:
+    def show_phase(self, phase: str) -> None:
         """Shows a phase."""
         if phase != self._phase:
             self._phase, self._begin = phase, time.monotonic()
         if os.isatty(2):
             self._is_shown = True
             seconds = int(time.monotonic() - self._begin)
-            put(2, f"\r{CLEAR}{self._program}: unproved: {PHASES[phase]}, {seconds} s".encode())
+            write_octets(2, f"\r{CLEAR}{self._program}: unproved: {PHASES[phase]}, {seconds} s".encode())
 
-    def end(self) -> None:
+    def clear_line(self) -> None:
         if self._is_shown:
-            put(2, f"\r{CLEAR}".encode())
+            write_octets(2, f"\r{CLEAR}".encode())
 
 
-def find(program: str) -> Path:
+def find_or_build(program: str) -> Path:
     """The folder of the programs, which are built if none are kept; a line says first that the program isn't proved."""
     # If both ways are kept, the plain one explains a fault better.
-    folder = cached_programs(rt_try.TOP, (PLAIN, OPTIMISED))
+    folder = cached_program_folder(rt_try.TOP, (PLAIN, OPTIMISED))
     first = "running without proofs" if folder else "building first, then running without proofs"
-    say(program, f"unproved: {first}; {way_to_prove(program)} proves it")
+    print_message(program, f"unproved: {first}; {prove_command(program)} proves it")
     if folder is not None:
         return folder
     progress = BuildProgress(program)
     try:
-        return building.build(rt_try.TOP, PLAIN, progress.note)
+        return building.find_or_build(rt_try.TOP, PLAIN, progress.show_phase)
     finally:
-        progress.end()
+        progress.clear_line()
 
 
-def become(program: Path, arguments: list[str]) -> NoReturn:
+def exec_program(program: Path, arguments: list[str]) -> NoReturn:
     """Puts a program in the place of this process, with its streams, and the signals as a shell hands them on."""
     for number in (signal.SIGPIPE, signal.SIGXFSZ):
         signal.signal(number, signal.SIG_DFL)
@@ -133,7 +133,7 @@ def become(program: Path, arguments: list[str]) -> NoReturn:
     os.execv(program, [str(program), *arguments])
 
 
-def run(program: str, arguments: list[str]) -> int:
+def run_by_rt_try(program: str, arguments: list[str]) -> int:
     """Runs the program by `rt try`, and gives the status."""
     with tempfile.TemporaryDirectory(prefix=f"{program}-") as name:
         folder = Path(name)
@@ -142,18 +142,18 @@ def run(program: str, arguments: list[str]) -> int:
             given.touch()
         else:
             if os.isatty(0):
-                say(program, "unproved: reading the input first, up to its end (Ctrl-D)")
-            keep_input(given)
+                print_message(program, "unproved: reading the input first, up to its end (Ctrl-D)")
+            copy_input_to(given)
         answer = rt_try.run_once(program, [os.fsencode(it) for it in arguments], given, folder)
     if isinstance(answer, rt_try.NoAnswer):
         raise rt_try.NotRunError(answer)
-    put(2, answer.errors)
-    if not put(1, answer.output):
+    write_octets(2, answer.errors)
+    if not write_octets(1, answer.output):
         raise StreamFault("18 Write")
     return answer.status
 
 
-def open_streams() -> None:
+def open_closed_streams() -> None:
     """Lets no file that is opened take the place of a standard stream that is closed."""
     for descriptor, flags in ((0, os.O_WRONLY), (1, os.O_RDONLY), (2, os.O_RDONLY)):
         try:
@@ -164,27 +164,27 @@ def open_streams() -> None:
 
 
 def main() -> int:
-    open_streams()
+    open_closed_streams()
     program, *arguments = sys.argv[1:]
-    signals.heed()
+    signals.raise_at_first_signal()
     try:
-        rt_try.find_kit()
-        check_arguments(arguments)
+        rt_try.check_kit_on_path()
+        check_arguments_are_text(arguments)
         with contextlib.suppress(building.NoBuild, FileNotFoundError):
-            become(find(program) / program, arguments)
-        return run(program, arguments)
+            exec_program(find_or_build(program) / program, arguments)
+        return run_by_rt_try(program, arguments)
     except building.NotCompiled as refused:
-        say(program, f"unproved: NotCompiled: {refused}")
-        put(2, refused.printed)
+        print_message(program, f"unproved: NotCompiled: {refused}")
+        write_octets(2, refused.printed)
     except StreamFault as fault:
-        say(program, str(fault))
+        print_message(program, str(fault))
     except rt_try.NotRunError as error:
-        say(program, f"unproved: {error}")
-        put(2, rt_try.placed(program, error.reason.printed))
+        print_message(program, f"unproved: {error}")
+        write_octets(2, rt_try.with_whole_paths(program, error.reason.printed))
     except OSError as error:
-        say(program, f"unproved: NoRoom: {error}")
+        print_message(program, f"unproved: NoRoom: {error}")
     except signals.StoppedBySignal as signal:
-        signals.end_by(signal.number)
+        signals.end_process_by(signal.number)
     return FAULT
 
 

@@ -38,7 +38,7 @@ class Setting:
     default: str
 
     @property
-    def range(self) -> str:
+    def shown_range(self) -> str:
         """What it takes, as pages say it."""
         if self.ends:
             return f"{self.ends[0]:,} to {self.ends[1]:,}"
@@ -50,7 +50,7 @@ class Setting:
         return f"{int(self.default):,}" if self.ends else f"`{self.default}`"
 
 
-def settings(rows: str, words: str) -> Iterator[Setting]:
+def parse_settings(rows: str, words: str) -> Iterator[Setting]:
     """The settings, by the texts of the rows and of the words."""
     found = WORD.findall(words)
     named = {rule: word for _, rule, word in found}
@@ -61,19 +61,19 @@ def settings(rows: str, words: str) -> Iterator[Setting]:
         yield Setting(key, ends, unit, choice, named.get(unset, unset))
 
 
-def for_page(rows: list[Setting]) -> str:
+def page_table(rows: list[Setting]) -> str:
     """The table of the page, with the last two columns of the page as they are."""
     lines = (line.split("|") for line in PAGE.read_text(encoding="utf-8").splitlines())
     kept = {cells[1].strip(" `"): "|".join(cells[5:7]) for cells in lines if len(cells) == 8}
 
     def row(it: Setting) -> str:
         unit = f" {it.unit}" if it.unit else ""
-        return f"| `{it.key}` |{unit} | {it.range} | {it.shown_default} |{kept.get(it.key, ' | ')}|\n"
+        return f"| `{it.key}` |{unit} | {it.shown_range} | {it.shown_default} |{kept.get(it.key, ' | ')}|\n"
 
     return HEAD + "".join(map(row, rows))
 
 
-def for_client(rows: list[Setting]) -> str:
+def client_defaults(rows: list[Setting]) -> str:
     """The same as values of Python."""
 
     def value(word: str) -> str:
@@ -89,21 +89,21 @@ def for_client(rows: list[Setting]) -> str:
     return f"KEYS: dict[str, Number | Word] = {{\n{''.join(lines)}}}\n"
 
 
-def for_man(rows: list[Setting]) -> str:
+def man_page_items(rows: list[Setting]) -> str:
     """The same as items of a man page."""
-    takes = ((it, f"{it.range} {it.unit}" if it.ends else it.range.replace("`", "")) for it in rows)
+    takes = ((it, f"{it.shown_range} {it.unit}" if it.ends else it.shown_range.replace("`", "")) for it in rows)
     return "".join(
         f".TP\n.B {it.key}\n{what}; {it.shown_default.strip('`')} where nobody sets it\n" for it, what in takes
     )
 
 
-MADE = {"page": for_page, "client": for_client, "man": for_man}
+MADE = {"page": page_table, "client": client_defaults, "man": man_page_items}
 
 
 def main(arguments: list[str]) -> int:
     """Prints the chosen table."""
     text = (SPECS / "Rows.antt").read_text(encoding="utf-8")
-    rows = list(settings(text, (SPECS / "Words.antt").read_text(encoding="utf-8")))
+    rows = list(parse_settings(text, (SPECS / "Words.antt").read_text(encoding="utf-8")))
     if len(rows) != len(re.findall(r"^row_of \w+ =", text, re.MULTILINE)):
         print("settings_table: a row isn't read; each is one line, as the others are", file=sys.stderr)
         return 1

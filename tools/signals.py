@@ -16,25 +16,25 @@ class StoppedBySignal(KeyboardInterrupt):
         self.number = number
 
 
-def heed() -> None:
+def raise_at_first_signal() -> None:
     """Lets the first signal raise `StoppedBySignal`. One that is ignored, as `nohup` ignores one, stays so."""
     for number in SIGNALS:
         if signal.getsignal(number) != signal.SIG_IGN:
-            signal.signal(number, stop)
+            signal.signal(number, raise_stopped)
 
 
-def stop(number: int, _frame: object) -> NoReturn:
+def raise_stopped(number: int, _frame: object) -> NoReturn:
     for other in SIGNALS:
-        if signal.getsignal(other) == stop:
-            signal.signal(other, pass_over)
+        if signal.getsignal(other) == raise_stopped:
+            signal.signal(other, ignore_signal)
     raise StoppedBySignal(number)
 
 
-def pass_over(_number: int, _frame: object) -> None:
+def ignore_signal(_number: int, _frame: object) -> None:
     """Does nothing at a signal. (Where signals are ignored, Python may print that it found one of them.)"""
 
 
-def end_by(number: int) -> NoReturn:
+def end_process_by(number: int) -> NoReturn:
     """Ends this process by a signal, as it would end that heeds none."""
     signal.signal(number, signal.SIG_DFL)
     os.kill(os.getpid(), number)

@@ -21,10 +21,10 @@ def stamp_of(path: str) -> str:
         it = os.stat(path)
     except OSError:
         return ABSENT
-    return f"{moment(it)}:{it.st_ino}:{it.st_size}:{it.st_mtime_ns}:{it.st_mode}"
+    return f"{change_moment(it)}:{it.st_ino}:{it.st_size}:{it.st_mtime_ns}:{it.st_mode}"
 
 
-def moment(it: os.stat_result) -> str:
+def change_moment(it: os.stat_result) -> str:
     """When a file changed last, by which clock."""
     return f"{it.st_dev}:{it.st_ctime_ns}"
 
@@ -34,7 +34,7 @@ def stamps_of(top: str, paths: list[str]) -> dict[str, str]:
     return {it: stamp_of(f"{top}/{it}") for it in paths}
 
 
-def probe_in(folder: str) -> os.stat_result | None:
+def make_probe(folder: str) -> os.stat_result | None:
     """The data of a file that is made now in a folder, and removed again, if one can be made there.
 
     It is None, too, where the file system has no clock of its own, but gives what a program set as the moment of a
@@ -62,10 +62,10 @@ def are_settled(stamps: dict[str, str], probe: os.stat_result) -> bool:
     It does where the file that the probe is of was made in another tick of the same clock, after the stamps were taken.
     """
     moments = {tuple(it.split(":", 2)[:2]) for it in stamps.values() if it != ABSENT}
-    return all(it[0] == str(probe.st_dev) and ":".join(it) != moment(probe) for it in moments)
+    return all(it[0] == str(probe.st_dev) and ":".join(it) != change_moment(probe) for it in moments)
 
 
-def kept_text(program: str, kit: str, found: dict[str, str]) -> bytes:
+def stamps_file_text(program: str, kit: str, found: dict[str, str]) -> bytes:
     """The stamps of all on which it depends that a program is proved, as octets that can be kept.
 
     They are parts of which each ends with a NUL, since no path has one: the program, what names its kit, the stamps.
@@ -73,7 +73,7 @@ def kept_text(program: str, kit: str, found: dict[str, str]) -> bytes:
     return os.fsencode("\0".join([program, kit, *(f"{it} {path}" for path, it in found.items()), END]))
 
 
-def is_as_kept(top: str, program: str, kit: str | None, text: bytes) -> bool:
+def are_stamps_unchanged(top: str, program: str, kit: str | None, text: bytes) -> bool:
     """Whether all stamps below a folder are those that were kept for a program, and so is the kit, if there is one."""
     parts = os.fsdecode(text).split("\0")
     if len(parts) < 4 or parts[0] != program or kit not in (None, parts[1]) or parts[-1] != END:

@@ -27,21 +27,21 @@ MADE = (
 )
 
 
-def file_of(top: Path, pages: dict[str, Page], name: str) -> Page | None:
+def page_or_file(top: Path, pages: dict[str, Page], name: str) -> Page | None:
     """A page, or another file as one; None where there is none."""
     if name in pages or not (top / name).is_file():
         return pages.get(name)
     return Page(top, Path(name), (top / name).read_text(encoding="utf-8"))
 
 
-def made_by_tool(page: Page, made: Made) -> str:
+def run_tool(page: Page, made: Made) -> str:
     """What the tool prints."""
     tool = str(page.top / made.command[0])
     done = subprocess.run([tool, *made.command[1:]], cwd=page.top, capture_output=True, check=True, encoding="utf-8")
     return done.stdout
 
 
-def part_of(page: Page, made: Made) -> str | None:
+def made_part_of(page: Page, made: Made) -> str | None:
     """The part of a page that is made, or None where its lines aren't there."""
     if made.begin is None or made.end is None:
         return page.text
@@ -50,26 +50,26 @@ def part_of(page: Page, made: Made) -> str | None:
     return part if begin and end else None
 
 
-def unlike(top: Path, pages: dict[str, Page]) -> Iterator[tuple[str, str | None]]:
+def compare_made_parts(top: Path, pages: dict[str, Page]) -> Iterator[tuple[str, str | None]]:
     """Each part with what is wrong with it."""
     for made in MADE:
         name = f"{made.page} is what {' '.join(made.command)} makes"
-        page = file_of(top, pages, made.page)
-        part = part_of(page, made) if page else None
+        page = page_or_file(top, pages, made.page)
+        part = made_part_of(page, made) if page else None
         if page is None or part is None:
             yield name, f"there is no such file, or no line {made.begin!r} or {made.end!r} in it"
             continue
         try:
-            yield name, None if part == made_by_tool(page, made) else "it isn't: tests/documents.py --write"
+            yield name, None if part == run_tool(page, made) else "it isn't: tests/documents.py --write"
         except subprocess.CalledProcessError as fault:
             yield name, str(fault.stderr).strip()
 
 
-def write(top: Path, pages: dict[str, Page]) -> None:
+def write_made_parts(top: Path, pages: dict[str, Page]) -> None:
     """Puts into the files what the tools print."""
     for made in MADE:
-        page = file_of(top, pages, made.page)
-        part, new = (part_of(page, made), made_by_tool(page, made)) if page else (None, "")
+        page = page_or_file(top, pages, made.page)
+        part, new = (made_part_of(page, made), run_tool(page, made)) if page else (None, "")
         if page is not None and part is not None:
             text = page.text.replace(part, new, 1) if made.begin and part else new
             (page.top / page.path).write_text(text, encoding="utf-8")

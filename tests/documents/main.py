@@ -17,13 +17,13 @@ from collections.abc import Iterator
 from itertools import chain
 from pathlib import Path
 
-from documents.made import unlike, write
-from documents.pages import Page, broken_links, broken_names, read_pages, tracked
-from documents.promises import lists_without_names, unknown_functions, wrong_mutants
-from documents.shown import KINDS, UNPROVED, shown_in
-from documents.sources import without_head
-from documents.walking import walk
-from documents.words import lengths, log_words
+from documents.made import compare_made_parts, write_made_parts
+from documents.pages import Page, broken_links, broken_page_names, read_pages, tracked_files
+from documents.promises import broken_reading_lists, unknown_functions, wrong_mutants
+from documents.shown import KINDS, UNPROVED, commands_shown_in
+from documents.sources import files_without_head
+from documents.walking import run_shown_commands
+from documents.words import page_length_lines, past_words_and_commits
 
 TOP = Path(__file__).resolve().parents[2]
 SECONDS = 60.0
@@ -32,7 +32,7 @@ WALKED = ("README.md", "docs/TUTORIAL.md")
 Test = tuple[str, str | None]
 
 
-def joined(lines: Iterator[str]) -> str | None:
+def join_or_none(lines: Iterator[str]) -> str | None:
     """What is wrong in one text, if anything is."""
     return "\n".join(lines) or None
 
@@ -40,18 +40,18 @@ def joined(lines: Iterator[str]) -> str | None:
 def test_pages(files: list[Path], pages: dict[str, Page]) -> Iterator[Test]:
     """The tests that only read the pages."""
     for name, page in pages.items():
-        yield f"links of {name}", joined(broken_links(pages, page))
-        yield f"no log in {name}", joined(log_words(page))
-    yield "pages that other files name", joined(broken_names(TOP, pages, files))
+        yield f"links of {name}", join_or_none(broken_links(pages, page))
+        yield f"no log in {name}", join_or_none(past_words_and_commits(page))
+    yield "pages that other files name", join_or_none(broken_page_names(TOP, pages, files))
     for name in WALKED:
         if name in pages:
             yield from test_unproved_lines(pages[name])
-    yield from unlike(TOP, pages)
+    yield from compare_made_parts(TOP, pages)
     if promises := pages.get("docs/PROMISES.md"):
-        yield "functions of docs/PROMISES.md", joined(unknown_functions(promises))
-        yield "mutants of docs/PROMISES.md", joined(wrong_mutants(promises, files))
-    yield "reading lists", joined(lists_without_names())
-    yield "first lines of sources", joined(without_head(TOP, files))
+        yield "functions of docs/PROMISES.md", join_or_none(unknown_functions(promises))
+        yield "mutants of docs/PROMISES.md", join_or_none(wrong_mutants(promises, files))
+    yield "reading lists", join_or_none(broken_reading_lists())
+    yield "first lines of sources", join_or_none(files_without_head(TOP, files))
 
 
 def unproved_line(program: str) -> str:
@@ -73,13 +73,13 @@ def unproved_line(program: str) -> str:
 
 def test_unproved_lines(page: Page) -> Iterator[Test]:
     """The lines that a page shows of programs that run without their proofs."""
-    for shown in shown_in(page.text):
+    for shown in commands_shown_in(page.text):
         for line in filter(UNPROVED.match, shown.wanted):
             now = unproved_line(line.partition(":")[0])
             yield f"{page.name}:{shown.line}: the line `unproved`", None if line == now else f"it is now\n{now}"
 
 
-def built_tree(files: list[Path], folder: Path) -> str | None:
+def copy_built_tree(files: list[Path], folder: Path) -> str | None:
     """Copies the tree with the built programs into a folder; the answer says which isn't built, if one isn't."""
     for path in files:
         (folder / path.parent).mkdir(parents=True, exist_ok=True)
@@ -98,16 +98,16 @@ def built_tree(files: list[Path], folder: Path) -> str | None:
 
 def test_commands(files: list[Path], page: Page) -> Iterator[Test]:
     """The commands of a page, each a test."""
-    steps = list(shown_in(page.text))
+    steps = list(commands_shown_in(page.text))
     if unknown := [step for step in steps if step.kind not in KINDS]:
         yield f"blocks of {page.name}", f"{page.name}:{unknown[0].line}: a block of an unknown kind {unknown[0].kind}"
         return
     with tempfile.TemporaryDirectory() as work:
         tree = Path(work) / "pdregress"
-        if why := built_tree(files, tree):
+        if why := copy_built_tree(files, tree):
             yield f"commands of {page.name}", why
             return
-        for step in walk(steps, tree, SECONDS, is_proved=True):
+        for step in run_shown_commands(steps, tree, SECONDS, is_proved=True):
             name = f"{page.name}:{step.shown.line}: {step.shown.command.partition(chr(10))[0] or 'what watch prints'}"
             printed = step.printed_instead
             yield name, None if printed is None else f"it isn't shown that this is printed:\n{printed}"
@@ -121,13 +121,13 @@ def main(arguments: list[str]) -> int:
         "--write", action="store_true", help="put into the pages what tools make of them, and test no more"
     )
     chosen = parser.parse_args(arguments)
-    files = tracked(TOP)
+    files = tracked_files(TOP)
     pages = {page.name: page for page in read_pages(TOP, files)}
     if chosen.write:
-        write(TOP, pages)
+        write_made_parts(TOP, pages)
         return 0
     shown = [] if chosen.pages else [test_commands(files, pages[name]) for name in WALKED if name in pages]
-    for line in lengths(pages):
+    for line in page_length_lines(pages):
         print(line)
     passed = failed = 0
     for name, why in chain(test_pages(files, pages), *shown):

@@ -62,7 +62,7 @@ class Page:
                 yield number, target
 
 
-def tracked(top: Path) -> list[Path]:
+def tracked_files(top: Path) -> list[Path]:
     """The files of the tree: those that git tracks, or in a copy without git all that aren't hidden or built."""
     done = subprocess.run(["git", "-C", top, "ls-files", "-z"], capture_output=True, check=False)
     if done.returncode == 0:
@@ -77,7 +77,7 @@ def read_pages(top: Path, files: list[Path]) -> list[Page]:
     return [Page(top, path, (top / path).read_text(encoding="utf-8")) for path in files if path.suffix == ".md"]
 
 
-def wrong_target(pages: dict[str, Page], page: Page, target: str) -> str | None:
+def fault_of_link(pages: dict[str, Page], page: Page, target: str) -> str | None:
     """What is wrong with a link of a page, if anything is."""
     if target.startswith(ELSEWHERE):
         return None
@@ -94,11 +94,11 @@ def wrong_target(pages: dict[str, Page], page: Page, target: str) -> str | None:
 def broken_links(pages: dict[str, Page], page: Page) -> Iterator[str]:
     """A line for each link of a page that leads nowhere."""
     for line, target in page.links():
-        if why := wrong_target(pages, page, target):
+        if why := fault_of_link(pages, page, target):
             yield f"{page.name}:{line}: {target}: {why}"
 
 
-def broken_names(top: Path, pages: dict[str, Page], files: list[Path]) -> Iterator[str]:
+def broken_page_names(top: Path, pages: dict[str, Page], files: list[Path]) -> Iterator[str]:
     """A line for each page that a file which is no page names, and that isn't there."""
     for path in files:
         if path.suffix in (".md", ".png"):

@@ -9,8 +9,8 @@ from documents.pages import Page
 
 sys.path.insert(0, str(Path(__file__).resolve().parents[2] / "tools"))
 
-from mutant_files import read_crates  # noqa: E402
-from reading_list import LISTS, UnknownNameError, read_index, reached  # noqa: E402
+from mutant_files import read_crate_mutants  # noqa: E402
+from reading_list import LISTS, UnknownNameError, read_index, places_reached  # noqa: E402
 
 FUNCTION = re.compile(r"`(\w+::\w+)`")
 MUTANTS = re.compile(r"\bMutants? (?:in )?(.*)$", re.MULTILINE)
@@ -29,18 +29,18 @@ def wrong_mutants(page: Page, files: list[Path]) -> Iterator[str]:
     crates = {path.parts[1] for path in files if path.parts[0] == "crates"}
     named = {name for line in MUTANTS.findall(page.text) for name in NAME.findall(line)} - crates
     tried = {path.stem for path in files if path.suffix == ".edit"}
-    others = {it.name for mutants in read_crates(page.top, "contracts").values() for it in mutants}
+    others = {it.name for mutants in read_crate_mutants(page.top, "contracts").values() for it in mutants}
     for name in sorted(named - tried - others):
         yield f"{page.name}: {name}: there is no such mutant"
     for name in sorted(tried - named):
         yield f"{page.name} doesn't name the mutant {name}, which the gate tries"
 
 
-def lists_without_names() -> Iterator[str]:
+def broken_reading_lists() -> Iterator[str]:
     """A line for each reading list whose functions or clauses aren't there."""
     index = read_index()
     for name, functions in LISTS.items():
         try:
-            reached(index, list(functions))
+            places_reached(index, list(functions))
         except UnknownNameError as unknown:
             yield f"{name}: {unknown}"

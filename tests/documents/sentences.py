@@ -9,7 +9,7 @@ END = re.compile(r"(?<=[.?!])[)\"]?\s+")
 POINT = re.compile(r"^\s*(?:[-*]|\d+\.)\s+")
 
 
-def blocks(text: str) -> Iterator[tuple[int, str]]:
+def text_blocks(text: str) -> Iterator[tuple[int, str]]:
     """The paragraphs, points, headings and cells of a document, each with the line where it begins."""
     text = FENCE.sub(lambda fence: "\n" * fence.group().count("\n"), text)
     start = 1
@@ -26,11 +26,11 @@ def blocks(text: str) -> Iterator[tuple[int, str]]:
             lines.append(POINT.sub("", line).strip())
 
 
-def sentences(block: str) -> Iterator[str]:
+def sentences_of_block(block: str) -> Iterator[str]:
     """The sentences of a block; a piece of code counts as one word."""
     return (sentence for sentence in END.split(CODE.sub("`code`", block)) if sentence)
 
 
-def sentences_of(text: str) -> Iterator[tuple[int, str]]:
+def sentences_of_page(text: str) -> Iterator[tuple[int, str]]:
     """The sentences of a document, each with the line where its block begins."""
-    return ((line, sentence) for line, block in blocks(text) for sentence in sentences(block))
+    return ((line, sentence) for line, block in text_blocks(text) for sentence in sentences_of_block(block))

@@ -13,7 +13,7 @@ from typing import IO
 MINUTE = 60.0
 
 
-def _environment() -> dict[str, str]:
+def _shell_environment() -> dict[str, str]:
     kept = {name: value for name, value in os.environ.items() if name != "PDSUITE_PROGRAMS"}
     return {**kept, "LC_ALL": "C.UTF-8", "NO_COLOR": "1"}
 
@@ -34,7 +34,7 @@ class Shell:
             done = subprocess.run(
                 ["sh", "-c", command],
                 cwd=self.folder,
-                env=_environment(),
+                env=_shell_environment(),
                 stdin=subprocess.DEVNULL,
                 stdout=subprocess.PIPE,
                 stderr=subprocess.STDOUT,
@@ -53,17 +53,17 @@ class WatchCommand:
         self._process = subprocess.Popen(
             shlex.split(command),
             cwd=folder,
-            env=_environment(),
+            env=_shell_environment(),
             stdin=subprocess.DEVNULL,
             stdout=subprocess.PIPE,
             stderr=subprocess.STDOUT,
         )
         self._lines: list[bytes] = []
         self._taken = 0
-        self._reader = threading.Thread(target=_gather, args=(self._process.stdout, self._lines))
+        self._reader = threading.Thread(target=_gather_lines, args=(self._process.stdout, self._lines))
         self._reader.start()
 
-    def next(self, form: re.Pattern[str], seconds: float = MINUTE) -> str | None:
+    def await_output(self, form: re.Pattern[str], seconds: float = MINUTE) -> str | None:
         """Waits for what fits as the next that it prints; None if it comes, else what came in its place."""
         until = time.monotonic() + seconds
         while True:
@@ -75,7 +75,7 @@ class WatchCommand:
                 return news
             time.sleep(0.02)
 
-    def end(self) -> None:
+    def interrupt(self) -> None:
         """Ends it as Ctrl-C does."""
         self._process.send_signal(signal.SIGINT)
         try:
@@ -86,7 +86,7 @@ class WatchCommand:
         self._reader.join()
 
 
-def _gather(pipe: IO[bytes] | None, lines: list[bytes]) -> None:
+def _gather_lines(pipe: IO[bytes] | None, lines: list[bytes]) -> None:
     assert pipe is not None
     for line in iter(pipe.readline, b""):
         lines.append(line)

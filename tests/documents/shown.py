@@ -35,21 +35,21 @@ class Shown:
     wanted: tuple[str, ...]
 
 
-def shown_in(text: str) -> Iterator[Shown]:
+def commands_shown_in(text: str) -> Iterator[Shown]:
     """The commands of a page. Lines before any command of what `watch` prints are what one that runs prints next."""
     for block in BLOCK.finditer(text):
         line = text.count("\n", 0, block.start()) + 2
-        yield from _commands(block[1], line, block[2].split("\n")[:-1])
+        yield from _commands_of_block(block[1], line, block[2].split("\n")[:-1])
 
 
-def _commands(kind: str, first: int, lines: list[str]) -> Iterator[Shown]:
+def _commands_of_block(kind: str, first: int, lines: list[str]) -> Iterator[Shown]:
     number = 0
     while number < len(lines):
         begin = number
         command: list[str] = []
         if lines[number].startswith(PROMPT):
             number += 1
-            command = _whole(lines[begin:])
+            command = _lines_of_command(lines[begin:])
             number = begin + len(command)
         wanted = number
         while number < len(lines) and not lines[number].startswith(PROMPT):
@@ -58,7 +58,7 @@ def _commands(kind: str, first: int, lines: list[str]) -> Iterator[Shown]:
         yield Shown(kind, first + begin, text, tuple(lines[wanted:number]))
 
 
-def _whole(lines: list[str]) -> list[str]:
+def _lines_of_command(lines: list[str]) -> list[str]:
     """The lines of a command: those of a text in it, up to its end, and those after a backslash or a bar."""
     count = 1
     while lines[count - 1].endswith(("\\", "|")) and count < len(lines):
@@ -68,12 +68,12 @@ def _whole(lines: list[str]) -> list[str]:
     return lines[:count]
 
 
-def form_of(wanted: tuple[str, ...]) -> re.Pattern[str]:
+def pattern_of_output(wanted: tuple[str, ...]) -> re.Pattern[str]:
     """What fits what is wanted."""
-    return re.compile("".join(map(_form_of_line, wanted)))
+    return re.compile("".join(map(_pattern_of_line, wanted)))
 
 
-def _form_of_line(line: str) -> str:
+def _pattern_of_line(line: str) -> str:
     if line.strip() == LEFT_OUT:
         return r"(?:.*\n)*?"
     if line.endswith(f" {LEFT_OUT}"):
@@ -81,7 +81,7 @@ def _form_of_line(line: str) -> str:
     return SECONDS.sub(r"in \\d+\\.\\d+ s", re.escape(line)) + r"\n"
 
 
-def fits(shown: Shown, printed: str, is_proved: bool) -> bool:
+def is_printed_as_shown(shown: Shown, printed: str, is_proved: bool) -> bool:
     """Whether a command printed what is shown. The line `unproved` counts where it is shown and nothing is proved."""
     wanted = shown.wanted
     if is_proved:
@@ -89,4 +89,4 @@ def fits(shown: Shown, printed: str, is_proved: bool) -> bool:
     lines = printed.splitlines()
     if not any(map(UNPROVED.match, wanted)):
         lines = [line for line in lines if not UNPROVED.match(line)]
-    return form_of(wanted).fullmatch("".join(f"{line}\n" for line in lines)) is not None
+    return pattern_of_output(wanted).fullmatch("".join(f"{line}\n" for line in lines)) is not None

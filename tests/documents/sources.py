@@ -7,7 +7,7 @@ HEADS = {".rt": "//! ", ".antt": "-- "}
 FOLDERS = frozenset({"src", "specs"})
 
 
-def without_head(top: Path, files: list[Path]) -> Iterator[str]:
+def files_without_head(top: Path, files: list[Path]) -> Iterator[str]:
     """A line for each file of src/ and specs/ whose first line isn't a comment."""
     for path in files:
         if path.suffix not in HEADS or not FOLDERS & set(path.parts):

@@ -7,7 +7,7 @@ from dataclasses import dataclass
 from pathlib import Path
 
 from documents.shell import MINUTE, Shell, WatchCommand
-from documents.shown import UNHURRIED, WATCH, WATCHED, Shown, fits, form_of
+from documents.shown import UNHURRIED, WATCH, WATCHED, Shown, is_printed_as_shown, pattern_of_output
 
 
 @dataclass(frozen=True)
@@ -19,7 +19,7 @@ class Step:
     seconds: float
 
 
-def walk(steps: list[Shown], tree: Path, seconds: float, is_proved: bool) -> Iterator[Step]:
+def run_shown_commands(steps: list[Shown], tree: Path, seconds: float, is_proved: bool) -> Iterator[Step]:
     """Runs the commands in order. Where all is proved, those that take the prover are left to who walks without."""
     shell = Shell(tree)
     with ExitStack() as stack:
@@ -31,10 +31,14 @@ def walk(steps: list[Shown], tree: Path, seconds: float, is_proved: bool) -> Ite
             if shown.kind in WATCHED:
                 if shown.command:
                     watching = WatchCommand(shown.command, shell.folder)
-                    stack.callback(watching.end)
+                    stack.callback(watching.interrupt)
                 patience = MINUTE if shown.kind == WATCH else seconds
-                printed_instead = watching.next(form_of(shown.wanted), patience) if watching else "nothing is watched"
+                printed_instead = (
+                    watching.await_output(pattern_of_output(shown.wanted), patience)
+                    if watching
+                    else "nothing is watched"
+                )
             else:
                 printed = shell.run(shown.command, seconds)
-                printed_instead = None if fits(shown, printed, is_proved) else printed
+                printed_instead = None if is_printed_as_shown(shown, printed, is_proved) else printed
             yield Step(shown, printed_instead, time.monotonic() - begin)

@@ -12,15 +12,15 @@ from pathlib import Path
 
 sys.path.insert(0, str(Path(__file__).resolve().parents[1]))
 
-from harness.answered_tables import AnsweredTable, Answers, answered_tables_in, difference  # noqa: E402
-from harness.calls import CallRunner, ProgramOutput, run_in_step  # noqa: E402
-from harness.compare import RowAnswer, shown  # noqa: E402
-from harness.rewrite import AcceptError, Lines, with_explained, with_story, with_verdict  # noqa: E402
+from harness.answered_tables import AnsweredTable, Answers, answered_tables_in, first_difference  # noqa: E402
+from harness.calls import CallRunner, ProgramOutput, run_tests_in_step  # noqa: E402
+from harness.compare import RowAnswer, cut_for_message  # noqa: E402
+from harness.rewrite import AcceptError, Lines, rewrite_explained, rewrite_story, rewrite_verdict  # noqa: E402
 from harness.run_calls import run_calls  # noqa: E402
-from harness.run_rows import heed_signals  # noqa: E402
-from harness.stories import stories_in  # noqa: E402
+from harness.run_rows import interrupt_at_sigterm  # noqa: E402
+from harness.stories import read_run_stories  # noqa: E402
 from harness.tables import MARK, Table  # noqa: E402
-from harness.without_pytest import chosen_programs, files_in, parser_of  # noqa: E402
+from harness.without_pytest import chosen_programs, row_files_in, make_parser  # noqa: E402
 
 BY_HAND = "a row of this kind is changed by hand"
 UNANSWERED = "the program came to no end, by this row or by one that is run with it"
@@ -36,18 +36,20 @@ class AcceptedRows:
     rows: dict[int, str] = field(default_factory=dict)
     refused: dict[int, str] = field(default_factory=dict)
 
-    def accept(self, row: int, answers: tuple[RowAnswer, RowAnswer], lines: Lines) -> None:
+    def accept_answer(self, row: int, answers: tuple[RowAnswer, RowAnswer], lines: Lines) -> None:
         """Accepts an answer for the row that begins in a line."""
         wanted, answer = answers
         self.lines |= lines
-        self.rows[row] = "taken" if isinstance(answer, ProgramOutput) else f"taken: {shown(answer)}, was {wanted}"
+        self.rows[row] = (
+            "taken" if isinstance(answer, ProgramOutput) else f"taken: {cut_for_message(answer)}, was {wanted}"
+        )
 
 
 def changed_answers(table: AnsweredTable, answers: Sequence[Answers]) -> ChangedAnswers:
     """The answers that differ, by the lines of their rows."""
     found: ChangedAnswers = {}
     for case, each in zip(table.cases, answers):
-        if other := difference(case, each):
+        if other := first_difference(case, each):
             found.setdefault(case.row.line, other)
     return found
 
@@ -56,11 +58,11 @@ def accept_table(table: Table, changed: ChangedAnswers, accepted: AcceptedRows) 
     """Accepts answers for the rows of a table."""
     if table.kind == "scripts":
         for row in (it for it in table.rows if it.line in changed):
-            accepted.accept(row.line, changed[row.line], with_verdict(row, str(changed[row.line][1])))
+            accepted.accept_answer(row.line, changed[row.line], rewrite_verdict(row, str(changed[row.line][1])))
     elif table.kind == "explained":
-        lines = with_explained(table.rows, {line: str(answer) for line, (_, answer) in changed.items()})
+        lines = rewrite_explained(table.rows, {line: str(answer) for line, (_, answer) in changed.items()})
         for line, each in changed.items():
-            accepted.accept(line, each, lines)
+            accepted.accept_answer(line, each, lines)
     elif table.kind == "stories":
         accept_stories(table, changed, accepted)
     else:
@@ -68,18 +70,18 @@ def accept_table(table: Table, changed: ChangedAnswers, accepted: AcceptedRows) 
 
 
 def accept_stories(table: Table, changed: ChangedAnswers, accepted: AcceptedRows) -> None:
-    for story in stories_in(table):
+    for story in read_run_stories(table):
         line = story.rows[0].line
         if line in changed:
             wanted, output = changed[line]
             assert isinstance(wanted, ProgramOutput) and isinstance(output, ProgramOutput)
             try:
-                accepted.accept(line, changed[line], with_story(story, wanted, output))
+                accepted.accept_answer(line, changed[line], rewrite_story(story, wanted, output))
             except AcceptError as why:
                 accepted.refused[line] = str(why)
 
 
-def rewritten(text: str, lines: Lines) -> tuple[str, dict[int, int]]:
+def apply_rewrites(text: str, lines: Lines) -> tuple[str, dict[int, int]]:
     """A file with new lines, none of which is a second mark of its row, and the new numbers of the old lines."""
     new: list[str] = []
     places: dict[int, int] = {}
@@ -92,14 +94,14 @@ def rewritten(text: str, lines: Lines) -> tuple[str, dict[int, int]]:
     return "\n".join(new), places
 
 
-def accept(file: Path, tables: Sequence[tuple[AnsweredTable, Sequence[Answers]]]) -> tuple[list[str], list[str]]:
+def accept_file(file: Path, tables: Sequence[tuple[AnsweredTable, Sequence[Answers]]]) -> tuple[list[str], list[str]]:
     """Writes answers into a file; the messages of the rows that are changed, and of those that aren't."""
     accepted = AcceptedRows()
     for table, answers in tables:
         accept_table(table.table, changed_answers(table, answers), accepted)
         unanswered = (case.row.line for case, each in zip(table.cases, answers) if None in each)
         accepted.refused |= dict.fromkeys(unanswered, UNANSWERED)
-    text, places = rewritten(file.read_bytes().decode(), accepted.lines)
+    text, places = apply_rewrites(file.read_bytes().decode(), accepted.lines)
     if accepted.lines:
         file.write_bytes(text.encode())
     name = tables[0][0].table.heading.file
@@ -108,22 +110,22 @@ def accept(file: Path, tables: Sequence[tuple[AnsweredTable, Sequence[Answers]]]
     return rows, refused
 
 
-def accept_all(files: Sequence[Path], runner: CallRunner) -> Iterator[tuple[list[str], list[str]]]:
+def accept_files(files: Sequence[Path], runner: CallRunner) -> Iterator[tuple[list[str], list[str]]]:
     """Runs all files at once, and writes the answers into each."""
     tables = [it for file in files for it in answered_tables_in(file)]
-    answers = list(run_in_step([it.answers() for it in tables], runner))
+    answers = list(run_tests_in_step([it.answer_cases() for it in tables], runner))
     for file in files:
         if of_file := [(it, each) for it, each in zip(tables, answers) if it.file == file]:
-            yield accept(file, of_file)
+            yield accept_file(file, of_file)
 
 
 def main(arguments: Sequence[str]) -> int:
-    options = parser_of(__doc__).parse_args(arguments)
-    heed_signals()
+    options = make_parser(__doc__).parse_args(arguments)
+    interrupt_at_sigterm()
     programs = chosen_programs(options)
-    files = list(dict.fromkeys(it.absolute() for path in options.paths for it in files_in(path)))
+    files = list(dict.fromkeys(it.absolute() for path in options.paths for it in row_files_in(path)))
     accepted = refused = 0
-    for rows, others in accept_all(files, lambda calls: run_calls(programs.direct, calls)):
+    for rows, others in accept_files(files, lambda calls: run_calls(programs.direct, calls)):
         print(*rows, *others, sep="\n", end="\n" if rows or others else "")
         accepted, refused = accepted + len(rows), refused + len(others)
     print(f"{accepted} taken, {refused} not taken")

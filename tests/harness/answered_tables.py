@@ -6,7 +6,7 @@ from pathlib import Path
 from typing import Any, Optional
 
 from harness.calls import CallSteps
-from harness.compare import RowAnswer, RowCase, output_lines
+from harness.compare import RowAnswer, RowCase, output_as_story_lines
 from harness.kinds import KINDS
 from harness.recordings import RECORDS
 from harness.tables import PROGRAM, Table, RowError, read_tables
@@ -24,7 +24,7 @@ class AnsweredTable:
     table: Table
     cases: list[RowCase[Any]]
 
-    def answers(self) -> CallSteps[list[Answers]]:
+    def answer_cases(self) -> CallSteps[list[Answers]]:
         """The answers to the checks of each case."""
         answer = KINDS[self.table.kind].answer
         assert answer is not None
@@ -42,12 +42,14 @@ def answered_tables_in(file: Path) -> Iterator[AnsweredTable]:
         return
 
 
-def difference(case: RowCase[Any], answers: Sequence[Optional[RowAnswer]]) -> Optional[tuple[RowAnswer, RowAnswer]]:
+def first_difference(
+    case: RowCase[Any], answers: Sequence[Optional[RowAnswer]]
+) -> Optional[tuple[RowAnswer, RowAnswer]]:
     """The wanted answer of a case and the given one, of its first check where they differ."""
     each = ((it.wanted, answer) for it, answer in zip(case.checks, answers))
     return next(((wanted, answer) for wanted, answer in each if answer is not None and answer != wanted), None)
 
 
-def one_line(answer: RowAnswer) -> str:
+def answer_on_one_line(answer: RowAnswer) -> str:
     """An answer on one line."""
-    return answer if isinstance(answer, str) else " ".join(output_lines(answer))
+    return answer if isinstance(answer, str) else " ".join(output_as_story_lines(answer))

@@ -27,24 +27,26 @@ def fits_the_batch(call: ProgramCall) -> bool:
     return is_known and not value.startswith(b"-") and (EXPLAIN in given or not given & WITH_EXPLAIN)
 
 
-def starts_of(calls: Sequence[ProgramCall]) -> bytes:
+def encode_starts(calls: Sequence[ProgramCall]) -> bytes:
     """The starts of calls, as tools/batch.rattle reads them."""
-    return b"".join(part(b"\0".join([it.program.encode(), *it.arguments])) + part(it.given) for it in calls)
+    return b"".join(
+        length_prefixed(b"\0".join([it.program.encode(), *it.arguments])) + length_prefixed(it.given) for it in calls
+    )
 
 
-def part(octets: bytes) -> bytes:
+def length_prefixed(octets: bytes) -> bytes:
     """Octets after a line with their number."""
     return b"%d\n%b" % (len(octets), octets)
 
 
 def outputs_in(octets: bytes) -> Iterator[ProgramOutput]:
     """The outputs of the first calls: of all, or up to one that ended the run."""
-    parts = parts_in(octets)
+    parts = whole_parts_in(octets)
     for output, errors, status in zip(parts, parts, parts):
         yield ProgramOutput(output, errors, int(status))
 
 
-def parts_in(octets: bytes) -> Iterator[bytes]:
+def whole_parts_in(octets: bytes) -> Iterator[bytes]:
     """The parts of a text, up to one that isn't whole."""
     end = 0
     while found := NUMBER.match(octets, end):

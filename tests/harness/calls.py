@@ -43,7 +43,7 @@ CallRunner = Callable[[Sequence[ProgramCall]], Outputs]
 CallSteps = Generator[list[ProgramCall], Outputs, T]
 
 
-def run_steps(test: CallSteps[T], run_calls: CallRunner) -> T:
+def run_test_alone(test: CallSteps[T], run_calls: CallRunner) -> T:
     """Runs a test by itself."""
     outputs: Optional[Outputs] = None
     while True:
@@ -54,13 +54,13 @@ def run_steps(test: CallSteps[T], run_calls: CallRunner) -> T:
             return result
 
 
-def one_step_later(test: CallSteps[T]) -> CallSteps[T]:
+def delay_one_step(test: CallSteps[T]) -> CallSteps[T]:
     """The same test, which begins one step after those that it is in step with."""
     yield []
     return (yield from test)
 
 
-def run_in_step(tests: Sequence[CallSteps[T]], run_calls: CallRunner) -> Iterator[T]:
+def run_tests_in_step(tests: Sequence[CallSteps[T]], run_calls: CallRunner) -> Iterator[T]:
     """Runs tests in step, and gives their results in the order of the tests."""
     going = dict(enumerate(tests))
     results: dict[int, T] = {}

@@ -7,7 +7,7 @@ from dataclasses import dataclass, replace
 from typing import Generic, Optional, TypeVar, Union
 
 from harness.calls import NO_STATUS, CallSteps, ProgramCall, ProgramOutput
-from harness.tables import PROGRAM, RowError, Table, CaseRow, reading
+from harness.tables import PROGRAM, RowError, Table, CaseRow, add_row_to_errors
 
 CLASSES = ("pass", "fail", "syntax", "unsupported", "limit", "pending")
 MAX_SCRIPTS = 500
@@ -39,7 +39,7 @@ class ProgramRun:
     is_refusal: bool = False
     files: tuple[tuple[str, bytes], ...] = ()
 
-    def call(self) -> ProgramCall:
+    def program_call(self) -> ProgramCall:
         return ProgramCall(self.program, self.arguments, self.given, self.is_refusal, self.files)
 
 
@@ -75,7 +75,7 @@ class RowResult:
     is_unanswered: bool = False
 
     @staticmethod
-    def joined(results: "Iterable[RowResult]") -> "RowResult":
+    def join_results(results: "Iterable[RowResult]") -> "RowResult":
         each = list(results)
         faults = [it.fault for it in each if it.fault]
         more = [f"and {len(faults) - MAX_FAULTS} more"] if len(faults) > MAX_FAULTS else []
@@ -98,72 +98,74 @@ class TableKind(Generic[T]):
         """Checks cases, all of one table or some, and gives the result of each."""
         results = iter((yield from self.check([it for case in cases for it in case.checks])))
         return [
-            RowResult.joined([RowResult(case.error), RowResult(case.mark), *(next(results) for _ in case.checks)])
+            RowResult.join_results([RowResult(case.error), RowResult(case.mark), *(next(results) for _ in case.checks)])
             for case in cases
         ]
 
 
-def case_of(row: CaseRow, read: Callable[[], Iterable[T]], name: str = "") -> RowCase[T]:
+def read_case(row: CaseRow, read: Callable[[], Iterable[T]], name: str = "") -> RowCase[T]:
     """The case of a row, which may have an error."""
     name = name or f"line-{row.line}"
     try:
-        with reading(row):
+        with add_row_to_errors(row):
             return RowCase(name, row, tuple(read()))
     except RowError as why:
         return RowCase(name, row, error=str(why))
 
 
-def shown(text: str) -> str:
+def cut_for_message(text: str) -> str:
     """A text as a message shows it."""
     return text if len(text) <= MAX_SHOWN else f"{text[:MAX_SHOWN]}.."
 
 
-def output_lines(output: ProgramOutput) -> Iterator[str]:
+def output_as_story_lines(output: ProgramOutput) -> Iterator[str]:
     """An output, as a story writes it."""
     for mark, text in ((">", output.output), ("!", output.errors)):
         *lines, last = text.decode(errors="backslashreplace").split("\n")
-        yield from (shown(f"{mark} {line}") for line in lines)
+        yield from (cut_for_message(f"{mark} {line}") for line in lines)
         if last:
-            yield shown(f"{mark} {last}") + " (without a newline)"
+            yield cut_for_message(f"{mark} {last}") + " (without a newline)"
     yield "came to no end" if output.status == NO_STATUS else f"= {output.status}"
 
 
-def difference(row: CaseRow, wanted: ProgramOutput, output: ProgramOutput) -> str:
+def output_difference(row: CaseRow, wanted: ProgramOutput, output: ProgramOutput) -> str:
     """A row, and how the output differs from what is wanted."""
-    before, after = list(output_lines(wanted)), list(output_lines(output))
-    return "\n".join([shown(str(row)), *difflib.unified_diff(before, after, "wanted", "output", n=1, lineterm="")])
+    before, after = list(output_as_story_lines(wanted)), list(output_as_story_lines(output))
+    return "\n".join(
+        [cut_for_message(str(row)), *difflib.unified_diff(before, after, "wanted", "output", n=1, lineterm="")]
+    )
 
 
-def add_command(name: str, text: bytes) -> bytes:
+def add_script_command(name: str, text: bytes) -> bytes:
     """The command that adds a script."""
     lines = text.count(b"\n") + 1 if text else 0
     return f"add {name} {lines}\n".encode() + (text + b"\n" if lines else b"")
 
 
-def total_of(classes: list[str]) -> str:
+def total_line(classes: list[str]) -> str:
     """The last line of a report with rows of these classes."""
     counts = [f"{name} {classes.count(name)}" for name in CLASSES]
     return " ".join([f"total {len(classes)}", *counts]) + "\n"
 
 
-def report_of(verdicts: Mapping[str, str]) -> ProgramOutput:
+def report_of_verdicts(verdicts: Mapping[str, str]) -> ProgramOutput:
     """The report of scripts with these verdicts."""
     classes = [verdict.split(" ", 1)[0] for verdict in verdicts.values()]
     rows = "".join(f"{name} {verdict}\n" for name, verdict in verdicts.items())
-    return ProgramOutput((rows + total_of(classes)).encode(), b"", 0 if set(classes) <= {"pass"} else 1)
+    return ProgramOutput((rows + total_line(classes)).encode(), b"", 0 if set(classes) <= {"pass"} else 1)
 
 
-EMPTY_REPORT = report_of({})
+EMPTY_REPORT = report_of_verdicts({})
 
 
-def verdict_of(text: str) -> str:
+def check_verdict(text: str) -> str:
     """A verdict, which begins with its class."""
     if text.split(" ", 1)[0] not in CLASSES:
         raise RowError("there is no such verdict")
     return text
 
 
-def batches(scripts: Sequence[ExpectedScript]) -> list[list[int]]:
+def batch_places(scripts: Sequence[ExpectedScript]) -> list[list[int]]:
     """The places of scripts by the commands before them, so many at a time."""
     groups: dict[str, list[int]] = {}
     for place, script in enumerate(scripts):
@@ -171,39 +173,39 @@ def batches(scripts: Sequence[ExpectedScript]) -> list[list[int]]:
     return [group[at : at + MAX_SCRIPTS] for group in groups.values() for at in range(0, len(group), MAX_SCRIPTS)]
 
 
-def input_of(batch: Sequence[ExpectedScript]) -> bytes:
+def batch_input(batch: Sequence[ExpectedScript]) -> bytes:
     """The input that adds the scripts of a batch, as `a1` and so on."""
-    adds = [add_command(f"a{number}", script.text) for number, script in enumerate(batch, 1)]
+    adds = [add_script_command(f"a{number}", script.text) for number, script in enumerate(batch, 1)]
     return batch[0].commands.encode() + b"".join(adds)
 
 
-def verdicts_in(output: Optional[ProgramOutput], count: int) -> list[str]:
+def verdicts_of_batch(output: Optional[ProgramOutput], count: int) -> list[str]:
     """The verdicts of the scripts of a batch, empty where there is none."""
     lines = output.output.decode(errors="backslashreplace").split("\n") if output else []
     rows = {name: verdict for name, _, verdict in (line.partition(" ") for line in lines)}
     return [rows.get(f"a{number}", "") for number in range(1, count + 1)]
 
 
-def differing(scripts: Sequence[ExpectedScript], each_batch: Sequence[list[int]]) -> CallSteps[dict[int, str]]:
+def differing_batches(scripts: Sequence[ExpectedScript], each_batch: Sequence[list[int]]) -> CallSteps[dict[int, str]]:
     """How the reports of several batches differ from the wanted ones, by the first place of each that differs."""
     texts = [[scripts[place] for place in places] for places in each_batch]
-    outputs = yield [ProgramCall(PROGRAM, (), input_of(it)) for it in texts]
+    outputs = yield [ProgramCall(PROGRAM, (), batch_input(it)) for it in texts]
     wrong = {}
     for places, batch, output in zip(each_batch, texts, outputs):
-        wanted = report_of({f"a{number}": script.wanted for number, script in enumerate(batch, 1)})
+        wanted = report_of_verdicts({f"a{number}": script.wanted for number, script in enumerate(batch, 1)})
         if output is not None and output != wanted:
-            wrong[places[0]] = difference(batch[0].row, wanted, output)
+            wrong[places[0]] = output_difference(batch[0].row, wanted, output)
     return wrong
 
 
 def check_scripts(scripts: Sequence[ExpectedScript]) -> CallSteps[list[RowResult]]:
     """Compares the verdicts of scripts. If the report of a batch differs, each of its scripts is run by itself."""
-    each_batch = batches(scripts)
-    together = yield from differing(scripts, each_batch)
+    each_batch = batch_places(scripts)
+    together = yield from differing_batches(scripts, each_batch)
     wrong = [places for places in each_batch if places[0] in together]
     faults: dict[int, str] = {}
     if wrong:
-        faults = yield from differing(scripts, [[place] for places in wrong for place in places])
+        faults = yield from differing_batches(scripts, [[place] for places in wrong for place in places])
     for places in wrong:
         if faults.keys().isdisjoint(places):
             faults[places[0]] = f"run with those after it:\n{together[places[0]]}"
@@ -212,15 +214,15 @@ def check_scripts(scripts: Sequence[ExpectedScript]) -> CallSteps[list[RowResult
 
 def script_answers(scripts: Sequence[ExpectedScript]) -> CallSteps[list[Optional[RowAnswer]]]:
     """The verdict of each script; none where its run stopped."""
-    each_batch = batches(scripts)
-    outputs = yield [ProgramCall(PROGRAM, (), input_of([scripts[it] for it in places])) for places in each_batch]
+    each_batch = batch_places(scripts)
+    outputs = yield [ProgramCall(PROGRAM, (), batch_input([scripts[it] for it in places])) for places in each_batch]
     found: dict[int, str] = {}
     for places, output in zip(each_batch, outputs):
-        found.update(zip(places, verdicts_in(output, len(places))))
+        found.update(zip(places, verdicts_of_batch(output, len(places))))
     return [found[place] or None for place in range(len(scripts))]
 
 
-def shortened(text: bytes) -> bytes:
+def without_block_lines(text: bytes) -> bytes:
     """An error text without the lines of blocks: of the first line of each the name and the number stay."""
     short = []
     for line in text.split(b"\n"):
@@ -234,18 +236,18 @@ def shortened(text: bytes) -> bytes:
     return b"\n".join(short)
 
 
-def as_wanted(run: ProgramRun, output: ProgramOutput) -> ProgramOutput:
+def compared_part_of(run: ProgramRun, output: ProgramOutput) -> ProgramOutput:
     """The output of a run, as far as it is compared."""
     if run.is_refusal:
         first, newline, _ = output.errors.partition(b"\n")
         return replace(output, errors=first + newline, read=None)
-    return replace(output, errors=shortened(output.errors)) if run.is_short else output
+    return replace(output, errors=without_block_lines(output.errors)) if run.is_short else output
 
 
 def run_fault(run: ProgramRun, output: ProgramOutput) -> str:
     """How the output of a run differs from what is wanted; empty where it doesn't."""
-    short = as_wanted(run, output)
-    fault = difference(run.row, run.wanted, short) if short != run.wanted else ""
+    short = compared_part_of(run, output)
+    fault = output_difference(run.row, run.wanted, short) if short != run.wanted else ""
     return f"{fault or run.row}\n{output.read} octets read, none at most" if output.read else fault
 
 
@@ -258,11 +260,13 @@ def run_result(run: ProgramRun, output: Optional[ProgramOutput]) -> RowResult:
 
 def check_runs(runs: Sequence[ProgramRun]) -> CallSteps[list[RowResult]]:
     """Compares the outputs of runs."""
-    outputs = yield [run.call() for run in runs]
+    outputs = yield [run.program_call() for run in runs]
     return [run_result(run, it) for run, it in zip(runs, outputs)]
 
 
 def run_answers(runs: Sequence[ProgramRun]) -> CallSteps[list[Optional[RowAnswer]]]:
     """The output of each run; none where it wasn't made."""
-    outputs = yield [run.call() for run in runs]
-    return [None if it is None or it.status == NO_STATUS else as_wanted(run, it) for run, it in zip(runs, outputs)]
+    outputs = yield [run.program_call() for run in runs]
+    return [
+        None if it is None or it.status == NO_STATUS else compared_part_of(run, it) for run, it in zip(runs, outputs)
+    ]

@@ -52,7 +52,7 @@ def mark_message(mark: CaseRow) -> str:
     )
 
 
-def marked(cases: Sequence[RowCase[Any]], marks: Sequence[CaseRow]) -> Iterator[RowCase[Any]]:
+def with_marks(cases: Sequence[RowCase[Any]], marks: Sequence[CaseRow]) -> Iterator[RowCase[Any]]:
     """The cases of a table, of which a marked one fails; so does a mark without a case after it."""
     messages: dict[int, str] = {}
     for mark in marks:
@@ -64,21 +64,21 @@ def marked(cases: Sequence[RowCase[Any]], marks: Sequence[CaseRow]) -> Iterator[
         yield RowCase("marked", marks[-1], error=messages[len(cases)])
 
 
-def group_of(table: Table) -> CaseGroup:
+def read_group(table: Table) -> CaseGroup:
     """The cases of a table."""
     if table.kind not in KINDS:
         return error_group(table.name, table.heading, f"{table.heading}: there is no such kind")
     kind = KINDS[table.kind]
     try:
-        cases = list(marked(list(kind.read(table)), table.marks))
+        cases = list(with_marks(list(kind.read(table)), table.marks))
         return CaseGroup(table.name, kind, kind.programs or (table.program,), cases)
     except RowError as why:
         return error_group(table.name, table.heading, str(why))
 
 
-def groups_of(file: Path, draw_options: DrawOptions = DrawOptions()) -> Iterator[CaseGroup]:
+def read_groups(file: Path, draw_options: DrawOptions = DrawOptions()) -> Iterator[CaseGroup]:
     """The cases of a file, by its tables."""
     try:
-        yield from (group_of(replace(table, draw_options=draw_options)) for table in read_tables(file))
+        yield from (read_group(replace(table, draw_options=draw_options)) for table in read_tables(file))
     except RowError as why:
         yield error_group("file", CaseRow(place_in_tree(file), 1, ""), str(why))

@@ -4,7 +4,7 @@ from collections.abc import Iterator
 
 from harness.calls import ProgramOutput
 from harness.compare import RowCase, ProgramRun
-from harness.stories import slug, stories, titled_stories
+from harness.stories import slug, read_stories, read_titled_stories
 from harness.tables import CASES, TOP, CaseRow, RowError, read_tables
 
 DESK = "test_desk"
@@ -12,7 +12,7 @@ DESK = "test_desk"
 PARTS = ("overlap", "schedules", "orders")
 
 
-def parts() -> Iterator[RowCase[ProgramRun]]:
+def desk_part_cases() -> Iterator[RowCase[ProgramRun]]:
     """Each further part of test_desk as a run without a story."""
     lines = (TOP / "crates" / DESK / "stdout").read_bytes().splitlines(keepends=True)[1:]
     for part, line in zip(PARTS, lines, strict=True):
@@ -20,15 +20,15 @@ def parts() -> Iterator[RowCase[ProgramRun]]:
         yield RowCase(part, row, (ProgramRun(row, DESK, (part.encode(),), b"", ProgramOutput(line, b"", 0)),))
 
 
-def cases_of(kind: str) -> list[RowCase[ProgramRun]]:
+def cases_of_kind(kind: str) -> list[RowCase[ProgramRun]]:
     """The cases among which a name of this kind is looked for."""
     match kind:
         case "story":
-            return [case for table in read_tables(CASES / "desk" / "desk.cases") for case in titled_stories(table)]
+            return [case for table in read_tables(CASES / "desk" / "desk.cases") for case in read_titled_stories(table)]
         case "run":
-            return [case for table in read_tables(CASES / "runs" / "words.cases") for case in stories(table)]
+            return [case for table in read_tables(CASES / "runs" / "words.cases") for case in read_stories(table)]
         case "part":
-            return list(parts())
+            return list(desk_part_cases())
         case _:
             return []
 
@@ -37,7 +37,7 @@ def runs_named(test: str) -> list[ProgramRun]:
     """The runs of this name; of a story that is run with workers these runs alone."""
     kind, _, title = test.partition(" ")
     name = slug(title)
-    cases = [case for case in cases_of(kind) if slug(case.row.text) == name]
+    cases = [case for case in cases_of_kind(kind) if slug(case.row.text) == name]
     if not cases:
         raise RowError(f"there is no {test}")
     with_workers = [case for case in cases if case.name != name]

@@ -9,9 +9,9 @@ from drawn import boards, books, packets
 from drawn.drawing import Amount
 from model.rules import RFC6675, RFC9937
 from harness.calls import CallSteps, ProgramOutput
-from harness.compare import RowCase, RowResult, TableKind, ProgramRun, case_of, check_runs
+from harness.compare import RowCase, RowResult, TableKind, ProgramRun, read_case, check_runs
 from harness.recordings import RECORDS
-from harness.model_runs import drawn_transfers, check_transfers
+from harness.model_runs import draw_transfers, check_transfers
 from harness.tables import TOP, CaseRow, Table, RowError
 
 ROW = re.compile(r"([1-9]\d*) ([a-z0-9 ]+) from (\d+)")
@@ -71,30 +71,32 @@ class Draw:
     amount: Amount
     seed: int
 
-    def run(self) -> ProgramRun:
+    def program_run(self) -> ProgramRun:
         """The run of the program's own test, with the rows that are drawn in place of those that are stored."""
         crate, lists = TOP / "crates" / self.program, PROGRAMS[self.program][self.kind]
         rows = list(lists.drawn(self.seed, self.amount))
         files = {it.name: it.read_bytes() for it in (crate / "data").iterdir()}
         stored = files[lists.file].decode().splitlines()
-        wanted = with_drawn((crate / "stdout").read_bytes(), joined(lists.output(stored)), joined(lists.output(rows)))
+        wanted = replace_stored_output(
+            (crate / "stdout").read_bytes(), encode_lines(lists.output(stored)), encode_lines(lists.output(rows))
+        )
         given = (crate / "stdin").read_bytes()
-        with_rows = tuple({**files, lists.file: joined(rows)}.items())
+        with_rows = tuple({**files, lists.file: encode_lines(rows)}.items())
         return ProgramRun(self.row, self.program, (), given, ProgramOutput(wanted, b"", 0), files=with_rows)
 
 
-def with_drawn(output: bytes, stored: bytes, drawn: bytes) -> bytes:
+def replace_stored_output(output: bytes, stored: bytes, drawn: bytes) -> bytes:
     """The wanted output for the rows that are drawn, by the one for those that are stored."""
     if output.count(stored) != 1:
         raise RowError("stdout doesn't have the output that follows from the stored rows")
     return output.replace(stored, drawn)
 
 
-def joined(lines: Iterator[str] | Sequence[str]) -> bytes:
+def encode_lines(lines: Iterator[str] | Sequence[str]) -> bytes:
     return "".join(f"{line}\n" for line in lines).encode()
 
 
-def draw_of(table: Table, row: CaseRow) -> Draw:
+def read_draw(table: Table, row: CaseRow) -> Draw:
     """The draw of a row, unless a run chooses otherwise."""
     found = ROW.fullmatch(row.text)
     if not found or found[2] not in DRAWS.get(table.program, ()):
@@ -106,18 +108,18 @@ def draw_of(table: Table, row: CaseRow) -> Draw:
     return Draw(row, table.program, found[2], Amount(int(found[1]), draw_options.rows), seed)
 
 
-def random_rows(table: Table) -> Iterator[RowCase[Draw]]:
+def read_random_rows(table: Table) -> Iterator[RowCase[Draw]]:
     """A case for each row."""
     for row in table.rows:
-        yield case_of(row, lambda: [draw_of(table, row)], re.sub(r"\W+", "-", row.text))
+        yield read_case(row, lambda: [read_draw(table, row)], re.sub(r"\W+", "-", row.text))
 
 
 def check_random_rows(draws: Sequence[Draw]) -> CallSteps[list[RowResult]]:
     """Draws the rows of a table, and compares the outputs."""
     if any(it.program == RECORDS for it in draws):
         each = [(it.amount.rows or it.amount.lists, RECOVERIES[it.kind], it.seed) for it in draws]
-        return (yield from check_transfers([list(drawn_transfers(*it)) for it in each]))
-    return (yield from check_runs([it.run() for it in draws]))
+        return (yield from check_transfers([list(draw_transfers(*it)) for it in each]))
+    return (yield from check_runs([it.program_run() for it in draws]))
 
 
-RANDOM_ROWS = TableKind(random_rows, check_random_rows)
+RANDOM_ROWS = TableKind(read_random_rows, check_random_rows)

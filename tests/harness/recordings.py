@@ -9,10 +9,10 @@ from collections.abc import Iterator, Sequence
 from dataclasses import dataclass, replace
 
 from harness.calls import CallSteps, ProgramCall, ProgramOutput, Outputs
-from harness.compare import RowCase, RowResult, TableKind, batches, input_of, verdicts_in
+from harness.compare import RowCase, RowResult, TableKind, batch_places, batch_input, verdicts_of_batch
 from harness.compare import ExpectedScript
 from harness.random_scripts import RandomScript, random_scripts
-from harness.scripts import script_of, terms_of
+from harness.scripts import parse_script_row, split_terms
 from harness.tables import PROGRAM, CaseRow, Table, RowError, case_files, read_tables
 
 TRACE = re.compile(rb"//= at (\d+\.\d{6}) [A-Z]")
@@ -45,12 +45,12 @@ class DoneRecording:
     trace: bytes
 
     @property
-    def events(self) -> int:
+    def event_count(self) -> int:
         """How many events the recording has: one line of a trace each."""
         return sum(1 for line in self.trace.split(b"\n") if TRACE.match(line))
 
 
-def settings_text(settings: list[str]) -> str:
+def toml_of_settings(settings: list[str]) -> str:
     """The text of settings `KEY VALUE`; of a key that is set twice the last value counts."""
     texts: dict[str, str] = {}
     for key, value in (it.split(" ", 1) for it in settings):
@@ -62,10 +62,10 @@ def table_scripts() -> Iterator[RandomScript]:
     """The scripts of all tables of scripts, each option of a header in a line of its own."""
     for table in (it for file in case_files() for it in read_tables(file) if it.kind == "scripts"):
         for row in table.rows:
-            _, terms, text = script_of(table, row)
-            settings, options = terms_of(terms)
+            _, terms, text = parse_script_row(table, row)
+            settings, options = split_terms(terms)
             head = "".join(f"{option}\n" for option in options).encode()
-            yield RandomScript(f"{row.file}:{row.line}", settings_text(settings), head + text)
+            yield RandomScript(f"{row.file}:{row.line}", toml_of_settings(settings), head + text)
 
 
 def chosen_scripts(row: CaseRow) -> list[RandomScript]:
@@ -76,7 +76,7 @@ def chosen_scripts(row: CaseRow) -> list[RandomScript]:
     return [*table_scripts(), *random_scripts(int(found[2]))][:: int(found[1])]
 
 
-def recordings(table: Table) -> Iterator[RowCase[RandomScript]]:
+def read_recordings(table: Table) -> Iterator[RowCase[RandomScript]]:
     """A case for each script that a row takes."""
     for row in table.rows:
         for script in chosen_scripts(row):
@@ -84,40 +84,40 @@ def recordings(table: Table) -> Iterator[RowCase[RandomScript]]:
             yield RowCase(name, replace(row, text=script.name), (script,))
 
 
-def recording(script: RandomScript, *options: bytes) -> ProgramCall:
+def record_call(script: RandomScript, *options: bytes) -> ProgramCall:
     """The call that records a script."""
     return ProgramCall(RECORDS, (b"--settings", script.settings.encode(), *options), script.text)
 
 
-def under_settings(script: RandomScript, text: bytes) -> ExpectedScript:
+def script_under_settings(script: RandomScript, text: bytes) -> ExpectedScript:
     """A text to run under the settings of a script."""
     settings = (line.replace(" = ", " ").replace('"', "") for line in script.settings.splitlines())
     commands = "".join(f"set {it}\n" for it in settings)
     return ExpectedScript(CaseRow(script.name, 0, ""), commands, text.removesuffix(b"\n"), "")
 
 
-def verdicts(
+def batch_verdicts(
     scripts: Sequence[ExpectedScript], each_batch: Sequence[list[int]], outputs: Outputs
 ) -> CallSteps[dict[int, str]]:
     """The verdicts of scripts that were run in batches, or by themselves where a batch stopped at a fault."""
     rows: dict[int, str] = {}
     stopped: list[int] = []
     for places, output in zip(each_batch, outputs, strict=True):
-        rows.update(zip(places, verdicts_in(output, len(places))))
+        rows.update(zip(places, verdicts_of_batch(output, len(places))))
         if output is not None and output.status not in REGULAR:
             stopped += places
     if stopped:
-        alone = yield [ProgramCall(PROGRAM, (), input_of([scripts[place]])) for place in stopped]
-        rows.update((place, verdicts_in(output, 1)[0]) for place, output in zip(stopped, alone, strict=True))
+        alone = yield [ProgramCall(PROGRAM, (), batch_input([scripts[place]])) for place in stopped]
+        rows.update((place, verdicts_of_batch(output, 1)[0]) for place, output in zip(stopped, alone, strict=True))
     return rows
 
 
-def without_trace(text: bytes) -> bytes:
+def without_trace_lines(text: bytes) -> bytes:
     """A trace without its lines."""
     return b"".join(line for line in text.splitlines(keepends=True) if not TRACE.match(line))
 
 
-def comments_and_blanks(text: bytes) -> Counter[bytes]:
+def count_comments_and_blanks(text: bytes) -> Counter[bytes]:
     """The comments of a text, and its blank lines, each with how often it stands there."""
     comments = Counter(found["comment"] for found in PIECE.finditer(text) if found["comment"])
     lines = text.removesuffix(b"\n").split(b"\n") if text else []
@@ -125,15 +125,15 @@ def comments_and_blanks(text: bytes) -> Counter[bytes]:
     return comments + blanks
 
 
-def kept_faults(done: DoneRecording) -> Iterator[str]:
+def comment_faults(done: DoneRecording) -> Iterator[str]:
     """What is wrong about the comments and blank lines of a recording: each stays, once."""
-    script = comments_and_blanks(without_trace(done.script.text))
-    kept = comments_and_blanks(done.text)
+    script = count_comments_and_blanks(without_trace_lines(done.script.text))
+    kept = count_comments_and_blanks(done.text)
     if script != kept:
         yield f"without {dict(script - kept)}, and with {dict(kept - script)} besides"
 
 
-def grown_too_large(row: str) -> str:
+def allow_too_large(row: str) -> str:
     """A refusal in place of a row: of a run that stops at a full outbox the recording may be over the limits."""
     return "2 TooLarge" if row.startswith("limit") else row
 
@@ -150,29 +150,29 @@ def refusal_faults(refused: RefusedRecording, row: str) -> Iterator[str]:
         yield f"status {refused.status}: {refused.errors!r}"
     elif bool(below) == reason.startswith("2") or not re.fullmatch(r"(  [ -~]*\n)*", below):
         yield f"refused by {reason!r}, with {below!r} below it"
-    elif row and not row.startswith(("pass", "fail")) and reason not in (row, grown_too_large(row)):
+    elif row and not row.startswith(("pass", "fail")) and reason not in (row, allow_too_large(row)):
         yield f"refused by {reason!r}, where the row is {row!r}"
 
 
 def row_faults(done: DoneRecording, row: str) -> Iterator[str]:
     """What is wrong about the row of a recording: it has to pass, with all of its events."""
-    if row != f"pass {done.events}":
-        yield f"{row}, with {done.events} events"
+    if row != f"pass {done.event_count}":
+        yield f"{row}, with {done.event_count} events"
 
 
-def again_faults(done: DoneRecording, again: ProgramOutput | None, traced: ProgramOutput | None) -> Iterator[str]:
+def rerecord_faults(done: DoneRecording, again: ProgramOutput | None, traced: ProgramOutput | None) -> Iterator[str]:
     """What is wrong about recording a recording."""
     if again != ProgramOutput(done.text, b"", 0):
         yield "another recording of the recording"
     if traced != ProgramOutput(done.trace, b"", 0):
         yield "another trace of the trace"
-    if without_trace(done.trace) != done.text:
+    if without_trace_lines(done.trace) != done.text:
         yield "a trace that isn't the recording"
 
 
-def recorded(scripts: Sequence[RandomScript]) -> CallSteps[list[DoneRecording | RefusedRecording | None]]:
+def record_scripts(scripts: Sequence[RandomScript]) -> CallSteps[list[DoneRecording | RefusedRecording | None]]:
     """The recordings of scripts; none where only a built program can record one."""
-    outputs = yield [recording(it, *options) for it in scripts for options in ((), (b"--trace",))]
+    outputs = yield [record_call(it, *options) for it in scripts for options in ((), (b"--trace",))]
     each: list[DoneRecording | RefusedRecording | None] = []
     for script, plain, traced in zip(scripts, outputs[::2], outputs[1::2], strict=True):
         if plain is None or traced is None:
@@ -184,32 +184,32 @@ def recorded(scripts: Sequence[RandomScript]) -> CallSteps[list[DoneRecording | 
     return each
 
 
-def calls_again(done: DoneRecording) -> tuple[ProgramCall, ProgramCall]:
+def rerecord_calls(done: DoneRecording) -> tuple[ProgramCall, ProgramCall]:
     """The calls that record a recording, with its trace too."""
     again = replace(done.script, text=done.text)
-    return recording(again), recording(replace(again, text=done.trace), b"--trace")
+    return record_call(again), record_call(replace(again, text=done.trace), b"--trace")
 
 
 def check_recordings(scripts: Sequence[RandomScript]) -> CallSteps[list[RowResult]]:
     """Records scripts and their recordings, and runs each recording, or the script if that is refused."""
-    each = yield from recorded(scripts)
+    each = yield from record_scripts(scripts)
     kept = [it for it in each if isinstance(it, DoneRecording)]
     refused = [it for it in each if isinstance(it, RefusedRecording)]
-    calls = [call for it in kept for call in calls_again(it)]
+    calls = [call for it in kept for call in rerecord_calls(it)]
     texts = [*((it.script, it.text) for it in kept), *((it.script, it.script.text) for it in refused)]
-    expected = [under_settings(*it) for it in texts]
-    each_batch = batches(expected)
-    runs = [ProgramCall(PROGRAM, (), input_of([expected[place] for place in places])) for places in each_batch]
+    expected = [script_under_settings(*it) for it in texts]
+    each_batch = batch_places(expected)
+    runs = [ProgramCall(PROGRAM, (), batch_input([expected[place] for place in places])) for places in each_batch]
     outputs = yield [*calls, *runs]
-    rows = yield from verdicts(expected, each_batch, outputs[len(calls) :])
+    rows = yield from batch_verdicts(expected, each_batch, outputs[len(calls) :])
     faults: dict[str, list[str]] = {}
     for at, it in enumerate(kept):
         again, traced = outputs[2 * at : 2 * at + 2]
-        faults[it.script.name] = [*again_faults(it, again, traced), *kept_faults(it), *row_faults(it, rows[at])]
+        faults[it.script.name] = [*rerecord_faults(it, again, traced), *comment_faults(it), *row_faults(it, rows[at])]
     for at, other in enumerate(refused, len(kept)):
         faults[other.script.name] = list(refusal_faults(other, rows[at]))
     lines = ["\n".join(f"{it.name}: {fault}" for fault in faults.get(it.name, [])) for it in scripts]
     return [RowResult(it, is_unanswered=done is None) for it, done in zip(lines, each, strict=True)]
 
 
-RECORDINGS = TableKind(recordings, check_recordings, (RECORDS, PROGRAM))
+RECORDINGS = TableKind(read_recordings, check_recordings, (RECORDS, PROGRAM))

@@ -22,21 +22,21 @@ class AcceptError(Exception):
     """Why a row can't be written with another answer."""
 
 
-def written(line: bytes) -> str:
+def escape_octets(line: bytes) -> str:
     """The octets of a line, as a row writes them."""
     text = "".join(WRITTEN.get(it, chr(it) if 0x20 <= it < 0x7F else f"\\x{it:02x}") for it in line)
     # So that no repetition is read where a backslash stands before this.
     return text.replace("\\\\<", "\\\\\\x3c")
 
 
-def with_verdict(row: CaseRow, verdict: str) -> Lines:
+def rewrite_verdict(row: CaseRow, verdict: str) -> Lines:
     """A row `VERDICT: SCRIPT` or `VERDICT under TERM, ..: SCRIPT` with another verdict."""
     head, _, script = row.text.partition(":")
     _, under, terms = head.partition(" under ")
     return {row.line: [MARKED, f"{verdict}{under}{terms}:{script}"]}
 
 
-def with_explained(rows: Sequence[CaseRow], changed: Mapping[int, str]) -> Lines:
+def rewrite_explained(rows: Sequence[CaseRow], changed: Mapping[int, str]) -> Lines:
     """The rows of a table of explanations; those of some lines have another answer, which stands before them."""
     lines: Lines = {}
     wanted = ""
@@ -66,24 +66,24 @@ class StoryPiece:
     before: list[bytes]
     now: list[bytes] = field(default_factory=list)
 
-    def lines(self) -> list[str]:
+    def rewritten_lines(self) -> list[str]:
         """The line as it stands, and lines for the rest of the output; or other lines in its place."""
         count = len(self.before)
         if self.now[:count] == self.before:
-            return [self.row.text, *self.written(self.now[count:])]
+            return [self.row.text, *self.story_lines(self.now[count:])]
         if self.mark in (">>", "after"):
             raise AcceptError(f"'{self.row.text}' differs now: change what it names")
-        return list(self.written(self.now))
+        return list(self.story_lines(self.now))
 
-    def written(self, lines: Sequence[bytes]) -> Iterator[str]:
+    def story_lines(self, lines: Sequence[bytes]) -> Iterator[str]:
         for line in lines:
             if self.mark.startswith("!"):
-                yield f"!~ {written(line[2:])}" if line.startswith(b"~ ") else f"! {written(line)}"
+                yield f"!~ {escape_octets(line[2:])}" if line.startswith(b"~ ") else f"! {escape_octets(line)}"
             else:
-                yield f"> {written(line)}"
+                yield f"> {escape_octets(line)}"
 
 
-def pieces_of(story: RunStory, marks: Sequence[str]) -> Iterator[StoryPiece]:
+def output_pieces_of(story: RunStory, marks: Sequence[str]) -> Iterator[StoryPiece]:
     """The lines of a story with these marks."""
     for row in story.rows:
         mark = row.text.partition(" ")[0]
@@ -93,7 +93,7 @@ def pieces_of(story: RunStory, marks: Sequence[str]) -> Iterator[StoryPiece]:
             yield StoryPiece(row, mark, (alone.output + alone.errors).split(b"\n")[:-1])
 
 
-def share(pieces: Sequence[StoryPiece], output: Sequence[bytes]) -> list[bytes]:
+def share_output(pieces: Sequence[StoryPiece], output: Sequence[bytes]) -> list[bytes]:
     """Shares the lines of an output among pieces; the result is the lines before the first piece."""
     owners = [piece for piece in pieces for _ in piece.before]
     before = [line for piece in pieces for line in piece.before]
@@ -105,7 +105,7 @@ def share(pieces: Sequence[StoryPiece], output: Sequence[bytes]) -> list[bytes]:
     return first
 
 
-def whole_lines(text: bytes) -> list[bytes]:
+def split_whole_lines(text: bytes) -> list[bytes]:
     """The lines of an output, which ends with a newline."""
     *lines, last = text.split(b"\n")
     if last:
@@ -113,19 +113,19 @@ def whole_lines(text: bytes) -> list[bytes]:
     return lines
 
 
-def with_output(story: RunStory, marks: Sequence[str], output: bytes) -> tuple[Lines, list[str]]:
+def rewrite_output(story: RunStory, marks: Sequence[str], output: bytes) -> tuple[Lines, list[str]]:
     """The lines of a story with these marks, with another output, and those at its end where it has none."""
-    pieces = list(pieces_of(story, marks))
-    first = share(pieces, whole_lines(output))
-    lines = {it.row.line: it.lines() for it in pieces}
-    before = list(StoryPiece(story.rows[-1], marks[0], []).written(first))
+    pieces = list(output_pieces_of(story, marks))
+    first = share_output(pieces, split_whole_lines(output))
+    lines = {it.row.line: it.rewritten_lines() for it in pieces}
+    before = list(StoryPiece(story.rows[-1], marks[0], []).story_lines(first))
     if pieces:
         begin = pieces[0].row.line
         lines[begin] = [*before, *lines[begin]]
     return lines, [] if pieces else before
 
 
-def with_story(story: RunStory, wanted: ProgramOutput, output: ProgramOutput) -> Lines:
+def rewrite_story(story: RunStory, wanted: ProgramOutput, output: ProgramOutput) -> Lines:
     """A story with another output. Lines whose output is the same stay as they are written."""
     if output.status not in STATUSES:
         raise AcceptError("the program came to no end")
@@ -133,7 +133,7 @@ def with_story(story: RunStory, wanted: ProgramOutput, output: ProgramOutput) ->
     more: list[str] = []
     for marks, one, other in ((OUTPUT, wanted.output, output.output), (ERRORS, wanted.errors, output.errors)):
         if one != other:
-            changed, last = with_output(story, marks, other)
+            changed, last = rewrite_output(story, marks, other)
             lines, more = {**lines, **changed}, [*more, *last]
     begin, end = story.rows[0], story.rows[-1]
     lines[end.line] = [*more, f"= {output.status}"]

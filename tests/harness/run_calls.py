@@ -10,7 +10,7 @@ from collections.abc import Mapping, Sequence
 from dataclasses import dataclass
 from pathlib import Path
 
-from harness.batch_calls import fits_the_batch, outputs_in, starts_of
+from harness.batch_calls import fits_the_batch, outputs_in, encode_starts
 from harness.calls import NO_STATUS, Outputs, ProgramCall, ProgramOutput
 from harness.tables import TOP
 
@@ -29,29 +29,29 @@ Commands = Mapping[str, Sequence[str | Path]]
 
 def run_calls(commands: Commands, calls: Sequence[ProgramCall]) -> Outputs:
     """Calls the programs of these commands, each call by itself, and for all other programs their sources."""
-    outputs: Outputs = [output_of(commands[it.program], it) if it.program in commands else None for it in calls]
+    outputs: Outputs = [call_program(commands[it.program], it) if it.program in commands else None for it in calls]
     others = [place for place, call in enumerate(calls) if call.program not in commands]
     if others:
-        for place, output in zip(others, run_sources([calls[place] for place in others])):
+        for place, output in zip(others, call_sources([calls[place] for place in others])):
             outputs[place] = output
     return outputs
 
 
-def output_of(command: Sequence[str | Path], call: ProgramCall) -> ProgramOutput:
+def call_program(command: Sequence[str | Path], call: ProgramCall) -> ProgramOutput:
     """The output of a program for a call; one that takes too long is ended, and has none."""
     command_line = [*map(os.fsencode, command), *call.arguments]
     try:
         if call.counts_read:
-            return output_by_file(command_line, call.given)
+            return call_with_file_input(command_line, call.given)
         if call.files:
-            return output_in_folder(command_line, call)
+            return call_in_folder(command_line, call)
         done = subprocess.run(command_line, input=call.given, capture_output=True, timeout=SECONDS)
     except subprocess.TimeoutExpired:
         return ProgramOutput(b"", b"came to no end", NO_STATUS)
     return ProgramOutput(done.stdout, done.stderr, done.returncode)
 
 
-def output_by_file(command_line: Sequence[bytes], given: bytes) -> ProgramOutput:
+def call_with_file_input(command_line: Sequence[bytes], given: bytes) -> ProgramOutput:
     """The same, and how far a file is read that is the input."""
     with tempfile.TemporaryFile() as file:
         file.write(given)
@@ -60,7 +60,7 @@ def output_by_file(command_line: Sequence[bytes], given: bytes) -> ProgramOutput
         return ProgramOutput(done.stdout, done.stderr, done.returncode, os.lseek(file.fileno(), 0, os.SEEK_CUR))
 
 
-def output_in_folder(command_line: Sequence[bytes], call: ProgramCall) -> ProgramOutput:
+def call_in_folder(command_line: Sequence[bytes], call: ProgramCall) -> ProgramOutput:
     """The same in a folder that has the files of a call."""
     with tempfile.TemporaryDirectory() as folder:
         for name, octets in call.files:
@@ -70,7 +70,7 @@ def output_in_folder(command_line: Sequence[bytes], call: ProgramCall) -> Progra
         return ProgramOutput(done.stdout, done.stderr, done.returncode)
 
 
-def fits_a_case(call: ProgramCall) -> bool:
+def fits_rt_try_case(call: ProgramCall) -> bool:
     """Whether a case of `rt try` can have these arguments, and no files."""
     if call.files:
         return False
@@ -91,7 +91,7 @@ class SourceCalls:
     process: "subprocess.Popen[bytes] | None" = None
     begun: float = 0.0
 
-    def put_calls(self) -> list[str | Path]:
+    def write_calls(self) -> list[str | Path]:
         """Puts the calls into the folder, and gives the command that makes them."""
         cases, answers = self.folder / "cases", self.folder / "answers"
         cases.mkdir(parents=True)
@@ -102,12 +102,12 @@ class SourceCalls:
         seconds = ["--seconds", str(UNPROVED_SECONDS)]
         return [*PYTHON, TOOLS / "run_cases.py", *seconds, self.program, cases, answers]
 
-    def outputs(self) -> dict[int, ProgramOutput]:
+    def read_outputs(self) -> dict[int, ProgramOutput]:
         """The outputs of the calls."""
-        return {place: self.output(place) for place in self.calls}
+        return {place: self.read_output(place) for place in self.calls}
 
     def start(self) -> None:
-        command = self.put_calls()
+        command = self.write_calls()
         with (self.folder / "log").open("wb") as log:
             self.process = subprocess.Popen(command, stdin=subprocess.DEVNULL, stderr=log)
         self.begun = time.monotonic()
@@ -119,18 +119,18 @@ class SourceCalls:
         seconds = time.monotonic() - self.begun
         print(f"{self.program}, without proofs: {len(self.calls)} calls in {seconds:.0f} s", flush=True)
         if self.process.returncode:
-            print(f"FAILED {self.log()}", flush=True)
+            print(f"FAILED {self.read_log()}", flush=True)
         return True
 
-    def end(self) -> None:
+    def terminate_process(self) -> None:
         if self.process is not None and self.process.poll() is None:
             self.process.terminate()
             self.process.wait()
 
-    def log(self) -> str:
+    def read_log(self) -> str:
         return (self.folder / "log").read_text(errors="replace")
 
-    def output(self, place: int) -> ProgramOutput:
+    def read_output(self, place: int) -> ProgramOutput:
         """The output of a call."""
         file = self.folder / "answers" / f"{place}"
         with contextlib.suppress(FileNotFoundError):
@@ -139,44 +139,46 @@ class SourceCalls:
             if not status.isdigit():
                 return ProgramOutput(b"", errors + status.encode(), NO_STATUS)
             return ProgramOutput(file.with_suffix(".output").read_bytes(), errors, int(status))
-        return ProgramOutput(b"", self.log().partition("\n")[0].encode(), NO_STATUS)
+        return ProgramOutput(b"", self.read_log().partition("\n")[0].encode(), NO_STATUS)
 
 
 class BatchCalls(SourceCalls):
     """Calls of both programs, which one process makes in memory: up to one that ends it."""
 
-    def put_calls(self) -> list[str | Path]:
+    def write_calls(self) -> list[str | Path]:
         starts, answers = self.folder / "starts", self.folder / "answers"
         starts.mkdir(parents=True)
         answers.mkdir()
-        (self.folder / "calls").write_bytes(starts_of(list(self.calls.values())))
+        (self.folder / "calls").write_bytes(encode_starts(list(self.calls.values())))
         (starts / "all").write_text(f"{self.folder / 'calls'}\n{self.folder / 'outputs'}\n")
         return [*PYTHON, TOOLS / "run_batch.py", "--seconds", str(UNPROVED_SECONDS), starts, answers]
 
-    def outputs(self) -> dict[int, ProgramOutput]:
+    def read_outputs(self) -> dict[int, ProgramOutput]:
         with contextlib.suppress(FileNotFoundError):
             return dict(zip(self.calls, outputs_in((self.folder / "outputs").read_bytes())))
         return {}
 
 
-def run_sources(calls: Sequence[ProgramCall]) -> Outputs:
+def call_sources(calls: Sequence[ProgramCall]) -> Outputs:
     """Calls the sources: after one build what can be run in memory, and by a case each the other calls."""
     batch = {place: call for place, call in enumerate(calls) if fits_the_batch(call)}
-    possible = {place: call for place, call in enumerate(calls) if fits_a_case(call)}
+    possible = {place: call for place, call in enumerate(calls) if fits_rt_try_case(call)}
     cases = {place: call for place, call in possible.items() if place not in batch}
     with tempfile.TemporaryDirectory() as name:
         folder = Path(name)
         together = BatchCalls("both programs", batch, folder / "both")
-        groups = [*[together] * bool(batch), *by_program(cases, folder / "first")]
+        groups = [*[together] * bool(batch), *group_by_program(cases, folder / "first")]
         run_groups(groups)
-        outputs = {place: it for group in groups for place, it in group.outputs().items()}
-        rest = by_program({place: call for place, call in possible.items() if place not in outputs}, folder / "again")
+        outputs = {place: it for group in groups for place, it in group.read_outputs().items()}
+        rest = group_by_program(
+            {place: call for place, call in possible.items() if place not in outputs}, folder / "again"
+        )
         run_groups(rest)
-        outputs |= {place: it for group in rest for place, it in group.outputs().items()}
+        outputs |= {place: it for group in rest for place, it in group.read_outputs().items()}
     return [outputs.get(place) for place in range(len(calls))]
 
 
-def by_program(calls: Mapping[int, ProgramCall], folder: Path) -> list[SourceCalls]:
+def group_by_program(calls: Mapping[int, ProgramCall], folder: Path) -> list[SourceCalls]:
     """The calls of each program; those that take longest come first."""
     groups: dict[str, SourceCalls] = {}
     for place, call in calls.items():
@@ -197,4 +199,4 @@ def run_groups(groups: Sequence[SourceCalls]) -> None:
             time.sleep(0.1)
     finally:
         for group in running:
-            group.end()
+            group.terminate_process()

@@ -8,7 +8,7 @@ from dataclasses import dataclass, field
 from pathlib import Path
 from typing import Any
 
-from harness.calls import CallSteps, one_step_later, run_in_step, run_steps
+from harness.calls import CallSteps, delay_one_step, run_tests_in_step, run_test_alone
 from harness.compare import RowCase, RowResult
 from harness.kinds import CaseGroup
 from harness.recordings import RECORDS
@@ -31,7 +31,7 @@ class Programs:
     launched: Commands = field(default_factory=dict)
     unbuilt: tuple[str, ...] = ()
 
-    def commands(self, group: CaseGroup) -> Commands:
+    def commands_for(self, group: CaseGroup) -> Commands:
         return self.launched if group.kind is STORIES else self.direct
 
     def are_built(self, groups: Sequence[CaseGroup]) -> bool:
@@ -58,12 +58,12 @@ def proved_programs() -> Programs:
     return Programs(direct, {**direct, **by_name}, tuple(unbuilt))
 
 
-def heed_signals() -> None:
+def interrupt_at_sigterm() -> None:
     """Lets SIGTERM end what was started, as Ctrl-C does."""
     signal.signal(signal.SIGTERM, signal.default_int_handler)
 
 
-def guarded(group: CaseGroup, cases: Sequence[RowCase[Any]]) -> CallSteps[list[RowResult]]:
+def check_cases_guarded(group: CaseGroup, cases: Sequence[RowCase[Any]]) -> CallSteps[list[RowResult]]:
     """Checks some cases of a group; each fails where the output of a program can't be read."""
     try:
         return (yield from group.kind.check_cases(cases))
@@ -71,17 +71,21 @@ def guarded(group: CaseGroup, cases: Sequence[RowCase[Any]]) -> CallSteps[list[R
         return [RowResult(traceback.format_exc())] * len(cases)
 
 
-def check(selection: Selection, programs: Programs) -> list[RowResult]:
+def check_selection(selection: Selection, programs: Programs) -> list[RowResult]:
     """Checks some cases of a group."""
-    return run_steps(guarded(*selection), lambda calls: run_calls(programs.commands(selection[0]), calls))
+    return run_test_alone(
+        check_cases_guarded(*selection), lambda calls: run_calls(programs.commands_for(selection[0]), calls)
+    )
 
 
-def check_in_step(selections: Sequence[Selection], programs: Programs) -> Iterator[list[RowResult]]:
+def check_selections_in_step(selections: Sequence[Selection], programs: Programs) -> Iterator[list[RowResult]]:
     """Checks several groups in step, so that the sources of each program are built once a step."""
     # Recordings are run by the other program in the second step, so its own cases wait for that step.
     has_recordings = any(set(group.programs) == {RECORDS, PROGRAM} for group, _ in selections)
     tests = [
-        one_step_later(guarded(*it)) if has_recordings and it[0].programs == (PROGRAM,) else guarded(*it)
+        delay_one_step(check_cases_guarded(*it))
+        if has_recordings and it[0].programs == (PROGRAM,)
+        else check_cases_guarded(*it)
         for it in selections
     ]
-    return run_in_step(tests, lambda calls: run_calls(programs.direct, calls))
+    return run_tests_in_step(tests, lambda calls: run_calls(programs.direct, calls))

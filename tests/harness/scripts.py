@@ -3,36 +3,36 @@
 from collections.abc import Iterator
 from dataclasses import dataclass, replace
 
-from harness.compare import RowCase, TableKind, ExpectedScript, case_of, script_answers, check_scripts, verdict_of
-from harness.tables import CaseRow, Table, RowError, octets, parted
+from harness.compare import RowCase, TableKind, ExpectedScript, read_case, script_answers, check_scripts, check_verdict
+from harness.tables import CaseRow, Table, RowError, parse_octets, split_at_mark
 
 PLAIN = frozenset(b"\t\r") | frozenset(range(0x20, 0x7F))
 
 
-def terms_of(terms: str) -> tuple[list[str], list[str]]:
+def split_terms(terms: str) -> tuple[list[str], list[str]]:
     """The settings, as `KEY VALUE`, and the header options of `TERM, ..`."""
     each = [term for term in terms.split(", ") if term]
     return [it for it in each if not it.startswith("--")], [it for it in each if it.startswith("--")]
 
 
-def script_of(table: Table, row: CaseRow) -> tuple[str, str, bytes]:
+def parse_script_row(table: Table, row: CaseRow) -> tuple[str, str, bytes]:
     """The verdict, the terms and the octets of a row `VERDICT: SCRIPT` or `VERDICT under TERM, ..: SCRIPT`."""
-    head, text = parted(row.text, ":", "a row has a colon after its verdict")
+    head, text = split_at_mark(row.text, ":", "a row has a colon after its verdict")
     verdict, _, terms = head.partition(" under ")
-    return verdict_of(verdict), terms, table.before.given + octets(text.removeprefix(" "))
+    return check_verdict(verdict), terms, table.before.given + parse_octets(text.removeprefix(" "))
 
 
-def script_check(table: Table, row: CaseRow) -> Iterator[ExpectedScript]:
-    verdict, terms, text = script_of(table, row)
-    settings, options = terms_of(terms)
+def read_script_check(table: Table, row: CaseRow) -> Iterator[ExpectedScript]:
+    verdict, terms, text = parse_script_row(table, row)
+    settings, options = split_terms(terms)
     header = "".join(f"{option} " for option in options).encode()
     yield ExpectedScript(row, "".join(f"set {it}\n" for it in settings), header + text, verdict)
 
 
-def scripts(table: Table) -> Iterator[RowCase[ExpectedScript]]:
+def read_scripts(table: Table) -> Iterator[RowCase[ExpectedScript]]:
     """A script a row."""
     for row in table.rows:
-        yield case_of(row, lambda: script_check(table, row))
+        yield read_case(row, lambda: read_script_check(table, row))
 
 
 @dataclass(frozen=True)
@@ -47,7 +47,7 @@ class OpenOctet:
     excepted: str = ""
     octets: bytes = b""
 
-    def script(self, octet: int) -> ExpectedScript:
+    def script_with(self, octet: int) -> ExpectedScript:
         """The script with this octet."""
         if octet in self.octets:
             wanted = self.excepted
@@ -57,18 +57,18 @@ class OpenOctet:
         return ExpectedScript(replace(self.row, part=f", at {octet}"), "", text, wanted)
 
 
-def open_octet_of(lines: list[CaseRow]) -> OpenOctet:
+def read_open_octet(lines: list[CaseRow]) -> OpenOctet:
     """The place of a line `= VERDICT: TEXT`, in which an `@` stands for the octet, and of those below it."""
-    verdict, text = parted(lines[0].text[2:], ": ", "a place has a verdict and a text")
-    front, back = parted(text, "@", "the text of a place has an @")
-    place = OpenOctet(lines[0], octets(front), octets(back), verdict_of(verdict), verdict)
+    verdict, text = split_at_mark(lines[0].text[2:], ": ", "a place has a verdict and a text")
+    front, back = split_at_mark(text, "@", "the text of a place has an @")
+    place = OpenOctet(lines[0], parse_octets(front), parse_octets(back), check_verdict(verdict), verdict)
     for row in lines[1:]:
         mark, _, rest = row.text.partition(" ")
         if mark == "-":
-            verdict, named = parted(rest, ": ", "an exception has a verdict and octets")
-            place = replace(place, excepted=verdict_of(verdict), octets=octets(named))
+            verdict, named = split_at_mark(rest, ": ", "an exception has a verdict and octets")
+            place = replace(place, excepted=check_verdict(verdict), octets=parse_octets(named))
         elif mark == "*":
-            place = replace(place, strange=verdict_of(rest))
+            place = replace(place, strange=check_verdict(rest))
         else:
             raise RowError("a line of a place begins with = and then - or *")
     return place
@@ -77,11 +77,11 @@ def open_octet_of(lines: list[CaseRow]) -> OpenOctet:
 def octet_checks(lines: list[CaseRow]) -> Iterator[ExpectedScript]:
     if not lines[0].text.startswith("= "):
         raise RowError("a line of a place begins with = and then - or *")
-    place = open_octet_of(lines)
-    return (place.script(octet) for octet in range(256) if octet != ord("\n"))
+    place = read_open_octet(lines)
+    return (place.script_with(octet) for octet in range(256) if octet != ord("\n"))
 
 
-def places(table: Table) -> Iterator[RowCase[ExpectedScript]]:
+def read_open_octets(table: Table) -> Iterator[RowCase[ExpectedScript]]:
     """Each octet but the newline at a place. The verdict is another with the octets of `- VERDICT: OCTETS`, and with
     those that are neither blanks nor printable where there is a line `* VERDICT`."""
     groups: list[list[CaseRow]] = []
@@ -90,8 +90,8 @@ def places(table: Table) -> Iterator[RowCase[ExpectedScript]]:
             groups.append([])
         groups[-1].append(row)
     for lines in groups:
-        yield case_of(lines[0], lambda: octet_checks(lines))
+        yield read_case(lines[0], lambda: octet_checks(lines))
 
 
-SCRIPTS = TableKind(scripts, check_scripts, answer=script_answers)
-PLACES = TableKind(places, check_scripts, answer=script_answers)
+SCRIPTS = TableKind(read_scripts, check_scripts, answer=script_answers)
+PLACES = TableKind(read_open_octets, check_scripts, answer=script_answers)

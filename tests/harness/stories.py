@@ -9,7 +9,7 @@ from dataclasses import dataclass, field
 from pathlib import Path
 
 from harness.calls import ProgramOutput
-from harness.compare import RowCase, TableKind, ProgramRun, add_command, run_answers, check_runs
+from harness.compare import RowCase, TableKind, ProgramRun, add_script_command, run_answers, check_runs
 from harness.tables import (
     MARK,
     TOP,
@@ -17,11 +17,11 @@ from harness.tables import (
     RowError,
     Table,
     CaseRow,
-    lines_of,
-    octets,
-    parted,
+    parse_lines,
+    parse_octets,
+    split_at_mark,
     place_in_tree,
-    reading,
+    add_row_to_errors,
 )
 
 
@@ -52,19 +52,19 @@ class RunStory:
         mark, _, rest = row.text.partition(" ")
         match mark:
             case "$":
-                self.arguments.append(octets(rest))
+                self.arguments.append(parse_octets(rest))
             case "*":
                 self.workers = rest.split()
             case "after":
-                self.put(self.opening(rest))
+                self.add_opening(self.find_opening(rest))
             case "<" | "<#" | "<<" | "~" | "+":
-                self.given += self.given_of(mark, rest)
+                self.given += self.input_of_line(mark, rest)
             case ">" | ">#":
-                self.output += lines_of(rest, mark == ">#")
+                self.output += parse_lines(rest, mark == ">#")
             case ">>":
-                self.output += lines_in(rest)
+                self.output += read_file_or_scripts(rest)
             case "!" | "!~":
-                self.errors += (b"~ " if mark == "!~" else b"") + lines_of(rest, False)
+                self.errors += (b"~ " if mark == "!~" else b"") + parse_lines(rest, False)
                 self.is_short = self.is_short or mark == "!~"
             case "=" if rest in ("0", "1", "2"):
                 self.status, self.is_whole = int(rest), True
@@ -73,28 +73,28 @@ class RunStory:
             case _:
                 raise RowError("a line of a story begins with $ < <# << ~ + > ># >> ! !~ * after or =")
 
-    def opening(self, name: str) -> Opening:
+    def find_opening(self, name: str) -> Opening:
         if name not in self.table.openings:
             raise RowError("there is no such opening")
         return self.table.openings[name]
 
-    def put(self, opening: Opening) -> None:
+    def add_opening(self, opening: Opening) -> None:
         self.given += opening.given
         self.output += opening.output
 
-    def given_of(self, mark: str, rest: str) -> bytes:
+    def input_of_line(self, mark: str, rest: str) -> bytes:
         """The octets of the input that a line writes."""
         if mark == "~":
-            return octets(rest)
+            return parse_octets(rest)
         if mark == "<<":
-            return lines_in(rest)
+            return read_file_or_scripts(rest)
         if mark == "+":
-            head, text = parted(rest, ": ", "a script has a name and a colon before it")
+            head, text = split_at_mark(rest, ": ", "a script has a name and a colon before it")
             name, _, opening = head.partition(" after ")
-            return add_command(name, self.opening(opening).given + octets(text))
-        return lines_of(rest, mark == "<#")
+            return add_script_command(name, self.find_opening(opening).given + parse_octets(text))
+        return parse_lines(rest, mark == "<#")
 
-    def runs(self, row: CaseRow) -> Iterator[tuple[str, ProgramRun]]:
+    def named_runs(self, row: CaseRow) -> Iterator[tuple[str, ProgramRun]]:
         """The run, and those with workers, each with its name."""
         wanted = ProgramOutput(self.output, self.errors, self.status)
         for name, more in [("", ()), *((f"-{it}", ("--workers", it)) for it in self.workers)]:
@@ -103,7 +103,7 @@ class RunStory:
             yield slug(self.title) + name, run
 
 
-def lines_in(path: str) -> bytes:
+def read_file_or_scripts(path: str) -> bytes:
     """The lines of a file of the tree, or of the commands that add the scripts of a folder."""
     whole = TOP / path
     if not whole.exists():
@@ -114,7 +114,7 @@ def lines_in(path: str) -> bytes:
     return whole.read_bytes().removesuffix(b"\n") + b"\n"
 
 
-def stories_in(table: Table) -> Iterator[RunStory]:
+def read_run_stories(table: Table) -> Iterator[RunStory]:
     """The stories of a table; a comment before the first line of one is its title."""
     story = RunStory(table)
     for row in table.lines:
@@ -123,7 +123,7 @@ def stories_in(table: Table) -> Iterator[RunStory]:
                 story.title = row.text.removeprefix("#").strip()
             continue
         story.first = story.first or row
-        with reading(row):
+        with add_row_to_errors(row):
             story.read_row(row)
         if story.is_whole:
             yield story
@@ -132,25 +132,25 @@ def stories_in(table: Table) -> Iterator[RunStory]:
         raise RowError(f"{story.first}: the last story has no status")
 
 
-def stories(table: Table) -> Iterator[RowCase[ProgramRun]]:
+def read_stories(table: Table) -> Iterator[RowCase[ProgramRun]]:
     """Runs of the program, written line by line."""
     names: Counter[str] = Counter()
-    for story in stories_in(table):
+    for story in read_run_stories(table):
         assert story.first is not None
         row = CaseRow(story.first.file, story.first.line, story.title)
-        for name, run in story.runs(row):
+        for name, run in story.named_runs(row):
             names[name] += 1
             more = f"-{names[name]}" if names[name] > 1 else ""
             yield RowCase(f"{name}{more}", row, (run,))
 
 
-def titled_stories(table: Table) -> Iterator[RowCase[ProgramRun]]:
+def read_titled_stories(table: Table) -> Iterator[RowCase[ProgramRun]]:
     """Each story of the files that are rows as a run, so that one that hangs has its name."""
     for row in table.rows:
-        yield from stories_of(TOP / row.text, table.program)
+        yield from stories_of_file(TOP / row.text, table.program)
 
 
-def stories_of(file: Path, program: str) -> Iterator[RowCase[ProgramRun]]:
+def stories_of_file(file: Path, program: str) -> Iterator[RowCase[ProgramRun]]:
     """The stories of a file, each with the texts up to its end, and its rows, none of which is to differ."""
     texts: list[bytes] = []
     line = 1
@@ -167,5 +167,5 @@ def stories_of(file: Path, program: str) -> Iterator[RowCase[ProgramRun]]:
         line += story.count(b"\n")
 
 
-STORIES = TableKind(stories, check_runs, answer=run_answers)
-TITLED_STORIES = TableKind(titled_stories, check_runs)
+STORIES = TableKind(read_stories, check_runs, answer=run_answers)
+TITLED_STORIES = TableKind(read_titled_stories, check_runs)

@@ -25,7 +25,7 @@ class RowError(Exception):
 
 
 @contextmanager
-def reading(row: "CaseRow") -> Iterator[None]:
+def add_row_to_errors(row: "CaseRow") -> Iterator[None]:
     """Adds to an error the row that can't be read."""
     try:
         yield
@@ -92,7 +92,7 @@ def place_in_tree(file: Path) -> str:
     return str(file.relative_to(TOP) if file.is_relative_to(TOP) else file)
 
 
-def octets(text: str) -> bytes:
+def parse_octets(text: str) -> bytes:
     """The octets that a row writes."""
 
     def octet(found: re.Match[bytes]) -> bytes:
@@ -105,18 +105,18 @@ def octets(text: str) -> bytes:
     return re.sub(rb"\\(x[0-9a-f]{2}|[nrt\\]|)", octet, whole.encode())
 
 
-def lines_of(rest: str, is_many: bool) -> bytes:
+def parse_lines(rest: str, is_many: bool) -> bytes:
     """A line of a text, or the lines of `FIRST LAST TEXT`, one for each of these numbers, which stands for each `#`."""
     if not is_many:
-        return octets(rest) + b"\n"
+        return parse_octets(rest) + b"\n"
     found = re.fullmatch(r"(\d+) (\d+) (.*)", rest)
     if not found:
         raise RowError("such a line has two numbers and a text")
     numbers = range(int(found[1]), int(found[2]) + 1)
-    return b"".join(octets(found[3].replace("#", str(number))) + b"\n" for number in numbers)
+    return b"".join(parse_octets(found[3].replace("#", str(number))) + b"\n" for number in numbers)
 
 
-def parted(text: str, mark: str, why: str) -> tuple[str, str]:
+def split_at_mark(text: str, mark: str, why: str) -> tuple[str, str]:
     """What stands before the first mark and after it."""
     front, found, back = text.partition(mark)
     if not found:
@@ -124,7 +124,7 @@ def parted(text: str, mark: str, why: str) -> tuple[str, str]:
     return front, back
 
 
-def heading_of(row: CaseRow) -> Table:
+def parse_heading(row: CaseRow) -> Table:
     """The table of a heading `[NAME] KIND`, perhaps with `of PROGRAM` and `after OPENING`, without its lines."""
     found = HEADING.fullmatch(row.text)
     if not found:
@@ -136,14 +136,14 @@ def heading_of(row: CaseRow) -> Table:
     return Table(row, found[1], found[2], found[3] or PROGRAM, found[4] or "")
 
 
-def tables_of(file: Path) -> list[Table]:
+def parse_tables(file: Path) -> list[Table]:
     """The tables of a file, as they are written."""
     tables: list[Table] = []
     for number, line in enumerate(file.read_bytes().decode().split("\n"), 1):
         row = CaseRow(place_in_tree(file), number, line)
-        with reading(row):
+        with add_row_to_errors(row):
             if line.startswith("["):
-                tables.append(heading_of(row))
+                tables.append(parse_heading(row))
             elif line and tables:
                 tables[-1].lines.append(row)
             elif line and (not line.startswith("#") or line.startswith(MARK)):
@@ -153,22 +153,22 @@ def tables_of(file: Path) -> list[Table]:
     return tables
 
 
-def opening_of(table: Table) -> Opening:
+def read_opening(table: Table) -> Opening:
     """What an opening has: the lines after `<` and `>`, and octets without a newline after `~`."""
     given, output = table.before.given, table.before.output
     for row in table.rows:
         mark, _, rest = row.text.partition(" ")
-        with reading(row):
+        with add_row_to_errors(row):
             if mark == ">":
-                output += lines_of(rest, False)
+                output += parse_lines(rest, False)
             elif mark in ("<", "~"):
-                given += octets(rest) + (b"\n" if mark == "<" else b"")
+                given += parse_octets(rest) + (b"\n" if mark == "<" else b"")
             else:
                 raise RowError("a line of an opening begins with <, ~ or >")
     return Opening(given, output)
 
 
-def opened(table: Table, openings: Mapping[str, Opening]) -> Table:
+def with_openings(table: Table, openings: Mapping[str, Opening]) -> Table:
     """A table with the openings before it, and with the one that it names."""
     if table.opening not in openings:
         raise RowError("there is no such opening")
@@ -179,28 +179,28 @@ def opened(table: Table, openings: Mapping[str, Opening]) -> Table:
     return replace(table, before=openings[table.opening], openings=openings)
 
 
-def opened_tables(file: Path, known: Mapping[str, Opening]) -> Iterator[Table]:
+def tables_with_openings(file: Path, known: Mapping[str, Opening]) -> Iterator[Table]:
     """The tables of a file, each with the openings that are known there."""
     openings = dict(known)
-    for table in tables_of(file):
-        with reading(table.heading):
-            whole = opened(table, openings)
+    for table in parse_tables(file):
+        with add_row_to_errors(table.heading):
+            whole = with_openings(table, openings)
         yield whole
         if table.kind == "opening":
-            openings = {**openings, table.name: opening_of(whole)}
+            openings = {**openings, table.name: read_opening(whole)}
 
 
 @cache
 def shared_openings() -> Mapping[str, Opening]:
     """The openings that each file may name."""
     none = {"": Opening()}
-    return {**none, **{it.name: opening_of(it) for it in opened_tables(OPENINGS, none)}}
+    return {**none, **{it.name: read_opening(it) for it in tables_with_openings(OPENINGS, none)}}
 
 
 def read_tables(file: Path) -> Iterator[Table]:
     """The tables of a file but openings."""
     known = {"": Opening()} if file == OPENINGS else shared_openings()
-    return (table for table in opened_tables(file, known) if table.kind != "opening")
+    return (table for table in tables_with_openings(file, known) if table.kind != "opening")
 
 
 def case_files() -> list[Path]:

@@ -12,22 +12,22 @@ from pathlib import Path
 sys.path.insert(0, str(Path(__file__).resolve().parents[1]))
 
 from harness.compare import RowResult  # noqa: E402
-from harness.kinds import CaseGroup, error_group, groups_of  # noqa: E402
-from harness.run_rows import Programs, Selection, check, check_in_step  # noqa: E402
-from harness.run_rows import heed_signals, programs_in, proved_programs  # noqa: E402
+from harness.kinds import CaseGroup, error_group, read_groups  # noqa: E402
+from harness.run_rows import Programs, Selection, check_selection, check_selections_in_step  # noqa: E402
+from harness.run_rows import interrupt_at_sigterm, programs_in, proved_programs  # noqa: E402
 from harness.tables import DrawOptions, CaseRow, place_in_tree  # noqa: E402
 
 
-def files_in(path: Path) -> list[Path]:
+def row_files_in(path: Path) -> list[Path]:
     """The files of a path: those of rows that a folder has, or the path itself."""
     return sorted(path.rglob("*.cases")) if path.is_dir() else [path]
 
 
-def groups_in(path: Path, draw_options: DrawOptions) -> Iterator[CaseGroup]:
+def read_groups_in(path: Path, draw_options: DrawOptions) -> Iterator[CaseGroup]:
     """The tables of a path, which is a folder, a file of rows, or a file of tests that need pytest."""
-    for file in files_in(path):
+    for file in row_files_in(path):
         if file.suffix == ".cases":
-            yield from groups_of(file, draw_options)
+            yield from read_groups(file, draw_options)
         else:
             row = CaseRow(place_in_tree(file.absolute()), 1, "")
             yield error_group(file.name, row, "python3-pytest is missing")
@@ -39,14 +39,14 @@ def chosen_programs(options: argparse.Namespace) -> Programs:
     return Programs() if options.unproved else proved_programs()
 
 
-def results_of(selections: Sequence[Selection], programs: Programs) -> Iterator[list[RowResult]]:
+def check_groups(selections: Sequence[Selection], programs: Programs) -> Iterator[list[RowResult]]:
     """The results of each group."""
     if programs.are_built([group for group, _ in selections]):
-        return (check(it, programs) for it in selections)
-    return check_in_step(selections, programs)
+        return (check_selection(it, programs) for it in selections)
+    return check_selections_in_step(selections, programs)
 
 
-def parser_of(description: str | None) -> argparse.ArgumentParser:
+def make_parser(description: str | None) -> argparse.ArgumentParser:
     """The parser of the options that choose programs, and of paths."""
     parser = argparse.ArgumentParser(description=description)
     parser.add_argument("--proved", action="store_true", help="the proved programs alone")
@@ -56,7 +56,7 @@ def parser_of(description: str | None) -> argparse.ArgumentParser:
     return parser
 
 
-def at_least(least: int) -> Callable[[str], int]:
+def number_at_least(least: int) -> Callable[[str], int]:
     """A function that reads a number which isn't below this one."""
 
     def number(text: str) -> int:
@@ -69,26 +69,28 @@ def at_least(least: int) -> Callable[[str], int]:
 
 def add_draw_options(parser: argparse.ArgumentParser) -> None:
     """Adds the options that choose what is drawn."""
-    parser.add_argument("--seed", metavar="N", type=at_least(0), help="draws random rows and recoveries from this seed")
     parser.add_argument(
-        "--rows", metavar="N", type=at_least(1), help="draws so many rows at least, or recoveries, a table"
+        "--seed", metavar="N", type=number_at_least(0), help="draws random rows and recoveries from this seed"
+    )
+    parser.add_argument(
+        "--rows", metavar="N", type=number_at_least(1), help="draws so many rows at least, or recoveries, a table"
     )
 
 
 def main(arguments: Sequence[str]) -> int:
-    parser = parser_of(__doc__)
+    parser = make_parser(__doc__)
     add_draw_options(parser)
     options = parser.parse_args(arguments)
-    heed_signals()
+    interrupt_at_sigterm()
     programs = chosen_programs(options)
     if programs.unbuilt and options.proved:
         print(*(f"FAILED {it}" for it in programs.unbuilt), f"0 passed, {len(programs.unbuilt)} failed", sep="\n")
         return 1
     draw_options = DrawOptions(options.seed, options.rows)
-    groups = [group for path in options.paths for group in groups_in(path, draw_options)]
+    groups = [group for path in options.paths for group in read_groups_in(path, draw_options)]
     selections: list[Selection] = [(group, group.cases) for group in groups]
     passed = failed = unanswered = 0
-    for group, results in zip(groups, results_of(selections, programs)):
+    for group, results in zip(groups, check_groups(selections, programs)):
         for case, it in zip(group.cases, results):
             passed, failed = passed + (it == RowResult()), failed + bool(it.fault)
             if it.fault:

@@ -5,7 +5,7 @@ from dataclasses import dataclass, field
 from pathlib import Path
 from typing import Any
 
-from kernel.settings import tables_of
+from kernel.settings import settings_tables_for
 from model.rules import Rules
 from model.sender import Segment, Sender, Start
 from model.spans import Span
@@ -134,7 +134,7 @@ def _blocks(packet: Packet) -> Iterator[Span]:
 def fault_of(path: Path) -> str:
     """The first line of a script that isn't met with what is wrong about it, if one isn't."""
     settings: dict[str, Any] = {}
-    for table in reversed(list(tables_of(path))):
+    for table in reversed(list(settings_tables_for(path))):
         settings |= table
     player = Player(settings)
     for item in _events(read_items(path.read_text()).items):

@@ -27,10 +27,10 @@ class KernelAnswer:
     result: int
     error: str = ""
 
-    def agrees(self, call: Call) -> bool:
+    def is_expected_by(self, call: Call) -> bool:
         """Whether it is what the script expects.
 
-        >>> KernelAnswer(-1, "EPIPE").agrees(Call("write", ("4", "...", "1"), -1, "EINVAL"))
+        >>> KernelAnswer(-1, "EPIPE").is_expected_by(Call("write", ("4", "...", "1"), -1, "EINVAL"))
         False
         """
         return self.result == call.result and (call.error in (None, self.error) or self.result >= 0)
@@ -46,7 +46,7 @@ class Sockets:
     nodelay: bool
     open: dict[int, socket.socket] = field(default_factory=dict)
 
-    def answer(self, call: Call) -> KernelAnswer:
+    def make_call(self, call: Call) -> KernelAnswer:
         """Makes a call, and gives the kernel's answer."""
         if call.name not in CALLS:
             raise UnsupportedScript(0, f"{call.name} isn't run")
@@ -60,7 +60,7 @@ class Sockets:
         for it in self.open.values():
             it.close()
 
-    def named(self, descriptor: str) -> socket.socket:
+    def socket_of(self, descriptor: str) -> socket.socket:
         """The socket of a descriptor, or EBADF."""
         if int(descriptor) not in self.open:
             raise OSError(errno.EBADF, "")
@@ -74,18 +74,18 @@ def make_socket(sockets: Sockets, _: tuple[str, ...]) -> int:
 
 
 def bind(sockets: Sockets, arguments: tuple[str, ...]) -> int:
-    sockets.named(arguments[0]).bind((LOCAL, PORT))
+    sockets.socket_of(arguments[0]).bind((LOCAL, PORT))
     return 0
 
 
 def listen(sockets: Sockets, arguments: tuple[str, ...]) -> int:
     backlog = int(arguments[1]) if arguments[1].isdigit() else 1
-    sockets.named(arguments[0]).listen(backlog)
+    sockets.socket_of(arguments[0]).listen(backlog)
     return 0
 
 
 def accept(sockets: Sockets, arguments: tuple[str, ...]) -> int:
-    connection, _ = sockets.named(arguments[0]).accept()
+    connection, _ = sockets.socket_of(arguments[0]).accept()
     connection.setblocking(False)
     if sockets.nodelay:
         connection.setsockopt(socket.SOL_TCP, socket.TCP_NODELAY, 1)
@@ -93,8 +93,8 @@ def accept(sockets: Sockets, arguments: tuple[str, ...]) -> int:
     return CONNECTION
 
 
-def set_option(sockets: Sockets, arguments: tuple[str, ...]) -> int:
-    target = sockets.named(arguments[0])
+def set_socket_option(sockets: Sockets, arguments: tuple[str, ...]) -> int:
+    target = sockets.socket_of(arguments[0])
     if (arguments[1], arguments[2]) not in OPTIONS:
         raise UnsupportedScript(0, f"{arguments[2]} isn't run")
     level, name = OPTIONS[arguments[1], arguments[2]]
@@ -103,17 +103,17 @@ def set_option(sockets: Sockets, arguments: tuple[str, ...]) -> int:
     return 0
 
 
-def set_flags(sockets: Sockets, arguments: tuple[str, ...]) -> int:
-    sockets.named(arguments[0])
+def accept_fcntl(sockets: Sockets, arguments: tuple[str, ...]) -> int:
+    sockets.socket_of(arguments[0])
     return 0
 
 
 def write(sockets: Sockets, arguments: tuple[str, ...]) -> int:
-    return os.write(sockets.named(arguments[0]).fileno(), b"x" * int(arguments[2]))
+    return os.write(sockets.socket_of(arguments[0]).fileno(), b"x" * int(arguments[2]))
 
 
 def close(sockets: Sockets, arguments: tuple[str, ...]) -> int:
-    sockets.named(arguments[0]).close()
+    sockets.socket_of(arguments[0]).close()
     del sockets.open[int(arguments[0])]
     return 0
 
@@ -123,8 +123,8 @@ CALLS: dict[str, Callable[[Sockets, tuple[str, ...]], int]] = {
     "bind": bind,
     "listen": listen,
     "accept": accept,
-    "setsockopt": set_option,
-    "fcntl": set_flags,
+    "setsockopt": set_socket_option,
+    "fcntl": accept_fcntl,
     "write": write,
     "close": close,
 }

@@ -19,7 +19,7 @@ class TimeSpan:
     first: float
     last: float
 
-    def holds(self, at: float) -> bool:
+    def contains(self, at: float) -> bool:
         return self.first <= at <= self.last
 
 
@@ -41,23 +41,23 @@ def tolerance_of(awaited: float) -> float:
     return max(LEAST_TOLERANCE, awaited / 8)
 
 
-def is_expected(expected: Packet, seen: SeenPacket) -> bool:
+def is_expected_packet(expected: Packet, seen: SeenPacket) -> bool:
     """Whether a packet is the expected one, so that the run can go on where other fields differ."""
     kinds = frozenset("SFR")
     same_numbers = (expected.start, expected.length) == (seen.start, seen.length)
     return same_numbers and kinds & set(expected.flags) == kinds & seen.flags
 
 
-def differing(expected: Packet, seen: SeenPacket, span: TimeSpan | None, ignored: Set[str]) -> list[str]:
+def differing_fields(expected: Packet, seen: SeenPacket, span: TimeSpan | None, ignored: Set[str]) -> list[str]:
     """The fields in which a packet differs, in the order in which the program compares; `push` stands for the flag P.
 
     >>> seen = SeenPacket(0.0, frozenset("P."), 1, 1000, 1, 502, ())
-    >>> differing(Packet(False, ".", 1, 1001, 1, 257), seen, None, {"win"})
+    >>> differing_fields(Packet(False, ".", 1, 1001, 1, 257), seen, None, {"win"})
     ['push']
     """
     other = seen.flags ^ set(expected.flags)
     found = {
-        "time": span is not None and not span.holds(seen.at),
+        "time": span is not None and not span.contains(seen.at),
         "flags": bool(other - {"P"}),
         "push": "P" in other,
         "seq": (expected.start, expected.length) != (seen.start, seen.length),

@@ -13,7 +13,7 @@ from collections import deque
 from dataclasses import dataclass, field
 
 from kernel.settings import Tuning, sysctl_file
-from kernel.wire import LOCAL, SeenPacket, decode, encode
+from kernel.wire import LOCAL, SeenPacket, decode_packet, encode_packet
 from pdsuite.packetdrill.items import Packet
 
 NEW_NET = 0x40000000
@@ -28,7 +28,7 @@ class NoDevice(Exception):
     """This machine, or who runs the tool here, has no namespace or no tun device."""
 
 
-def command(*words: str) -> None:
+def run_setup_command(*words: str) -> None:
     """Runs one command of the namespace's set-up."""
     done = subprocess.run(words, check=False, capture_output=True, text=True)
     if done.returncode:
@@ -52,17 +52,17 @@ def open_tun() -> int:
     return tun
 
 
-def set_up(tuning: Tuning) -> None:
+def set_up_namespace(tuning: Tuning) -> None:
     """Gives the namespace its sysctls, its addresses and its route to the peer."""
     for name, value in tuning.sysctls:
         try:
             sysctl_file(name).write_text(value)
         except OSError as fault:
             raise NoDevice(f"{name}={value}: {fault.strerror}") from fault
-    command("ip", "link", "set", "lo", "up")
-    command("ip", "link", "set", DEVICE, "mtu", str(tuning.mtu), "up")
-    command("ip", "addr", "add", f"{LOCAL}/16", "dev", DEVICE)
-    command("ip", "route", "add", REMOTE_NET, "dev", DEVICE, *tuning.route)
+    run_setup_command("ip", "link", "set", "lo", "up")
+    run_setup_command("ip", "link", "set", DEVICE, "mtu", str(tuning.mtu), "up")
+    run_setup_command("ip", "addr", "add", f"{LOCAL}/16", "dev", DEVICE)
+    run_setup_command("ip", "route", "add", REMOTE_NET, "dev", DEVICE, *tuning.route)
 
 
 @dataclass
@@ -86,11 +86,11 @@ class Device:
         """Takes the device away, so that nothing more is sent."""
         os.close(self.tun)
 
-    def inject(self, packet: Packet) -> None:
+    def inject_packet(self, packet: Packet) -> None:
         """Lets a packet arrive; the kernel has dealt with it when the write returns."""
-        os.write(self.tun, encode(packet, self.isn or 0))
+        os.write(self.tun, encode_packet(packet, self.isn or 0))
 
-    def sleep(self, until: float) -> bool:
+    def sleep_one_beat(self, until: float) -> bool:
         """Sleeps up to a moment, or for a beat, and says whether the kernel has sent something."""
         before = self.now()
         most = min(BEAT, max(0.0, until - before))
@@ -98,28 +98,28 @@ class Device:
         self.late = max(self.late, self.now() - before - most)
         return bool(ready)
 
-    def listen(self, until: float) -> bool:
+    def queue_next_packet(self, until: float) -> bool:
         """Waits for the next packet of the kernel up to a moment, and keeps it; False if none came."""
         while True:
-            if not self.sleep(until):
+            if not self.sleep_one_beat(until):
                 if self.now() >= until:
                     return False
                 continue
-            found = decode(os.read(self.tun, 65536), self.now(), self.isn)
+            found = decode_packet(os.read(self.tun, 65536), self.now(), self.isn)
             if found is not None:
                 seen, self.isn = found
                 self.untaken.append(seen)
                 return True
 
-    def wait(self, until: float) -> None:
+    def queue_packets_until(self, until: float) -> None:
         """Waits up to a moment, and keeps what is sent meanwhile."""
-        while self.listen(until):
+        while self.queue_next_packet(until):
             pass
 
-    def take(self, until: float) -> SeenPacket | None:
+    def take_oldest_packet(self, until: float) -> SeenPacket | None:
         """The oldest packet that wasn't taken yet; it may come up to a moment."""
         if not self.untaken:
-            self.listen(until)
+            self.queue_next_packet(until)
         return self.untaken.popleft() if self.untaken else None
 
 
@@ -127,5 +127,5 @@ def open_device(tuning: Tuning) -> Device:
     """A device in a new namespace that is set up."""
     enter_namespace()
     tun = open_tun()
-    set_up(tuning)
+    set_up_namespace(tuning)
     return Device(tun)

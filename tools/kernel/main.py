@@ -14,7 +14,7 @@ from pathlib import Path
 
 from kernel.compare import FIELDS
 from kernel.device import NoDevice
-from kernel.report import row_of, total_of
+from kernel.report import script_lines, total_line
 from kernel.run import RunOutcome, run_script
 from kernel.script import TimedEvent, UnsupportedScript, read_script
 from kernel.settings import Tuning, settings_of, tuning_of
@@ -49,7 +49,7 @@ class ScriptJob:
     ignored: Set[str]
 
 
-def fields_in(text: str) -> frozenset[str]:
+def parse_field_list(text: str) -> frozenset[str]:
     """The fields of a list like `win,options,push`."""
     names = frozenset(text.split(","))
     if names - set(FIELDS):
@@ -57,7 +57,7 @@ def fields_in(text: str) -> frozenset[str]:
     return names
 
 
-def switch_in(text: str) -> tuple[str, str]:
+def parse_sysctl(text: str) -> tuple[str, str]:
     """A sysctl and its value, of `NAME=VALUE`."""
     name, sign, value = text.partition("=")
     if not sign:
@@ -65,27 +65,27 @@ def switch_in(text: str) -> tuple[str, str]:
     return name, value
 
 
-def options_of(arguments: Sequence[str]) -> KernelOptions:
+def parse_options(arguments: Sequence[str]) -> KernelOptions:
     parser = argparse.ArgumentParser(prog="kernel.py", description=DESCRIPTION)
     add = parser.add_argument
     add("files", nargs="+", type=Path, metavar="FILE", help="a script, or a folder with *.pkt below it")
     add("--runs", type=int, default=10, help="how often each script is run (10)")
     add("--jobs", type=int, default=10, help="how many runs go on side by side (10)")
-    add("--ignore", type=fields_in, default=frozenset(), help=f"fields left uncompared, of {', '.join(FIELDS)}")
-    add("--sysctl", type=switch_in, action="append", default=[], metavar="NAME=VALUE", help="a switch of the kernel")
+    add("--ignore", type=parse_field_list, default=frozenset(), help=f"fields left uncompared, of {', '.join(FIELDS)}")
+    add("--sysctl", type=parse_sysctl, action="append", default=[], metavar="NAME=VALUE", help="a switch of the kernel")
     add("--settings", default="", help="settings as TOML, before those of pdsuite.toml")
     add("-v", "--verbose", action="store_true", help="print what the first run of each script saw")
     got = parser.parse_args(arguments)
-    files = tuple(sorted_files(got.files))
+    files = tuple(script_files(got.files))
     return KernelOptions(files, got.runs, got.jobs, got.ignore, dict(got.sysctl), got.settings, got.verbose)
 
 
-def sorted_files(paths: Sequence[Path]) -> Iterator[Path]:
+def script_files(paths: Sequence[Path]) -> Iterator[Path]:
     for path in paths:
         yield from sorted(path.rglob("*.pkt")) if path.is_dir() else [path]
 
 
-def job_of(path: Path, options: KernelOptions) -> ScriptJob:
+def read_job(path: Path, options: KernelOptions) -> ScriptJob:
     """Reads a script and its settings."""
     text = path.read_text(encoding="latin-1")
     events = read_script(text)
@@ -93,7 +93,7 @@ def job_of(path: Path, options: KernelOptions) -> ScriptJob:
     return ScriptJob(path, events, tuning_of(events, settings, options.switches), options.ignored)
 
 
-def runners(jobs: int) -> Pool:
+def make_pool(jobs: int) -> Pool:
     """Processes for runs: a new one for each, since a namespace is a process's own."""
     return get_context("fork").Pool(jobs, maxtasksperchild=1)
 
@@ -106,7 +106,7 @@ def run_once(job: ScriptJob) -> RunOutcome | UnsupportedScript | NoDevice:
         return fault
 
 
-def decided_outcomes(pool: Pool, job: ScriptJob, runs: int) -> list[RunOutcome]:
+def undisturbed_outcomes(pool: Pool, job: ScriptJob, runs: int) -> list[RunOutcome]:
     """The runs of a script; those in which the tool was late are made again, a few times."""
     done: list[RunOutcome] = []
     for turn in range(1 + SECOND_TRIES):
@@ -124,7 +124,7 @@ def decided_outcomes(pool: Pool, job: ScriptJob, runs: int) -> list[RunOutcome]:
 
 def print_outcomes(job: ScriptJob, outcomes: Sequence[RunOutcome], options: KernelOptions) -> None:
     """Prints the lines about one script."""
-    for line in row_of(str(job.path), outcomes):
+    for line in script_lines(str(job.path), outcomes):
         print(line)
     if options.verbose:
         for line in outcomes[0].seen:
@@ -132,14 +132,14 @@ def print_outcomes(job: ScriptJob, outcomes: Sequence[RunOutcome], options: Kern
     sys.stdout.flush()
 
 
-def run_all(options: KernelOptions, pool: Pool) -> int:
+def run_scripts(options: KernelOptions, pool: Pool) -> int:
     """Runs the scripts one after the other, and prints the settings wherever they change."""
     results: list[list[RunOutcome]] = []
     refused, last = 0, ""
     for path in options.files:
         try:
-            job = job_of(path, options)
-            outcomes = decided_outcomes(pool, job, options.runs)
+            job = read_job(path, options)
+            outcomes = undisturbed_outcomes(pool, job, options.runs)
         except UnsupportedScript as fault:
             print(f"{path}: not run, {fault}")
             refused += 1
@@ -149,18 +149,18 @@ def run_all(options: KernelOptions, pool: Pool) -> int:
             print(f"with {last}")
         print_outcomes(job, outcomes, options)
         results.append(outcomes)
-    print(total_of(results, refused))
+    print(total_line(results, refused))
     return 0 if all(not it.differences for them in results for it in them) else 1
 
 
 def main(arguments: Sequence[str]) -> int:
     """The status is 0 where each run passes, 1 where one fails, and 2 where nothing can be run."""
-    options = options_of(arguments)
+    options = parse_options(arguments)
     ignored = ",".join(sorted(options.ignored)) or "nothing"
     print(f"kernel {os.uname().release}, {options.runs} runs each, ignoring {ignored}")
     try:
-        with runners(options.jobs) as pool:
-            return run_all(options, pool)
+        with make_pool(options.jobs) as pool:
+            return run_scripts(options, pool)
     except (NoDevice, Fault, OSError, tomllib.TOMLDecodeError) as fault:
         print(f"kernel.py: {fault}", file=sys.stderr)
         return 2

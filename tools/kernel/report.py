@@ -18,7 +18,7 @@ class DifferencePlace:
     words: str
 
 
-def places_of(outcomes: Sequence[RunOutcome]) -> list[DifferencePlace]:
+def difference_places(outcomes: Sequence[RunOutcome]) -> list[DifferencePlace]:
     """Where runs differed, in the order of lines as the first run that did came to them."""
     words: dict[tuple[int, str], list[str]] = {}
     for outcome in outcomes:
@@ -28,24 +28,24 @@ def places_of(outcomes: Sequence[RunOutcome]) -> list[DifferencePlace]:
     return sorted(places, key=lambda it: it.line)
 
 
-def passes(outcomes: Sequence[RunOutcome]) -> int:
+def count_passes(outcomes: Sequence[RunOutcome]) -> int:
     """How many runs pass."""
     return sum(not it.differences for it in outcomes)
 
 
-def row_of(name: str, outcomes: Sequence[RunOutcome]) -> Iterator[str]:
+def script_lines(name: str, outcomes: Sequence[RunOutcome]) -> Iterator[str]:
     """The lines about one script: how often it passed, and where it differs."""
     disturbed = sum(it.is_disturbed for it in outcomes)
     note = f" ({disturbed} runs on a busy machine)" if disturbed else ""
-    yield f"{name}: {passes(outcomes)} of {len(outcomes)} pass{note}"
-    for place in places_of(outcomes):
+    yield f"{name}: {count_passes(outcomes)} of {len(outcomes)} pass{note}"
+    for place in difference_places(outcomes):
         where = f"  line {place.line} {place.field}"
         yield f"{where}: {place.runs} of {len(outcomes)}, {place.words}"
 
 
-def total_of(results: Sequence[Sequence[RunOutcome]], refused: int) -> str:
+def total_line(results: Sequence[Sequence[RunOutcome]], refused: int) -> str:
     """The last line: how many scripts pass in all of their runs, in some and in none."""
-    all_pass = sum(passes(it) == len(it) for it in results)
-    none = sum(passes(it) == 0 for it in results)
+    all_pass = sum(count_passes(it) == len(it) for it in results)
+    none = sum(count_passes(it) == 0 for it in results)
     some = len(results) - all_pass - none
     return f"scripts {len(results) + refused}: pass {all_pass}, not each time {some}, fail {none}, not run {refused}"

@@ -7,7 +7,7 @@ from contextlib import closing
 from dataclasses import dataclass, field
 
 from kernel.calls import Sockets
-from kernel.compare import Difference, TimeSpan, differing, is_expected, tolerance_of
+from kernel.compare import Difference, TimeSpan, differing_fields, is_expected_packet, tolerance_of
 from kernel.device import Device, open_device
 from kernel.script import TimedEvent, UnsupportedScript
 from kernel.settings import Tuning
@@ -44,53 +44,53 @@ class RunningScript:
     differences: list[Difference] = field(default_factory=list)
     seen: list[str] = field(default_factory=list)
 
-    def step(self, event: TimedEvent) -> None:
+    def play_event(self, event: TimedEvent) -> None:
         """Makes the call or sends the packet of an event, or awaits the packet that it expects."""
-        first, last = event.span(self.base)
+        first, last = event.span_in_seconds(self.base)
         if isinstance(event.action, Packet) and not event.action.is_inbound:
-            self.expect(event, event.action, first, last)
+            self.expect_packet(event, event.action, first, last)
             return
-        self.device.wait(first)
+        self.device.queue_packets_until(first)
         self.base = self.device.now()
         if isinstance(event.action, Call):
-            self.call(event.line, event.action)
+            self.make_call(event.line, event.action)
         else:
-            self.device.inject(event.action)
+            self.device.inject_packet(event.action)
 
-    def call(self, line: int, call: Call) -> None:
+    def make_call(self, line: int, call: Call) -> None:
         try:
-            answer = self.sockets.answer(call)
+            answer = self.sockets.make_call(call)
         except UnsupportedScript as fault:
             raise UnsupportedScript(line, str(fault)) from fault
         self.seen.append(f"{self.device.now():.6f} line {line}: {call.name} = {answer}")
-        if not answer.agrees(call):
-            self.differ(line, "result", str(answer))
+        if not answer.is_expected_by(call):
+            self.add_difference(line, "result", str(answer))
             self.ended = answer.result != call.result
 
-    def expect(self, event: TimedEvent, packet: Packet, first: float, last: float) -> None:
+    def expect_packet(self, event: TimedEvent, packet: Packet, first: float, last: float) -> None:
         """Takes the next packet of the kernel and compares it."""
         is_any = event.time.first is None
         slack = tolerance_of(last - self.base)
         limit = self.base + LONGEST_WAIT if is_any else last + slack
-        seen = self.device.take(limit)
+        seen = self.device.take_oldest_packet(limit)
         if seen is None:
-            self.miss(event.line, last - self.base)
+            self.note_missing_packet(event.line, last - self.base)
             return
         self.seen.append(f"{seen.at:.6f} line {event.line}: {seen}")
         span = None if is_any else TimeSpan(first - slack, last + slack)
-        for name in differing(packet, seen, span, self.ignored):
-            self.differ(event.line, name, f"at {seen.at:.3f}: {seen}")
-        self.ended = not is_expected(packet, seen)
+        for name in differing_fields(packet, seen, span, self.ignored):
+            self.add_difference(event.line, name, f"at {seen.at:.3f}: {seen}")
+        self.ended = not is_expected_packet(packet, seen)
         self.base = seen.at
 
-    def miss(self, line: int, awaited: float) -> None:
+    def note_missing_packet(self, line: int, awaited: float) -> None:
         """Notes that no packet came in time, and which one came later."""
-        seen: SeenPacket | None = self.device.take(self.device.now() + max(1.0, 2 * awaited))
+        seen: SeenPacket | None = self.device.take_oldest_packet(self.device.now() + max(1.0, 2 * awaited))
         words = f"at {seen.at:.3f}: {seen}" if seen else "nothing came"
-        self.differ(line, "missing", words)
+        self.add_difference(line, "missing", words)
         self.ended = True
 
-    def differ(self, line: int, name: str, words: str) -> None:
+    def add_difference(self, line: int, name: str, words: str) -> None:
         self.differences.append(Difference(line, name, words))
 
 
@@ -101,5 +101,5 @@ def run_script(events: tuple[TimedEvent, ...], tuning: Tuning, ignored: Set[str]
         for event in events:
             if run.ended:
                 break
-            run.step(event)
+            run.play_event(event)
     return RunOutcome(tuple(run.differences), tuple(run.seen), run.device.late)

@@ -30,23 +30,23 @@ class TimedEvent:
     action: Packet | Call
 
     @property
-    def is_awaited(self) -> bool:
+    def is_kernel_packet(self) -> bool:
         """Whether it is a packet of the kernel."""
         return isinstance(self.action, Packet) and not self.action.is_inbound
 
-    def span(self, base: float) -> tuple[float, float]:
+    def span_in_seconds(self, base: float) -> tuple[float, float]:
         """The first and the last moment of an event in seconds, where relative times count from a base.
 
-        >>> read_script("+.5~+1 > . 1:1(0)")[0].span(2.0)
+        >>> read_script("+.5~+1 > . 1:1(0)")[0].span_in_seconds(2.0)
         (2.5, 3.0)
         """
         origin = base if self.time.is_relative else 0.0
         first = self.time.first or 0
         last = first if self.time.last is None else self.time.last
-        return origin + seconds(first), origin + seconds(last)
+        return origin + to_seconds(first), origin + to_seconds(last)
 
 
-def seconds(microseconds: int) -> float:
+def to_seconds(microseconds: int) -> float:
     whole, part = divmod(microseconds, SECOND)
     return whole + part / SECOND
 
@@ -58,14 +58,14 @@ def read_script(text: str) -> tuple[TimedEvent, ...]:
     Call(name='listen', arguments=('3', '1'), result=-1, error='EINVAL')
     """
     reading = read_items(text)
-    events = tuple(events_of(reading.items))
+    events = tuple(runnable_events(reading.items))
     if (fault := reading.fault) is not None:
         reason = f"{fault.words}: {fault.what}" if fault.what else fault.words
         raise UnsupportedScript(line_number_at(text, fault.place), reason)
     return events
 
 
-def events_of(items: tuple[Item, ...]) -> Iterator[TimedEvent]:
+def runnable_events(items: tuple[Item, ...]) -> Iterator[TimedEvent]:
     """The events among items; a tolerance counts for nothing here."""
     in_header = True
     for item in items:
@@ -76,18 +76,18 @@ def events_of(items: tuple[Item, ...]) -> Iterator[TimedEvent]:
                 raise UnsupportedScript(item.line, "an option or command of the header that isn't run")
             case Packet() | Call():
                 in_header = False
-                yield event_of(item, item.what)
+                yield runnable_event(item, item.what)
             case _:
                 raise UnsupportedScript(item.line, "commands and code aren't run")
 
 
-def event_of(item: Item, action: Packet | Call) -> TimedEvent:
+def runnable_event(item: Item, action: Packet | Call) -> TimedEvent:
     """An event that can be run."""
     event = TimedEvent(item.line, item.time or Time(0), action)
     if item.is_blocking:
         raise UnsupportedScript(item.line, "a blocking call isn't run")
     if isinstance(action, Packet) and not NOT_RUN.isdisjoint(action.flags):
         raise UnsupportedScript(item.line, "the flags U, E, W and C aren't run")
-    if not event.is_awaited and not event.time.is_fixed:
+    if not event.is_kernel_packet and not event.time.is_fixed:
         raise UnsupportedScript(item.line, "what is done needs one moment")
     return event

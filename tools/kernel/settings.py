@@ -48,10 +48,10 @@ class Tuning:
         return ", ".join(parts + ["TCP_NODELAY"] * self.nodelay)
 
 
-def with_table(settings: KernelSettings, table: Mapping[str, Any]) -> KernelSettings:
+def with_table_settings(settings: KernelSettings, table: Mapping[str, Any]) -> KernelSettings:
     """The settings that a table leads to; keys that the kernel has nothing for are left out.
 
-    >>> with_table(KernelSettings(), {"mss": 1000, "tolerance_us": 0}).mss
+    >>> with_table_settings(KernelSettings(), {"mss": 1000, "tolerance_us": 0}).mss
     1000
     """
     names = {it.name for it in fields(KernelSettings)}
@@ -64,13 +64,13 @@ def settings_of(path: Path, text: str, option: str = "") -> KernelSettings:
     A key or a word that has another name now is a fault, with its place and that name.
     """
     settings = KernelSettings()
-    for table in reversed(list(tables_of(path.resolve()))):
-        settings = with_table(settings, table)
-    own = {key: value for _, key, value in comments_in(text)}
-    refuse_old_names(Claim(f"{path}:{line}", "", key, value) for line, key, value in comments_in(text))
+    for table in reversed(list(settings_tables_for(path.resolve()))):
+        settings = with_table_settings(settings, table)
+    own = {key: value for _, key, value in set_comments_in(text)}
+    refuse_old_names(Claim(f"{path}:{line}", "", key, value) for line, key, value in set_comments_in(text))
     from_option = tomllib.loads(option)
-    refuse_old_names(claims_in(TomlPlaces(OPTION, {}), from_option))
-    return with_table(with_table(settings, own), from_option)
+    refuse_old_names(claims_of_table(TomlPlaces(OPTION, {}), from_option))
+    return with_table_settings(with_table_settings(settings, own), from_option)
 
 
 def refuse_old_names(claims: Iterable[Claim]) -> None:
@@ -79,15 +79,15 @@ def refuse_old_names(claims: Iterable[Claim]) -> None:
         raise Fault(line)
 
 
-def claims_in(places: TomlPlaces, table: Mapping[str, Any], name: str = "") -> Iterator[Claim]:
+def claims_of_table(places: TomlPlaces, table: Mapping[str, Any], name: str = "") -> Iterator[Claim]:
     """The keys of a table with their places."""
     return (Claim(places.file_and_line(name, key), name, key, value) for key, value in table.items())
 
 
-def comments_in(text: str) -> Iterator[tuple[int, str, Any]]:
+def set_comments_in(text: str) -> Iterator[tuple[int, str, Any]]:
     """The settings that a script asks for in comments `// set KEY VALUE`, before its first event, with their lines.
 
-    >>> list(comments_in("// Why.\\n// set sack false\\n// set mss 700\\n0 close(3) = 0\\n// set mss 9\\n"))
+    >>> list(set_comments_in("// Why.\\n// set sack false\\n// set mss 700\\n0 close(3) = 0\\n// set mss 9\\n"))
     [(2, 'sack', False), (3, 'mss', 700)]
     """
     for number, line in enumerate(text.splitlines(), 1):
@@ -95,17 +95,17 @@ def comments_in(text: str) -> Iterator[tuple[int, str, Any]]:
             return
         words = line[2:].split()
         if len(words) == 3 and words[0] == "set":
-            yield number, words[1], value_of(words[2])
+            yield number, words[1], parse_value(words[2])
 
 
-def value_of(word: str) -> bool | int | str:
+def parse_value(word: str) -> bool | int | str:
     """A word of `set` as a value."""
     if word in ("true", "false"):
         return word == "true"
     return int(word) if word.isdigit() else word
 
 
-def tables_of(path: Path) -> Iterator[dict[str, Any]]:
+def settings_tables_for(path: Path) -> Iterator[dict[str, Any]]:
     """The tables that hold for a script, the nearest first, up to a file with `root = true`."""
     for folder in path.parents:
         file = folder / "pdsuite.toml"
@@ -114,10 +114,10 @@ def tables_of(path: Path) -> Iterator[dict[str, Any]]:
         text = file.read_text()
         whole, places = tomllib.loads(text), find_toml_places(str(file), text)
         if folder == path.parent and isinstance(whole.get(path.name), dict):
-            refuse_old_names(claims_in(places, whole[path.name], path.name))
+            refuse_old_names(claims_of_table(places, whole[path.name], path.name))
             yield whole[path.name]
         beside = {key: value for key, value in whole.items() if not isinstance(value, dict)}
-        refuse_old_names(claims_in(places, beside))
+        refuse_old_names(claims_of_table(places, beside))
         yield beside
         if whole.get("root") is True:
             return
@@ -132,12 +132,12 @@ def segment_size(events: tuple[TimedEvent, ...], settings: KernelSettings) -> in
     return settings.mss
 
 
-def initial_segments(size: int, initial_window: str) -> int:
+def initial_window_segments(size: int, initial_window: str) -> int:
     """How many segments the first congestion window holds.
 
-    >>> [initial_segments(it, "rfc5681") for it in (1000, 1460, 4000)]
+    >>> [initial_window_segments(it, "rfc5681") for it in (1000, 1460, 4000)]
     [4, 3, 2]
-    >>> [initial_segments(it, "rfc6928") for it in (1000, 1460, 4000)]
+    >>> [initial_window_segments(it, "rfc6928") for it in (1000, 1460, 4000)]
     [10, 10, 3]
     """
     if initial_window == "rfc6928":
@@ -168,7 +168,7 @@ def tuning_of(events: tuple[TimedEvent, ...], settings: KernelSettings, switches
     if settings.slow_start_after_idle is not None:
         sysctls["net.ipv4.tcp_slow_start_after_idle"] = str(int(settings.slow_start_after_idle))
     route = [
-        *("initcwnd", str(initial_segments(size, settings.initial_window))),
+        *("initcwnd", str(initial_window_segments(size, settings.initial_window))),
         *("rto_min", f"{settings.min_rto_us // 1000}ms"),
         *("advmss", str(settings.mss)),
     ]

@@ -33,13 +33,13 @@ class SeenPacket:
         text = f"{letters} {self.start}:{self.start + self.length}({self.length})"
         text += f" ack {self.ack}" if "." in self.flags else ""
         text += f" win {self.window}"
-        return text + (f" <{','.join(map(shown, self.options))}>" if self.options else "")
+        return text + (f" <{','.join(map(option_text, self.options))}>" if self.options else "")
 
 
-def shown(option: TcpOption) -> str:
+def option_text(option: TcpOption) -> str:
     """An option as scripts write it.
 
-    >>> shown(TcpOption("sack", (1, 5, 7, 9)))
+    >>> option_text(TcpOption("sack", (1, 5, 7, 9)))
     'sack 1:5 7:9'
     """
     if option.name == "sack":
@@ -50,10 +50,10 @@ def shown(option: TcpOption) -> str:
     return " ".join([option.name, *map(str, option.numbers)])
 
 
-def checksum(data: bytes) -> int:
+def internet_checksum(data: bytes) -> int:
     """The checksum of the internet.
 
-    >>> checksum(bytes([0x45, 0, 0, 20])) == 0xffff - 0x4514
+    >>> internet_checksum(bytes([0x45, 0, 0, 20])) == 0xffff - 0x4514
     True
     """
     data += b"\0" * (len(data) % 2)
@@ -112,7 +112,7 @@ def decode_option(kind: int, body: bytes) -> TcpOption:
     return TcpOption(f"kind{kind}", tuple(body))
 
 
-def encode(packet: Packet, isn: int) -> bytes:
+def encode_packet(packet: Packet, isn: int) -> bytes:
     """The octets of a packet that arrives at the kernel, whose first number is `isn`."""
     options = b"".join(encode_option(it, isn) for it in packet.options)
     options += b"\0" * (-len(options) % 4)
@@ -124,14 +124,14 @@ def encode(packet: Packet, isn: int) -> bytes:
     tcp = struct.pack("!HHIIHHHH", *numbers, head, packet.win or 0, 0, 0)
     tcp += options + b"x" * packet.length
     ends = socket.inet_aton(REMOTE) + socket.inet_aton(LOCAL)
-    total = checksum(ends + struct.pack("!BBH", 0, TCP, len(tcp)) + tcp)
+    total = internet_checksum(ends + struct.pack("!BBH", 0, TCP, len(tcp)) + tcp)
     tcp = tcp[:16] + struct.pack("!H", total) + tcp[18:]
     lead = struct.pack("!BBHHHBBH", 0x45, 0, 20 + len(tcp), 0, 0x4000, 64, TCP, 0)
-    lead = lead[:10] + struct.pack("!H", checksum(lead + ends))
+    lead = lead[:10] + struct.pack("!H", internet_checksum(lead + ends))
     return lead + ends + tcp
 
 
-def decode(octets: bytes, at: float, isn: int | None) -> tuple[SeenPacket, int] | None:
+def decode_packet(octets: bytes, at: float, isn: int | None) -> tuple[SeenPacket, int] | None:
     """A TCP packet to the peer and the kernel's first number, or None for any other packet.
 
     The first number is known from the kernel's SYN on. An RST at 0 stands at 0 as it is: it answers a segment without
