@@ -246,7 +246,7 @@ async def left():
         await pause()
 
 if sys.argv[1:]:
-    cluster._quiet()
+    cluster._silence_library()
 coroutine = left()
 coroutine.send(None)
 del coroutine

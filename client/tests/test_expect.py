@@ -234,7 +234,9 @@ def test_settings_that_are_refused_end_it(fake_program: Path, tmp_path: Path, ca
 def test_where_its_package_is_missing_that_is_named(tmp_path: Path, monkeypatch: pytest.MonkeyPatch) -> None:
     command = copied(tmp_path)
     text = (tmp_path / "client/pdsuite/main.py").read_text()
-    (tmp_path / "client/pdsuite/main.py").write_text(text.replace('need("tomlkit")', 'need("nowhere")'))
+    (tmp_path / "client/pdsuite/main.py").write_text(
+        text.replace('require_module("tomlkit")', 'require_module("nowhere")')
+    )
     done = subprocess.run([command, "expect", "."], cwd=tmp_path, capture_output=True, text=True)
     line = "python3-nowhere isn't installed: apt-get install --no-install-recommends python3-nowhere"
     assert (done.returncode, done.stderr) == (2, f"pdsuite: {line}\n")

@@ -121,7 +121,7 @@ def test_known_rows_are_counted_apart_and_make_no_run_fail() -> None:
         1,
     ]
     assert str(Totals.of_outcomes([known, other, mended])) == f"total 3 pass 0 fail 0 {zeros} known 1 unexpected 2"
-    assert Totals.of_outcomes([known, other]).nonzero_counts() == "total 2 known 1 unexpected 1"
+    assert Totals.of_outcomes([known, other]).nonzero_counts_text() == "total 2 known 1 unexpected 1"
     assert str(Totals.of_outcomes([passing])) == f"total 1 pass 1 fail 0 {zeros}"
 
 

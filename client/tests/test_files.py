@@ -65,8 +65,8 @@ def test_a_full_disk_leaves_the_old_file(tmp_path: Path) -> None:
     )
     code = (
         f"import sys; sys.path.insert(0, {str(TOP / 'client')!r})\n"
-        "from pathlib import Path; from pdsuite.files import write; from pdsuite.faults import Fault\n"
-        "try:\n    write(Path('out.xml'), b'x' * 100_000)\n"
+        "from pathlib import Path; from pdsuite.files import write_file_atomically; from pdsuite.faults import Fault\n"
+        "try:\n    write_file_atomically(Path('out.xml'), b'x' * 100_000)\n"
         "except Fault as fault:\n    print(fault, Path('out.xml').read_text().strip(), *sorted(Path().iterdir()))\n"
     )
     command = ["unshare", "-rm", "sh", "-c", inside, "sh", str(disk), code]

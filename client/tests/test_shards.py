@@ -8,28 +8,28 @@ from pathlib import Path
 import pytest
 
 from pdsuite.scripts.discover import find_scripts
-from pdsuite.scripts.shards import Shard, parse_shard, scripts_of_shard, split_by_octets
+from pdsuite.scripts.shards import Shard, balance_by_octets, parse_shard, scripts_of_shard
 from pdsuite.signals import Stop
 from tests.helpers import Call, write
 
 
 def test_the_greatest_come_first_each_into_the_part_with_the_fewest_octets() -> None:
     octets = {"a": 10, "b": 60, "c": 30, "d": 50, "e": 40}
-    assert split_by_octets(octets, 2) == [["b", "c", "a"], ["d", "e"]]
-    assert split_by_octets(octets, 3) == [["b"], ["d", "a"], ["e", "c"]]
+    assert balance_by_octets(octets, 2) == [["b", "c", "a"], ["d", "e"]]
+    assert balance_by_octets(octets, 3) == [["b"], ["d", "a"], ["e", "c"]]
 
 
 def test_equal_ones_are_taken_in_the_order_of_their_octets() -> None:
-    assert split_by_octets({"ü": 1, "z": 1, "a": 1, "B": 1}, 2) == [["B", "z"], ["a", "ü"]]
+    assert balance_by_octets({"ü": 1, "z": 1, "a": 1, "B": 1}, 2) == [["B", "z"], ["a", "ü"]]
 
 
 def test_scripts_without_octets_are_shared_by_their_number() -> None:
-    assert split_by_octets(dict.fromkeys("abcdef", 0), 3) == [["a", "d"], ["b", "e"], ["c", "f"]]
+    assert balance_by_octets(dict.fromkeys("abcdef", 0), 3) == [["a", "d"], ["b", "e"], ["c", "f"]]
 
 
 def test_there_are_no_more_parts_than_names() -> None:
-    assert split_by_octets({"a": 1, "b": 2}, 999_999_999) == [["b"], ["a"]]
-    assert split_by_octets({}, 3) == []
+    assert balance_by_octets({"a": 1, "b": 2}, 999_999_999) == [["b"], ["a"]]
+    assert balance_by_octets({}, 3) == []
 
 
 def random_suite(chance: random.Random) -> Mapping[str, int]:
@@ -43,13 +43,13 @@ def test_each_name_is_in_one_part_and_no_part_has_a_script_more_than_another(see
     chance = random.Random(seed)
     octets = random_suite(chance)
     count = chance.randrange(1, 12)
-    each = split_by_octets(octets, count)
+    each = balance_by_octets(octets, count)
     assert sorted(name for part in each for name in part) == sorted(octets)
     loads = [sum(octets[name] for name in part) for part in each]
     assert max(loads) - min(loads) <= max(octets.values())
     shuffled = list(octets)
     chance.shuffle(shuffled)
-    assert split_by_octets({name: octets[name] for name in shuffled}, count) == each
+    assert balance_by_octets({name: octets[name] for name in shuffled}, count) == each
 
 
 @pytest.mark.parametrize("words", ["1/1", "1/3", "3/3", "7/999999999", "01/02"])

@@ -93,7 +93,7 @@ def _search_difference(options: CompareOptions, search: "SearchOptions", room: P
 
     sides = _make_sides(options, room)
     _print_senders((sides[0].sender, sides[1].sender), screen)
-    before, after = (it.sender.source_tree(room / f"sources of {it.option.place}") for it in sides)
+    before, after = (it.sender.find_or_check_out_sources(room / f"sources of {it.option.place}") for it in sides)
     return search_difference(sides, layer_of_option(options.settings), (before, after), search, stop, screen)
 
 
@@ -129,7 +129,7 @@ def _find_change_effects(
     row_starts: RowStarts, before: Sender, results: Sequence[SenderResults], room: Path
 ) -> Affected:
     """What the change affects in the tree of the sender after it."""
-    sources = before.source_tree(room / "sources")
+    sources = before.find_or_check_out_sources(room / "sources")
     return find_affected(row_starts, [it.outputs for it in results], sources, room)
 
 

@@ -184,9 +184,11 @@ def _find_proved_program(options: RunOptions, look: ProgramLookup) -> Path | Non
 def _use_built_program(count: int, stop: Stop, screen: Screen) -> Path | None:
     """The program of a build of the sender as it stands for so many scripts, or none where no build can be kept."""
     # Only who has no proved program pays for what does without them.
-    from pdsuite.programs.unproved_programs import use_build
+    from pdsuite.programs.unproved_programs import build_and_use_programs
 
-    return locate_program(REGRESS) if use_build("any" if count > _MANY else "plain", stop, screen) else None
+    return (
+        locate_program(REGRESS) if build_and_use_programs("any" if count > _MANY else "plain", stop, screen) else None
+    )
 
 
 def _run_unproved(
@@ -335,7 +337,7 @@ def _report_steps(
             if not isinstance(step, SettledPiece):
                 screen.print_note(str(step))
                 continue
-            report.take_outcomes(step.outcomes)
+            report.show_outcomes_in_order(step.outcomes)
             checking.keep_asserting_scripts(step)
             if fail_fast and not all(outcome.lets_run_pass for _, outcome in step.outcomes):
                 break

@@ -92,8 +92,8 @@ def _make_base_sender(options: WatchOptions, room: Path, screen: Screen, stop: S
         return None
     sender = resolve_sender(options.base, "--base", room / "base")
     if sender.programs is None:
-        folder = find_kept_build(sender.build_tree, WAY) or build_if_needed(
-            sender.build_tree, WAY, stop, build_progress_printer(screen, f" {sender.name}")
+        folder = find_kept_build(sender.tree_to_build, WAY) or build_if_needed(
+            sender.tree_to_build, WAY, stop, build_progress_printer(screen, f" {sender.name}")
         )
         programs = (folder / REGRESS, folder / RECORD)
         return BaseSender(programs, thread_count(options.workers), stop, screen.print_note)

@@ -80,7 +80,7 @@ class RowStarts:
 
 def load_row_starts(sender: Sender, room: Path) -> RowStarts:
     """The rows of a sender's tree as starts of programs."""
-    tree = sender.source_tree(room)
+    tree = sender.find_or_check_out_sources(room)
     if tree is None or not (tree / _TOOL).is_file() or not (tree / _ROWS).is_dir():
         raise Fault(f"--affected: {sender} is no tree with {_ROWS} and {_TOOL}")
     return RowStarts(tree, list(_parse_starts(_run_affected_tool(tree, "starts"))))

@@ -15,14 +15,14 @@ from pdsuite.signals import Stop
 
 def build_missing_programs(senders: Sequence[Sender], way: BuildMode, stop: Stop, screen: Screen) -> list[Sender]:
     """The senders, each with programs; where none can be built and kept, one stays a tree."""
-    trees = list(dict.fromkeys(it.build_tree for it in senders if not it.has_programs))
+    trees = list(dict.fromkeys(it.tree_to_build for it in senders if not it.has_programs))
     with ThreadPoolExecutor() as pool:
         folders = dict(zip(trees, pool.map(lambda tree: find_kept_build(tree, way), trees)))
     if lacking := [it for it, folder in folders.items() if folder is None]:
         what = "the sender" if len(lacking) == 1 else "both senders"
         screen.print_note(f"pdsuite: building {what} first")
         folders |= _build_side_by_side(lacking, way, stop, screen)
-    return [it if it.has_programs else _with_build_folder(it, folders[it.build_tree]) for it in senders]
+    return [it if it.has_programs else _with_build_folder(it, folders[it.tree_to_build]) for it in senders]
 
 
 def _build_side_by_side(trees: Sequence[Path], way: BuildMode, stop: Stop, screen: Screen) -> dict[Path, Path | None]:
@@ -49,7 +49,7 @@ def as_plain_build(sender: Sender, stop: Stop) -> Sender | None:
     if not sender.is_build or programs[REGRESS].parent.name != "optimised":
         return None
     try:
-        return _with_build_folder(sender, build_if_needed(sender.build_tree, "plain", stop))
+        return _with_build_folder(sender, build_if_needed(sender.tree_to_build, "plain", stop))
     except (NoKeptBuildError, BuildError):
         return None
 

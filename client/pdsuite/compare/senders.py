@@ -59,9 +59,9 @@ class Sender:
                 if self.tree is None
                 else proved_programs_lookup(self.tree, *self.programs)
             )
-        return proved_programs_lookup(self.build_tree, REGRESS)
+        return proved_programs_lookup(self.tree_to_build, REGRESS)
 
-    def source_tree(self, place: Path) -> Path | None:
+    def find_or_check_out_sources(self, place: Path) -> Path | None:
         """The tree of its sources, if it is known; that of a commit is put into a new folder."""
         if self.tree is None and self.commit:
             with suppress(Fault):
@@ -71,7 +71,7 @@ class Sender:
         return self.tree
 
     @property
-    def build_tree(self) -> Path:
+    def tree_to_build(self) -> Path:
         """The tree that it is built from."""
         assert self.tree is not None
         return self.tree

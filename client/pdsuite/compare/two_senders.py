@@ -45,7 +45,7 @@ class ComparisonTask:
 
     def make_side_plan(self, side: Side) -> UnprovedPlan:
         """What a sender is started on that has to be built."""
-        batches = group_into_batches(side.with_effective_settings(self.scripts))
+        batches = group_into_batches(side.scripts_with_effective_settings(self.scripts))
         return make_plan(batches, side.claims_for_sender(self.claims), EXPLAIN_FAILURES, self.records)
 
 
@@ -101,7 +101,7 @@ class _UnprovedSides:
     def _collect_result(
         self, side: Side, results: UnprovedResults, answers: Sequence[Sequence[Answer]]
     ) -> SenderResults:
-        row_starts, tree = self._task.row_starts, side.sender.build_tree
+        row_starts, tree = self._task.row_starts, side.sender.tree_to_build
         if results.refused:
             plan = self._task.make_side_plan(side)
             results = self._read_script_answers(side, plan, build_and_run_cases(plan.program_cases(tree), self._stop))
@@ -112,13 +112,13 @@ class _UnprovedSides:
 
     def _program_cases(self, side: Side, plan: UnprovedPlan) -> list[ProgramCases]:
         """What a tree's programs are started on: the scripts, and then the rows."""
-        row_starts, tree = self._task.row_starts, side.sender.build_tree
+        row_starts, tree = self._task.row_starts, side.sender.tree_to_build
         return [*plan.program_cases(tree), *(row_starts.program_cases(tree) if row_starts else [])]
 
     def _read_script_answers(
         self, side: Side, plan: UnprovedPlan, answers: Sequence[Sequence[Answer]]
     ) -> UnprovedResults:
-        return results_from_answers(plan, answers[:_OF_SCRIPTS], side.sender.build_tree, self._stop, self._note)
+        return results_from_answers(plan, answers[:_OF_SCRIPTS], side.sender.tree_to_build, self._stop, self._note)
 
 
 def _adapt_proved_side(side: Side, task: ComparisonTask, stop: Stop) -> Side:
@@ -152,7 +152,7 @@ def _run_proved_side(
     program = programs[REGRESS]
     mapper = local_mapper(program, EXPLAIN_FAILURES, workers, stop)
     settled: list[SettledPiece] = []
-    for step in mapper(group_into_batches(side.with_effective_settings(task.scripts))):
+    for step in mapper(group_into_batches(side.scripts_with_effective_settings(task.scripts))):
         if isinstance(step, SettledPiece):
             settled.append(step)
         else:

@@ -46,13 +46,13 @@ class StampedProgram:
     digest: str
 
     @property
-    def is_same_file(self) -> bool:
+    def is_file_unchanged(self) -> bool:
         """Whether the file is the one that was found."""
         return stamp_of(self.path) == self.stamp
 
     def raise_if_changed(self) -> None:
         """Raises SenderChangedError where the file isn't the one that was found."""
-        if not self.is_same_file:
+        if not self.is_file_unchanged:
             raise SenderChangedError(f"{printable_path(self.path)} is another file")
 
 

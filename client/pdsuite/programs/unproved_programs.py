@@ -26,12 +26,12 @@ def proved_or_built_program(name: str, stop: Stop, screen: Screen) -> Path:
     try:
         return locate_program(name)
     except UnprovedError:
-        if not (BATCH_TOOL.is_file() and use_build("plain", stop, screen)):
+        if not (BATCH_TOOL.is_file() and build_and_use_programs("plain", stop, screen)):
             raise
     return locate_program(name)
 
 
-def use_build(way: BuildMode, stop: Stop, screen: Screen) -> bool:
+def build_and_use_programs(way: BuildMode, stop: Stop, screen: Screen) -> bool:
     """Has the programs of this call be a build of the tree as it stands; whether there can be one.
 
     A line says first that they aren't proved, and on a terminal another one how far the build is.

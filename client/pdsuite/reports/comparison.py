@@ -76,7 +76,7 @@ class ComparisonReport:
     sort: Quantity = Quantity.TIME
     is_every: bool = False
 
-    def groups(self) -> Iterator[tuple[ComparisonKind, Group]]:
+    def groups_by_kind(self) -> Iterator[tuple[ComparisonKind, Group]]:
         """The groups of the scripts that turned, and then of those that are played otherwise."""
         for kind in _STYLES:
             for group in group_by_first_difference([it for it in self.compared if it.kind is kind]):
@@ -92,7 +92,7 @@ def compared_script_entry(it: ComparedScript) -> StyledText:
 def plain_comparison(report: ComparisonReport) -> StyledText:
     """Scripts that turned, those that are played otherwise, totals by folder, and what is affected in the tree."""
     text = StyledText()
-    for kind, group in report.groups():
+    for kind, group in report.groups_by_kind():
         whole = len(group.scripts) if report.is_every else 1
         if len(group.scripts) > 1:
             text.append(f"{len(group.scripts)} scripts differ first in {group.title}:\n", "bold")
@@ -118,7 +118,7 @@ def comparison_json(report: ComparisonReport, names: tuple[str, str]) -> StyledT
         "version": VERSION,
         **dict(zip(_SIDES, names)),
         "scripts": [_compared_script_by_keys(it) for it in report.compared if it.differs],
-        "groups": [_group_by_keys(kind, it) for kind, it in report.groups()],
+        "groups": [_group_by_keys(kind, it) for kind, it in report.groups_by_kind()],
         "quantities": quantities_by_keys(report.compared, report.sort),
         "folders": {printable_path(it.name): _counts_by_kind(it) for it in folders},
         "total": _counts_by_kind(total),

@@ -27,7 +27,7 @@ def _markdown_lines(report: ComparisonReport, names: tuple[str, str]) -> Iterato
     yield f"- before: {_as_code(names[0])}"
     yield f"- after: {_as_code(names[1])}"
     yield f"- {total.counts_in_words}{f' ({UNPROVED})' if report.is_unproved else ''}"
-    for kind, group in report.groups():
+    for kind, group in report.groups_by_kind():
         yield from _group_lines(kind, group, report.is_every)
     more = list(quantity_lines(report.compared, report.sort, report.is_every))
     more += [] if report.affected is None else affected_lines(report.affected)

@@ -13,7 +13,7 @@ class Formatter(Protocol):
     def opening(self, count: int) -> StyledText:
         """What stands before so many scripts."""
 
-    def entry(self, number: int, outcome: Outcome) -> StyledText | None:
+    def script_entry(self, number: int, outcome: Outcome) -> StyledText | None:
         """What stands for a script, if anything does; the first has the number 1."""
 
     def summary(self, totals: Totals, seconds: float) -> StyledText:
@@ -22,6 +22,6 @@ class Formatter(Protocol):
 
 def format_report(form: Formatter, outcomes: Sequence[Outcome], totals: Totals, seconds: float) -> str:
     """A report of outcomes that are all there."""
-    entries = (form.entry(number, it) for number, it in enumerate(outcomes, 1))
+    entries = (form.script_entry(number, it) for number, it in enumerate(outcomes, 1))
     parts = [form.opening(len(outcomes)), *entries, form.summary(totals, seconds)]
     return "".join(it.plain for it in parts if it is not None)

@@ -22,13 +22,13 @@ class NewRowsFormatter:
     def opening(self, count: int) -> StyledText:
         return self.form.opening(count)
 
-    def entry(self, number: int, outcome: Outcome) -> StyledText | None:
+    def script_entry(self, number: int, outcome: Outcome) -> StyledText | None:
         saved = self.before.get(self.absolute(outcome.path))
         if saved is None:
-            return self.form.entry(number, outcome)
+            return self.form.script_entry(number, outcome)
         if saved.row == outcome.row or outcome.row.verdict is Verdict.NOT_RUN:
             return None
-        return self.turned.entry(number, outcome)
+        return self.turned.script_entry(number, outcome)
 
     def summary(self, totals: Totals, seconds: float) -> StyledText:
         return self.form.summary(totals, seconds)

@@ -8,7 +8,7 @@ from pdsuite.output.screen import Screen
 from pdsuite.output.styled_text import StyledText
 from pdsuite.programs.verdict import Row, Verdict
 from pdsuite.reports.formatter import Formatter
-from pdsuite.run.batches import Script, outcome_of
+from pdsuite.run.batches import Script, make_outcome
 from pdsuite.run.outcomes import Outcome, Totals
 
 
@@ -28,7 +28,7 @@ class Report:
         self._screen.show(self._form.opening(len(self._scripts)))
         self._screen.show_progress(0, len(self._scripts))
 
-    def take_outcomes(self, outcomes: Iterable[tuple[Script, Outcome]]) -> None:
+    def show_outcomes_in_order(self, outcomes: Iterable[tuple[Script, Outcome]]) -> None:
         """Shows outcomes, as soon as all before them were shown."""
         for script, outcome in outcomes:
             self._waiting[script.index] = outcome
@@ -62,11 +62,11 @@ class Report:
     def _show_outcomes(self, outcomes: Sequence[Outcome]) -> None:
         text = StyledText()
         for number, outcome in enumerate(outcomes, len(self.outcomes) + 1):
-            if (entry := self._form.entry(number, outcome)) is not None:
+            if (entry := self._form.script_entry(number, outcome)) is not None:
                 text.append_text(entry)
         self.outcomes.extend(outcomes)
         self._screen.show(text)
 
 
 def _not_run_outcome(script: Script) -> Outcome:
-    return outcome_of(script, Row(Verdict.NOT_RUN))
+    return make_outcome(script, Row(Verdict.NOT_RUN))

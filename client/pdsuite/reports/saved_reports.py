@@ -146,10 +146,10 @@ def _report_from_value(place: str, value: object) -> SavedReport:
     scripts = value.get("scripts") if isinstance(value, dict) else None
     if not isinstance(value, dict) or not isinstance(scripts, list):
         raise Fault(f"{place}: no report of pdsuite run --json: it has no list of scripts")
-    return SavedReport(place, _rows_by_path(place, scripts), _shard_in(place, value))
+    return SavedReport(place, _rows_by_path(place, scripts), _parse_shard_field(place, value))
 
 
-def _shard_in(place: str, report: Mapping[str, object]) -> frozenset[Shard]:
+def _parse_shard_field(place: str, report: Mapping[str, object]) -> frozenset[Shard]:
     if "shard" not in report:
         return frozenset()
     shard = parse_shard(str(report["shard"]))
@@ -161,39 +161,39 @@ def _shard_in(place: str, report: Mapping[str, object]) -> frozenset[Shard]:
 def _rows_by_path(place: str, scripts: Iterable[object]) -> dict[str, SavedRow]:
     rows: dict[str, SavedRow] = {}
     for number, script in enumerate(scripts, 1):
-        path, row = _path_in(script), _row_in(script)
+        path, row = _parse_path(script), _parse_row(script)
         if path is None or row is None:
             raise Fault(
                 f"{place}: no report of pdsuite run --json: script {number:,} has no path and row that it writes"
             )
         if path in rows:
             raise Fault(f"{path}: stands twice in {place}")
-        rows[path] = SavedRow(row, _is_strict(script), _is_known(script))
+        rows[path] = SavedRow(row, _has_strict_warnings(script), _known_flag(script))
     return rows
 
 
-def _is_strict(script: object) -> bool:
+def _has_strict_warnings(script: object) -> bool:
     match script:
         case {"warnings": [_, *_], "strict": True}:
             return True
     return False
 
 
-def _is_known(script: object) -> bool | None:
+def _known_flag(script: object) -> bool | None:
     match script:
         case {"expected": {"known": bool(is_known)}}:
             return is_known
     return None
 
 
-def _path_in(script: object) -> str | None:
+def _parse_path(script: object) -> str | None:
     match script:
         case {"path": str(path)} if path and path.isprintable():
             return path
     return None
 
 
-def _row_in(script: object) -> Row | None:
+def _parse_row(script: object) -> Row | None:
     match script:
         case {"verdict": Verdict.PASS.value, "events": int(number)} if number >= 0:
             return Row(Verdict.PASS, int(number))

@@ -32,7 +32,7 @@ class Script:
     held: bytes | None = None
 
 
-def outcome_of(script: Script, row: Row, line: bytes | None = None) -> Outcome:
+def make_outcome(script: Script, row: Row, line: bytes | None = None) -> Outcome:
     """What came of a script, whose text has this line where the row names one."""
     return Outcome(script.path, script.settings, row, line, is_strict=script.is_strict, expected=script.expected)
 

@@ -152,8 +152,8 @@ class _Cluster:
         """The steps of a task, if it has come to any."""
         if task.future is None:
             if task.sendings == _SENDINGS:
-                return _not_run_steps(task.run, f"all workers that had it went away, {_SENDINGS} times")
-            return _not_run_steps(task.run, "no worker is left") if self._has_no_worker_for_long() else None
+                return _error_steps(task.run, f"all workers that had it went away, {_SENDINGS} times")
+            return _error_steps(task.run, "no worker is left") if self._has_no_worker_for_long() else None
         if not task.future.done():
             return None
         try:
@@ -163,9 +163,9 @@ class _Cluster:
         except CancelledError as error:
             raise self._scheduler_gone_error() from error
         except KilledWorker as killed:
-            return _not_run_steps(task.run, f"{killed.allowed_failures + 1} workers ended that had it")
+            return _error_steps(task.run, f"{killed.allowed_failures + 1} workers ended that had it")
         except Exception as error:  # whatever a worker has for this
-            return _not_run_steps(task.run, f"a worker says: {_shown_in_one_line(error)}")
+            return _error_steps(task.run, f"a worker says: {_shown_in_one_line(error)}")
         if isinstance(answer, str):
             self._refuse_worker_and_resend(task, answer)
             return None
@@ -263,7 +263,7 @@ class _Cluster:
             self._far.send(b"\0")
 
 
-def _not_run_steps(batch: Batch, reason: str) -> list[Step]:
+def _error_steps(batch: Batch, reason: str) -> list[Step]:
     return [error_piece(piece, reason) for piece in batch.pieces]
 
 

@@ -40,7 +40,7 @@ def find_selected_scripts(
     finding = find_scripts_and_folders(paths, only, stop)
     if not finding.scripts:
         raise Fault("no script found")
-    suite.read_folders(finding.folders)
+    suite.read_config_files(finding.folders)
     return _select_scripts(finding.scripts, part)
 
 
@@ -51,7 +51,7 @@ def standard_input_script(paths: Sequence[Path], suite: SuiteConfig, is_strict: 
     if len(paths) > 1:
         raise Fault(f"{INPUT}: standard input stands alone")
     folder = os.path.realpath(os.curdir)
-    suite.read_folders([folder])
+    suite.read_config_files([folder])
     return replace(
         _make_script(0, ScriptFile(str(INPUT), folder, str(INPUT)), suite, is_strict), held=_read_standard_input()
     )

@@ -148,7 +148,7 @@ class Totals:
         warnings = [f"warnings {self.warnings}"] if self.warnings else []
         return " ".join([f"total {self.script_count}", *counts, *warnings])
 
-    def nonzero_counts(self) -> str:
+    def nonzero_counts_text(self) -> str:
         """The counts that aren't 0."""
         counts = [f"{it.value} {count}" for it, count in self.counts.items() if count]
         warnings = [f"warnings {self.warnings}"] if self.warnings else []

@@ -11,7 +11,7 @@ from pdsuite.programs.program import Program, ProgramEndedError
 from pdsuite.programs.protocol import LONGEST_CAUSE, LONGEST_LINE, SETTLE, Cause, UnexpectedAnswerError
 from pdsuite.programs.protocol import add_command, parse_causes, parse_new_rows, rows_before_total, script_name
 from pdsuite.programs.verdict import Row, Verdict
-from pdsuite.run.batches import Batch, Piece, Script, outcome_of
+from pdsuite.run.batches import Batch, Piece, Script, make_outcome
 from pdsuite.run.explainer import with_explanation
 from pdsuite.run.outcomes import Outcome
 from pdsuite.scripts.settings import Settings, settings_as_toml
@@ -205,7 +205,7 @@ def make_settled_piece(
 
 def _explained_outcome(script: Script, text: Text, row: Row, cause: Cause | None) -> tuple[Script, Outcome]:
     line = None if row.line is None else text.line(row.line)
-    return script, with_explanation(outcome_of(script, row, line), cause, text)
+    return script, with_explanation(make_outcome(script, row, line), cause, text)
 
 
 def error_piece(piece: Piece, reason: str) -> SettledPiece:
@@ -214,4 +214,4 @@ def error_piece(piece: Piece, reason: str) -> SettledPiece:
 
 
 def _error_outcome(script: Script, reason: str) -> tuple[Script, Outcome]:
-    return script, outcome_of(script, Row(Verdict.ERROR, word=reason))
+    return script, make_outcome(script, Row(Verdict.ERROR, word=reason))

@@ -42,9 +42,9 @@ class StartBatch:
     scripts: tuple[tuple[Script, Text], ...]
 
     @property
-    def expected_octets(self) -> int:
+    def most_output_octets(self) -> int:
         """How many octets are expected to be printed at most."""
-        return sum(_expected_octets(text) for _, text in self.scripts)
+        return sum(_most_output_octets(text) for _, text in self.scripts)
 
     def script_names(self) -> list[bytes]:
         """The names of the scripts in its commands."""
@@ -97,11 +97,11 @@ class UnprovedPlan:
         )
         cases = cases_of_batches(self.all_start_batches)
         return [
-            self.explain_cases(tree, [settings_case, *cases]),
+            self.as_regress_cases(tree, [settings_case, *cases]),
             recording_cases(tree, map(_settings_and_octets, self.scripts_to_record)),
         ]
 
-    def explain_cases(self, tree: Path, cases: Sequence[Case]) -> ProgramCases:
+    def as_regress_cases(self, tree: Path, cases: Sequence[Case]) -> ProgramCases:
         """The starts of a tree's program, which explains."""
         return ProgramCases(tree, REGRESS, self.explain_options, tuple(cases))
 
@@ -136,7 +136,7 @@ class _BatchResults:
 
     def __init__(self, plan: UnprovedPlan, explained: Sequence[Answer], recorded: Sequence[Answer]) -> None:
         self._plan = plan
-        self._rows, self._unanswered = read_answers(plan.all_start_batches, explained)
+        self._rows, self._unanswered = rows_and_unanswered_batches(plan.all_start_batches, explained)
         self.recordings = {
             script.index: recording_from_answer(answer) for (script, _), answer in zip(plan.scripts_to_record, recorded)
         }
@@ -155,11 +155,11 @@ class _BatchResults:
             return
         cases = [replace(it, is_alone=True) for it in cases_of_batches(singles)]
         builds = [
-            self._plan.explain_cases(tree, cases),
+            self._plan.as_regress_cases(tree, cases),
             recording_cases(tree, map(_settings_and_octets, scripts), is_alone=True),
         ]
         explained, recorded = build_and_run_cases(builds, stop)
-        again, lost = read_answers(singles, explained)
+        again, lost = rows_and_unanswered_batches(singles, explained)
         self._rows |= again | {it.scripts[0][0].index: (Row(Verdict.ERROR, word=why), None) for it, why in lost}
         self.recordings |= {
             script.index: recording_from_answer(answer) for (script, _), answer in zip(scripts, recorded)
@@ -184,24 +184,24 @@ def split_into_start_batches(piece: Iterable[tuple[Script, Text | str]]) -> list
     for script, text in piece:
         if isinstance(text, str):
             continue
-        if not batches or _expected_octets(text) > room:
+        if not batches or _most_output_octets(text) > room:
             batches.append([])
             room = ROOM
-        room -= _expected_octets(text)
+        room -= _most_output_octets(text)
         batches[-1].append((script, text))
     return [StartBatch(it[0][0].settings, tuple(it)) for it in batches]
 
 
-def _expected_octets(text: Text) -> int:
+def _most_output_octets(text: Text) -> int:
     return _LONGEST_EXPLANATION + len(text.octets)
 
 
 def cases_of_batches(batches: Iterable[StartBatch]) -> list[Case]:
     """The starts of the program on batches."""
-    return [Case((), it.input_commands(), it.expected_octets) for it in batches]
+    return [Case((), it.input_commands(), it.most_output_octets) for it in batches]
 
 
-def read_answers(
+def rows_and_unanswered_batches(
     batches: Iterable[StartBatch], answers: Iterable[Answer]
 ) -> tuple[ExplainedRows, list[tuple[StartBatch, str]]]:
     """Rows and explanations of scripts, by their places; and the batches without an answer, each with the reason."""

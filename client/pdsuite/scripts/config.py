@@ -72,10 +72,10 @@ class Claim:
 
     def refusal_line(self, reason: str) -> str:
         """The line that says why it is refused."""
-        beside = f' (["{_shown(self.table)}"])' if self.table else ""
+        beside = f' (["{_printable(self.table)}"])' if self.table else ""
         own = () if self.place in _OPTIONS else (_STRICT, EXPECT, REASON) if self.table else (_ROOT, _STRICT)
         helps = refusal_help(self.key, self.value, reason, own)
-        return f"{self.place}: {_shown(self.key)}: {reason}{beside}" + (f": {helps}" if helps else "")
+        return f"{self.place}: {_printable(self.key)}: {reason}{beside}" + (f": {helps}" if helps else "")
 
 
 @dataclass(frozen=True, slots=True)
@@ -118,7 +118,7 @@ class SuiteConfig:
         """The row that a script is known to have, if one is given."""
         return self.rules_of_script(script).expected
 
-    def read_folders(self, folders: Iterable[str]) -> None:
+    def read_config_files(self, folders: Iterable[str]) -> None:
         """Reads the files of these folders, whichever scripts they are about."""
         for folder in folders:
             self._layer_of_folder(folder)
@@ -187,14 +187,14 @@ def _take_truth_value(table: dict[str, Value], key: str, places: TomlPlaces, nam
     value = table.pop(key, None)
     if value is None or isinstance(value, bool):
         return value
-    beside = f' (["{_shown(name)}"])' if name else ""
+    beside = f' (["{_printable(name)}"])' if name else ""
     raise FileFault(f"{places.file_and_line(name, key)}: {key}: BadValue{beside}: it takes true or false")
 
 
 def _take_expectation(places: TomlPlaces, name: str, table: dict[str, Value]) -> Expectation | None:
     """The row that is expected of a script, with its reason, taken out of its table; neither stands alone."""
     row, reason = table.pop(EXPECT, None), table.pop(REASON, None)
-    beside = f'(["{_shown(name)}"])'
+    beside = f'(["{_printable(name)}"])'
     if row is None and reason is None:
         return None
     if reason is None:
@@ -208,7 +208,7 @@ def _take_expectation(places: TomlPlaces, name: str, table: dict[str, Value]) ->
         raise FileFault(
             f"{places.file_and_line(name, REASON)}: {REASON}: BadValue {beside}: it takes a text that isn't empty"
         )
-    return Expectation(row, _shown(reason))
+    return Expectation(row, _printable(reason))
 
 
 def _refuse_expectation_outside_tables(places: TomlPlaces, keys: Table) -> None:
@@ -223,9 +223,8 @@ def _refuse_expectation_outside_tables(places: TomlPlaces, keys: Table) -> None:
 def _refuse_unquoted_names(places: TomlPlaces, table: Table) -> None:
     """Raises a fault where a script's name stands without quotes: its parts are then tables in tables."""
     for name in _unquoted_script_names(table):
-        raise FileFault(
-            f'{places.file_and_line(name)}: [{_shown(name)}]: a script\'s name stands in quotes: ["{_shown(name)}"]'
-        )
+        shown = _printable(name)
+        raise FileFault(f'{places.file_and_line(name)}: [{shown}]: a script\'s name stands in quotes: ["{shown}"]')
 
 
 def _unquoted_script_names(table: Table, before: str = "", deepest: int = _DEEPEST) -> Iterator[str]:
@@ -272,8 +271,8 @@ def _toml_error_reason(error: ValueError | RecursionError, octets: bytes) -> str
         return "a byte order mark; a file of settings begins without one"
     found = _AT.search(str(error))
     if found is not None and _BARE.match(octets.decode().split("\n")[int(found[1]) - 1], int(found[2]) - 1):
-        return f"{_shown(str(error))}: a word stands in quotes"
-    return _shown(str(error))
+        return f"{_printable(str(error))}: a word stands in quotes"
+    return _printable(str(error))
 
 
 def claims_of_layers(layers: Iterable[Layer]) -> Iterator[Claim]:
@@ -323,5 +322,5 @@ def _relative_if_below_here(path: Path) -> Path:
     return path.relative_to(here) if path.is_relative_to(here) else path
 
 
-def _shown(text: str) -> str:
+def _printable(text: str) -> str:
     return printable_text(text)

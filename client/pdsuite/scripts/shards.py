@@ -29,7 +29,7 @@ def parse_shard(words: str) -> Shard | None:
     return shard if shard is not None and 1 <= shard.number <= shard.count else None
 
 
-def split_by_octets(octets: Mapping[str, int], count: int) -> list[list[str]]:
+def balance_by_octets(octets: Mapping[str, int], count: int) -> list[list[str]]:
     """The names in so many parts, each name in one of them, so that none has many more octets than another.
 
     The greatest come first, each into the part that has the fewest octets by then. Parts that stay empty are left out.
@@ -47,7 +47,7 @@ def split_by_octets(octets: Mapping[str, int], count: int) -> list[list[str]]:
 def scripts_of_shard(found: Sequence[ScriptFile], shard: Shard) -> list[ScriptFile]:
     """The scripts of a shard, in the order in which all were found."""
     names = [os.path.abspath(it.path) for it in found]
-    each = split_by_octets({name: _file_size(it) for name, it in zip(names, found)}, shard.count)
+    each = balance_by_octets({name: _file_size(it) for name, it in zip(names, found)}, shard.count)
     chosen = set(each[shard.number - 1]) if shard.number <= len(each) else set()
     return [it for name, it in zip(names, found) if name in chosen]
 

@@ -112,7 +112,7 @@ class SideOracle:
 def open_oracles(senders: Sequence[Sender], stop: Stop) -> Iterator[list[SettingsOracle]]:
     """The oracles of senders: programs, or those of a tree, which `rt try` builds once for the block, side by side."""
     with ExitStack() as stack:
-        trees = {it.build_tree for it in senders if not it.has_programs}
+        trees = {it.tree_to_build for it in senders if not it.has_programs}
         sessions = {tree: stack.enter_context(UnprovedSession(tree, stop)) for tree in trees}
         for session in sessions.values():
             session.wait_until_built()
@@ -122,7 +122,7 @@ def open_oracles(senders: Sequence[Sender], stop: Stop) -> Iterator[list[Setting
 def _make_oracle(sender: Sender, stop: Stop, sessions: Mapping[Path, UnprovedSession]) -> SettingsOracle:
     if sender.has_programs:
         return ProgramOracle(sender, stop)
-    return UnprovedOracle(sender, sessions[sender.build_tree])
+    return UnprovedOracle(sender, sessions[sender.tree_to_build])
 
 
 def query_sizes() -> Iterator[int]:
@@ -198,7 +198,7 @@ class UnprovedOracle:
     """Queries the programs of a tree as it stands, which `rt try` has built."""
 
     def __init__(self, sender: Sender, session: UnprovedSession) -> None:
-        self._tree = sender.build_tree
+        self._tree = sender.tree_to_build
         self._session = session
 
     def refusals_of_claims(self, claims: Sequence[Claim]) -> list[Refusal]:

@@ -114,7 +114,7 @@ def entries_of(outcomes: Iterable[Outcome], every: bool) -> StyledText:
     form = PlainFormatter(every)
     text = StyledText()
     for number, outcome in enumerate(outcomes, 1):
-        if (entry := form.entry(number, outcome)) is not None:
+        if (entry := form.script_entry(number, outcome)) is not None:
             text.append_text(entry)
     return text
 

@@ -43,7 +43,7 @@ class LiveSender:
     @property
     def are_programs_there(self) -> bool:
         """Whether the programs can be started still."""
-        return all(it is None or it.is_same_file for it in (self.regress, self.record))
+        return all(it is None or it.is_file_unchanged for it in (self.regress, self.record))
 
 
 class SenderFollower:

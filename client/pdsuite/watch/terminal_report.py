@@ -81,7 +81,7 @@ class TerminalReport(ChangeReport):
     def totals_line(self, outcomes: Outcomes, seconds: float) -> StyledText:
         """The totals that aren't 0."""
         totals = totals_of(outcomes, self.is_unproved)
-        line = f"{totals.nonzero_counts()} in {seconds:.2f} s{totals.unproved_mark}"
+        line = f"{totals.nonzero_counts_text()} in {seconds:.2f} s{totals.unproved_mark}"
         return StyledText([("\n".join(textwrap.wrap(line, self._line_width())) + "\n", totals_style(totals))])
 
     def sender_left_notice(self, why: str) -> StyledText:
