@@ -60,7 +60,7 @@ def test_a_block_of_an_unknown_kind_fails(monkeypatch: pytest.MonkeyPatch) -> No
 def test_the_last_line_counts(
     tests: list[main.Test], last: str, status: int, monkeypatch: pytest.MonkeyPatch, capsys: pytest.CaptureFixture[str]
 ) -> None:
-    monkeypatch.setattr(main, "tracked", lambda top: [])
+    monkeypatch.setattr(main, "tracked_files", lambda top: [])
     monkeypatch.setattr(main, "read_pages", lambda top, files: [])
     monkeypatch.setattr(main, "test_pages", lambda files, pages: iter(tests))
     assert main.main([]) == status

@@ -336,12 +336,12 @@ def test_tests_are_run_as_often_and_as_long_as_the_options_say(tmp_path: Path, m
     monkeypatch.setenv("TMPDIR", str(tmp_path))
     calls: list[tuple[object, ...]] = []
 
-    def try_tests(mutants: object, at_once: int, limits: RunLimits) -> int:
+    def try_test_mutants(mutants: object, at_once: int, limits: RunLimits) -> int:
         calls.append((at_once, limits.times, limits.seconds))
         return 0
 
-    monkeypatch.setattr(mutants_tool, "find_kit", lambda: None)
-    monkeypatch.setattr(mutants_tool, "try_tests", try_tests)
+    monkeypatch.setattr(mutants_tool, "check_kit_on_path", lambda: None)
+    monkeypatch.setattr(mutants_tool, "try_test_mutants", try_test_mutants)
     for arguments in (["tests", "-j", "3", "--times", "7", "--seconds", "9"], ["tests", "-j", "1"]):
         assert mutants_tool.try_chosen_mutants(mutants_tool.make_parser().parse_args(arguments)) == 0
     assert calls == [(3, 7, 9), (1, 10, 40)]

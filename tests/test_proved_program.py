@@ -228,7 +228,7 @@ def test_what_changes_while_it_is_read_is_read_again(
             tree.run_shell(done)
         return found
 
-    monkeypatch.setattr(proof_sums, "sums_of", read_and_change)
+    monkeypatch.setattr(proof_sums, "sums_of_files", read_and_change)
     assert proof_sums.is_proved(str(tree.top), "top")
     assert not (tree.top / f"{PROGRAM}.stamps").exists()
 

@@ -13,7 +13,7 @@ WORK = """
 import os, signal, sys, time
 sys.path.insert(0, sys.argv[1])
 import signals
-signals.heed()
+signals.raise_at_first_signal()
 try:
     print("begun", flush=True)
     sys.stdin.read()
@@ -22,7 +22,7 @@ except signals.StoppedBySignal as signal_that_came:
     for number in signals.SIGNALS:
         os.kill(os.getpid(), number)
     print("ended", flush=True)
-    signals.end_by(signal_that_came.number)
+    signals.end_process_by(signal_that_came.number)
 """
 
 
