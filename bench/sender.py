@@ -31,7 +31,7 @@ from mutant_files import changed_texts, read_mutants  # noqa: E402
 RULES = TOP / "bench/rules.mutants"
 OWN, WRONG = "the sender as it is", "one that doesn't compile"
 # The source that gets a comment where a build is to be a new one, or a word where none is to be made.
-SOURCE = Path("crates/pd_board/src/counts.rt")
+SOURCE = Path("crates/pd_board/src/queries.rt")
 # The scripts, and those of them that are saved.
 SUITE = "storm"
 SAVED = ("recovery-without-sack/third_duplicate.pkt", "nagle/small_segment_waits.pkt")

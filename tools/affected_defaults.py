@@ -6,7 +6,7 @@ from collections.abc import Iterator
 from dataclasses import dataclass
 from pathlib import Path
 
-FIELDS = "crates/pd_settings/src/fields.rt"
+FIELDS = "crates/pd_settings/src/settings.rt"
 DEFAULTS = re.compile(r"pub fn new\(\) -> Settings\b.*?\n {8}Settings \{\n(.*?)\n {8}\}", re.DOTALL)
 FIELD = re.compile(r"^ +(\w+): (.+),$", re.MULTILINE)
 # Where a default stands: in a table, among the items of a man page, and in the client.

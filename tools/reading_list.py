@@ -25,7 +25,7 @@ LISTS = {
     "headline": (
         "Book::show.current,scripts,grammar,whole,parts",
         "Book::history",
-        "pd_book::headline.taken",
+        "pd_book::law_headline.taken",
         "Book::new",
         *(f"Book::{call}.gives" for call in ("add", "edit", "remove", "set", "start", "finish", "abandon")),
     ),

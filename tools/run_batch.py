@@ -26,7 +26,7 @@ from run_cases import FAULT, write_result
 PROGRAM = "pdrecord"
 OTHER = "pdregress"
 MAIN = rt_try.TOP / "tools" / "batch.rattle"
-MODULE = "mod record_program;"
+MODULE = "mod program;"
 # The part of a crate that is read, without definitions and proofs.
 PART = "src"
 

@@ -18,12 +18,12 @@ TOP = Path(__file__).resolve().parents[1]
 SPECS = TOP / "crates/pd_settings/specs"
 PAGE = TOP / "docs/SETTINGS.md"
 ROW = re.compile(
-    r'^row_of \w+ = record \{ name = codes "(\w+)"; takes = (\w+)(?: (\d+) (\d+))?; '
-    r'unit = (?:\[\]|codes "(\w+)"); unset = \w+ (\w+) \}$',
+    r'^row_of \w+ = record \{ name = codes "(\w+)"; allowed = (\w+)(?: (\d+) (\d+))?; '
+    r'unit = (?:\[\]|codes "(\w+)"); default_value = \w+ (\w+) \}$',
     re.MULTILINE,
 )
-WORD = re.compile(r'^(word_for|rate_word) (\w+) = codes "(\w+)"$', re.MULTILINE)
-KIND = {"Windows": "word_for", "Rates": "rate_word"}
+WORD = re.compile(r'^(window_word|algorithm_word) (\w+) = codes "(\w+)"$', re.MULTILINE)
+KIND = {"WindowRules": "window_word", "Algorithms": "algorithm_word"}
 HEAD = "| key | unit | range | default | the standards' name | what it changes |\n|---|---|---|---|---|---|\n"
 
 

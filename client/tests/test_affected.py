@@ -69,7 +69,7 @@ def test_rows_runs_and_paragraphs_that_say_otherwise_are_named(tree: Tree) -> No
         "  tests/cases/a.cases: 3 rows, lines 2-3, 5",
         "  tests/cases/a.cases:9: a title",
         "  docs/SENDER.md:4: Loss, 'An octet is lost when three': RFC 6675, section 4",
-        "    RULE (crates/pd_board/src/counts.rt:2)",
+        "    RULE (crates/pd_board/src/queries.rt:2)",
     ]
     assert tree.builds() == 2 and " turned 0 played otherwise 0 " in called.out
 
@@ -83,7 +83,7 @@ FUNCTION = "    /// A rule (RFC 6675, section 4).\n    pub fn rule() -> u32\n   
 
 def test_a_changed_default_is_named_in_three_places_and_a_function_by_itself(tree: Tree) -> None:
     places = {
-        "crates/pd_settings/src/fields.rt": DEFAULT.format("1_460"),
+        "crates/pd_settings/src/settings.rt": DEFAULT.format("1_460"),
         "crates/pd_board/src/rules.rt": FUNCTION.format(1),
         "docs/SETTINGS.md": "# Settings\n\n| key |\n| `mss` | 1,460 |\n",
         "packaging/man/pdregress.h2m": ".TP\n.B mss\n",
@@ -97,7 +97,7 @@ def test_a_changed_default_is_named_in_three_places_and_a_function_by_itself(tre
     git(tree.top, "init", "-q")
     git(tree.top, "add", ".")
     git(tree.top, "commit", "-qm", "one")
-    (tree.top / "crates/pd_settings/src/fields.rt").write_text(DEFAULT.format("1_200"))
+    (tree.top / "crates/pd_settings/src/settings.rt").write_text(DEFAULT.format("1_200"))
     (tree.top / "crates/pd_board/src/rules.rt").write_text(FUNCTION.format(2))
     called = compare(tree, "--base", "HEAD")
     assert called.status == 0, called.err
@@ -107,11 +107,11 @@ def test_a_changed_default_is_named_in_three_places_and_a_function_by_itself(tre
     assert lines == [
         "affected in the tree: rows 0 runs 0 paragraphs 3",
         f"  docs/SETTINGS.md:4: {message}",
-        "    crates/pd_settings/src/fields.rt:5",
+        "    crates/pd_settings/src/settings.rt:5",
         f"  packaging/man/pdregress.h2m:2: {message}",
-        "    crates/pd_settings/src/fields.rt:5",
+        "    crates/pd_settings/src/settings.rt:5",
         f"  client/pdsuite/scripts/defaults.py:{number}: {message}",
-        "    crates/pd_settings/src/fields.rt:5",
+        "    crates/pd_settings/src/settings.rt:5",
         "  rule (crates/pd_board/src/rules.rt:2): its code changed, and paragraphs are about definitions",
     ]
 

@@ -4,9 +4,9 @@ use Rattle.std.specs.Prelude.{nat_le, nat_lt, unwrap_or}
 use Rattle.std.specs.Option.{option_map}
 use Rattle.std.proofs.lemmas.Bool.Decides.{nat_tests}
 use Rattle.pd_board.specs.Octets.{contains, octets_where, least_where, greatest_where, after}
-use Rattle.pd_board.specs.Board.{BoardView, skipped}
-use Rattle.pd_board.specs.Loss.{is_lost, is_free, sacked_above}
-use Rattle.pd_board.specs.Choice.{run_at, most_from, is_hole, next_hole, next_lost, rescue, segment_to}
+use Rattle.pd_board.specs.Board.{BoardView, past_sacked_octets}
+use Rattle.pd_board.specs.Loss.{is_lost, is_unsacked, sacked_above}
+use Rattle.pd_board.specs.Retransmit.{run_at, most_from, is_hole, next_hole, next_lost, rescue, segment_to}
 use Rattle.pd_board.proofs.Sets.{lt, ge, size_where-some, size_where-skip, size_where-none}
 use Rattle.pd_board.proofs.Find.{least-is, least-none, least-both, only_if, greatest-is, greatest-none, greatest-below, greatest-under}
 use Rattle.pd_board.proofs.Lost.{lost_below}
@@ -73,7 +73,7 @@ module _ (p : ℕ → Bool) (s : BoardView) (shown : s.sacked ≡ octets_where p
       least-none (λ k. is_hole high k s) s.una s.top s.top (omega arith) (λ y l m.
       elim (nat_lt y x) as (λ t. nat_lt y x ≡ t → is_hole high y s ≡ false) [
         | true ↦ λ t. below_hole high x held u y l (lt y x t)
-        | false ↦ λ t. last_off (is_free y s) (nat_le high y) (sacked_above y s) (none y l m (ge y x t))
+        | false ↦ λ t. last_off (is_unsacked y s) (nat_le high y) (sacked_above y s) (none y l m (ge y x t))
       ] refl)
     where
       none : (y : ℕ) → s.una ≤ y → y < s.top → x ≤ y → sacked_above y s ≡ 0
@@ -107,11 +107,11 @@ module _ (p : ℕ → Bool) (s : BoardView) (shown : s.sacked ≡ octets_where p
                 (least-none (contains s.sacked) x most most (omega arith) (λ y i j. within p s shown y (omega arith) (omega arith) ∙ free y i (up t y j))))
           ] refl
 
-  free_at : (k : ℕ) → s.una ≤ k → k < s.top → p k ≡ true → is_free k s ≡ false
+  free_at : (k : ℕ) → s.una ≤ k → k < s.top → p k ≡ true → is_unsacked k s ≡ false
   free_at k l u h = ap not (within p s shown k l u ∙ h)
 
   pub skipped_is : (x : ℕ) → s.una ≤ s.next → s.next ≤ x → x ≤ s.top → ((k : ℕ) → s.next ≤ k → k < x → p k ≡ true) → (x < s.top → p x ≡ false)
-      → record s { next = x } ≡ skipped s
+      → record s { next = x } ≡ past_sacked_octets s
   skipped_is x a l u held free = ap (λ n. record s { next = n }) there
     where
       same : nat_lt x s.top ≡ false → x ≡ s.top
@@ -132,13 +132,13 @@ module _ (p : ℕ → Bool) (s : BoardView) (shown : s.sacked ≡ octets_where p
           ] refl
 
   pub no_rescue : s.una ≤ s.top → ((k : ℕ) → s.una ≤ k → k < s.top → p k ≡ true) → rescue s ≡ None
-  no_rescue l held = ap (option_map (segment_to s)) (greatest-none (λ k. is_free k s) s.una s.top l (λ k i j. free_at k i j (held k i j)))
+  no_rescue l held = ap (option_map (segment_to s)) (greatest-none (λ k. is_unsacked k s) s.una s.top l (λ k i j. free_at k i j (held k i j)))
 
   pub rescue_is : (e low start : ℕ) → s.una ≤ e → e < s.top → ((k : ℕ) → e + 1 ≤ k → k < s.top → p k ≡ true) → p e ≡ false
       → low ≡ max s.una (e + 1 - s.smss) → low ≤ start → start ≤ e → ((k : ℕ) → start ≤ k → k < e → p k ≡ false) → (low < start → p (start - 1) ≡ true)
       → rescue s ≡ Some record { start = start; end = e + 1 }
   rescue_is e low start l u held free f m v between edge =
-      ap (option_map (segment_to s)) (greatest-is (λ k. is_free k s) s.una e s.top l u (λ k i j. free_at k (omega arith) j (held k i j)) (ap not (within p s shown e l u ∙ free)))
+      ap (option_map (segment_to s)) (greatest-is (λ k. is_unsacked k s) s.una e s.top l u (λ k i j. free_at k (omega arith) j (held k i j)) (ap not (within p s shown e l u ∙ free)))
       ∙ ap (λ (n : ℕ). Some record { start = n; end = e + 1 }) (ap (λ n. max n marks_end) (sym f) ∙ there)
     where
       marks_end : ℕ

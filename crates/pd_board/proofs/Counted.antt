@@ -4,9 +4,9 @@ use Rattle.std.specs.Prelude.{nat_le, nat_lt, nat_eq}
 use Rattle.std.specs.List.{count_by, list_any, sum_by}
 use Rattle.std.proofs.lemmas.List.Sums.{sum_by-cons}
 use Rattle.std.proofs.lemmas.Bool.Decides.{nat_tests}
-use Rattle.pd_seg.specs.declared.sack_blocks.Span.{Span}
+use Rattle.pd_seg.specs.declared.sack_spans.Span.{Span}
 use Rattle.pd_board.specs.Octets.{size_where}
-use Rattle.pd_board.specs.Tests.{first_of}
+use Rattle.pd_board.specs.Predicates.{first_of}
 use Rattle.pd_board.proofs.Sets.{size_where-first, size_where-none, size_where-same}
 use Rattle.pd_board.specs.Board.{covers}
 use Rattle.pd_board.specs.Runs.{among, Between}

@@ -3,19 +3,19 @@ use Rattle.std.proofs.Common.{◌≡◌, ℕ, ◌+◌, ◌-◌, ◌<◌, ◌≤�
 use Rattle.std.specs.Prelude.{nat_le, nat_lt, nat_eq}
 use Rattle.std.proofs.lemmas.List.Sums.{sum_by-cons}
 use Rattle.std.proofs.lemmas.Bool.Decides.{nat_tests}
-use Rattle.pd_seg.specs.declared.sack_blocks.Span.{Span}
+use Rattle.pd_seg.specs.declared.sack_spans.Span.{Span}
 use Rattle.pd_board.specs.Board.{covers}
 use Rattle.pd_board.specs.Loss.{shows_loss}
 use Rattle.pd_board.specs.Octets.{size_where, greatest_where, after}
 use Rattle.pd_board.specs.Ranges.{octets_in, edge_over}
 use Rattle.pd_board.specs.Runs.{among, Between}
-use Rattle.pd_board.specs.Tests.{first_of, lost_from, edge_from}
-use Rattle.pd_board.proofs.Ahead.{rest_in}
+use Rattle.pd_board.specs.Predicates.{first_of, lost_from, edge_from}
+use Rattle.pd_board.proofs.Searching.{rest_in}
 use Rattle.pd_board.proofs.Counted.{Between-lower, Between-end, none_below}
 use Rattle.pd_board.proofs.Find.{greatest-is, greatest-below, greatest_empty}
 use Rattle.pd_board.proofs.Lost.{more}
 use Rattle.pd_board.proofs.Sets.{lt, ge, size_where-none, size_where-skip, size_where-later}
-use Rattle.pd_board.proofs.Way.{lost_over}
+use Rattle.pd_board.proofs.Pipe.{lost_over}
 
 not_up : (x y : Bool) → (y ≡ true → x ≡ true) → x ≡ false → y ≡ false
 not_up true true h e = e

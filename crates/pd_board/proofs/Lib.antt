@@ -6,7 +6,7 @@ pub mod Shown
 pub mod Chosen
 pub mod Merge
 pub mod Counted
-pub mod Way
-pub mod Ahead
+pub mod Pipe
+pub mod Searching
 pub mod Edge
 pub mod Delivered

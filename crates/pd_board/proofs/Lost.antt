@@ -4,7 +4,7 @@ use Rattle.std.specs.Prelude.{nat_lt}
 use Rattle.std.proofs.lemmas.Bool.Decides.{nat_tests}
 use Rattle.pd_board.specs.Laws.{LostIsDownwardClosed, PipeCountsTwiceAtMost}
 use Rattle.pd_board.specs.Board.{BoardView}
-use Rattle.pd_board.specs.Loss.{is_lost, is_free, shows_loss, pipe}
+use Rattle.pd_board.specs.Loss.{is_lost, is_unsacked, shows_loss, pipe}
 use Rattle.pd_board.specs.Octets.{contains, size_where, begins_run}
 use Rattle.pd_board.proofs.Sets.{lt, ge, size_where-later, size_where-fewer, size_where-skip, size_where-none, size_where-parts, size_where-both}
 
@@ -26,16 +26,16 @@ pub pipe_at_most : PipeCountsTwiceAtMost
 pipe_at_most s high_rxt =
     omega (
       arith,
-      size_where-fewer (λ x. is_free x s && not (is_lost x s)) (λ x. is_free x s) s.una s.top (λ x h. first_holds _ _ h),
-      size_where-fewer (λ x. is_free x s && nat_lt x high_rxt) (λ x. is_free x s) s.una s.top (λ x h. first_holds _ _ h),
+      size_where-fewer (λ x. is_unsacked x s && not (is_lost x s)) (λ x. is_unsacked x s) s.una s.top (λ x h. first_holds _ _ h),
+      size_where-fewer (λ x. is_unsacked x s && nat_lt x high_rxt) (λ x. is_unsacked x s) s.una s.top (λ x h. first_holds _ _ h),
     )
 
 -- octets from una on that are sent again count once more
 pub pipe_again : (s : BoardView) (x : ℕ) → ((y : ℕ) → s.una ≤ y → y < x → contains s.sacked y ≡ false) → x ≤ s.top
     → pipe s.una s + (x - s.una) ≤ pipe x s
 pipe_again s x free to =
-    let before : ℕ → Bool = λ y. is_free y s && nat_lt y s.una in
-    let after : ℕ → Bool = λ y. is_free y s && nat_lt y x in
+    let before : ℕ → Bool = λ y. is_unsacked y s && nat_lt y s.una in
+    let after : ℕ → Bool = λ y. is_unsacked y s && nat_lt y x in
     elim (nat_lt s.una x) as (λ t. nat_lt s.una x ≡ t → pipe s.una s + (x - s.una) ≤ pipe x s) [
       | true ↦ λ t.
           let some : s.una < x = lt s.una x t in
@@ -55,21 +55,21 @@ pipe_again s x free to =
     off : (v : Bool) (y a : ℕ) → a ≤ y → (v && nat_lt y a) ≡ false
     off v y a l = grind (arith, nat_tests)
 
-    below : (y : ℕ) → s.una ≤ y → (is_free y s && nat_lt y s.una) ≡ false
-    below y l = off (is_free y s) y s.una l
+    below : (y : ℕ) → s.una ≤ y → (is_unsacked y s && nat_lt y s.una) ≡ false
+    below y l = off (is_unsacked y s) y s.una l
 
     on : (v : Bool) (y a : ℕ) → v ≡ false → y < a → (not v && nat_lt y a) ≡ true
     on v y a e u = grind (arith, nat_tests)
 
-    sent : (y : ℕ) → s.una ≤ y → y < x → (is_free y s && nat_lt y x) ≡ true
+    sent : (y : ℕ) → s.una ≤ y → y < x → (is_unsacked y s && nat_lt y x) ≡ true
     sent y l u = on (contains s.sacked y) y x (free y l u) u
 
-    nothing : x ≤ s.una → size_where (λ y. is_free y s && nat_lt y s.una) s.una s.top ≡ 0
+    nothing : x ≤ s.una → size_where (λ y. is_unsacked y s && nat_lt y s.una) s.una s.top ≡ 0
     nothing n =
-        elim (nat_lt s.una s.top) as (λ t. nat_lt s.una s.top ≡ t → size_where (λ y. is_free y s && nat_lt y s.una) s.una s.top ≡ 0) [
+        elim (nat_lt s.una s.top) as (λ t. nat_lt s.una s.top ≡ t → size_where (λ y. is_unsacked y s && nat_lt y s.una) s.una s.top ≡ 0) [
           | true ↦ λ t.
               let m : s.una < s.top = lt s.una s.top t in
-              size_where-skip (λ y. is_free y s && nat_lt y s.una) s.una s.top s.top (s.top - s.una) (omega arith) (omega arith) (λ y l u. below y l)
-              ∙ size_where-none (λ y. is_free y s && nat_lt y s.una) s.top s.top (omega arith)
-          | false ↦ λ t. size_where-none (λ y. is_free y s && nat_lt y s.una) s.una s.top (ge s.una s.top t)
+              size_where-skip (λ y. is_unsacked y s && nat_lt y s.una) s.una s.top s.top (s.top - s.una) (omega arith) (omega arith) (λ y l u. below y l)
+              ∙ size_where-none (λ y. is_unsacked y s && nat_lt y s.una) s.top s.top (omega arith)
+          | false ↦ λ t. size_where-none (λ y. is_unsacked y s && nat_lt y s.una) s.una s.top (ge s.una s.top t)
         ] refl

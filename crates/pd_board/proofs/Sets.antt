@@ -6,7 +6,7 @@ use Rattle.std.proofs.lemmas.List.Sums.{sum_by-cons, count_by-le-length}
 use Rattle.std.proofs.lemmas.List.FromFn.{length-range_with_len}
 use Rattle.std.proofs.lemmas.Bool.Decides.{nat_tests}
 use Rattle.pd_board.specs.Octets.{contains, interval, octets_where, size_where, begins_run}
-use Rattle.pd_board.specs.Tests.{first_of}
+use Rattle.pd_board.specs.Predicates.{first_of}
 
 here : (a n q : ℕ) (pa pq ih : Bool) → (a ≡ q → pa ≡ pq) → ih ≡ (nat_le (a + 1) q && (nat_lt q (a + 1 + n) && pq)) → (nat_eq a q && pa || ih) ≡ (nat_le a q && (nat_lt q (a + suc n) && pq))
 here a n q pa pq ih same h = grind (arith, nat_tests)

@@ -3,13 +3,13 @@ use Rattle.std.proofs.Common.{◌≡◌, ℕ, ◌+◌, ◌-◌, ◌*◌, ◌<◌
 use Rattle.std.specs.Prelude.{nat_le, nat_lt, nat_eq}
 use Rattle.std.specs.List.{list_any}
 use Rattle.std.proofs.lemmas.Bool.Decides.{nat_tests}
-use Rattle.pd_seg.specs.declared.sack_blocks.Span.{Span}
+use Rattle.pd_seg.specs.declared.sack_spans.Span.{Span}
 use Rattle.pd_board.specs.Octets.{contains, interval, octets_where, size_where, greatest_where, after, begins_run}
-use Rattle.pd_board.specs.Board.{BoardView, IsBoardView, covers, marked, has_new, sent_to, acknowledged}
-use Rattle.pd_board.specs.Loss.{is_lost, is_free, lost_edge, pipe, shows_loss}
+use Rattle.pd_board.specs.Board.{BoardView, IsBoardView, covers, with_sacked_block, has_new, sent_to, acknowledged}
+use Rattle.pd_board.specs.Loss.{is_lost, is_unsacked, lost_edge, pipe, shows_loss}
 use Rattle.pd_board.specs.declared.ranges.Ranges.{Ranges}
 use Rattle.pd_board.specs.Ranges.{IsBoard}
-use Rattle.pd_board.specs.Tests.{first_of, lost_from, pipe_from, edge_from}
+use Rattle.pd_board.specs.Predicates.{first_of, lost_from, pipe_from, edge_from}
 use Rattle.pd_board.proofs.Find.{greatest-same}
 use Rattle.pd_board.proofs.Sets.{lt, ge, cut, contains-octets_where, contains_in, contains_below, octets_where-same, octets_where-longer, any-part, any-same, any-false, size_where-same, size_where-skip, size_where-none, begins_run_in}
 
@@ -95,20 +95,20 @@ module _ (p : ℕ → Bool) (s : BoardView) (shown : s.sacked ≡ octets_where p
 
   pub pipe_is : (high_rxt : ℕ) → pipe high_rxt s ≡ pipe_from p s.una s.top s.smss high_rxt s.una
   pipe_is high_rxt =
-      let free = size_where-same (λ x. is_free x s && not (is_lost x s)) _ s.una s.top (λ x l u i. not (within x l u i) && not (lost_at x l i)) in
-      let again = size_where-same (λ x. is_free x s && nat_lt x high_rxt) _ s.una s.top (λ x l u i. not (within x l u i) && nat_lt x high_rxt) in
+      let free = size_where-same (λ x. is_unsacked x s && not (is_lost x s)) _ s.una s.top (λ x l u i. not (within x l u i) && not (lost_at x l i)) in
+      let again = size_where-same (λ x. is_unsacked x s && nat_lt x high_rxt) _ s.una s.top (λ x l u i. not (within x l u i) && nat_lt x high_rxt) in
       λ i. free i + again i
 
   pub lost_edge_is : s.una ≤ s.top → lost_edge s ≡ edge_from p s.una s.top s.smss
   lost_edge_is l =
       let to : s.top ≡ s.una + (s.top - s.una) = omega arith in
-      ap (λ n. after (greatest_where (λ x. is_free x s && is_lost x s) s.una n)) to
-      ∙ ap after (greatest-same (λ x. is_free x s && is_lost x s) (λ x. not (p x) && lost_from p s.una s.top s.smss (x + 1)) s.una (s.top - s.una)
+      ap (λ n. after (greatest_where (λ x. is_unsacked x s && is_lost x s) s.una n)) to
+      ∙ ap after (greatest-same (λ x. is_unsacked x s && is_lost x s) (λ x. not (p x) && lost_from p s.una s.top s.smss (x + 1)) s.una (s.top - s.una)
       (λ x m u i. not (within x m (omega arith) i) && lost_at x m i))
       ∙ sym (ap (λ n. after (greatest_where (λ x. not (p x) && lost_from p s.una s.top s.smss (x + 1)) s.una n)) to)
 
   pub marked_is : (q : ℕ → Bool) (block : Span) (first : ℕ) → first ≡ max s.una block.start
-      → ((x : ℕ) → q x ≡ (p x || (nat_le first x && nat_lt x block.end))) → record s { sacked = octets_where q s.una s.top } ≡ marked block s
+      → ((x : ℕ) → q x ≡ (p x || (nat_le first x && nat_lt x block.end))) → record s { sacked = octets_where q s.una s.top } ≡ with_sacked_block block s
   marked_is q block first e h =
       ap (λ k. record s { sacked = k }) (octets_where-same _ _ s.una s.top (λ x l u.
       h x ∙ cover x (p x) l ∙ ap (λ was. was || covers block x) (sym (within x l u))))

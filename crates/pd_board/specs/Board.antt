@@ -1,7 +1,7 @@
 -- What a scoreboard holds, and how its calls change it.
 use Rattle.std.specs.Prelude.{◌≡◌, ℕ, ◌+◌, ◌^◌, ◌≤◌, ◌<◌, max, Bool, true, false, ◌&&◌, ◌||◌, not, nat_le, nat_lt, [], unwrap_or}
 use Rattle.std.specs.List.{list_any}
-use Rattle.pd_seg.specs.declared.sack_blocks.Span.{Span}
+use Rattle.pd_seg.specs.declared.sack_spans.Span.{Span}
 use Rattle.pd_board.specs.Octets.{Octets, contains, interval, octets_where, least_where}
 
 -- the numbers that a sender sends by, and what of it the peer has (RFC 9293, section 3.3.1; RFC 6675, section 3)
@@ -19,7 +19,7 @@ pub record BoardView : Type 0 where
   -- the octets from una on and below top that SACK blocks told
   pub sacked : Octets
   -- whether a call has found no memory
-  pub exhausted : Bool
+  pub out_of_memory : Bool
 
 -- what holds of every scoreboard: the order of its numbers, their ranges, and where SACKed octets lie
 pub record IsBoardView (s : BoardView) : Type 0 where
@@ -34,7 +34,7 @@ pub record IsBoardView (s : BoardView) : Type 0 where
 
 -- once the SYN/ACK is sent, which has number 0: nothing else is queued
 abbrev pub opened : ℕ → BoardView
-opened smss = record { smss = smss; una = 0; next = 1; top = 1; end = 1; sacked = []; exhausted = false }
+opened smss = record { smss = smss; una = 0; next = 1; top = 1; end = 1; sacked = []; out_of_memory = false }
 
 -- n octets more are queued
 abbrev pub written : ℕ → BoardView → BoardView
@@ -53,21 +53,21 @@ abbrev pub covers : Span → ℕ → Bool
 covers block x = nat_le block.start x && nat_lt x block.end
 
 -- the octets of a block from una on are SACKed too (RFC 2018, section 5)
-abbrev pub marked : Span → BoardView → BoardView
-marked block s = record s { sacked = octets_where (λ x. contains s.sacked x || covers block x) s.una s.top }
+abbrev pub with_sacked_block : Span → BoardView → BoardView
+with_sacked_block block s = record s { sacked = octets_where (λ x. contains s.sacked x || covers block x) s.una s.top }
 
 -- a block has an octet from una on that wasn't SACKed
 abbrev pub has_new : Span → BoardView → Bool
 has_new block s = list_any (λ x. covers block x && not (contains s.sacked x)) (interval s.una s.top)
 
 -- no octet is SACKed (RFC 2018, section 5: after a timeout)
-abbrev pub unmarked : BoardView → BoardView
-unmarked s = record s { sacked = [] }
+abbrev pub with_none_sacked : BoardView → BoardView
+with_none_sacked s = record s { sacked = [] }
 
 -- sending goes on after the SACKed octets that it is at, at top at most
-abbrev pub skipped : BoardView → BoardView
-skipped s = record s { next = unwrap_or (least_where (λ x. not (contains s.sacked x)) s.next s.top) s.top }
+abbrev pub past_sacked_octets : BoardView → BoardView
+past_sacked_octets s = record s { next = unwrap_or (least_where (λ x. not (contains s.sacked x)) s.next s.top) s.top }
 
 -- a call has found no memory
 abbrev pub without_memory : BoardView → BoardView
-without_memory s = record s { exhausted = true }
+without_memory s = record s { out_of_memory = true }

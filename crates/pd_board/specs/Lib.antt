@@ -2,8 +2,8 @@
 pub mod Octets
 pub mod Board
 pub mod Loss
-pub mod Choice
+pub mod Retransmit
 pub mod Laws
-pub mod Tests
+pub mod Predicates
 pub mod Runs
 pub mod Ranges

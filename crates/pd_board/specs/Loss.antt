@@ -28,8 +28,8 @@ abbrev pub is_lost : ℕ → BoardView → Bool
 is_lost x s = shows_loss s.smss (runs_above x s) (sacked_above x s)
 
 -- x isn't SACKed
-abbrev pub is_free : ℕ → BoardView → Bool
-is_free x s = not (contains s.sacked x)
+abbrev pub is_unsacked : ℕ → BoardView → Bool
+is_unsacked x s = not (contains s.sacked x)
 
 -- how many octets that were sent are neither acknowledged nor SACKed
 abbrev pub undelivered : BoardView → ℕ
@@ -37,10 +37,10 @@ undelivered s = s.top - s.una - sacked_octets s
 
 -- the number after the highest octet that isn't SACKed and is lost, 0 where there is none
 abbrev pub lost_edge : BoardView → ℕ
-lost_edge s = after (greatest_where (λ x. is_free x s && is_lost x s) s.una s.top)
+lost_edge s = after (greatest_where (λ x. is_unsacked x s && is_lost x s) s.una s.top)
 
 -- Pipe: of the octets that aren't SACKed, one for each that isn't lost and one for each below HighRxt
 abbrev pub pipe : ℕ → BoardView → ℕ
 pipe high_rxt s =
-    size_where (λ x. is_free x s && not (is_lost x s)) s.una s.top
-    + size_where (λ x. is_free x s && nat_lt x high_rxt) s.una s.top
+    size_where (λ x. is_unsacked x s && not (is_lost x s)) s.una s.top
+    + size_where (λ x. is_unsacked x s && nat_lt x high_rxt) s.una s.top

@@ -1,7 +1,7 @@
 -- What a board keeps of ranges, and what private contracts say of them.
 use Rattle.std.specs.Prelude.{◌≡◌, ℕ, ◌+◌, ◌-◌, ◌^◌, ◌<◌, ◌≤◌, min, max, cond, Bool, ◌&&◌, ◌||◌, nat_le, nat_lt, true, List, [], ◌∷◌, length}
 use Rattle.std.specs.List.{sum_by}
-use Rattle.pd_seg.specs.declared.sack_blocks.Span.{Span}
+use Rattle.pd_seg.specs.declared.sack_spans.Span.{Span}
 use Rattle.pd_board.specs.declared.ranges.Ranges.{Ranges}
 use Rattle.pd_board.specs.Loss.{shows_loss}
 use Rattle.pd_board.specs.Runs.{among, Between}
@@ -40,14 +40,14 @@ pub record Merging (una top from to : ℕ) (all out rest : List Span) (start end
   pub octets : (x : ℕ) → (among out x || ((nat_le start x && nat_lt x end) || among rest x)) ≡ (among all x || (nat_le from x && nat_lt x to))
 
 -- while ranges are searched from a place on: those left out end below it, and an octet before edge isn't in the rest
-pub record Ahead (place b : ℕ) (all rest : List Span) : Type 0 where
+pub record Searching (place b : ℕ) (all rest : List Span) : Type 0 where
   pub edge : ℕ
   pub near : edge ≤ place
   pub apart : Between edge rest b
   pub same : (x : ℕ) → edge ≤ x + 1 → among all x ≡ among rest x
 
 -- while the last octet is searched: end is after the last one so far
-pub record Last (from to end : ℕ) (all rest : List Span) : Type 0 where
+pub record SearchingLast (from to end : ℕ) (all rest : List Span) : Type 0 where
   pub low : from ≤ end
   pub high : end ≤ to
   pub after : (x : ℕ) → end ≤ x → x < to → among all x ≡ among rest x
@@ -58,9 +58,9 @@ abbrev pub gap : ℕ → ℕ → ℕ → ℕ → ℕ → ℕ → ℕ
 gap smss high runs octets i s = cond (shows_loss smss runs octets) 0 (s - i) + (min high s - i)
 
 -- what is on the way from i on, over the ranges there
-abbrev pub way : ℕ → ℕ → ℕ → ℕ → List Span → ℕ
-way smss high top i [] = gap smss high 0 0 i top
-way smss high top i (r ∷ rs) = gap smss high (length rs + 1) (r.end - r.start + octets_in rs) i r.start + way smss high top r.end rs
+abbrev pub pipe_over : ℕ → ℕ → ℕ → ℕ → List Span → ℕ
+pipe_over smss high top i [] = gap smss high 0 0 i top
+pipe_over smss high top i (r ∷ rs) = gap smss high (length rs + 1) (r.end - r.start + octets_in rs) i r.start + pipe_over smss high top r.end rs
 
 -- the number after the last lost octet of the gaps between i and the ranges there, and e where there is none
 abbrev pub edge_over : ℕ → ℕ → ℕ → List Span → ℕ

@@ -1,13 +1,13 @@
 //! The scoreboard of a sender.
 ghost use Rattle.std.specs.Prelude.{◌≡◌, ◌+◌, ◌≤◌, ◌<◌, ◌^◌, true, false, IfOk, OnOk, OnErr, IsErr, ◌↔◌};
-ghost use Rattle.pd_board.specs.Board.{IsBoardView, opened, written, sent_to, acknowledged, marked, has_new, unmarked, skipped, without_memory};
+ghost use Rattle.pd_board.specs.Board.{IsBoardView, opened, written, sent_to, acknowledged, with_sacked_block, has_new, with_none_sacked, past_sacked_octets, without_memory};
 ghost use Rattle.pd_board.specs.Loss.{is_lost, pipe, sacked_octets, undelivered, lost_edge, sacked_above, runs_above};
-ghost use Rattle.pd_board.specs.Choice.{run_at, next_lost, next_hole, rescue};
+ghost use Rattle.pd_board.specs.Retransmit.{run_at, next_lost, next_hole, rescue};
 ghost use Rattle.pd_board.specs.Runs.{AreRuns};
 
-use crate::counts::{
-    Above, after_last_free, after_last_marked, count_above, count_pipe, first_free, first_marked,
-    lost_edge,
+use crate::queries::{
+    SackedAbove, after_last_sacked, after_last_unsacked, count_above, count_pipe, first_sacked,
+    first_unsacked, lost_edge,
 };
 use crate::ranges::Ranges;
 use pd_seg::Span;
@@ -33,7 +33,7 @@ pub struct Board {
     /// The octets from `una` on and below `top` that SACK blocks told (RFC 6675, section 3).
     ranges: Ranges,
     /// Whether a call has found no memory.
-    exhausted: bool,
+    out_of_memory: bool,
 }
 
 impl Model for Board {
@@ -43,7 +43,7 @@ impl Model for Board {
 
     ghost Value = { BoardView };
 
-    ghost view = { λ b. record { smss = b.smss; una = b.una; next = b.next; top = b.top; end = b.end; sacked = octets_where (in_ranges b.ranges) b.una b.top; exhausted = b.exhausted } };
+    ghost view = { λ b. record { smss = b.smss; una = b.una; next = b.next; top = b.top; end = b.end; sacked = octets_where (in_ranges b.ranges) b.una b.top; out_of_memory = b.out_of_memory } };
 
     ghost invariant = { λ b. IsBoard b.smss b.una b.next b.top b.end b.ranges };
 }
@@ -62,12 +62,12 @@ impl Board {
             top: 1,
             end: 1,
             ranges: Ranges::new(alloc),
-            exhausted: false,
+            out_of_memory: false,
         }
     }
 
     /// What is so of all scoreboards: their numbers are in order and lie in their ranges. It does nothing.
-    pub fn facts(&self)
+    pub fn law_invariant(&self)
         ensures { IsBoardView self.now }
     {
         let _smss = self.smss();
@@ -130,9 +130,9 @@ impl Board {
         requires high { x ≤ self.old.end }
         ensures ok { OnOk result (self.new ≡ sent_to x self.old) }
         ensures err { OnErr result (self.new ≡ self.old) }
-        ensures again { IsErr result ↔ (self.old.exhausted ≡ true) }
+        ensures again { IsErr result ↔ (self.old.out_of_memory ≡ true) }
     {
-        if self.exhausted {
+        if self.out_of_memory {
             return Err(AllocError);
         }
         self.next = x;
@@ -158,12 +158,12 @@ impl Board {
     /// Want of memory: nothing more is SACKed then, and later calls answer it too.
     pub fn mark(&mut self, block: Span) -> Result<bool, AllocError>
         requires { block.end ≤ self.old.top }
-        ensures ok { OnOk result (self.new ≡ marked block self.old) }
+        ensures ok { OnOk result (self.new ≡ with_sacked_block block self.old) }
         ensures new { IfOk result (λ new. new ≡ has_new block self.old) }
         ensures err { OnErr result (self.new ≡ without_memory self.old) }
-        ensures again { self.old.exhausted ≡ true → IsErr result }
+        ensures again { self.old.out_of_memory ≡ true → IsErr result }
     {
-        if self.exhausted {
+        if self.out_of_memory {
             return Err(AllocError);
         }
         let first = self.una.max(block.start);
@@ -172,14 +172,14 @@ impl Board {
         }
         let inserted = self.ranges.insert(first, block.end);
         if inserted.is_err() {
-            self.exhausted = true;
+            self.out_of_memory = true;
         }
         inserted
     }
 
     /// Nothing is SACKed any more (RFC 2018, section 5).
     pub fn clear_marks(&mut self)
-        ensures { self.new ≡ unmarked self.old }
+        ensures { self.new ≡ with_none_sacked self.old }
     {
         self.ranges.clear();
     }
@@ -192,10 +192,10 @@ impl Board {
     }
 
     /// Moves `next` up past octets that are SACKed.
-    pub fn skip_marked(&mut self)
-        ensures { self.new ≡ skipped self.old }
+    pub fn skip_sacked(&mut self)
+        ensures { self.new ≡ past_sacked_octets self.old }
     {
-        self.next = first_free(&self.ranges, self.next, self.top);
+        self.next = first_unsacked(&self.ranges, self.next, self.top);
     }
 
     /// The octets to send again from `x`: up to the next SACKed one, SMSS octets at most, up to `top` at most. There
@@ -208,7 +208,7 @@ impl Board {
         let most = (x + u32::from(self.smss)).min(self.top);
         Span {
             start: x,
-            end: first_marked(&self.ranges, x, most),
+            end: first_sacked(&self.ranges, x, most),
         }
     }
 
@@ -221,11 +221,11 @@ impl Board {
             return false;
         }
         let first = self.una.max(x + 1);
-        count_above(&self.ranges, self.una, first, self.top).makes_lost(self.smss)
+        count_above(&self.ranges, self.una, first, self.top).shows_loss(self.smss)
     }
 
     /// How many SACKed octets lie above `x`, and how many runs of them wholly above it (RFC 6675, section 4, IsLost).
-    pub fn above(&self, x: u32) -> Above
+    pub fn above(&self, x: u32) -> SackedAbove
         requires low { self.now.una ≤ x }
         requires high { x ≤ self.now.top }
         ensures octets { result.octets ≡ sacked_above x self.now }
@@ -274,8 +274,8 @@ impl Board {
         if from >= self.top {
             return None;
         }
-        let x = first_free(&self.ranges, from, self.top);
-        if first_marked(&self.ranges, x, self.top) < self.top {
+        let x = first_unsacked(&self.ranges, from, self.top);
+        if first_sacked(&self.ranges, x, self.top) < self.top {
             Some(x)
         } else {
             None
@@ -295,12 +295,12 @@ impl Board {
     pub fn rescue(&self) -> Option<Span>
         ensures { result ≡ rescue self.now }
     {
-        let end = after_last_free(&self.ranges, self.una, self.top);
+        let end = after_last_unsacked(&self.ranges, self.una, self.top);
         if end == self.una {
             return None;
         }
         let low = self.una.max(end.saturating_sub(u32::from(self.smss)));
-        let start = after_last_marked(&self.ranges, low, end - 1);
+        let start = after_last_sacked(&self.ranges, low, end - 1);
         Some(Span { start, end })
     }
 
@@ -310,9 +310,9 @@ impl Board {
     /// Want of memory, also where a call before has found none.
     pub fn copy(&self) -> Result<Board, AllocError>
         ensures ok { IfOk result (λ copy. copy ≡ self.now) }
-        ensures again { self.now.exhausted ≡ true → IsErr result }
+        ensures again { self.now.out_of_memory ≡ true → IsErr result }
     {
-        if self.exhausted {
+        if self.out_of_memory {
             return Err(AllocError);
         }
         Ok(Board {
@@ -322,7 +322,7 @@ impl Board {
             top: self.top,
             end: self.end,
             ranges: self.ranges.copy()?,
-            exhausted: false,
+            out_of_memory: false,
         })
     }
 }

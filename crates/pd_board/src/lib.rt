@@ -22,17 +22,17 @@
 //! - No octet or segment has a mark that says that it is lost. That is counted from the runs when
 //!   it is asked, so no mark can be out of date; the module `counts` has these passes. What was
 //!   sent again is one number, HighRxt, which the caller keeps.
-//! - What lies below a lost octet is lost, whatever was SACKed (the law `losses_are_lawful`). So
+//! - What lies below a lost octet is lost, whatever was SACKed (the law `law_losses`). So
 //!   one number, `lost_edge`, says all that is lost.
 //! - A board that finds no memory keeps its numbers and refuses the call, and from then on each
 //!   call that may fail, since without the block that was left out the rules would count wrongly.
 #![tactic(auto)]
 
 mod board;
-mod counts;
 mod laws;
+mod queries;
 mod ranges;
 
 pub use board::Board;
-pub use counts::{Above, DUP_THRESH};
-pub use laws::losses_are_lawful;
+pub use laws::law_losses;
+pub use queries::{DUP_THRESH, SackedAbove};

@@ -9,27 +9,27 @@ use Rattle.std.specs.Prelude.{nat_le}
 use Rattle.pd_text.specs.Edit.{edited, edit_refusal}
 use Rattle.pd_text.specs.Text.{AreLines}
 use Rattle.pd_text.specs.declared.line_edit.LineEdit.{LineEdit}
-use Rattle.pd_settings.specs.declared.fields.Settings.{Settings}
+use Rattle.pd_settings.specs.declared.settings.Settings.{Settings}
 use Rattle.pd_book.specs.declared.act.Act.{Act}
 use Rattle.pd_book.specs.declared.act.Act.TheVariants.{Edit, Start, Finish, Abandon}
 use Rattle.pd_book.specs.declared.act.Ruling.{Ruling}
 use Rattle.pd_book.specs.declared.faults.BookFault.TheVariants.{HistoryFull}
-use Rattle.pd_book.specs.declared.script.Script.{Script}
-use Rattle.pd_book.specs.declared.script.State.TheVariants.{Pending, Running}
+use Rattle.pd_book.specs.declared.stored_script.StoredScript.{StoredScript}
+use Rattle.pd_book.specs.declared.stored_script.ScriptState.TheVariants.{Pending, Running}
 use Rattle.pd_track.specs.declared.task.Task.{Task}
 use Rattle.pd_book.specs.Acts.{texts, text_of, now, without, jobs, job, started, next, ruling}
-use Rattle.pd_book.specs.Legal.{May}
-use Rattle.pd_book.specs.Story.{Story}
+use Rattle.pd_book.specs.Legal.{MayBeRecorded}
+use Rattle.pd_book.specs.History.{History}
 use Rattle.pd_book.specs.Faults.{of_text}
 use Rattle.pd_book.specs.Refusals.{taken_room, full, text_refusal}
-use Rattle.pd_book.specs.Kept.{Entry, with_state, with_edit}
-use Rattle.pd_book.specs.Replay.{scripts_of, settle, give_up, IsReplay}
-use Rattle.pd_book.proofs.Named.{set_named}
+use Rattle.pd_book.specs.StoredScripts.{ScriptEntry, with_state, with_edit}
+use Rattle.pd_book.specs.Replay.{scripts_of, settle, make_pending, IsReplay}
+use Rattle.pd_book.proofs.NamedText.{set_named}
 use Rattle.pd_book.proofs.Faithful.{lookup-kept}
 use Rattle.pd_book.proofs.Replayed.{next_text}
 
 -- where there is room for so many more
-pub has_room : (m : ℕ) (s : Story) → full m s ≡ None → taken_room s + m ≤ 65536
+pub has_room : (m : ℕ) (s : History) → full m s ≡ None → taken_room s + m ≤ 65536
 has_room m s h = leb-true (taken_room s + m) 65536 (go (nat_le (taken_room s + m) 65536) h)
   where
     go : (b : Bool) → cond b None (Some HistoryFull) ≡ None → b ≡ true
@@ -37,8 +37,8 @@ has_room m s h = leb-true (taken_room s + m) 65536 (go (nat_le (taken_room s + m
     go false k = absurd cc
 
 -- one more act that starts and ends no job
-pub recorded : (opening : Settings) (past past' : List Act) (current current' : Settings) (kept kept' : List Entry) (tasks : List Task) (count cap cap' : ℕ) (a : Act)
-    → IsReplay opening past current kept tasks count cap → May opening past a
+pub recorded : (opening : Settings) (past past' : List Act) (current current' : Settings) (kept kept' : List ScriptEntry) (tasks : List Task) (count cap cap' : ℕ) (a : Act)
+    → IsReplay opening past current kept tasks count cap → MayBeRecorded opening past a
     → jobs opening (a ∷ past) ≡ jobs opening past → started (a ∷ past) ≡ started past
     → current' ≡ now opening (a ∷ past) → kept' ≡ scripts_of opening (a ∷ past) → past' ≡ a ∷ past
     → length past + length tasks + 1 ≤ 65536 → length past + length tasks + 1 ≤ cap'
@@ -48,7 +48,7 @@ recorded opening past past' current current' kept kept' tasks count cap cap' a r
       settings = cs;
       scripts = ks;
       tasks = r.tasks ∙ sym js;
-      numbers = r.numbers ∙ sym ns;
+      last_number = r.last_number ∙ sym ns;
       legal = (may, r.legal, omega (arith, few, ap length js, ap length r.tasks));
       room = omega (arith, big);
       few = omega (arith, few);
@@ -60,28 +60,28 @@ no_fault f None h = refl
 no_fault f (Some x) h = absurd cc
 
 -- the book after an edit
-pub edit_kept : (opening : Settings) (past past' : List Act) (current : Settings) (kept kept' : List Entry) (tasks : List Task) (count cap cap' : ℕ) (n : List ℕ) (d : LineEdit) (t : List (List ℕ))
+pub edit_kept : (opening : Settings) (past past' : List Act) (current : Settings) (kept kept' : List ScriptEntry) (tasks : List Task) (count cap cap' : ℕ) (n : List ℕ) (d : LineEdit) (t : List (List ℕ))
     → IsReplay opening past current kept tasks count cap → text_refusal (lookup (bytes_eq n) (texts past)) d ≡ None → AreLines d.insert → t ≡ edited (text_of past n) d
-    → kept' ≡ option_map_or (λ (s : Script). set_value (bytes_eq n) kept (record { text = t; state = Pending })) (lookup (bytes_eq n) kept) kept → IsDistinct bytes_eq (keys_of kept)
+    → kept' ≡ option_map_or (λ (s : StoredScript). set_value (bytes_eq n) kept (record { text = t; state = Pending })) (lookup (bytes_eq n) kept) kept → IsDistinct bytes_eq (keys_of kept)
     → past' ≡ Edit n d ∷ past → length past + length tasks + 1 ≤ 65536 → length past + length tasks + 1 ≤ cap'
     → IsReplay opening past' current kept' tasks count cap'
 edit_kept opening past past' current kept kept' tasks count cap cap' n d t r allowed lines te w distinct p few big = go (lookup (bytes_eq n) kept) refl
   where
-    found : lookup (bytes_eq n) (texts past) ≡ option_map (λ (s : Script). s.text) (lookup (bytes_eq n) kept)
-    found = lookup-kept (bytes_eq n) opening past ∙ ap (λ (es : List Entry). option_map (λ (s : Script). s.text) (lookup (bytes_eq n) es)) (sym r.scripts)
+    found : lookup (bytes_eq n) (texts past) ≡ option_map (λ (s : StoredScript). s.text) (lookup (bytes_eq n) kept)
+    found = lookup-kept (bytes_eq n) opening past ∙ ap (λ (es : List ScriptEntry). option_map (λ (s : StoredScript). s.text) (lookup (bytes_eq n) es)) (sym r.scripts)
 
-    go : (o : Option Script) → lookup (bytes_eq n) kept ≡ o → IsReplay opening past' current kept' tasks count cap'
+    go : (o : Option StoredScript) → lookup (bytes_eq n) kept ≡ o → IsReplay opening past' current kept' tasks count cap'
     go None q =
-        let none : lookup (bytes_eq n) (texts past) ≡ None = found ∙ ap (option_map (λ (s : Script). s.text)) q in
+        let none : lookup (bytes_eq n) (texts past) ≡ None = found ∙ ap (option_map (λ (s : StoredScript). s.text)) q in
         let bad : text_refusal None d ≡ None = rw none at allowed in absurd cc
     go (Some s) q =
-        let here : lookup (bytes_eq n) (texts past) ≡ Some s.text = found ∙ ap (option_map (λ (x : Script). x.text)) q in
+        let here : lookup (bytes_eq n) (texts past) ≡ Some s.text = found ∙ ap (option_map (λ (x : StoredScript). x.text)) q in
         let may : text_refusal (Some s.text) d ≡ None = rw here at allowed in
         let is : text_of past n ≡ s.text = ap (λ (o : Option (List (List ℕ))). unwrap_or o []) here in
         let text : t ≡ edited s.text d = te ∙ ap (λ (x : List (List ℕ)). edited x d) is in
-        let f : Script → Script = λ x. record { text = edited x.text d; state = Pending } in
+        let f : StoredScript → StoredScript = λ x. record { text = edited x.text d; state = Pending } in
         let one : kept' ≡ set_value (bytes_eq n) kept (record { text = t; state = Pending }) =
-        w ∙ ap (λ (o : Option Script). option_map_or (λ (x : Script). set_value (bytes_eq n) kept (record { text = t; state = Pending })) o kept) q in
+        w ∙ ap (λ (o : Option StoredScript). option_map_or (λ (x : StoredScript). set_value (bytes_eq n) kept (record { text = t; state = Pending })) o kept) q in
         let two : set_value (bytes_eq n) kept (record { text = t; state = Pending }) ≡ set_value (bytes_eq n) kept (f s) = ap (λ (x : List (List ℕ)). set_value (bytes_eq n) kept (record { text = x; state = Pending })) text in
         recorded opening past past' current current kept kept' tasks count cap cap' (Edit n d) r
         (ap is_some here, ap (λ (x : List (List ℕ)). edit_refusal x d) is ∙ no_fault of_text (edit_refusal s.text d) may, lines)
@@ -90,7 +90,7 @@ edit_kept opening past past' current kept kept' tasks count cap cap' n d t r all
         p few big
 
 -- the book after a start
-start_replays : (opening : Settings) (past : List Act) (current : Settings) (kept : List Entry) (tasks : List Task) (count cap cap' : ℕ) (n : List ℕ) (t : List (List ℕ))
+start_replays : (opening : Settings) (past : List Act) (current : Settings) (kept : List ScriptEntry) (tasks : List Task) (count cap cap' : ℕ) (n : List ℕ) (t : List (List ℕ))
     → IsReplay opening past current kept tasks count cap → next past ≡ Some (n, t) → length past + length tasks + 2 ≤ cap' → length past + length tasks + 2 ≤ 65536
     → IsReplay opening (Start (count + 1) n ∷ past) current (with_state (bytes_eq n) (Running (count + 1)) kept) (tasks ++ record { number = count + 1; name = n; text = t; settings = current } ∷ []) (count + 1) cap'
 start_replays opening past current kept tasks count cap cap' n t r h big few =
@@ -100,9 +100,9 @@ start_replays opening past current kept tasks count cap cap' n t r h big few =
       settings = r.settings;
       scripts = ap (with_state (bytes_eq n) (Running (count + 1))) r.scripts;
       tasks = same;
-      numbers = ap (λ (x : ℕ). x + 1) r.numbers;
+      last_number = ap (λ (x : ℕ). x + 1) r.last_number;
       legal = (
-        (ap (λ (x : ℕ). x + 1) r.numbers, h ∙ ap (λ (x : List (List ℕ)). Some (n, x)) (sym text)),
+        (ap (λ (x : ℕ). x + 1) r.last_number, h ∙ ap (λ (x : List (List ℕ)). Some (n, x)) (sym text)),
         r.legal,
         omega (arith, few, length-append tasks (new ∷ []), ap length same),
       );
@@ -114,13 +114,13 @@ start_replays opening past current kept tasks count cap cap' n t r h big few =
 abbrev task_with : ℕ → List ℕ → List (List ℕ) → Settings → Task
 task_with j n t s = record { number = j; name = n; text = t; settings = s }
 
-pub start_kept : (opening : Settings) (past past' : List Act) (current : Settings) (kept kept' : List Entry) (tasks tasks' : List Task) (count count' cap cap' : ℕ) (j : Task) (a : Act)
+pub start_kept : (opening : Settings) (past past' : List Act) (current : Settings) (kept kept' : List ScriptEntry) (tasks tasks' : List Task) (count count' cap cap' : ℕ) (j : Task) (a : Act)
     → IsReplay opening past current kept tasks count cap → next past ≡ Some (j.name, j.text) → j.number ≡ started past + 1 → j.settings ≡ now opening past → a ≡ Start j.number j.name
     → past' ≡ a ∷ past → kept' ≡ with_state (bytes_eq j.name) (Running j.number) kept → tasks' ≡ tasks ++ j ∷ [] → count' ≡ j.number
     → length past + length tasks + 2 ≤ cap' → length past + length tasks + 2 ≤ 65536
     → IsReplay opening past' current kept' tasks' count' cap'
 start_kept opening past past' current kept kept' tasks tasks' count count' cap cap' j a r h ns ss ais p k hs n big few =
-    let num : j.number ≡ count + 1 = ns ∙ ap (λ (x : ℕ). x + 1) (sym r.numbers) in
+    let num : j.number ≡ count + 1 = ns ∙ ap (λ (x : ℕ). x + 1) (sym r.last_number) in
     let set : j.settings ≡ current = ss ∙ sym r.settings in
     let whole : j ≡ record { number = count + 1; name = j.name; text = j.text; settings = current } =
     ap (λ (x : ℕ). task_with x j.name j.text j.settings) num ∙ ap (λ (x : Settings). task_with (count + 1) j.name j.text x) set in
@@ -145,8 +145,8 @@ fewer j (x ∷ tasks) h e = go (j == x.number) e (fewer j tasks h) (no_more task
     go false w f m = let s = f w in omega (arith, s)
 
 -- the book after the end of a job
-ended_kept : (opening : Settings) (past past' : List Act) (current : Settings) (kept kept' : List Entry) (tasks tasks' : List Task) (count cap cap' : ℕ) (h : Task) (j : ℕ) (a : Act)
-    → IsReplay opening past current kept tasks count cap → job opening past j ≡ Some h → May opening past a
+ended_kept : (opening : Settings) (past past' : List Act) (current : Settings) (kept kept' : List ScriptEntry) (tasks tasks' : List Task) (count cap cap' : ℕ) (h : Task) (j : ℕ) (a : Act)
+    → IsReplay opening past current kept tasks count cap → job opening past j ≡ Some h → MayBeRecorded opening past a
     → now opening (a ∷ past) ≡ now opening past → jobs opening (a ∷ past) ≡ without j (jobs opening past) → started (a ∷ past) ≡ started past
     → past' ≡ a ∷ past → kept' ≡ scripts_of opening (a ∷ past) → tasks' ≡ without j tasks → cap ≤ cap'
     → IsReplay opening past' current kept' tasks' count cap'
@@ -157,14 +157,14 @@ ended_kept opening past past' current kept kept' tasks tasks' count cap cap' h j
       settings = re.settings ∙ sym ws;
       scripts = ks;
       tasks = same;
-      numbers = re.numbers ∙ sym ns;
+      last_number = re.last_number ∙ sym ns;
       legal = (may, re.legal, omega (arith, less, re.few, ap length same));
       room = omega (arith, less, re.room, big);
       few = omega (arith, less, re.few);
       numbered = omega (arith, re.numbered, ns);
     }
 
-pub finish_kept : (opening : Settings) (past past' : List Act) (current : Settings) (kept kept' : List Entry) (tasks tasks' : List Task) (count cap cap' : ℕ) (h : Task) (r : Ruling)
+pub finish_kept : (opening : Settings) (past past' : List Act) (current : Settings) (kept kept' : List ScriptEntry) (tasks tasks' : List Task) (count cap cap' : ℕ) (h : Task) (r : Ruling)
     → IsReplay opening past current kept tasks count cap → job opening past h.number ≡ Some h → r ≡ ruling past h
     → past' ≡ Finish h.number r ∷ past → kept' ≡ settle r (Some h) kept → tasks' ≡ without h.number tasks → cap ≤ cap'
     → IsReplay opening past' current kept' tasks' count cap'
@@ -172,10 +172,10 @@ finish_kept opening past past' current kept kept' tasks tasks' count cap cap' h 
     ended_kept opening past past' current kept kept' tasks tasks' count cap cap' h h.number (Finish h.number r) re j (h, j, ok) refl refl refl p
     (k ∙ (ap (settle r (Some h)) re.scripts ∙ ap (λ (o : Option Task). settle r o (scripts_of opening past)) (sym j))) hs big
 
-pub abandon_kept : (opening : Settings) (past past' : List Act) (current : Settings) (kept kept' : List Entry) (tasks tasks' : List Task) (count cap cap' : ℕ) (h : Task) (j : ℕ)
+pub abandon_kept : (opening : Settings) (past past' : List Act) (current : Settings) (kept kept' : List ScriptEntry) (tasks tasks' : List Task) (count cap cap' : ℕ) (h : Task) (j : ℕ)
     → IsReplay opening past current kept tasks count cap → job opening past j ≡ Some h
-    → past' ≡ Abandon j ∷ past → kept' ≡ give_up (Some h) kept → tasks' ≡ without j tasks → cap ≤ cap'
+    → past' ≡ Abandon j ∷ past → kept' ≡ make_pending (Some h) kept → tasks' ≡ without j tasks → cap ≤ cap'
     → IsReplay opening past' current kept' tasks' count cap'
 abandon_kept opening past past' current kept kept' tasks tasks' count cap cap' h j re found p k hs big =
     ended_kept opening past past' current kept kept' tasks tasks' count cap cap' h j (Abandon j) re found (h, found) refl refl refl p
-    (k ∙ (ap (give_up (Some h)) re.scripts ∙ ap (λ (o : Option Task). give_up o (scripts_of opening past)) (sym found))) hs big
+    (k ∙ (ap (make_pending (Some h)) re.scripts ∙ ap (λ (o : Option Task). make_pending o (scripts_of opening past)) (sym found))) hs big

@@ -3,18 +3,18 @@ use Rattle.std.proofs.Common.{◌≡◌, ℕ, ◌==◌, List, ◌∷◌, Some, i
 use Rattle.std.specs.Str.{bytes_eq}
 use Rattle.std.proofs.lemmas.Slice.Eq.{bytes_eq-Decides}
 use Rattle.std.proofs.lemmas.Bool.Decides.{Decides-eqb}
-use Rattle.pd_settings.specs.declared.fields.Settings.{Settings}
+use Rattle.pd_settings.specs.declared.settings.Settings.{Settings}
 use Rattle.pd_run.specs.Run.{verdict_of}
 use Rattle.pd_book.specs.declared.act.Act.{Act}
 use Rattle.pd_book.specs.declared.act.Act.TheVariants.{Finish, Abandon}
 use Rattle.pd_book.specs.declared.act.Ruling.{Ruling}
 use Rattle.pd_book.specs.declared.act.Ruling.TheVariants.{Taken, Stale}
-use Rattle.pd_book.specs.declared.script.State.{State}
-use Rattle.pd_book.specs.declared.script.State.TheVariants.{Pending, Running, Answered}
+use Rattle.pd_book.specs.declared.stored_script.ScriptState.{ScriptState}
+use Rattle.pd_book.specs.declared.stored_script.ScriptState.TheVariants.{Pending, Running, Answered}
 use Rattle.pd_track.specs.declared.task.Task.{Task}
-use Rattle.pd_book.specs.Acts.{stands, since, finished, ended, job, jobs, is_unchanged}
+use Rattle.pd_book.specs.Acts.{has_script, since, finished, ended, job, jobs, is_unchanged}
 use Rattle.pd_book.specs.Legal.{Legal}
-use Rattle.pd_book.specs.Kept.{Entry, in_state}
+use Rattle.pd_book.specs.StoredScripts.{ScriptEntry, in_state}
 use Rattle.pd_book.proofs.Searches.{find_filter, apart, differs}
 use Rattle.pd_book.proofs.Faithful.{bytes_refl}
 use Rattle.pd_book.proofs.Stretches.{NoStart, sub, up, both, or_both}
@@ -61,10 +61,10 @@ no_other past k i n xs o far h =
     and_true false c h = refl
 
 -- an end of a job that isn't the script's
-other_finish : (opening : Settings) (past : List Act) (k : ℕ) (r : Ruling) → ended past k ≡ false → (e : Entry) → began past e.0 k ≡ false → Stands opening past e → Stands opening (Finish k r ∷ past) e
+other_finish : (opening : Settings) (past : List Act) (k : ℕ) (r : Ruling) → ended past k ≡ false → (e : ScriptEntry) → began past e.0 k ≡ false → Stands opening past e → Stands opening (Finish k r ∷ past) e
 other_finish opening past k r o e f h = (h.0, by e.1.state h.1)
   where
-    by : (st : State) → At opening past e.0 e.1.text st → At opening (Finish k r ∷ past) e.0 e.1.text st
+    by : (st : ScriptState) → At opening past e.0 e.1.text st → At opening (Finish k r ∷ past) e.0 e.1.text st
     by Pending a = (both (λ j. j == k) (finished past) e.0 (since e.0 past) f a.0, sub _ _ e.0 (since e.0 past) (λ j q. not_or (j == k) _ q) a.1)
     by (Running i) a =
         let far : i ≡ k → ⊥ = λ w. let bad : began past e.0 k ≡ true = rw (← w) a.1 in cc in (
@@ -80,10 +80,10 @@ other_finish opening past k r o e f h = (h.0, by e.1.state h.1)
       a.2,
     )
 
-other_abandon : (opening : Settings) (past : List Act) (k : ℕ) → ended past k ≡ false → (e : Entry) → began past e.0 k ≡ false → Stands opening past e → Stands opening (Abandon k ∷ past) e
+other_abandon : (opening : Settings) (past : List Act) (k : ℕ) → ended past k ≡ false → (e : ScriptEntry) → began past e.0 k ≡ false → Stands opening past e → Stands opening (Abandon k ∷ past) e
 other_abandon opening past k o e f h = (h.0, by e.1.state h.1)
   where
-    by : (st : State) → At opening past e.0 e.1.text st → At opening (Abandon k ∷ past) e.0 e.1.text st
+    by : (st : ScriptState) → At opening past e.0 e.1.text st → At opening (Abandon k ∷ past) e.0 e.1.text st
     by Pending a = (a.0, sub _ _ e.0 (since e.0 past) (λ j q. not_or (j == k) _ q) a.1)
     by (Running i) a =
         let far : i ≡ k → ⊥ = λ w. let bad : began past e.0 k ≡ true = rw (← w) a.1 in cc in (
@@ -96,13 +96,13 @@ other_abandon opening past k o e f h = (h.0, by e.1.state h.1)
     by (Answered v) a = (a.0, sub _ _ e.0 (since e.0 past) (λ j q. not_or (j == k) _ q) a.1, a.2)
 
 -- a script on which an open job began since its last change runs it, and nothing else
-pub record Runs (opening : Settings) (past : List Act) (k : ℕ) (n : List ℕ) (t : List (List ℕ)) (st : State) : Type 0 where
+pub record Runs (opening : Settings) (past : List Act) (k : ℕ) (n : List ℕ) (t : List (List ℕ)) (st : ScriptState) : Type 0 where
   pub state : st ≡ Running k
   pub task : job opening past k ≡ Some (task_of opening past n t k)
   pub calm : NoStart (finished past) n (since n past)
   pub alone : NoStart (λ i. not (ended past i) && not (i == k)) n (since n past)
 
-pub hit : (opening : Settings) (past : List Act) (k : ℕ) → ended past k ≡ false → (n : List ℕ) (t : List (List ℕ)) (st : State) → began past n k ≡ true → At opening past n t st → Runs opening past k n t st
+pub hit : (opening : Settings) (past : List Act) (k : ℕ) → ended past k ≡ false → (n : List ℕ) (t : List (List ℕ)) (st : ScriptState) → began past n k ≡ true → At opening past n t st → Runs opening past k n t st
 hit opening past k o n t Pending f a = let bad = no_open past k n (since n past) o a.1 in absurd cc
 hit opening past k o n t (Answered v) f a = let bad = no_open past k n (since n past) o a.1 in absurd cc
 hit opening past k o n t (Running i) f a = go (k == i) refl
@@ -126,7 +126,7 @@ not_mine opening past k h l j f n q w =
     let yes : began past n k ≡ true = subst (λ (m : List ℕ). began past m k ≡ true) same (subst (λ (i : ℕ). began past h.name i ≡ true) num f) in cc
 
 pub taken_each : (opening : Settings) (past : List Act) (k : ℕ) (h : Task) → Legal opening past → job opening past k ≡ Some h → began past h.name h.number ≡ true
-    → (e : Entry) → Stands opening past e → Stands opening (Finish k Taken ∷ past) (cond (bytes_eq h.name e.0) (e.0, in_state e.1 (Answered (verdict_of h.text h.settings))) e)
+    → (e : ScriptEntry) → Stands opening past e → Stands opening (Finish k Taken ∷ past) (cond (bytes_eq h.name e.0) (e.0, in_state e.1 (Answered (verdict_of h.text h.settings))) e)
 taken_each opening past k h l j f e s = go (began past e.0 k) refl
   where
     open_k : ended past k ≡ false
@@ -152,7 +152,7 @@ taken_each opening past k h l j f e s = go (began past e.0 k) refl
         rest false w = other_finish opening past k Taken open_k e q s
 
 pub abandoned_each : (opening : Settings) (past : List Act) (k : ℕ) (h : Task) → Legal opening past → job opening past k ≡ Some h → began past h.name h.number ≡ true
-    → (e : Entry) → Stands opening past e → Stands opening (Abandon k ∷ past) (cond (bytes_eq h.name e.0) (e.0, in_state e.1 Pending) e)
+    → (e : ScriptEntry) → Stands opening past e → Stands opening (Abandon k ∷ past) (cond (bytes_eq h.name e.0) (e.0, in_state e.1 Pending) e)
 abandoned_each opening past k h l j f e s = go (began past e.0 k) refl
   where
     open_k : ended past k ≡ false
@@ -176,17 +176,17 @@ and_both false b h k = absurd cc
 
 -- the job of a script that changed began on no script since its last change
 not_begun : (opening : Settings) (past : List Act) (k : ℕ) (h : Task) → Legal opening past → job opening past k ≡ Some h → is_unchanged past h ≡ false
-    → (e : Entry) → Stands opening past e → (b : Bool) → began past e.0 k ≡ b → b ≡ false
+    → (e : ScriptEntry) → Stands opening past e → (b : Bool) → began past e.0 k ≡ b → b ≡ false
 not_begun opening past k h l j f e s true q =
     let x = hit opening past k (open_job opening past k h l j) e.0 e.1.text e.1.state q s.1 in
     let is : h ≡ task_of opening past e.0 e.1.text k = cc (j, x.task) in
-    let yes : is_unchanged past h ≡ true = subst (λ (y : Task). is_unchanged past y ≡ true) (sym is) (and_both (stands past e.0) (began past e.0 k) (ap is_some s.0) q) in absurd cc
+    let yes : is_unchanged past h ≡ true = subst (λ (y : Task). is_unchanged past y ≡ true) (sym is) (and_both (has_script past e.0) (began past e.0 k) (ap is_some s.0) q) in absurd cc
 not_begun opening past k h l j f e s false q = refl
 
 pub stale_each : (opening : Settings) (past : List Act) (k : ℕ) (h : Task) → Legal opening past → job opening past k ≡ Some h → is_unchanged past h ≡ false
-    → (e : Entry) → Stands opening past e → Stands opening (Finish k Stale ∷ past) e
+    → (e : ScriptEntry) → Stands opening past e → Stands opening (Finish k Stale ∷ past) e
 stale_each opening past k h l j f e s = other_finish opening past k Stale (open_job opening past k h l j) e (not_begun opening past k h l j f e s (began past e.0 k) refl) s
 
 pub left_each : (opening : Settings) (past : List Act) (k : ℕ) (h : Task) → Legal opening past → job opening past k ≡ Some h → is_unchanged past h ≡ false
-    → (e : Entry) → Stands opening past e → Stands opening (Abandon k ∷ past) e
+    → (e : ScriptEntry) → Stands opening past e → Stands opening (Abandon k ∷ past) e
 left_each opening past k h l j f e s = other_abandon opening past k (open_job opening past k h l j) e (not_begun opening past k h l j f e s (began past e.0 k) refl) s

@@ -1,6 +1,6 @@
 -- The lemmas of the book.
 pub mod Searches
-pub mod Named
+pub mod NamedText
 pub mod Retained
 pub mod Faithful
 pub mod Stretches

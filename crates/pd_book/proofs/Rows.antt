@@ -5,36 +5,36 @@ use Rattle.std.specs.List.{AllByRecursion, All, count_by}
 use Rattle.std.specs.Map.{values_of}
 use Rattle.std.proofs.lemmas.List.Elements.{All-map, All-from_recursion, All-head, All-tail}
 use Rattle.std.proofs.lemmas.List.Recursion.{is_count_by}
-use Rattle.pd_settings.specs.declared.fields.Settings.{Settings}
-use Rattle.pd_run.specs.declared.verdicts.Verdict.{Verdict}
+use Rattle.pd_settings.specs.declared.settings.Settings.{Settings}
+use Rattle.pd_run.specs.declared.verdict.Verdict.{Verdict}
 use Rattle.pd_run.specs.Run.{verdict_of}
 use Rattle.pd_book.specs.declared.act.Act.{Act}
 use Rattle.pd_book.specs.declared.row.Row.{Row}
-use Rattle.pd_book.specs.declared.script.Script.{Script}
-use Rattle.pd_book.specs.declared.script.State.{State}
-use Rattle.pd_book.specs.declared.script.State.TheVariants.{Pending, Running, Answered}
-use Rattle.pd_book.specs.Acts.{Named, texts, now, stands, answered}
+use Rattle.pd_book.specs.declared.stored_script.StoredScript.{StoredScript}
+use Rattle.pd_book.specs.declared.stored_script.ScriptState.{ScriptState}
+use Rattle.pd_book.specs.declared.stored_script.ScriptState.TheVariants.{Pending, Running, Answered}
+use Rattle.pd_book.specs.Acts.{NamedText, texts, now, has_script, answered}
 use Rattle.pd_book.specs.Report.{IsRunUnder, row, shown, owed}
 use Rattle.pd_book.specs.Headline.{NoneOwedWhenAllAnswered}
 use Rattle.pd_book.specs.Legal.{Legal}
-use Rattle.pd_book.specs.Kept.{Entry, verdict_in, kept_row}
+use Rattle.pd_book.specs.StoredScripts.{ScriptEntry, verdict_in, kept_row}
 use Rattle.pd_book.specs.Replay.{scripts_of}
 use Rattle.pd_book.proofs.Faithful.{named_text, texts_of, texts-scripts}
 use Rattle.pd_book.proofs.Standing.{Stands, At}
 use Rattle.pd_book.proofs.Replayed.{standing}
 
-row_is : (opening : Settings) (past : List Act) (e : Entry) → Stands opening past e → row opening past (named_text e) ≡ kept_row e
+row_is : (opening : Settings) (past : List Act) (e : ScriptEntry) → Stands opening past e → row opening past (named_text e) ≡ kept_row e
 row_is opening past e s = by e.1.state s.1
   where
-    here : stands past e.0 ≡ true
+    here : has_script past e.0 ≡ true
     here = ap is_some s.0
 
-    by : (st : State) → At opening past e.0 e.1.text st → row opening past (named_text e) ≡ record { name = e.0; text = e.1.text; verdict = verdict_in st }
+    by : (st : ScriptState) → At opening past e.0 e.1.text st → row opening past (named_text e) ≡ record { name = e.0; text = e.1.text; verdict = verdict_in st }
     by Pending a = rw (here, a.0) refl
     by (Running j) a = rw (here, a.0) refl
     by (Answered v) a = rw (here, a.0) (ap (λ (x : Verdict). record { name = e.0; text = e.1.text; verdict = Some x }) (sym a.2))
 
-rows_are : (opening : Settings) (past : List Act) (es : List Entry) → AllByRecursion (Stands opening past) es → map (row opening past) (texts_of es) ≡ map kept_row es
+rows_are : (opening : Settings) (past : List Act) (es : List ScriptEntry) → AllByRecursion (Stands opening past) es → map (row opening past) (texts_of es) ≡ map kept_row es
 rows_are opening past [] a = refl
 rows_are opening past (e ∷ es) a = let one = row_is opening past e a.0 in let rest = rows_are opening past es a.1 in cc
 
@@ -46,11 +46,11 @@ rows_kept opening past l = ap (map (row opening past)) (sym (texts-scripts openi
 pub rows_run : (opening : Settings) (past : List Act) → All (IsRunUnder (now opening past)) (shown opening past).rows
 rows_run opening past = All-map (IsRunUnder (now opening past)) (row opening past) (texts past) (All-from_recursion _ (texts past) (each (texts past)))
   where
-    one : (p : Named) (b : Bool) → answered past p.0 ≡ b → IsRunUnder (now opening past) (record { name = p.0; text = p.1; verdict = cond b (Some (verdict_of p.1 (now opening past))) None })
+    one : (p : NamedText) (b : Bool) → answered past p.0 ≡ b → IsRunUnder (now opening past) (record { name = p.0; text = p.1; verdict = cond b (Some (verdict_of p.1 (now opening past))) None })
     one p true q = refl
     one p false q = tt
 
-    each : (ps : List Named) → AllByRecursion (λ (p : Named). IsRunUnder (now opening past) (row opening past p)) ps
+    each : (ps : List NamedText) → AllByRecursion (λ (p : NamedText). IsRunUnder (now opening past) (row opening past p)) ps
     each [] = tt
     each (p ∷ ps) = (one p (answered past p.0) refl, each ps)
 
@@ -65,10 +65,10 @@ tallied p xs = sym (is_count_by (tally p) p refl (λ y ys. refl) xs)
 abbrev pub pending_row : Row → Bool
 pending_row r = is_none r.verdict
 
-abbrev pub pending_script : Script → Bool
+abbrev pub pending_script : StoredScript → Bool
 pending_script s = is_none (verdict_in s.state)
 
-same_tally : (es : List Entry) → tally pending_row (map kept_row es) ≡ tally pending_script (values_of es)
+same_tally : (es : List ScriptEntry) → tally pending_row (map kept_row es) ≡ tally pending_script (values_of es)
 unfolding tally
 same_tally [] = refl
 same_tally (e ∷ es) = ap (λ (n : ℕ). cond (is_none (verdict_in e.1.state)) (1 + n) n) (same_tally es)

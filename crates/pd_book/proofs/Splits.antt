@@ -8,8 +8,8 @@ use Rattle.std.proofs.lemmas.List.Elements.{All-map, All-from_recursion, All-hea
 use Rattle.std.proofs.lemmas.List.Folds.{list_any-append}
 use Rattle.std.proofs.lemmas.Slice.Eq.{bytes_eq-Decides}
 use Rattle.std.proofs.lemmas.Bool.Decides.{Decides-eqb}
-use Rattle.pd_settings.specs.declared.fields.Settings.{Settings}
-use Rattle.pd_run.specs.declared.verdicts.Verdict.{Verdict}
+use Rattle.pd_settings.specs.declared.settings.Settings.{Settings}
+use Rattle.pd_run.specs.declared.verdict.Verdict.{Verdict}
 use Rattle.pd_run.specs.Grammatical.{IsVerdictOf, VerdictsAreGrammatical, NoOtherVerdicts}
 use Rattle.pd_run.specs.Run.{verdict_of}
 use Rattle.pd_book.specs.declared.act.Act.{Act}
@@ -17,7 +17,7 @@ use Rattle.pd_book.specs.declared.act.Act.TheVariants.{Add, Edit, Remove, Set, S
 use Rattle.pd_book.specs.declared.act.Ruling.{Ruling}
 use Rattle.pd_book.specs.declared.act.Ruling.TheVariants.{Taken, Stale}
 use Rattle.pd_book.specs.declared.row.Row.{Row}
-use Rattle.pd_book.specs.Acts.{Named, texts, text_of, stands, now, changes, since, starts, finishes, finished, ended, answered, is_unchanged, waits, ruling}
+use Rattle.pd_book.specs.Acts.{NamedText, texts, text_of, has_script, now, changes, since, starts, finishes, finished, ended, answered, is_unchanged, waits, ruling}
 use Rattle.pd_book.specs.Report.{ReportView, IsGrammarsRun, IsFromScratch, row, shown, scratch_row, scratch}
 use Rattle.pd_book.specs.Legal.{Legal}
 use Rattle.pd_book.specs.Headline.{AnsweredSinceChange, UnchangedSinceStart, CurrentWhenAnswered, RowsAreScripts, VerdictsAreGrammars, ScratchWhenAllAnswered, WholeWhenAllAnswered, pending, AreOrPending, RowsAreOfScratch, RowsAreOfWhole, TakenWhenUnchanged}
@@ -144,7 +144,7 @@ finished_later opening xs older j n l h =
     one_of (finished xs j) (finished older j) (sym (list_any-append (finishes j) xs (Start j n ∷ older)) ∙ h) (finished_ended older j alive)
 
 -- a script that was started stands while it isn't changed
-still_stands : (opening : Settings) (xs older : List Act) (j : ℕ) (n : List ℕ) → Legal opening (xs ++ Start j n ∷ older) → AllByRecursion (Same n) xs → stands (xs ++ Start j n ∷ older) n ≡ true
+still_stands : (opening : Settings) (xs older : List Act) (j : ℕ) (n : List ℕ) → Legal opening (xs ++ Start j n ∷ older) → AllByRecursion (Same n) xs → has_script (xs ++ Start j n ∷ older) n ≡ true
 still_stands opening [] older j n l s = found_stands (waits older) (texts older) n (text_of older n) l.0.1
 still_stands opening (Add m t ∷ xs) older j n l s = go (lookup (bytes_eq n) (texts (xs ++ Start j n ∷ older))) refl (still_stands opening xs older j n l.1 s.1)
   where
@@ -219,11 +219,11 @@ split_answered past n a =
     ∙ any_at test (a.later ++ Finish a.number a.ruled ∷ a.between) (Start a.number n) (since n a.earlier) me)
 
 -- each script that stands is found
-found_in : (xs : List Named) → AllByRecursion (λ (p : Named). is_some (lookup (bytes_eq p.0) xs) ≡ true) xs
+found_in : (xs : List NamedText) → AllByRecursion (λ (p : NamedText). is_some (lookup (bytes_eq p.0) xs) ≡ true) xs
 found_in [] = tt
 found_in (x ∷ xs) = (rw (bytes_refl x.0) refl, all_imp _ _ xs more (found_in xs))
   where
-    more : (p : Named) → is_some (lookup (bytes_eq p.0) xs) ≡ true → is_some (cond (bytes_eq p.0 x.0) (Some x.1) (lookup (bytes_eq p.0) xs)) ≡ true
+    more : (p : NamedText) → is_some (lookup (bytes_eq p.0) xs) ≡ true → is_some (cond (bytes_eq p.0 x.0) (Some x.1) (lookup (bytes_eq p.0) xs)) ≡ true
     more p h = go (bytes_eq p.0 x.0) h
       where
         go : (b : Bool) → is_some (lookup (bytes_eq p.0) xs) ≡ true → is_some (cond b (Some x.1) (lookup (bytes_eq p.0) xs)) ≡ true
@@ -237,44 +237,44 @@ some_when false x = refl
 pub current : (opening : Settings) (past : List Act) → Legal opening past → CurrentWhenAnswered past (shown opening past)
 current opening past l =
     All-map (λ (r : Row). IsSome r.verdict ↔ AnsweredSinceChange r.name past) (row opening past) (texts past)
-    (All-from_recursion (λ (p : Named). IsSome (row opening past p).verdict ↔ AnsweredSinceChange p.0 past) (texts past)
-    (all_imp (λ (p : Named). stands past p.0 ≡ true) (λ (p : Named). IsSome (row opening past p).verdict ↔ AnsweredSinceChange p.0 past) (texts past) each (found_in (texts past))))
+    (All-from_recursion (λ (p : NamedText). IsSome (row opening past p).verdict ↔ AnsweredSinceChange p.0 past) (texts past)
+    (all_imp (λ (p : NamedText). has_script past p.0 ≡ true) (λ (p : NamedText). IsSome (row opening past p).verdict ↔ AnsweredSinceChange p.0 past) (texts past) each (found_in (texts past))))
   where
-    each : (p : Named) → stands past p.0 ≡ true → IsSome (row opening past p).verdict ↔ AnsweredSinceChange p.0 past
+    each : (p : NamedText) → has_script past p.0 ≡ true → IsSome (row opening past p).verdict ↔ AnsweredSinceChange p.0 past
     each p here =
         let is : is_some (row opening past p).verdict ≡ answered past p.0 = some_when (answered past p.0) (verdict_of p.1 (now opening past)) in (
-          λ h. answered_split opening past p.0 l (and_right (stands past p.0) (reached past p.0) (sym is ∙ h)),
-          λ a. is ∙ and_both (stands past p.0) (reached past p.0) here (split_answered past p.0 a),
+          λ h. answered_split opening past p.0 l (and_right (has_script past p.0) (reached past p.0) (sym is ∙ h)),
+          λ a. is ∙ and_both (has_script past p.0) (reached past p.0) here (split_answered past p.0 a),
         )
 
 pub rows_are_scripts : (opening : Settings) (past : List Act) → RowsAreScripts past (shown opening past)
 rows_are_scripts opening past = each (texts past)
   where
-    each : (xs : List Named) → map (λ (r : Row). (r.name, r.text)) (map (row opening past) xs) ≡ xs
+    each : (xs : List NamedText) → map (λ (r : Row). (r.name, r.text)) (map (row opening past) xs) ≡ xs
     each [] = refl
-    each (x ∷ xs) = ap (λ (ys : List Named). x ∷ ys) (each xs)
+    each (x ∷ xs) = ap (λ (ys : List NamedText). x ∷ ys) (each xs)
 
 -- a row that is answered is the one from scratch
 pub rows_of_scratch : (opening : Settings) (past : List Act) → RowsAreOfScratch opening past (shown opening past)
 rows_of_scratch opening past = each (texts past)
   where
-    one : (p : Named) (b : Bool) → (◌≡◌ {A = Row} (record { name = p.0; text = p.1; verdict = cond b (Some (verdict_of p.1 (now opening past))) None }) (scratch_row (now opening past) p))
+    one : (p : NamedText) (b : Bool) → (◌≡◌ {A = Row} (record { name = p.0; text = p.1; verdict = cond b (Some (verdict_of p.1 (now opening past))) None }) (scratch_row (now opening past) p))
         ⊎ (◌≡◌ {A = Row} (record { name = p.0; text = p.1; verdict = cond b (Some (verdict_of p.1 (now opening past))) None }) (pending (scratch_row (now opening past) p)))
     one p true = inl refl
     one p false = inr refl
 
-    each : (xs : List Named) → AreOrPending (map (row opening past) xs) (map (scratch_row (now opening past)) xs)
+    each : (xs : List NamedText) → AreOrPending (map (row opening past) xs) (map (scratch_row (now opening past)) xs)
     each [] = tt
     each (x ∷ xs) = (one x (answered past x.0), each xs)
 
 pub from_scratch : (opening : Settings) (past : List Act) → ScratchWhenAllAnswered opening past (shown opening past)
 from_scratch opening past h = ap (λ (rows : List Row). record { settings = now opening past; rows = rows }) (each (texts past) (by_recursion _ _ h))
   where
-    one : (p : Named) (b : Bool) → is_some (cond b (Some (verdict_of p.1 (now opening past))) None) ≡ true → cond b (Some (verdict_of p.1 (now opening past))) None ≡ Some (verdict_of p.1 (now opening past))
+    one : (p : NamedText) (b : Bool) → is_some (cond b (Some (verdict_of p.1 (now opening past))) None) ≡ true → cond b (Some (verdict_of p.1 (now opening past))) None ≡ Some (verdict_of p.1 (now opening past))
     one p true k = refl
     one p false k = absurd cc
 
-    each : (xs : List Named) → AllByRecursion (λ (r : Row). IsSome r.verdict) (map (row opening past) xs) → map (row opening past) xs ≡ map (scratch_row (now opening past)) xs
+    each : (xs : List NamedText) → AllByRecursion (λ (r : Row). IsSome r.verdict) (map (row opening past) xs) → map (row opening past) xs ≡ map (scratch_row (now opening past)) xs
     each [] k = refl
     each (x ∷ xs) k =
         let head : row opening past x ≡ scratch_row (now opening past) x = ap (λ (v : Option Verdict). record { name = x.0; text = x.1; verdict = v }) (one x (answered past x.0) k.0) in
@@ -286,15 +286,15 @@ from_scratch opening past h = ap (λ (rows : List Row). record { settings = now 
 pub rows_grammars : VerdictsAreGrammatical → (opening : Settings) (past : List Act) → VerdictsAreGrammars opening past (shown opening past)
 rows_grammars law opening past = All-map (IsGrammarsRun (now opening past)) (row opening past) (texts past) (All-from_recursion _ (texts past) (each (texts past)))
   where
-    one : (p : Named) (b : Bool) → IsGrammarsRun (now opening past) (record { name = p.0; text = p.1; verdict = cond b (Some (verdict_of p.1 (now opening past))) None })
+    one : (p : NamedText) (b : Bool) → IsGrammarsRun (now opening past) (record { name = p.0; text = p.1; verdict = cond b (Some (verdict_of p.1 (now opening past))) None })
     one p true = law p.1 (now opening past)
     one p false = tt
 
-    each : (ps : List Named) → AllByRecursion (λ (p : Named). IsGrammarsRun (now opening past) (row opening past p)) ps
+    each : (ps : List NamedText) → AllByRecursion (λ (p : NamedText). IsGrammarsRun (now opening past) (row opening past p)) ps
     each [] = tt
     each (p ∷ ps) = (one p (answered past p.0), each ps)
 
-pub scratch_is : VerdictsAreGrammatical → (scripts : List Named) (settings : Settings) → IsFromScratch scripts settings (scratch scripts settings)
+pub scratch_is : VerdictsAreGrammatical → (scripts : List NamedText) (settings : Settings) → IsFromScratch scripts settings (scratch scripts settings)
 scratch_is law scripts settings = record {
   under = refl;
   rows = named scripts;
@@ -302,15 +302,15 @@ scratch_is law scripts settings = record {
   none_pending = All-map (λ (row : Row). IsSome row.verdict) (scratch_row settings) scripts (All-from_recursion _ scripts (some scripts));
 }
   where
-    named : (xs : List Named) → map (λ (r : Row). (r.name, r.text)) (map (scratch_row settings) xs) ≡ xs
+    named : (xs : List NamedText) → map (λ (r : Row). (r.name, r.text)) (map (scratch_row settings) xs) ≡ xs
     named [] = refl
-    named (x ∷ xs) = ap (λ (ys : List Named). x ∷ ys) (named xs)
+    named (x ∷ xs) = ap (λ (ys : List NamedText). x ∷ ys) (named xs)
 
-    run : (xs : List Named) → AllByRecursion (λ (p : Named). IsGrammarsRun settings (scratch_row settings p)) xs
+    run : (xs : List NamedText) → AllByRecursion (λ (p : NamedText). IsGrammarsRun settings (scratch_row settings p)) xs
     run [] = tt
     run (x ∷ xs) = (law x.1 settings, run xs)
 
-    some : (xs : List Named) → AllByRecursion (λ (p : Named). IsSome (scratch_row settings p).verdict) xs
+    some : (xs : List NamedText) → AllByRecursion (λ (p : NamedText). IsSome (scratch_row settings p).verdict) xs
     some [] = tt
     some (x ∷ xs) = (refl, some xs)
 
@@ -322,7 +322,7 @@ row_one law settings r h k = go r.verdict refl h k
     go None e f g = absurd cc
     go (Some v) e f g = ap (λ (o : Option Verdict). record { name = r.name; text = r.text; verdict = o }) (e ∙ ap (λ (x : Verdict). Some x) (law r.text settings v f))
 
-pub scratch_one : NoOtherVerdicts → (scripts : List Named) (settings : Settings) (report : ReportView) → IsFromScratch scripts settings report → report ≡ scratch scripts settings
+pub scratch_one : NoOtherVerdicts → (scripts : List NamedText) (settings : Settings) (report : ReportView) → IsFromScratch scripts settings report → report ≡ scratch scripts settings
 scratch_one law scripts settings report is =
     let whole : report ≡ record { settings = settings; rows = report.rows } = ap (λ (s : Settings). record { settings = s; rows = report.rows }) is.under in
     whole ∙ ap (λ (rs : List Row). record { settings = settings; rows = rs }) (each report.rows (by_recursion _ _ is.runs) (by_recursion _ _ is.none_pending) ∙ ap (map (scratch_row settings)) is.rows)
@@ -353,7 +353,7 @@ taken opening past l j task open_task = (there, back)
 
     there : ruling past task ≡ Taken → UnchangedSinceStart task past
     there h =
-        let b = begun (λ (i : ℕ). i == task.number) n (since n past) (and_right (stands past n) (began past n task.number) (taken_when (is_unchanged past task) h)) in
+        let b = begun (λ (i : ℕ). i == task.number) n (since n past) (and_right (has_script past n) (began past n task.number) (taken_when (is_unchanged past task) h)) in
         let p = parted n past in
         let num : b.number ≡ task.number = (Decides-eqb b.number task.number).0 b.passes in
         let same : AllByRecursion (Same n) (b.later ++ Start b.number n ∷ b.earlier) = subst (λ (xs : List Act). AllByRecursion (Same n) xs) b.split p.same in record {
@@ -366,10 +366,10 @@ taken opening past l j task open_task = (there, back)
     back : UnchangedSinceStart task past → ruling past task ≡ Taken
     back u =
         let late : AllByRecursion (Same n) u.later = by_recursion (Same n) u.later u.later_unchanged in
-        let here : stands past n ≡ true =
-        ap (λ (xs : List Act). stands xs n) u.split ∙ still_stands opening u.later u.earlier task.number n (subst (λ (xs : List Act). Legal opening xs) u.split l) late in
+        let here : has_script past n ≡ true =
+        ap (λ (xs : List Act). has_script xs n) u.split ∙ still_stands opening u.later u.earlier task.number n (subst (λ (xs : List Act). Legal opening xs) u.split l) late in
         let test : Act → Bool = starts (λ (i : ℕ). i == task.number) n in
         let me : (bytes_eq n n && (task.number == task.number)) ≡ true = rw (bytes_refl n) ((Decides-eqb task.number task.number).1 refl) in
         let since_is : since n past ≡ u.later ++ Start task.number n ∷ since n u.earlier = ap (since n) u.split ∙ since-same n u.later (Start task.number n ∷ u.earlier) late in
         let in_it : began past n task.number ≡ true = ap (λ (xs : List Act). list_any test xs) since_is ∙ any_at test u.later (Start task.number n) (since n u.earlier) me in
-        ap (λ (b : Bool). cond b Taken Stale) (and_both (stands past n) (began past n task.number) here in_it)
+        ap (λ (b : Bool). cond b Taken Stale) (and_both (has_script past n) (began past n task.number) here in_it)

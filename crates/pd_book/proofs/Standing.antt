@@ -8,18 +8,18 @@ use Rattle.std.proofs.lemmas.Slice.Eq.{bytes_eq-Decides}
 use Rattle.std.proofs.lemmas.Bool.Decides.{Decides-eqb}
 use Rattle.pd_text.specs.Edit.{edited}
 use Rattle.pd_text.specs.declared.line_edit.LineEdit.{LineEdit}
-use Rattle.pd_settings.specs.declared.fields.Settings.{Settings}
+use Rattle.pd_settings.specs.declared.settings.Settings.{Settings}
 use Rattle.pd_settings.specs.declared.keys.Key.{Key}
 use Rattle.pd_settings.specs.declared.values.Value.{Value}
 use Rattle.pd_run.specs.Run.{verdict_of}
 use Rattle.pd_book.specs.declared.act.Act.{Act}
 use Rattle.pd_book.specs.declared.act.Act.TheVariants.{Add, Edit, Remove, Set, Start}
-use Rattle.pd_book.specs.declared.script.State.{State}
-use Rattle.pd_book.specs.declared.script.State.TheVariants.{Pending, Running, Answered}
+use Rattle.pd_book.specs.declared.stored_script.ScriptState.{ScriptState}
+use Rattle.pd_book.specs.declared.stored_script.ScriptState.TheVariants.{Pending, Running, Answered}
 use Rattle.pd_track.specs.declared.task.Task.{Task}
-use Rattle.pd_book.specs.Acts.{edited_at, texts, stands, text_of, now, since, starts, finished, ended, busy, job, jobs, started}
+use Rattle.pd_book.specs.Acts.{edited_at, texts, has_script, text_of, now, since, starts, finished, ended, busy, job, jobs, started}
 use Rattle.pd_book.specs.Legal.{Legal}
-use Rattle.pd_book.specs.Kept.{Entry, in_state}
+use Rattle.pd_book.specs.StoredScripts.{ScriptEntry, in_state}
 use Rattle.pd_book.proofs.Searches.{find_push, find_none, all_imp, lookup_push, lookup_last, none_from_test, not_not, apart}
 use Rattle.pd_book.proofs.Faithful.{bytes_refl, bytes_flip, lookup-edited, lookup-edited_other, lookup-removed_other}
 use Rattle.pd_book.proofs.Stretches.{NoStart, sub, up, or_both}
@@ -38,13 +38,13 @@ task_of opening past n t j = record { number = j; name = n; text = t; settings =
 
 -- the acts say of a script what its state says: pending, nothing was finished and nothing runs since its last change;
 -- running a job, that job alone runs, and it has the script's text; answered, the verdict is its text's
-abbrev pub At : Settings → List Act → List ℕ → List (List ℕ) → State → Type 0
+abbrev pub At : Settings → List Act → List ℕ → List (List ℕ) → ScriptState → Type 0
 At opening past n t Pending = NoStart (finished past) n (since n past) × NoStart (λ j. not (ended past j)) n (since n past)
 At opening past n t (Running j) = NoStart (finished past) n (since n past) × (began past n j ≡ true) × (ended past j ≡ false) × NoStart (λ i. not (ended past i) && not (i == j)) n (since n past) × (job opening past j ≡ Some (task_of opening past n t j))
 At opening past n t (Answered v) = (reached past n ≡ true) × NoStart (λ j. not (ended past j)) n (since n past) × (v ≡ verdict_of t (now opening past))
 
 -- a script that is kept stands with its text, in its state
-abbrev pub Stands : Settings → List Act → Entry → Type 0
+abbrev pub Stands : Settings → List Act → ScriptEntry → Type 0
 Stands opening past e = (lookup (bytes_eq e.0) (texts past) ≡ Some e.1.text) × At opening past e.0 e.1.text e.1.state
 
 pub and_no : (b c : Bool) → c ≡ false → (b && c) ≡ false
@@ -56,7 +56,7 @@ and_first true c h = absurd cc
 and_first false c h = refl
 
 -- an act that is no change and no start of the script, and ends nothing
-keep : (opening : Settings) (past past' : List Act) (a : Act) (n : List ℕ) (t : List (List ℕ)) (st : State)
+keep : (opening : Settings) (past past' : List Act) (a : Act) (n : List ℕ) (t : List (List ℕ)) (st : ScriptState)
     → since n past' ≡ a ∷ since n past → ((p : ℕ → Bool) → starts p n a ≡ false)
     → ((j : ℕ) → finished past' j ≡ finished past j) → ((j : ℕ) → ended past' j ≡ ended past j) → now opening past' ≡ now opening past
     → ((j : ℕ) (h : Task) → job opening past j ≡ Some h → job opening past' j ≡ Some h)
@@ -78,7 +78,7 @@ keep opening past past' a n t (Answered v) s quiet f e w jb h =
       h.2 ∙ ap (λ (x : Settings). verdict_of t x) (sym w),
     )
 
-pub add_old : (opening : Settings) (past : List Act) (m : List ℕ) (t : List (List ℕ)) → stands past m ≡ false → (e : Entry) → Stands opening past e → Stands opening (Add m t ∷ past) e
+pub add_old : (opening : Settings) (past : List Act) (m : List ℕ) (t : List (List ℕ)) → has_script past m ≡ false → (e : ScriptEntry) → Stands opening past e → Stands opening (Add m t ∷ past) e
 add_old opening past m t absent e h = go (bytes_eq e.0 m) refl
   where
     go : (b : Bool) → bytes_eq e.0 m ≡ b → Stands opening (Add m t ∷ past) e
@@ -91,13 +91,13 @@ add_old opening past m t absent e h = go (bytes_eq e.0 m) refl
       keep opening past (Add m t ∷ past) (Add m t) e.0 e.1.text e.1.state (rw q refl) (λ p. refl) (λ j. refl) (λ j. refl) refl (λ j x y. y) h.1,
     )
 
-pub add_new : (opening : Settings) (past : List Act) (m : List ℕ) (t : List (List ℕ)) → stands past m ≡ false → Stands opening (Add m t ∷ past) (m, record { text = t; state = Pending })
+pub add_new : (opening : Settings) (past : List Act) (m : List ℕ) (t : List (List ℕ)) → has_script past m ≡ false → Stands opening (Add m t ∷ past) (m, record { text = t; state = Pending })
 add_new opening past m t absent = (
   lookup_last (bytes_eq m) (texts past) _ (none_from_test _ absent) ∙ rw (bytes_refl m) refl,
   rw (bytes_refl m) (refl, refl),
 )
 
-pub edit_each : (opening : Settings) (past : List Act) (m : List ℕ) (d : LineEdit) (e : Entry) → Stands opening past e
+pub edit_each : (opening : Settings) (past : List Act) (m : List ℕ) (d : LineEdit) (e : ScriptEntry) → Stands opening past e
     → Stands opening (Edit m d ∷ past) (cond (bytes_eq m e.0) (e.0, record { text = edited e.1.text d; state = Pending }) e)
 edit_each opening past m d e h = go (bytes_eq m e.0) refl
   where
@@ -114,18 +114,18 @@ edit_each opening past m d e h = go (bytes_eq m e.0) refl
       keep opening past (Edit m d ∷ past) (Edit m d) e.0 e.1.text e.1.state (rw (bytes_flip m e.0 q) refl) (λ p. refl) (λ j. refl) (λ j. refl) refl (λ j x y. y) h.1,
     )
 
-pub remove_each : (opening : Settings) (past : List Act) (m : List ℕ) (e : Entry) → not (bytes_eq m e.0) ≡ true → Stands opening past e → Stands opening (Remove m ∷ past) e
+pub remove_each : (opening : Settings) (past : List Act) (m : List ℕ) (e : ScriptEntry) → not (bytes_eq m e.0) ≡ true → Stands opening past e → Stands opening (Remove m ∷ past) e
 remove_each opening past m e k h =
     let q : bytes_eq m e.0 ≡ false = not_not (bytes_eq m e.0) k in (
       lookup-removed_other m e.0 (texts past) q ∙ h.0,
       keep opening past (Remove m ∷ past) (Remove m) e.0 e.1.text e.1.state (rw (bytes_flip m e.0 q) refl) (λ p. refl) (λ j. refl) (λ j. refl) refl (λ j x y. y) h.1,
     )
 
-pub set_each : (opening : Settings) (past : List Act) (k : Key) (v : Value) (e : Entry) → Stands opening past e → Stands opening (Set k v ∷ past) (e.0, in_state e.1 Pending)
+pub set_each : (opening : Settings) (past : List Act) (k : Key) (v : Value) (e : ScriptEntry) → Stands opening past e → Stands opening (Set k v ∷ past) (e.0, in_state e.1 Pending)
 set_each opening past k v e h = (h.0, (refl, refl))
 
 pub start_each : (opening : Settings) (past : List Act) (j : ℕ) (m : List ℕ) → Legal opening past → j ≡ started past + 1 → reached past m ≡ false → busy past m ≡ false
-    → (e : Entry) → Stands opening past e → Stands opening (Start j m ∷ past) (cond (bytes_eq m e.0) (e.0, in_state e.1 (Running j)) e)
+    → (e : ScriptEntry) → Stands opening past e → Stands opening (Start j m ∷ past) (cond (bytes_eq m e.0) (e.0, in_state e.1 (Running j)) e)
 start_each opening past j m l new calm idle e h = go (bytes_eq m e.0) refl
   where
     not_ended : (b : Bool) → ended past j ≡ b → b ≡ false

@@ -6,7 +6,7 @@ use Rattle.std.specs.Str.{bytes_eq}
 use Rattle.pd_text.specs.Edit.{edited}
 use Rattle.pd_text.specs.declared.line_edit.LineEdit.{LineEdit}
 use Rattle.pd_settings.specs.Settings.{replaced}
-use Rattle.pd_settings.specs.declared.fields.Settings.{Settings}
+use Rattle.pd_settings.specs.declared.settings.Settings.{Settings}
 use Rattle.pd_settings.specs.declared.keys.Key.{Key}
 use Rattle.pd_settings.specs.declared.values.Value.{Value}
 use Rattle.pd_book.specs.declared.act.Act.{Act}
@@ -16,32 +16,32 @@ use Rattle.pd_book.specs.declared.act.Ruling.TheVariants.{Taken, Stale}
 use Rattle.pd_track.specs.declared.task.Task.{Task}
 
 -- a script: its name and its text
-abbrev pub Named : Type 0
-Named = List ℕ × List (List ℕ)
+abbrev pub NamedText : Type 0
+NamedText = List ℕ × List (List ℕ)
 
 -- an edit of the script of this name, seen at any script
-abbrev pub edited_at : List ℕ → LineEdit → Named → Named
+abbrev pub edited_at : List ℕ → LineEdit → NamedText → NamedText
 edited_at name edit script = if bytes_eq name script.0 then (script.0, edited script.1 edit) else script
 
 -- the scripts that stand, with their present texts, in order of adding
-abbrev pub texts : List Act → List Named
+abbrev pub texts : List Act → List NamedText
 texts [] = []
 texts (Add n t ∷ older) = texts older ++ (n, t) ∷ []
 texts (Edit n e ∷ older) = map (edited_at n e) (texts older)
-texts (Remove n ∷ older) = filter (λ (script : Named). not (bytes_eq n script.0)) (texts older)
+texts (Remove n ∷ older) = filter (λ (script : NamedText). not (bytes_eq n script.0)) (texts older)
 texts (_ ∷ older) = texts older
 
 -- the present text of the script of this name, if it stands
-abbrev pub present : List Act → List ℕ → Option (List (List ℕ))
-present past name = lookup (bytes_eq name) (texts past)
+abbrev pub present_text : List Act → List ℕ → Option (List (List ℕ))
+present_text past name = lookup (bytes_eq name) (texts past)
 
 -- a script of this name stands
-abbrev pub stands : List Act → List ℕ → Bool
-stands past name = is_some (present past name)
+abbrev pub has_script : List Act → List ℕ → Bool
+has_script past name = is_some (present_text past name)
 
 -- the present text of a script that stands
 abbrev pub text_of : List Act → List ℕ → List (List ℕ)
-text_of past name = unwrap_or (present past name) []
+text_of past name = unwrap_or (present_text past name) []
 
 -- the settings after one was set; a set that settings refuse leaves them
 abbrev pub set_to : Settings → Key → Value → Settings
@@ -93,18 +93,18 @@ ended past j = list_any (ends j) past
 
 -- the script stands, and some start of it after its last change has its finish; no other finish counts
 abbrev pub answered : List Act → List ℕ → Bool
-answered past name = stands past name && list_any (starts (finished past) name) (since name past)
+answered past name = has_script past name && list_any (starts (finished past) name) (since name past)
 
 -- some job on the script, started since its last change, has not ended
 abbrev pub busy : List Act → List ℕ → Bool
 busy past name = list_any (starts (λ j. not (ended past j)) name) (since name past)
 
 -- the script is neither answered nor busy
-abbrev pub waits : List Act → Named → Bool
+abbrev pub waits : List Act → NamedText → Bool
 waits past script = not (answered past script.0) && not (busy past script.0)
 
 -- the first script that waits
-abbrev pub next : List Act → Option Named
+abbrev pub next : List Act → Option NamedText
 next past = find (waits past) (texts past)
 
 -- how many jobs were started
@@ -132,7 +132,7 @@ job opening past j = find (λ (task : Task). j == task.number) (jobs opening pas
 
 -- the script of an outstanding job stands and hasn't changed since the job's start
 abbrev pub is_unchanged : List Act → Task → Bool
-is_unchanged past task = stands past task.name && list_any (starts (λ j. j == task.number) task.name) (since task.name past)
+is_unchanged past task = has_script past task.name && list_any (starts (λ j. j == task.number) task.name) (since task.name past)
 
 -- what a finish of an outstanding job is
 abbrev pub ruling : List Act → Task → Ruling

@@ -1,13 +1,13 @@
 -- The headline, said by positions in the list of acts. The newest act comes first.
 use Rattle.std.specs.Prelude.{◌≡◌, ◌↔◌, ◌⊎◌, ℕ, false, List, [], ◌∷◌, ◌++◌, map, All, Some, None, IsSome}
-use Rattle.pd_settings.specs.declared.fields.Settings.{Settings}
+use Rattle.pd_settings.specs.declared.settings.Settings.{Settings}
 use Rattle.pd_book.specs.declared.act.Act.{Act}
 use Rattle.pd_book.specs.declared.act.Act.TheVariants.{Start, Finish}
 use Rattle.pd_book.specs.declared.act.Ruling.{Ruling}
 use Rattle.pd_book.specs.declared.act.Ruling.TheVariants.{Taken}
 use Rattle.pd_book.specs.declared.row.Row.{Row}
 use Rattle.pd_track.specs.declared.task.Task.{Task}
-use Rattle.pd_book.specs.Acts.{Named, changes, texts, now, job, ruling}
+use Rattle.pd_book.specs.Acts.{NamedText, changes, texts, now, job, ruling}
 use Rattle.pd_book.specs.Report.{ReportView, IsRunUnder, IsGrammarsRun, IsFromScratch, scratch, owed}
 
 -- none of these acts changes the script of this name
@@ -79,7 +79,7 @@ abbrev pub RowsAreOfWhole : Settings → List Act → ReportView → Type 0
 RowsAreOfWhole opening past report = (whole : ReportView) × IsFromScratch (texts past) (now opening past) whole × AreOrPending report.rows whole.rows
 
 -- of the same scripts under the same settings there is one report from scratch in the grammar's words, and no other
-abbrev pub ScratchIsOne : List Named → Settings → Type 0
+abbrev pub ScratchIsOne : List NamedText → Settings → Type 0
 ScratchIsOne scripts settings =
     IsFromScratch scripts settings (scratch scripts settings) × ((report : ReportView) → IsFromScratch scripts settings report → report ≡ scratch scripts settings)
 

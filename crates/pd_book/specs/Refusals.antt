@@ -6,7 +6,7 @@ use Rattle.pd_text.specs.Edit.{edit_refusal as fault_of_edit}
 use Rattle.pd_text.specs.declared.line_edit.LineEdit.{LineEdit}
 use Rattle.pd_settings.specs.Keys.{key_named}
 use Rattle.pd_settings.specs.Settings.{replaced}
-use Rattle.pd_settings.specs.declared.fields.Settings.{Settings}
+use Rattle.pd_settings.specs.declared.settings.Settings.{Settings}
 use Rattle.pd_settings.specs.declared.keys.Key.{Key}
 use Rattle.pd_settings.specs.declared.values.Value.{Value}
 use Rattle.pd_book.specs.declared.act.Act.{Act}
@@ -15,17 +15,17 @@ use Rattle.pd_book.specs.declared.faults.BookFault.TheVariants.{UnknownKey, BadV
 use Rattle.pd_book.specs.declared.faults.FinishFault.{FinishFault}
 use Rattle.pd_book.specs.declared.faults.FinishFault.TheVariants.{NoSuchJob, Foreign}
 use Rattle.pd_track.specs.declared.task.Task.{Task}
-use Rattle.pd_book.specs.Acts.{Named, texts, present, stands, now, next, started, jobs}
+use Rattle.pd_book.specs.Acts.{NamedText, texts, present_text, has_script, now, next, started, jobs}
 use Rattle.pd_book.specs.Faults.{of_text}
-use Rattle.pd_book.specs.Story.{Story}
+use Rattle.pd_book.specs.History.{History}
 
 -- the recorded acts and the outstanding jobs
-abbrev pub taken_room : Story → ℕ
-taken_room story = length story.past + length (jobs story.opening story.past)
+abbrev pub taken_room : History → ℕ
+taken_room history = length history.past + length (jobs history.opening history.past)
 
 -- there is no room for this many more, of 65,536
-abbrev pub full : ℕ → Story → Option BookFault
-full more story = if nat_le (taken_room story + more) 65536 then None else Some HistoryFull
+abbrev pub full : ℕ → History → Option BookFault
+full more history = if nat_le (taken_room history + more) 65536 then None else Some HistoryFull
 
 -- the first refusal, else the second
 abbrev pub or_else : Option BookFault → Option BookFault → Option BookFault
@@ -37,12 +37,12 @@ or_else None second = second
 abbrev pub name_refusal : List Act → List ℕ → Option BookFault
 name_refusal past name =
     if not (is_valid_name name) then Some BadName else (
-    if stands past name then Some NameTaken else (
+    if has_script past name then Some NameTaken else (
     if nat_le 1024 (length (texts past)) then Some TooManyScripts else None))
 
 -- an add: the name may be added, and there is room
-abbrev pub add_refusal : Story → List ℕ → Option BookFault
-add_refusal story name = or_else (name_refusal story.past name) (full 1 story)
+abbrev pub add_refusal : History → List ℕ → Option BookFault
+add_refusal history name = or_else (name_refusal history.past name) (full 1 history)
 
 -- why an edit of this text, if there is one, is refused
 abbrev pub text_refusal : Option (List (List ℕ)) → LineEdit → Option BookFault
@@ -50,16 +50,16 @@ text_refusal None edit = Some NoSuchScript
 text_refusal (Some text) edit = option_map of_text (fault_of_edit text edit)
 
 -- an edit: the script stands, the edit lies within its text and leaves a text within the limits, and there is room
-abbrev pub edit_refusal : Story → List ℕ → LineEdit → Option BookFault
-edit_refusal story name edit = or_else (text_refusal (present story.past name) edit) (full 1 story)
+abbrev pub edit_refusal : History → List ℕ → LineEdit → Option BookFault
+edit_refusal history name edit = or_else (text_refusal (present_text history.past name) edit) (full 1 history)
 
 -- why a script that doesn't stand isn't removed
-abbrev pub absence : List Act → List ℕ → Option BookFault
-absence past name = if stands past name then None else Some NoSuchScript
+abbrev pub missing_refusal : List Act → List ℕ → Option BookFault
+missing_refusal past name = if has_script past name then None else Some NoSuchScript
 
 -- a remove: the script stands, and there is room
-abbrev pub remove_refusal : Story → List ℕ → Option BookFault
-remove_refusal story name = or_else (absence story.past name) (full 1 story)
+abbrev pub remove_refusal : History → List ℕ → Option BookFault
+remove_refusal history name = or_else (missing_refusal history.past name) (full 1 history)
 
 -- why a value for this key, if there is one, is refused
 abbrev pub value_refusal : Settings → Option Key → Value → Option BookFault
@@ -67,21 +67,21 @@ value_refusal settings None value = Some UnknownKey
 value_refusal settings (Some key) value = if is_none (replaced settings key value) then Some BadValue else None
 
 -- a set: the key names a setting, the value lies in its range, and there is room
-abbrev pub set_refusal : Story → List ℕ → Value → Option BookFault
-set_refusal story name value = or_else (value_refusal (now story.opening story.past) (key_named name) value) (full 1 story)
+abbrev pub set_refusal : History → List ℕ → Value → Option BookFault
+set_refusal history name value = or_else (value_refusal (now history.opening history.past) (key_named name) value) (full 1 history)
 
 -- a start that gives a job takes room for its act and for the job's end
-abbrev pub start_refusal : Story → Option BookFault
-start_refusal story = if is_some (next story.past) then full 2 story else None
+abbrev pub start_refusal : History → Option BookFault
+start_refusal history = if is_some (next history.past) then full 2 history else None
 
 -- the fault of a call that failed: its refusal, or else want of memory
 abbrev pub fault_of : Option BookFault → BookFault
 fault_of refusal = unwrap_or refusal OutOfMemory
 
 -- the job that a start gives: the next number, the first script that waits and the present settings
-abbrev pub next_job : Story → Option Task
-next_job story =
-    option_map (λ (script : Named). record { number = started story.past + 1; name = script.0; text = script.1; settings = now story.opening story.past }) (next story.past)
+abbrev pub next_job : History → Option Task
+next_job history =
+    option_map (λ (script : NamedText). record { number = started history.past + 1; name = script.0; text = script.1; settings = now history.opening history.past }) (next history.past)
 
 -- why a result is refused that isn't the outstanding job's of its number, if there is one
 abbrev pub finish_fault : Option Task → FinishFault

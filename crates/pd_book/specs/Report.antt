@@ -1,11 +1,11 @@
 -- What a report shows.
 use Rattle.std.specs.Prelude.{◌≡◌, ℕ, List, map, count_by, if◌then◌else◌, All, Some, None, is_none, IfSome, IsSome}
-use Rattle.pd_settings.specs.declared.fields.Settings.{Settings}
+use Rattle.pd_settings.specs.declared.settings.Settings.{Settings}
 use Rattle.pd_run.specs.Grammatical.{IsVerdictOf}
 use Rattle.pd_run.specs.Run.{verdict_of}
 use Rattle.pd_book.specs.declared.act.Act.{Act}
 use Rattle.pd_book.specs.declared.row.Row.{Row}
-use Rattle.pd_book.specs.Acts.{Named, texts, now, answered}
+use Rattle.pd_book.specs.Acts.{NamedText, texts, now, answered}
 
 -- a report: its settings, and a row for each script
 pub record ReportView : Type 0 where
@@ -22,14 +22,14 @@ IsGrammarsRun settings entry = IfSome entry.verdict (IsVerdictOf entry.text sett
 
 -- a report from scratch of these scripts under these settings, in the grammar's words: a row for each, in order, each with
 -- the verdict of its run
-pub record IsFromScratch (scripts : List Named) (settings : Settings) (report : ReportView) : Type 0 where
+pub record IsFromScratch (scripts : List NamedText) (settings : Settings) (report : ReportView) : Type 0 where
   pub under : report.settings ≡ settings
   pub rows : map (λ (entry : Row). (entry.name, entry.text)) report.rows ≡ scripts
   pub runs : All (IsGrammarsRun settings) report.rows
   pub none_pending : All (λ (entry : Row). IsSome entry.verdict) report.rows
 
 -- the row of a script: with its verdict if it is answered, else pending
-abbrev pub row : Settings → List Act → Named → Row
+abbrev pub row : Settings → List Act → NamedText → Row
 row opening past script =
     record { name = script.0; text = script.1; verdict = if answered past script.0 then Some (verdict_of script.1 (now opening past)) else None }
 
@@ -38,11 +38,11 @@ abbrev pub shown : Settings → List Act → ReportView
 shown opening past = record { settings = now opening past; rows = map (row opening past) (texts past) }
 
 -- the row of a script that is run from scratch
-abbrev pub scratch_row : Settings → Named → Row
+abbrev pub scratch_row : Settings → NamedText → Row
 scratch_row settings script = record { name = script.0; text = script.1; verdict = Some (verdict_of script.1 settings) }
 
 -- the report of these scripts from scratch: each with its verdict
-abbrev pub scratch : List Named → Settings → ReportView
+abbrev pub scratch : List NamedText → Settings → ReportView
 scratch scripts settings = record { settings = settings; rows = map (scratch_row settings) scripts }
 
 -- how many rows are pending

@@ -1,6 +1,6 @@
 -- Turns of settling: a start and its finish, with no other job between.
 use Rattle.std.specs.Prelude.{◌≡◌, ◌+◌, ◌≤◌, ℕ, List, [], ◌∷◌, Option, Some, None, Result, Ok, Err, suc, zero}
-use Rattle.pd_settings.specs.declared.fields.Settings.{Settings}
+use Rattle.pd_settings.specs.declared.settings.Settings.{Settings}
 use Rattle.pd_book.specs.declared.act.Act.{Act}
 use Rattle.pd_book.specs.declared.act.Act.TheVariants.{Start, Finish}
 use Rattle.pd_book.specs.declared.faults.BookFault.{BookFault}
@@ -8,7 +8,7 @@ use Rattle.pd_track.specs.declared.task.Task.{Task}
 use Rattle.pd_book.specs.Acts.{texts, now, jobs, job, next, ruling}
 use Rattle.pd_book.specs.Legal.{Legal}
 use Rattle.pd_book.specs.Report.{shown, scratch, owed}
-use Rattle.pd_book.specs.Story.{Story}
+use Rattle.pd_book.specs.History.{History}
 use Rattle.pd_book.specs.Refusals.{next_job, start_refusal}
 
 -- the acts with the start of this task and its finish
@@ -18,28 +18,28 @@ turned past task =
     Finish task.number (ruling begun task) ∷ begun
 
 -- the story after a start of this job and its finish
-abbrev pub after_turn : Story → Task → Story
-after_turn story task = record { opening = story.opening; past = turned story.past task }
+abbrev pub after_turn : History → Task → History
+after_turn history task = record { opening = history.opening; past = turned history.past task }
 
 -- one turn of settling: nothing is owed, or the start is refused, or the job is started and finished
-abbrev pub turn : Story → Option Task → Option BookFault → (Story → Result Story BookFault) → Result Story BookFault
-turn story None refusal rest = Ok story
-turn story (Some task) (Some fault) rest = Err fault
-turn story (Some task) None rest = rest (after_turn story task)
+abbrev pub turn : History → Option Task → Option BookFault → (History → Result History BookFault) → Result History BookFault
+turn history None refusal rest = Ok history
+turn history (Some task) (Some fault) rest = Err fault
+turn history (Some task) None rest = rest (after_turn history task)
 
 -- at most so many turns
-abbrev pub settled_in : ℕ → Story → Result Story BookFault
-settled_in zero story = Ok story
-settled_in (suc turns) story = turn story (next_job story) (start_refusal story) (λ next. settled_in turns next)
+abbrev pub settled_in : ℕ → History → Result History BookFault
+settled_in zero history = Ok history
+settled_in (suc turns) history = turn history (next_job history) (start_refusal history) (λ next. settled_in turns next)
 
 -- a start and its finish by turns until nothing is owed; a start without room is refused
-abbrev pub settled : Story → Result Story BookFault
-settled story = settled_in (owed story.opening story.past) story
+abbrev pub settled : History → Result History BookFault
+settled history = settled_in (owed history.opening history.past) history
 
 -- a legal story in which no job is outstanding
-pub record IsAtRest (story : Story) : Type 0 where
-  pub legal : Legal story.opening story.past
-  pub none : jobs story.opening story.past ≡ []
+pub record IsAtRest (history : History) : Type 0 where
+  pub legal : Legal history.opening history.past
+  pub none : jobs history.opening history.past ≡ []
 
 -- where no job is outstanding, a start and its finish leave one row fewer pending, and no job outstanding
 abbrev pub TurnsSettle : Settings → List Act → Type 0
@@ -48,24 +48,24 @@ TurnsSettle opening past =
     → (owed opening (turned past task) + 1 ≡ owed opening past) × (jobs opening (turned past task) ≡ [])
 
 -- a job that a start hands out is the outstanding one of its number
-abbrev pub StartsAreOutstanding : Story → Type 0
-StartsAreOutstanding story =
-    (task : Task) → next_job story ≡ Some task → job story.opening (Start task.number task.name ∷ story.past) task.number ≡ Some task
+abbrev pub StartsAreOutstanding : History → Type 0
+StartsAreOutstanding history =
+    (task : Task) → next_job history ≡ Some task → job history.opening (Start task.number task.name ∷ history.past) task.number ≡ Some task
 
 -- where no job is outstanding and no script waits, no row is pending
 abbrev pub NoneOwedWhenNoneWaits : Settings → List Act → Type 0
 NoneOwedWhenNoneWaits opening past = jobs opening past ≡ [] → next past ≡ None → owed opening past ≡ 0
 
 -- a start that isn't refused and its finish leave a legal story without an outstanding job
-abbrev pub TurnsAreLegal : Story → Type 0
-TurnsAreLegal story = (task : Task) → next_job story ≡ Some task → start_refusal story ≡ None → IsAtRest (after_turn story task)
+abbrev pub TurnsAreLegal : History → Type 0
+TurnsAreLegal history = (task : Task) → next_job history ≡ Some task → start_refusal history ≡ None → IsAtRest (after_turn history task)
 
 -- more turns than rows are pending give nothing more
-abbrev pub TurnsSuffice : Story → Type 0
-TurnsSuffice story = (turns : ℕ) → owed story.opening story.past ≤ turns → settled_in turns story ≡ settled story
+abbrev pub TurnsSuffice : History → Type 0
+TurnsSuffice history = (turns : ℕ) → owed history.opening history.past ≤ turns → settled_in turns history ≡ settled history
 
 -- what a settling leaves: nothing pending, the scripts and the settings as they were, and so the report from scratch
-pub record IsSettled (before after : Story) : Type 0 where
+pub record IsSettled (before after : History) : Type 0 where
   pub rest : IsAtRest after
   pub opening : after.opening ≡ before.opening
   pub same_texts : texts after.past ≡ texts before.past
@@ -74,5 +74,5 @@ pub record IsSettled (before after : Story) : Type 0 where
   pub report : shown after.opening after.past ≡ scratch (texts before.past) (now before.opening before.past)
 
 -- a settling that isn't refused a start comes to its end
-abbrev pub SettlesAll : Story → Type 0
-SettlesAll story = (after : Story) → settled story ≡ Ok after → IsSettled story after
+abbrev pub SettlesAll : History → Type 0
+SettlesAll history = (after : History) → settled history ≡ Ok after → IsSettled history after

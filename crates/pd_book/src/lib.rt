@@ -3,7 +3,7 @@
 //! A `Book` holds scripts and settings, which its callers change. `start` hands out a `Job`,
 //! `run_job` makes a `Done` of it, whenever and wherever, and `finish` takes it or rules it stale.
 //! `show` gives a `Report` with a `Row` for each script. What a book shows is defined on the list
-//! of its accepted calls alone (`Book::history`, a list of `Act`s), and `headline` says it in words
+//! of its accepted calls alone (`Book::history`, a list of `Act`s), and `law_headline` says it in words
 //! of positions in that list.
 //!
 //! ```text
@@ -23,7 +23,7 @@
 //! Why it is so:
 //! - The report is a function of the acts (`shown`, specs/Report.antt), and not of what the book
 //!   keeps. So nobody has to know what it keeps to see what a report promises.
-//! - Callers see a book as its story (`Story`: the opening settings and the acts) and, apart from
+//! - Callers see a book as its story (`History`: the opening settings and the acts) and, apart from
 //!   that, its tracks; they see a job as its task and, apart from that, its track. So no clause
 //!   about a story or a task is about tracks, which spare steps and change no verdict.
 //! - Any edit, and any `set`, makes a script pending, even if nothing differs: so the rule has no
@@ -41,22 +41,22 @@
 #![tactic(auto)]
 
 mod act;
-mod book_core;
+mod book;
 mod faults;
 mod laws;
-mod recording;
-mod refusing;
+mod records;
+mod refusals;
 mod report;
 mod row;
-mod script;
 mod scripts;
 mod shared_edit;
-mod shelf;
+mod stored_script;
+mod track_cache;
 
 pub use act::{Act, Ruling};
-pub use book_core::{Book, MAX_ACTS};
+pub use book::{Book, MAX_ACTS};
 pub use faults::{BookFault, FinishFault};
-pub use laws::{accepting, headline, settling};
+pub use laws::{law_accepting, law_headline, law_settling};
 pub use pd_track::{Done, Job, Task, Track, Unfinished, run_job};
 pub use report::Report;
 pub use row::Row;

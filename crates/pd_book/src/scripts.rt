@@ -5,11 +5,11 @@ ghost use Rattle.std.specs.List.{IsDistinct};
 ghost use Rattle.std.specs.Map.{lookup, remove_entry, keys_of, values_of};
 ghost use Rattle.std.specs.Map.Iter.{deref_pair};
 ghost use Rattle.std.specs.Str.{bytes_eq};
-ghost use Rattle.pd_book.specs.Kept.{in_state, is_pending, verdict_in, runs, written_at, with_state, without_name, all_pending, kept_row};
-ghost use Rattle.pd_book.specs.Replay.{give_up};
+ghost use Rattle.pd_book.specs.StoredScripts.{in_state, is_pending, verdict_in, runs, written_at, with_state, without_name, all_pending, kept_row};
+ghost use Rattle.pd_book.specs.Replay.{make_pending};
 
 use crate::row::Row;
-use crate::script::{Script, State};
+use crate::stored_script::{ScriptState, StoredScript};
 use indexmap::IndexMap;
 use pd_text::{Name, Text};
 use pd_track::Task;
@@ -20,14 +20,14 @@ use std::marker::Model;
 #[derive(Drop)]
 pub struct Scripts {
     /// Each script under its name, in order of adding.
-    by_name: IndexMap<Name, Script>,
+    by_name: IndexMap<Name, StoredScript>,
 }
 
 impl Model for Scripts {
     ghost use Rattle.std.specs.Prelude.{List};
-    ghost use Rattle.pd_book.specs.Kept.{Entry};
+    ghost use Rattle.pd_book.specs.StoredScripts.{ScriptEntry};
 
-    ghost Value = { List Entry };
+    ghost Value = { List ScriptEntry };
 
     ghost view = { λ s. s.by_name.entries };
 }
@@ -60,7 +60,7 @@ impl Scripts {
     ///
     /// # Errors
     /// `AllocError` only where a count of owners is full.
-    pub fn kept_name(&self, name: &Name) -> Result<Name, AllocError>
+    pub fn interned_name(&self, name: &Name) -> Result<Name, AllocError>
         ensures { IfOk result (λ kept. kept ≡ name.now) }
     {
         match self.by_name.get_key_value(name) {
@@ -85,26 +85,26 @@ impl Scripts {
     /// `AllocError` where a growth is refused; the scripts are as before then.
     pub fn add(&mut self, name: Name, text: Text) -> Result<(), AllocError>
         requires { lookup (bytes_eq name) self.old ≡ None }
-        ensures ok { OnOk result (self.new ≡ self.old ++ (name, record { text = text; state = State.Pending }) ∷ []) }
+        ensures ok { OnOk result (self.new ≡ self.old ++ (name, record { text = text; state = ScriptState.Pending }) ∷ []) }
         ensures err { OnErr result (self.new ≡ self.old) }
     {
-        let script = Script {
+        let script = StoredScript {
             text,
-            state: State::Pending,
+            state: ScriptState::Pending,
         };
         self.by_name.insert(name, script)?;
         Ok(())
     }
 
     /// Gives the script of this name another text; it is pending then.
-    pub fn rewrite(&mut self, name: &Name, text: Text)
-        ensures written { self.new ≡ written_at name.now (λ s. record { text = text; state = State.Pending }) self.old }
+    pub fn replace_text(&mut self, name: &Name, text: Text)
+        ensures written { self.new ≡ written_at name.now (λ s. record { text = text; state = ScriptState.Pending }) self.old }
         ensures distinct { IsDistinct bytes_eq (keys_of self.old) }
     {
         if let Some(script) = self.by_name.get_mut(name) {
-            *script = Script {
+            *script = StoredScript {
                 text,
-                state: State::Pending,
+                state: ScriptState::Pending,
             };
         }
     }
@@ -124,7 +124,7 @@ impl Scripts {
     }
 
     /// The first script that is pending.
-    pub fn first_pending(&self) -> Option<(&Name, &Script)>
+    pub fn first_pending(&self) -> Option<(&Name, &StoredScript)>
         ensures { option_map deref_pair result ≡ find is_pending self.now }
     {
         self.by_name
@@ -132,7 +132,7 @@ impl Scripts {
             .find(|(_, script)| script.state.is_pending())
     }
 
-    fn state(&self, name: &Name) -> Option<State>
+    fn state(&self, name: &Name) -> Option<ScriptState>
         ensures { result ≡ option_map (λ s. s.state) (lookup (bytes_eq name.now) self.now) }
     {
         match self.by_name.get(name) {
@@ -146,8 +146,8 @@ impl Scripts {
         ensures { result ≡ runs (option_map (λ s. s.state) (lookup (bytes_eq name.now) self.now)) number }
     {
         match self.state(name) {
-            Some(State::Running(running)) => running == number,
-            Some(State::Pending | State::Answered(_)) | None => false,
+            Some(ScriptState::Running(running)) => running == number,
+            Some(ScriptState::Pending | ScriptState::Answered(_)) | None => false,
         }
     }
 
@@ -176,13 +176,13 @@ impl Scripts {
     }
 
     /// Puts the script of this name into another state.
-    pub fn set_state(&mut self, name: &Name, state: State)
+    pub fn set_state(&mut self, name: &Name, state: ScriptState)
         ensures { self.new ≡ with_state (bytes_eq name.now) state self.old }
     {
         self.write_state(name, state);
     }
 
-    fn write_state(&mut self, name: &Name, state: State)
+    fn write_state(&mut self, name: &Name, state: ScriptState)
         ensures written { self.new ≡ written_at name.now (λ s. in_state s state) self.old }
         ensures distinct { IsDistinct bytes_eq (keys_of self.old) }
     {
@@ -192,11 +192,11 @@ impl Scripts {
     }
 
     /// Makes the script of an abandoned task pending, if it runs that job.
-    pub fn give_up(&mut self, task: &Task)
-        ensures { self.new ≡ give_up (Some task.now) self.old }
+    pub fn make_pending(&mut self, task: &Task)
+        ensures { self.new ≡ make_pending (Some task.now) self.old }
     {
         if self.runs(&task.name, task.number) {
-            self.set_state(&task.name, State::Pending);
+            self.set_state(&task.name, ScriptState::Pending);
         }
     }
 
@@ -205,14 +205,14 @@ impl Scripts {
         ensures { self.new ≡ all_pending self.old }
     {
         self.by_name.retain(|_, script| {
-            script.state = State::Pending;
+            script.state = ScriptState::Pending;
             true
         });
     }
 }
 
 /// The row of a script.
-fn row_of(name: &Name, script: &Script) -> Result<Row, AllocError>
+fn row_of(name: &Name, script: &StoredScript) -> Result<Row, AllocError>
     ensures { IfOk result (λ row. row ≡ kept_row (name.now, script.now)) }
 {
     Ok(Row {

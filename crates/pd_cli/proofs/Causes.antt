@@ -1,11 +1,11 @@
 -- Where reading stops, and why.
 use Rattle.std.proofs.Common.{◌≡◌, ◌⊎◌, inl, inr, ℕ, Bool, List, [], Option, Result, Ok, Err, IsErrAnd}
-use Rattle.pd_words.specs.Input.{IfKnown, Spends, IsCaused, HasCause}
-use Rattle.pd_words.specs.declared.command.Command.{Command}
-use Rattle.pd_words.specs.declared.command.Command.TheVariants.{Settle}
-use Rattle.pd_words.specs.declared.faults.ServeFault.{ServeFault}
-use Rattle.pd_words.specs.declared.faults.ServeFault.TheVariants.{HistoryFull, NoWorkers, Differs, BadCommand, Truncated, Read, Write, OutOfMemory}
-use Rattle.pd_words.proofs.Spending.{caused_out}
+use Rattle.pd_protocol.specs.Input.{IfKnown, Spends, IsCaused, HasCause}
+use Rattle.pd_protocol.specs.declared.command.Command.{Command}
+use Rattle.pd_protocol.specs.declared.command.Command.TheVariants.{Settle}
+use Rattle.pd_protocol.specs.declared.faults.ServeFault.{ServeFault}
+use Rattle.pd_protocol.specs.declared.faults.ServeFault.TheVariants.{HistoryFull, NoWorkers, Differs, BadCommand, Truncated, Read, Write, OutOfMemory}
+use Rattle.pd_protocol.proofs.Spending.{caused_out}
 use Rattle.pd_cli.specs.Sessions.{ServesBy, ReadsBy, DoesBy, SettlesBy}
 
 -- the next command wasn't read to its end

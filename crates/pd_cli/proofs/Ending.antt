@@ -1,13 +1,13 @@
 -- How a run of the program ends.
 use Rattle.std.proofs.Common.{◌≡◌, ◌≤◌, arith, zero, suc, true, ℕ, Bool, ◌⊎◌, inl, inr, List, [], Option, Some, None, Result, Ok, Err, IfSome, IsErrAnd, refl, ap}
 use Rattle.std.specs.Io.KnownBytes.{Appends}
-use Rattle.pd_settings.specs.declared.fields.Settings.{Settings}
-use Rattle.pd_words.specs.Commands.{commands}
-use Rattle.pd_words.specs.Input.{HasCause}
-use Rattle.pd_words.specs.declared.faults.ServeFault.{ServeFault}
-use Rattle.pd_words.specs.declared.faults.ServeFault.TheVariants.{OutOfMemory}
-use Rattle.pd_words.specs.declared.program_faults.ProgramFault.{ProgramFault}
-use Rattle.pd_words.specs.declared.program_faults.ProgramFault.TheVariants.{Serving}
+use Rattle.pd_settings.specs.declared.settings.Settings.{Settings}
+use Rattle.pd_protocol.specs.Commands.{commands}
+use Rattle.pd_protocol.specs.Input.{HasCause}
+use Rattle.pd_protocol.specs.declared.faults.ServeFault.{ServeFault}
+use Rattle.pd_protocol.specs.declared.faults.ServeFault.TheVariants.{OutOfMemory}
+use Rattle.pd_protocol.specs.declared.program_faults.ProgramFault.{ProgramFault}
+use Rattle.pd_protocol.specs.declared.program_faults.ProgramFault.TheVariants.{Serving}
 use Rattle.pd_cli.specs.Beside.{MayAnswer, EndsBeside, ServesBeside}
 use Rattle.pd_cli.specs.Grammatical.{Writes, ServesAlone}
 use Rattle.pd_cli.specs.Program.{ServedBy, Served, Runs, end_of}

@@ -7,10 +7,10 @@ pub mod Chains
 mod Rows
 pub mod Sessions
 pub mod Ending
-pub mod Heard
+pub mod Observed
 pub mod Written
 pub mod Settled
-pub mod Told
+pub mod Reported
 pub mod Passage
 pub mod Possible
 pub mod Counting

@@ -16,17 +16,17 @@ use Rattle.pd_book.specs.declared.faults.BookFault.TheVariants as book
 use Rattle.pd_text.specs.Text.{IsText}
 use Rattle.pd_book.specs.Legal.{Legal}
 use Rattle.pd_book.specs.Accepted.{AddsAreLegal, EditsAreLegal, RemovesAreLegal, SetsAreLegal}
-use Rattle.pd_book.specs.Story.{Story, told}
+use Rattle.pd_book.specs.History.{History, after_act}
 use Rattle.pd_book.specs.Turns.{settled, IsAtRest, IsSettled, SettlesAll}
 use Rattle.pd_book.specs.Refusals.{add_refusal, edit_refusal, remove_refusal, set_refusal}
-use Rattle.pd_words.specs.Requests.{request_of}
-use Rattle.pd_words.specs.Commands.{Item, does, stops, fitted, edit_of, with_lines, items_at, items, commands}
-use Rattle.pd_words.specs.declared.requests.Request.{Request}
-use Rattle.pd_words.specs.declared.requests.Request.TheVariants as asks
-use Rattle.pd_words.specs.declared.command.Command.{Command}
-use Rattle.pd_words.specs.declared.command.Command.TheVariants.{Add, Edit, Remove, Set, Show, Settle}
-use Rattle.pd_words.specs.declared.faults.ServeFault.{ServeFault}
-use Rattle.pd_words.specs.declared.faults.ServeFault.TheVariants.{Truncated}
+use Rattle.pd_protocol.specs.CommandLines.{command_line_of}
+use Rattle.pd_protocol.specs.Commands.{InputItem, does, stops, fitted, edit_of, with_lines, items_at, items, commands}
+use Rattle.pd_protocol.specs.declared.command_line.CommandLine.{CommandLine}
+use Rattle.pd_protocol.specs.declared.command_line.CommandLine.TheVariants as asks
+use Rattle.pd_protocol.specs.declared.command.Command.{Command}
+use Rattle.pd_protocol.specs.declared.command.Command.TheVariants.{Add, Edit, Remove, Set, Show, Settle}
+use Rattle.pd_protocol.specs.declared.faults.ServeFault.{ServeFault}
+use Rattle.pd_protocol.specs.declared.faults.ServeFault.TheVariants.{Truncated}
 use Rattle.pd_cli.specs.Report.{rendered}
 use Rattle.pd_cli.specs.Output.{report, acted, reported, effect, PrintsAlone}
 use Rattle.pd_cli.specs.Sessions.{PrintsAll}
@@ -112,15 +112,15 @@ FitsCommand (Set key value) = Unit {0}
 FitsCommand Show = Unit {0}
 FitsCommand Settle = Unit {0}
 
-abbrev pub FitsItem : Item → Type 0
+abbrev pub FitsItem : InputItem → Type 0
 FitsItem (does command) = FitsCommand command
 FitsItem (stops fault) = Unit {0}
 
-abbrev pub AllFit : List Item → Type 0
+abbrev pub AllFit : List InputItem → Type 0
 AllFit [] = Unit {0}
 AllFit (item ∷ rest) = FitsItem item × AllFit rest
 
-pub fit_front : (first rest : List Item) → AllFit (first ++ rest) → AllFit first
+pub fit_front : (first rest : List InputItem) → AllFit (first ++ rest) → AllFit first
 fit_front [] rest h = tt
 fit_front (item ∷ first) rest h = (h.0, fit_front first rest h.1)
 
@@ -140,7 +140,7 @@ edit_fits : (from remove : ℕ) (insert : Option (List (List ℕ))) → FitsLine
 edit_fits from remove None h = tt
 edit_fits from remove (Some ls) h = h.1
 
-with_fit : (count : ℕ) (after : List (List ℕ)) (command : Option (List (List ℕ)) → Command) (rest : ℕ → List Item) → AreLines after
+with_fit : (count : ℕ) (after : List (List ℕ)) (command : Option (List (List ℕ)) → Command) (rest : ℕ → List InputItem) → AreLines after
     → ((text : Option (List (List ℕ))) → FitsLines text → FitsCommand (command text)) → ((n : ℕ) → AllFit (rest n)) → AllFit (with_lines count after command rest)
 with_fit count after command rest h f k = go (nat_le count (length after))
   where
@@ -148,8 +148,8 @@ with_fit count after command rest h f k = go (nat_le count (length after))
     go true = (f (fitted (take count after)) (fitted_fits (take count after) (lines_take count after h)), k count)
     go false = (tt, tt)
 
-at_fit : (request : Request) (after : List (List ℕ)) (rest : ℕ → List Item) → AreLines after → ((n : ℕ) → AllFit (rest n)) → AllFit (items_at request after rest)
-at_fit asks.Nothing after rest h k = k 0
+at_fit : (command_line : CommandLine) (after : List (List ℕ)) (rest : ℕ → List InputItem) → AreLines after → ((n : ℕ) → AllFit (rest n)) → AllFit (items_at command_line after rest)
+at_fit asks.Empty after rest h k = k 0
 at_fit asks.Bad after rest h k = (tt, tt)
 at_fit (asks.Add name count) after rest h k = with_fit count after (λ text. Add name text) rest h (λ text f. f) k
 at_fit (asks.Edit name from remove count) after rest h k = with_fit count after (λ insert. Edit name (edit_of from remove insert)) rest h (λ insert f. edit_fits from remove insert f) k
@@ -162,25 +162,25 @@ pub items_fit : (ls : List (List ℕ)) (n : ℕ) → AreLines ls → AllFit (ite
 items_fit [] n h = (tt, tt)
 items_fit (line ∷ ls) zero h =
     let both = and_parts (is_line line) (list_all is_line ls) h in
-    at_fit (request_of line) ls (λ n. items n ls) both.1 (λ n. items_fit ls n both.1)
+    at_fit (command_line_of line) ls (λ n. items n ls) both.1 (λ n. items_fit ls n both.1)
 items_fit (line ∷ ls) (suc n) h = items_fit ls n (and_parts (is_line line) (list_all is_line ls) h).1
 
 -- ---- the stories
 
 -- an accepted act keeps a story at rest, a refused one leaves it
-acted_rest : (story next : Story) (refusal : Option BookFault) (a : Option Act) (octets : List ℕ) → IsAtRest story
-    → (refusal ≡ None → (x : Act) → a ≡ Some x → IsAtRest (told story x)) → acted story refusal a ≡ (octets, next) → IsAtRest next
-acted_rest story next (Some fault) a octets q f e = subst IsAtRest (ap (λ (p : List ℕ × Story). p.1) e) q
-acted_rest story next None None octets q f e = subst IsAtRest (ap (λ (p : List ℕ × Story). p.1) e) q
-acted_rest story next None (Some x) octets q f e = subst IsAtRest (ap (λ (p : List ℕ × Story). p.1) e) (f refl x refl)
+acted_rest : (history next : History) (refusal : Option BookFault) (a : Option Act) (octets : List ℕ) → IsAtRest history
+    → (refusal ≡ None → (x : Act) → a ≡ Some x → IsAtRest (after_act history x)) → acted history refusal a ≡ (octets, next) → IsAtRest next
+acted_rest history next (Some fault) a octets q f e = subst IsAtRest (ap (λ (p : List ℕ × History). p.1) e) q
+acted_rest history next None None octets q f e = subst IsAtRest (ap (λ (p : List ℕ × History). p.1) e) q
+acted_rest history next None (Some x) octets q f e = subst IsAtRest (ap (λ (p : List ℕ × History). p.1) e) (f refl x refl)
 
 -- the laws of the book that the stories rest on
 pub record BookLaws : Type 0 where
-  pub adds : (story : Story) → Legal story.opening story.past → AddsAreLegal story
-  pub edits : (story : Story) → Legal story.opening story.past → EditsAreLegal story
-  pub removes : (story : Story) → Legal story.opening story.past → RemovesAreLegal story
-  pub sets : (story : Story) → Legal story.opening story.past → SetsAreLegal story
-  pub settles : (story : Story) → IsAtRest story → SettlesAll story
+  pub adds : (history : History) → Legal history.opening history.past → AddsAreLegal history
+  pub edits : (history : History) → Legal history.opening history.past → EditsAreLegal history
+  pub removes : (history : History) → Legal history.opening history.past → RemovesAreLegal history
+  pub sets : (history : History) → Legal history.opening history.past → SetsAreLegal history
+  pub settles : (history : History) → IsAtRest history → SettlesAll history
 
 same_act : (a b : Act) → Some a ≡ Some b → a ≡ b
 same_act a b e = ap (λ (o : Option Act). act_or o) e
@@ -189,66 +189,66 @@ same_act a b e = ap (λ (o : Option Act). act_or o) e
     act_or None = a
     act_or (Some x) = x
 
-set_rest : (laws : BookLaws) (story : Story) (name : List ℕ) (value : Value) (o : Option Key) (x : Act) → IsAtRest story → key_named name ≡ o → set_refusal story name value ≡ None
-    → option_map (λ k. act.Set k value) o ≡ Some x → IsAtRest (told story x)
-set_rest laws story name value None x q n r e = absurd cc
-set_rest laws story name value (Some key) x q n r e =
-    subst (λ (a : Act). IsAtRest (told story a)) (same_act (act.Set key value) x e) (record { legal = laws.sets story q.legal name key value n r; none = q.none })
+set_rest : (laws : BookLaws) (history : History) (name : List ℕ) (value : Value) (o : Option Key) (x : Act) → IsAtRest history → key_named name ≡ o → set_refusal history name value ≡ None
+    → option_map (λ k. act.Set k value) o ≡ Some x → IsAtRest (after_act history x)
+set_rest laws history name value None x q n r e = absurd cc
+set_rest laws history name value (Some key) x q n r e =
+    subst (λ (a : Act). IsAtRest (after_act history a)) (same_act (act.Set key value) x e) (record { legal = laws.sets history q.legal name key value n r; none = q.none })
 
-pub settled_rest : (laws : BookLaws) (story after : Story) → IsAtRest story → settled story ≡ Ok after → IsSettled story after
-settled_rest laws story after q e = laws.settles story q after e
+pub settled_rest : (laws : BookLaws) (history after : History) → IsAtRest history → settled history ≡ Ok after → IsSettled history after
+settled_rest laws history after q e = laws.settles history q after e
 
-pub rest_after : (laws : BookLaws) (story next : Story) (command : Command) (octets : List ℕ) → IsAtRest story → FitsCommand command → effect story command ≡ Ok (octets, next) → IsAtRest next
-rest_after laws story next (Add name None) octets q f e = acted_rest story next (Some book.TooLarge) None octets q (λ r x n. absurd cc) (ok_same _ _ e)
-rest_after laws story next (Add name (Some text)) octets q f e =
-    acted_rest story next (add_refusal story name) (Some (act.Add name text)) octets q
-    (λ r x n. subst (λ (a : Act). IsAtRest (told story a)) (same_act (act.Add name text) x n) (record { legal = laws.adds story q.legal name text f r; none = q.none })) (ok_same _ _ e)
-rest_after laws story next (Edit name None) octets q f e = acted_rest story next (Some book.TooLarge) None octets q (λ r x n. absurd cc) (ok_same _ _ e)
-rest_after laws story next (Edit name (Some edit)) octets q f e =
-    acted_rest story next (edit_refusal story name edit) (Some (act.Edit name edit)) octets q
-    (λ r x n. subst (λ (a : Act). IsAtRest (told story a)) (same_act (act.Edit name edit) x n) (record { legal = laws.edits story q.legal name edit f r; none = q.none })) (ok_same _ _ e)
-rest_after laws story next (Remove name) octets q f e =
-    acted_rest story next (remove_refusal story name) (Some (act.Remove name)) octets q
-    (λ r x n. subst (λ (a : Act). IsAtRest (told story a)) (same_act (act.Remove name) x n) (record { legal = laws.removes story q.legal name r; none = q.none })) (ok_same _ _ e)
-rest_after laws story next (Set key value) octets q f e =
-    acted_rest story next (set_refusal story key value) (option_map (λ k. act.Set k value) (key_named key)) octets q
-    (λ r x n. set_rest laws story key value (key_named key) x q refl r n) (ok_same _ _ e)
-rest_after laws story next Show octets q f e = subst IsAtRest (ap (λ (p : List ℕ × Story). p.1) (ok_same (rendered (report story), story) (octets, next) e)) q
-rest_after laws story next Settle octets q f e = (settled_rest laws story next q (quiet_reported (settled story) octets next e)).rest
+pub rest_after : (laws : BookLaws) (history next : History) (command : Command) (octets : List ℕ) → IsAtRest history → FitsCommand command → effect history command ≡ Ok (octets, next) → IsAtRest next
+rest_after laws history next (Add name None) octets q f e = acted_rest history next (Some book.TooLarge) None octets q (λ r x n. absurd cc) (ok_same _ _ e)
+rest_after laws history next (Add name (Some text)) octets q f e =
+    acted_rest history next (add_refusal history name) (Some (act.Add name text)) octets q
+    (λ r x n. subst (λ (a : Act). IsAtRest (after_act history a)) (same_act (act.Add name text) x n) (record { legal = laws.adds history q.legal name text f r; none = q.none })) (ok_same _ _ e)
+rest_after laws history next (Edit name None) octets q f e = acted_rest history next (Some book.TooLarge) None octets q (λ r x n. absurd cc) (ok_same _ _ e)
+rest_after laws history next (Edit name (Some edit)) octets q f e =
+    acted_rest history next (edit_refusal history name edit) (Some (act.Edit name edit)) octets q
+    (λ r x n. subst (λ (a : Act). IsAtRest (after_act history a)) (same_act (act.Edit name edit) x n) (record { legal = laws.edits history q.legal name edit f r; none = q.none })) (ok_same _ _ e)
+rest_after laws history next (Remove name) octets q f e =
+    acted_rest history next (remove_refusal history name) (Some (act.Remove name)) octets q
+    (λ r x n. subst (λ (a : Act). IsAtRest (after_act history a)) (same_act (act.Remove name) x n) (record { legal = laws.removes history q.legal name r; none = q.none })) (ok_same _ _ e)
+rest_after laws history next (Set key value) octets q f e =
+    acted_rest history next (set_refusal history key value) (option_map (λ k. act.Set k value) (key_named key)) octets q
+    (λ r x n. set_rest laws history key value (key_named key) x q refl r n) (ok_same _ _ e)
+rest_after laws history next Show octets q f e = subst IsAtRest (ap (λ (p : List ℕ × History). p.1) (ok_same (rendered (report history), history) (octets, next) e)) q
+rest_after laws history next Settle octets q f e = (settled_rest laws history next q (quiet_reported (settled history) octets next e)).rest
 
 -- ---- items one after another
 
-pub rest_by : (laws : BookLaws) (first : List Item) (story next : Story) (octets : List ℕ) → AllFit first → IsAtRest story → PrintsAll PrintsAlone story first octets next → IsAtRest next
-rest_by laws [] story next octets f q h = subst IsAtRest (sym h.1) q
-rest_by laws (stops fault ∷ first) story next octets f q h = absurd h
-rest_by laws (does command ∷ first) story next octets f q h =
+pub rest_by : (laws : BookLaws) (first : List InputItem) (history next : History) (octets : List ℕ) → AllFit first → IsAtRest history → PrintsAll PrintsAlone history first octets next → IsAtRest next
+rest_by laws [] history next octets f q h = subst IsAtRest (sym h.1) q
+rest_by laws (stops fault ∷ first) history next octets f q h = absurd h
+rest_by laws (does command ∷ first) history next octets f q h =
     let (printed, more, after, e, k, same) = h in
-    rest_by laws first after next more f.1 (rest_after laws story after command printed q f.0 e) k
+    rest_by laws first after next more f.1 (rest_after laws history after command printed q f.0 e) k
 
 -- ---- the laws
 
 pub output_goes_on : OutputGoesOn
-output_goes_on settings input octets story rest reaches =
-    first_outcome PrintsAlone (λ story. story) (λ a b command printed e. e) (record { opening = settings; past = [] }) story (commands input) rest octets reaches
+output_goes_on settings input octets history rest reaches =
+    first_outcome PrintsAlone (λ history. history) (λ a b command printed e. e) (record { opening = settings; past = [] }) history (commands input) rest octets reaches
 
 pub stories_legal : BookLaws → StoriesAreLegal
-stories_legal laws settings input octets story rest reaches =
+stories_legal laws settings input octets history rest reaches =
     let fit : AllFit (reaches.0 ++ rest) = subst AllFit reaches.1 (items_fit (lines input) 0 (lines_are_lines input)) in
-    rest_by laws reaches.0 (record { opening = settings; past = [] }) story octets (fit_front reaches.0 rest fit) (record { legal = tt; none = refl }) reaches.2
+    rest_by laws reaches.0 (record { opening = settings; past = [] }) history octets (fit_front reaches.0 rest fit) (record { legal = tt; none = refl }) reaches.2
 
-pub reported_ok : (r : Result Story BookFault) (printed : List ℕ) (after : Story) → reported r ≡ Ok (printed, after) → (r ≡ Ok after) × (printed ≡ rendered (report after))
+pub reported_ok : (r : Result History BookFault) (printed : List ℕ) (after : History) → reported r ≡ Ok (printed, after) → (r ≡ Ok after) × (printed ≡ rendered (report after))
 reported_ok (Err fault) printed after e = absurd cc
-reported_ok (Ok story) printed after e =
-    let pair = ok_same (rendered (report story), story) (printed, after) e in
-    let same : story ≡ after = ap (λ (p : List ℕ × Story). p.1) pair in
-    (ap (λ (s : Story). Ok s) same, sym (ap (λ (p : List ℕ × Story). p.0) pair) ∙ ap (λ (s : Story). rendered (report s)) same)
+reported_ok (Ok history) printed after e =
+    let pair = ok_same (rendered (report history), history) (printed, after) e in
+    let same : history ≡ after = ap (λ (p : List ℕ × History). p.1) pair in
+    (ap (λ (s : History). Ok s) same, sym (ap (λ (p : List ℕ × History). p.0) pair) ∙ ap (λ (s : History). rendered (report s)) same)
 
 pub settles_scratch : BookLaws → SettlesPrintScratch
-settles_scratch laws settings input octets story rest reaches printed after e =
-    let at_rest = stories_legal laws settings input octets story rest' reaches in
-    let r = reported_ok (settled story) printed after e in
-    let s = settled_rest laws story after at_rest r.0 in
+settles_scratch laws settings input octets history rest reaches printed after e =
+    let at_rest = stories_legal laws settings input octets history rest' reaches in
+    let r = reported_ok (settled history) printed after e in
+    let s = settled_rest laws history after at_rest r.0 in
     (s, r.1 ∙ ap rendered s.report)
   where
-    rest' : List Item
+    rest' : List InputItem
     rest' = does Settle ∷ rest

@@ -2,7 +2,7 @@
 use Rattle.std.proofs.Common.{◌≡◌, ℕ, List, [], ◌++◌, Ok, Err, true, codes, refl}
 use Rattle.std.specs.Fmt.{digits}
 use Rattle.pd_settings.specs.Settings.{defaults}
-use Rattle.pd_words.specs.declared.faults.ServeFault.TheVariants.{BadCommand, Truncated}
+use Rattle.pd_protocol.specs.declared.faults.ServeFault.TheVariants.{BadCommand, Truncated}
 use Rattle.pd_cli.specs.Output.{output}
 
 abbrev of_one : List ℕ

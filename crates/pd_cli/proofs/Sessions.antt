@@ -2,14 +2,14 @@
 use Rattle.std.proofs.Common.{◌≡◌, ◌⊎◌, inl, inr, ℕ, Bool, List, [], ◌∷◌, ◌++◌, Option, Some, None, Result, Ok, Err, refl, sym, ap, subst, ◌∙◌, append_assoc, append-nil, IfSome, IfErr, IfOk, IsErrAnd, OnOk, OnErr, take, drop}
 use Rattle.std.specs.Io.KnownBytes.{Appends}
 use Rattle.std.proofs.lemmas.List.{take-append-drop}
-use Rattle.pd_words.specs.Input.{IfKnown, to_come}
-use Rattle.pd_words.specs.Commands.{Item, does, stops, commands}
-use Rattle.pd_words.specs.Taking.{Gives, FaultIn}
-use Rattle.pd_words.specs.declared.command.Command.{Command}
-use Rattle.pd_words.specs.declared.command.Command.TheVariants.{Settle}
-use Rattle.pd_words.specs.declared.faults.ServeFault.{ServeFault}
-use Rattle.pd_words.specs.declared.faults.ServeFault.TheVariants.{Write}
-use Rattle.pd_words.proofs.Known.{appends_then, known_then, fact_before, fact_then, appends_none}
+use Rattle.pd_protocol.specs.Input.{IfKnown, to_come}
+use Rattle.pd_protocol.specs.Commands.{InputItem, does, stops, commands}
+use Rattle.pd_protocol.specs.NextCommand.{Gives, FaultIn}
+use Rattle.pd_protocol.specs.declared.command.Command.{Command}
+use Rattle.pd_protocol.specs.declared.command.Command.TheVariants.{Settle}
+use Rattle.pd_protocol.specs.declared.faults.ServeFault.{ServeFault}
+use Rattle.pd_protocol.specs.declared.faults.ServeFault.TheVariants.{Write}
+use Rattle.pd_protocol.proofs.Known.{appends_then, known_then, fact_before, fact_then, appends_none}
 use Rattle.pd_cli.specs.Sessions.{PrintsAll, PrintsFirst, StopsAt, EndsBy, ServesBy, HasAnswered, DoesBy, SettlesBy}
 
 -- ---- one command
@@ -39,22 +39,22 @@ settles_none prints fails passes (Err x) fault old new w i f = rw i ([], appends
 
 -- ---- the items that were done, and those to come
 
-abbrev pub ComesTo : List Item → List ℕ → List ℕ → Type 0
+abbrev pub ComesTo : List InputItem → List ℕ → List ℕ → Type 0
 ComesTo done o n = commands o ≡ done ++ commands n
 
 -- what was done and written so far
 abbrev pub SoFar : {S : Type 0} → (S → Command → List ℕ → S → Type 0) → S → S → Option (List ℕ) → Option (List ℕ) → Option (List ℕ) → Option (List ℕ) → Type 0
-SoFar prints state now before after all left = (octets : List ℕ) × Appends before after octets × (done : List Item) × PrintsAll prints state done octets now × IfKnown (ComesTo done) all left
+SoFar prints state now before after all left = (octets : List ℕ) × Appends before after octets × (done : List InputItem) × PrintsAll prints state done octets now × IfKnown (ComesTo done) all left
 
 none_done : (all : Option (List ℕ)) → IfKnown (ComesTo []) all (to_come ([], 1048576) all)
 none_done None = tt
 none_done (Some octets) = refl
 
-pub so_first : {S : Type 0} (prints : S → Command → List ℕ → S → Type 0) (state : S) (intake : List ℕ × ℕ) (w all : Option (List ℕ)) → intake ≡ ([], 1048576) → SoFar prints state state w w all (to_come intake all)
-so_first prints state intake w all e = rw e ([], appends_none w, [], (refl, refl), none_done all)
+pub so_first : {S : Type 0} (prints : S → Command → List ℕ → S → Type 0) (state : S) (line_reader : List ℕ × ℕ) (w all : Option (List ℕ)) → line_reader ≡ ([], 1048576) → SoFar prints state state w w all (to_come line_reader all)
+so_first prints state line_reader w all e = rw e ([], appends_none w, [], (refl, refl), none_done all)
 
 -- one command more
-pub prints_then : {S : Type 0} (prints : S → Command → List ℕ → S → Type 0) (a b c : S) (items : List Item) (command : Command) (octets more : List ℕ) → PrintsAll prints a items octets b → prints b command more c
+pub prints_then : {S : Type 0} (prints : S → Command → List ℕ → S → Type 0) (a b c : S) (items : List InputItem) (command : Command) (octets more : List ℕ) → PrintsAll prints a items octets b → prints b command more c
     → PrintsAll prints a (items ++ does command ∷ []) (octets ++ more) c
 prints_then prints a b c [] command octets more h p = rw h.0 (more, [], c, subst (λ x. prints x command more c) h.1 p, (refl, refl), sym (append-nil more))
 prints_then prints a b c (stops fault ∷ items) command octets more h p = absurd h
@@ -62,8 +62,8 @@ prints_then prints a b c (does first ∷ items) command octets more h p =
     let (printed, rest, next, q, r, e) = h in
     (printed, rest ++ more, next, q, prints_then prints next b c items command rest more r p, ap (λ (o : List ℕ). o ++ more) e ∙ append_assoc printed rest more)
 
-items_then : (x y z : List Item) (first : List Item) (item : Item) → x ≡ first ++ y → y ≡ item ∷ z → x ≡ (first ++ item ∷ []) ++ z
-items_then x y z first item e f = e ∙ (ap (λ (l : List Item). first ++ l) f ∙ sym (append_assoc first (item ∷ []) z))
+items_then : (x y z : List InputItem) (first : List InputItem) (item : InputItem) → x ≡ first ++ y → y ≡ item ∷ z → x ≡ (first ++ item ∷ []) ++ z
+items_then x y z first item e f = e ∙ (ap (λ (l : List InputItem). first ++ l) f ∙ sym (append_assoc first (item ∷ []) z))
 
 pub so_more : {S : Type 0} (prints : S → Command → List ℕ → S → Type 0) (state now next : S) (command : Command) (more : List ℕ) (w0 w w1 all u v : Option (List ℕ)) → SoFar prints state now w0 w all u → IfKnown (Gives (Some command)) u v → Appends w w1 more → prints now command more next
     → SoFar prints state next w0 w1 all v
@@ -79,7 +79,7 @@ so_more prints state now next command more w0 w w1 all u v s g a p = (
 
 -- the next command, whatever follows it
 abbrev pub Next : Command → List ℕ → Type 0
-Next command o = (items : List Item) × (commands o ≡ does command ∷ items)
+Next command o = (items : List InputItem) × (commands o ≡ does command ∷ items)
 
 pub next_some : (command : Command) (u v : Option (List ℕ)) → IfKnown (Gives (Some command)) u v → IfSome u (Next command)
 next_some command None v h = tt
@@ -103,7 +103,7 @@ fault_serves prints fails passes (Err x) fault state now w0 w all u i s f =
     rw i (s.0, s.1, fact_before (ComesTo s.2) (λ o. FaultIn fault (commands o)) (λ input. EndsBy prints fails passes (Err fault) s.0 state (commands input) now) all u (λ x y h k. inl (now, commands y, (s.2, h, s.3), inl (k, refl))) s.4 f)
 
 -- a command that had no reply, or whose reply was not written
-stop_ends : {S : Type 0} (prints : S → Command → List ℕ → S → Type 0) (fails : ServeFault → S → Command → S → Type 0) (passes : S → Bool) (fault : ServeFault) (state now new : S) (done : List Item) (command : Command) (octets more x y : List ℕ)
+stop_ends : {S : Type 0} (prints : S → Command → List ℕ → S → Type 0) (fails : ServeFault → S → Command → S → Type 0) (passes : S → Bool) (fault : ServeFault) (state now new : S) (done : List InputItem) (command : Command) (octets more x y : List ℕ)
     → PrintsAll prints state done octets now → ComesTo done x y → Next command y → DoesBy prints fails (Err fault) now command new more → EndsBy prints fails passes (Err fault) (octets ++ more) state (commands x) new
 stop_ends prints fails passes fault state now new done command octets more x y p h k (inl d) =
     rw (d.0, append-nil octets) (inl (now, commands y, (done, h, p), inr (command, k.0, k.1, d.1)))
@@ -125,9 +125,9 @@ out_serves prints fails passes (Ok p) fault state now new command more w0 w w1 a
 out_serves prints fails passes (Err x) fault state now new command more w0 w w1 all u i s g a d = rw i (stop_serves prints fails passes fault state now new command more w0 w w1 all u s g a d)
 
 -- the end of the input
-end_ends : {S : Type 0} (prints : S → Command → List ℕ → S → Type 0) (fails : ServeFault → S → Command → S → Type 0) (passes : S → Bool) (passed : Bool) (state now new : S) (done : List Item) (octets more x y : List ℕ)
+end_ends : {S : Type 0} (prints : S → Command → List ℕ → S → Type 0) (fails : ServeFault → S → Command → S → Type 0) (passes : S → Bool) (passed : Bool) (state now new : S) (done : List InputItem) (octets more x y : List ℕ)
     → PrintsAll prints state done octets now → ComesTo done x y → commands y ≡ does Settle ∷ [] → prints now Settle more new → passed ≡ passes new → EndsBy prints fails passes (Ok passed) (octets ++ more) state (commands x) new
-end_ends prints fails passes passed state now new done octets more x y p h k q e = (rw (h ∙ ap (λ (l : List Item). done ++ l) k) (prints_then prints state now new done Settle octets more p q), e)
+end_ends prints fails passes passed state now new done octets more x y p h k q e = (rw (h ∙ ap (λ (l : List InputItem). done ++ l) k) (prints_then prints state now new done Settle octets more p q), e)
 
 pub end_serves : {S : Type 0} (prints : S → Command → List ℕ → S → Type 0) (fails : ServeFault → S → Command → S → Type 0) (passes : S → Bool) (r : Result Bool ServeFault) (state now new : S) (more : List ℕ) (w0 w w1 all u : Option (List ℕ))
     → SoFar prints state now w0 w all u → IfSome u (λ o. commands o ≡ does Settle ∷ []) → Appends w w1 more → SettlesBy prints fails passes r now new more → ServesBy prints fails passes r all w0 w1 state new
@@ -143,7 +143,7 @@ end_serves prints fails passes (Err fault) state now new more w0 w w1 all u s g 
 pub now_answered : {S : Type 0} (prints : S → Command → List ℕ → S → Type 0) (fails : ServeFault → S → Command → S → Type 0) (state now : S) (w0 w all u : Option (List ℕ)) → SoFar prints state now w0 w all u → HasAnswered prints fails state now
 now_answered prints fails state now w0 w all u s = (s.2, s.0, now, s.3, inl refl)
 
-does_answered : {S : Type 0} (prints : S → Command → List ℕ → S → Type 0) (fails : ServeFault → S → Command → S → Type 0) (fault : ServeFault) (state now new : S) (done : List Item) (command : Command) (octets more : List ℕ)
+does_answered : {S : Type 0} (prints : S → Command → List ℕ → S → Type 0) (fails : ServeFault → S → Command → S → Type 0) (fault : ServeFault) (state now new : S) (done : List InputItem) (command : Command) (octets more : List ℕ)
     → PrintsAll prints state done octets now → DoesBy prints fails (Err fault) now command new more → HasAnswered prints fails state new
 does_answered prints fails fault state now new done command octets more p (inl d) = (done, octets, now, p, inr (fault, command, d.1))
 does_answered prints fails fault state now new done command octets more p (inr d) =

@@ -3,8 +3,8 @@ use Rattle.pd_seat.specs.declared.faults.ShowFault.{ShowFault}
 use Rattle.pd_seat.specs.declared.faults.ShowFault.TheVariants as show
 use Rattle.pd_desk.specs.declared.faults.DeskFault.{DeskFault}
 use Rattle.pd_desk.specs.declared.faults.DeskFault.TheVariants as desk
-use Rattle.pd_words.specs.declared.faults.ServeFault.{ServeFault}
-use Rattle.pd_words.specs.declared.faults.ServeFault.TheVariants.{HistoryFull, NoWorkers, Differs, OutOfMemory}
+use Rattle.pd_protocol.specs.declared.faults.ServeFault.{ServeFault}
+use Rattle.pd_protocol.specs.declared.faults.ServeFault.TheVariants.{HistoryFull, NoWorkers, Differs, OutOfMemory}
 
 -- why a report isn't shown, as a fault of serving
 abbrev pub of_show : ShowFault → ServeFault

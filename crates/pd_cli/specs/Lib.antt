@@ -1,7 +1,7 @@
 -- The definitions of the report, the output and the programs.
 pub mod Beside
 pub mod BesideSteps
-pub mod Blocks
+pub mod ExplanationBlocks
 pub mod DeskFaults
 pub mod Grammatical
 pub mod Laws
@@ -11,5 +11,5 @@ pub mod Report
 pub mod Sessions
 pub mod StepLines
 pub mod Steps
-pub mod Telling
-pub mod Hearing
+pub mod Reported
+pub mod Observed

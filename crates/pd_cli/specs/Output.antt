@@ -1,7 +1,7 @@
 -- What serving writes, and how it ends.
 use Rattle.std.specs.Prelude.{◌≡◌, ℕ, Bool, List, [], ◌∷◌, ◌++◌, codes, Option, Some, None, option_map, Result, Ok, Err}
 use Rattle.std.specs.List.{list_all}
-use Rattle.pd_settings.specs.declared.fields.Settings.{Settings}
+use Rattle.pd_settings.specs.declared.settings.Settings.{Settings}
 use Rattle.pd_settings.specs.Keys.{key_named}
 use Rattle.pd_book.specs.declared.act.Act.{Act}
 use Rattle.pd_book.specs.declared.act.Act.TheVariants as act
@@ -9,61 +9,61 @@ use Rattle.pd_book.specs.declared.faults.BookFault.{BookFault}
 use Rattle.pd_book.specs.declared.faults.BookFault.TheVariants as book
 use Rattle.pd_book.specs.declared.row.Row.{Row}
 use Rattle.pd_book.specs.Faults.{fault_text}
-use Rattle.pd_book.specs.Story.{Story, told}
+use Rattle.pd_book.specs.History.{History, after_act}
 use Rattle.pd_book.specs.Turns.{settled}
 use Rattle.pd_book.specs.Report.{ReportView, shown}
 use Rattle.pd_book.specs.Refusals.{add_refusal, edit_refusal, remove_refusal, set_refusal}
-use Rattle.pd_words.specs.Commands.{Item, does, stops, commands}
-use Rattle.pd_words.specs.declared.command.Command.{Command}
-use Rattle.pd_words.specs.declared.command.Command.TheVariants.{Add, Edit, Remove, Set, Show, Settle}
-use Rattle.pd_words.specs.declared.faults.ServeFault.{ServeFault}
-use Rattle.pd_words.specs.declared.faults.ServeFault.TheVariants.{HistoryFull, BadCommand, Truncated, Read, Write, OutOfMemory}
+use Rattle.pd_protocol.specs.Commands.{InputItem, does, stops, commands}
+use Rattle.pd_protocol.specs.declared.command.Command.{Command}
+use Rattle.pd_protocol.specs.declared.command.Command.TheVariants.{Add, Edit, Remove, Set, Show, Settle}
+use Rattle.pd_protocol.specs.declared.faults.ServeFault.{ServeFault}
+use Rattle.pd_protocol.specs.declared.faults.ServeFault.TheVariants.{HistoryFull, BadCommand, Truncated, Read, Write, OutOfMemory}
 use Rattle.pd_cli.specs.Report.{is_of, rendered}
-use Rattle.pd_cli.specs.declared.rendering.Class.TheVariants as class
+use Rattle.pd_cli.specs.declared.report_text.RowKind.TheVariants as row_kind
 
 -- the line that a refused act prints
 abbrev pub refused : BookFault → List ℕ
 refused fault = codes "refused " ++ fault_text fault ++ codes "\n"
 
 -- the report as it stands after a story
-abbrev pub report : Story → ReportView
-report story = shown story.opening story.past
+abbrev pub report : History → ReportView
+report history = shown history.opening history.past
 
 -- each row of a report passes
 abbrev pub all_pass : ReportView → Bool
-all_pass printed = list_all (λ (row : Row). is_of class.Pass row.verdict) printed.rows
+all_pass printed = list_all (λ (row : Row). is_of row_kind.Pass row.verdict) printed.rows
 
 -- what an act prints, and the story after it: nothing is printed for an accepted one, which is told
-abbrev pub acted : Story → Option BookFault → Option Act → List ℕ × Story
-acted story (Some fault) act = (refused fault, story)
-acted story None (Some act) = ([], told story act)
-acted story None None = ([], story)
+abbrev pub acted : History → Option BookFault → Option Act → List ℕ × History
+acted history (Some fault) act = (refused fault, history)
+acted history None (Some act) = ([], after_act history act)
+acted history None None = ([], history)
 
 -- the report of a story that was settled, with the story; a start without room ends the run
-abbrev pub reported : Result Story BookFault → Result (List ℕ × Story) ServeFault
-reported (Ok story) = Ok (rendered (report story), story)
+abbrev pub reported : Result History BookFault → Result (List ℕ × History) ServeFault
+reported (Ok history) = Ok (rendered (report history), history)
 reported (Err fault) = Err HistoryFull
 
 -- what an act prints that a command asks for, and the story after it; lines that alone are over the limits of a text are
 -- refused before all else
-abbrev pub done : Story → Command → List ℕ × Story
-done story (Add name None) = acted story (Some book.TooLarge) None
-done story (Add name (Some text)) = acted story (add_refusal story name) (Some (act.Add name text))
-done story (Edit name None) = acted story (Some book.TooLarge) None
-done story (Edit name (Some edit)) = acted story (edit_refusal story name edit) (Some (act.Edit name edit))
-done story (Remove name) = acted story (remove_refusal story name) (Some (act.Remove name))
-done story (Set key value) = acted story (set_refusal story key value) (option_map (λ k. act.Set k value) (key_named key))
-done story command = ([], story)
+abbrev pub done : History → Command → List ℕ × History
+done history (Add name None) = acted history (Some book.TooLarge) None
+done history (Add name (Some text)) = acted history (add_refusal history name) (Some (act.Add name text))
+done history (Edit name None) = acted history (Some book.TooLarge) None
+done history (Edit name (Some edit)) = acted history (edit_refusal history name edit) (Some (act.Edit name edit))
+done history (Remove name) = acted history (remove_refusal history name) (Some (act.Remove name))
+done history (Set key value) = acted history (set_refusal history key value) (option_map (λ k. act.Set k value) (key_named key))
+done history command = ([], history)
 
 -- what a command prints, and the story after it, or the fault that ends the run
-abbrev pub effect : Story → Command → Result (List ℕ × Story) ServeFault
-effect story Show = Ok (rendered (report story), story)
-effect story Settle = reported (settled story)
-effect story command = Ok (done story command)
+abbrev pub effect : History → Command → Result (List ℕ × History) ServeFault
+effect history Show = Ok (rendered (report history), history)
+effect history Settle = reported (settled history)
+effect history command = Ok (done history command)
 
 -- what a command prints, and the story after it, where no fault ends the run
-abbrev pub PrintsAlone : Story → Command → List ℕ → Story → Type 0
-PrintsAlone story command octets next = effect story command ≡ Ok (octets, next)
+abbrev pub PrintsAlone : History → Command → List ℕ → History → Type 0
+PrintsAlone history command octets next = effect history command ≡ Ok (octets, next)
 
 -- all that is written, and how it ends: whether each row of the last report passes, or the fault
 pub record Session : Type 0 where
@@ -75,15 +75,15 @@ abbrev pub ahead : List ℕ → Session → Session
 ahead octets session = record { written = octets ++ session.written; end = session.end }
 
 -- an effect, then what comes after it
-abbrev pub follow : Result (List ℕ × Story) ServeFault → (Story → Session) → Session
+abbrev pub follow : Result (List ℕ × History) ServeFault → (History → Session) → Session
 follow (Ok done) rest = ahead done.0 (rest done.1)
 follow (Err fault) rest = record { written = []; end = Err fault }
 
 -- the session that an input gives, after a story
-abbrev pub outcome : Story → List Item → Session
-outcome story [] = record { written = []; end = Ok (all_pass (report story)) }
-outcome story (stops fault ∷ items) = record { written = []; end = Err fault }
-outcome story (does command ∷ items) = follow (effect story command) (λ next. outcome next items)
+abbrev pub outcome : History → List InputItem → Session
+outcome history [] = record { written = []; end = Ok (all_pass (report history)) }
+outcome history (stops fault ∷ items) = record { written = []; end = Err fault }
+outcome history (does command ∷ items) = follow (effect history command) (λ next. outcome next items)
 
 -- what an input makes serving write, beginning with these settings and no scripts, and how it ends
 abbrev pub output : Settings → List ℕ → Session

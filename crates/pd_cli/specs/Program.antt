@@ -1,22 +1,22 @@
 -- What the program writes, and its status.
 use Rattle.std.specs.Prelude.{◌≡◌, ℕ, suc, zero, Bool, true, false, ◌⊎◌, List, [], ◌++◌, codes, Option, Some, Result, Ok, Err, IfSome}
 use Rattle.std.specs.Io.KnownBytes.{Appends}
-use Rattle.pd_settings.specs.declared.fields.Settings.{Settings}
-use Rattle.pd_words.specs.Chosen.{Asked}
-use Rattle.pd_words.specs.Commands.{commands}
-use Rattle.pd_words.specs.Input.{HasCause}
-use Rattle.pd_words.specs.ProgramFaults.{fault_line}
-use Rattle.pd_words.specs.Said.{Says}
-use Rattle.pd_words.specs.SettingsText.{settings_in}
-use Rattle.pd_words.specs.declared.exits.Exit.{Exit}
-use Rattle.pd_words.specs.declared.faults.ServeFault.{ServeFault}
-use Rattle.pd_words.specs.declared.faults.ServeFault.TheVariants.{OutOfMemory}
-use Rattle.pd_words.specs.declared.program_faults.ProgramFault.{ProgramFault}
-use Rattle.pd_words.specs.declared.program_faults.ProgramFault.TheVariants.{Serving}
+use Rattle.pd_settings.specs.declared.settings.Settings.{Settings}
+use Rattle.pd_protocol.specs.ChosenOptions.{ReportOptions}
+use Rattle.pd_protocol.specs.Commands.{commands}
+use Rattle.pd_protocol.specs.Input.{HasCause}
+use Rattle.pd_protocol.specs.ProgramFaults.{fault_line}
+use Rattle.pd_protocol.specs.WriterOutput.{WritesTo}
+use Rattle.pd_protocol.specs.SettingsText.{settings_in}
+use Rattle.pd_protocol.specs.declared.exit.Exit.{Exit}
+use Rattle.pd_protocol.specs.declared.faults.ServeFault.{ServeFault}
+use Rattle.pd_protocol.specs.declared.faults.ServeFault.TheVariants.{OutOfMemory}
+use Rattle.pd_protocol.specs.declared.program_faults.ProgramFault.{ProgramFault}
+use Rattle.pd_protocol.specs.declared.program_faults.ProgramFault.TheVariants.{Serving}
 use Rattle.pd_cli.specs.Beside.{MayAnswer, EndsBeside}
 use Rattle.pd_cli.specs.Grammatical.{Writes}
-use Rattle.pd_cli.specs.StepLines.{Counted, AreNumbered}
-use Rattle.pd_cli.specs.Telling.{AreTold}
+use Rattle.pd_cli.specs.StepLines.{FinishedJob, AreNumbered}
+use Rattle.pd_cli.specs.Reported.{AreReported}
 
 -- what the number of workers adds: without any just the output of the input is written, in the grammar's words; beside some no
 -- settle ends for a full history
@@ -49,14 +49,14 @@ status_of (Ok false) = 1
 status_of (Err fault) = 2
 
 -- what is on standard error: the line of a fault
-abbrev pub said_of : Result Bool ProgramFault → List ℕ
-said_of (Ok passed) = []
-said_of (Err fault) = fault_line (codes "pdregress") fault
+abbrev pub stderr_of : Result Bool ProgramFault → List ℕ
+stderr_of (Ok passed) = []
+stderr_of (Err fault) = fault_line (codes "pdregress") fault
 
 -- a run with so many workers and this settings text came to an end with its status, told what was asked of some jobs, which
 -- are numbered from 1 on, then said what the end has to say, and wrote what belongs to it, where a read failed or none did
-abbrev pub Finishes : Type 0 → Exit → ℕ → Asked → List ℕ → Option (List ℕ) → Option (List ℕ) → Option (List ℕ) → Option (List ℕ) → Option (List ℕ) → Type 0
-Finishes failed exit workers asked text input out_before out_after err_before err_after =
+abbrev pub Finishes : Type 0 → Exit → ℕ → ReportOptions → List ℕ → Option (List ℕ) → Option (List ℕ) → Option (List ℕ) → Option (List ℕ) → Option (List ℕ) → Type 0
+Finishes failed exit workers report_options text input out_before out_after err_before err_after =
     (end : Result Bool ProgramFault) × (exit.status ≡ status_of end)
-    × ((jobs : List Counted) × (told : List ℕ) × AreNumbered 0 jobs × AreTold asked jobs told × Says exit.told err_before err_after (told ++ said_of end))
+    × ((jobs : List FinishedJob) × (lines : List ℕ) × AreNumbered 0 jobs × AreReported report_options jobs lines × WritesTo exit.stderr_ok err_before err_after (lines ++ stderr_of end))
     × ((octets : List ℕ) × Appends out_before out_after octets × IfSome input (Runs failed workers (settings_in text) end octets))

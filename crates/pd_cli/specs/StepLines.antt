@@ -3,21 +3,21 @@ use Rattle.std.specs.Prelude.{◌≡◌, ℕ, ◌+◌, List, [], ◌∷◌, ◌+
 use Rattle.std.specs.Fmt.{decimal}
 
 -- a job that was finished: its number, the name of its script, and the steps that it took
-pub record Counted : Type 0 where
+pub record FinishedJob : Type 0 where
   pub number : ℕ
   pub name : List ℕ
   pub steps : ℕ
 
 -- its line
-abbrev pub step_line : Counted → List ℕ
+abbrev pub step_line : FinishedJob → List ℕ
 step_line job = codes "job " ++ decimal job.number ++ codes " " ++ job.name ++ codes " steps " ++ decimal job.steps ++ codes "\n"
 
 -- the lines of jobs, one after another
-abbrev pub step_lines : List Counted → List ℕ
+abbrev pub step_lines : List FinishedJob → List ℕ
 step_lines [] = []
 step_lines (job ∷ jobs) = step_line job ++ step_lines jobs
 
 -- the jobs are numbered one by one, from the number after this one on
-abbrev pub AreNumbered : ℕ → List Counted → Type 0
+abbrev pub AreNumbered : ℕ → List FinishedJob → Type 0
 AreNumbered before [] = Unit {0}
 AreNumbered before (job ∷ jobs) = (job.number ≡ before + 1) × AreNumbered (before + 1) jobs

@@ -3,8 +3,8 @@ ghost use Rattle.std.specs.Prelude.{◌≡◌};
 ghost use Rattle.pd_cli.specs.DeskFaults.{of_show, of_desk};
 
 use pd_desk::DeskFault;
+use pd_protocol::ServeFault;
 use pd_seat::ShowFault;
-use pd_words::ServeFault;
 
 /// Why a report isn't shown, as a fault of serving.
 pub fn of_show(fault: ShowFault) -> ServeFault

@@ -1,14 +1,14 @@
 //! What the definitions say of each story that serving goes through and of each report that it prints; the functions
 //! do nothing.
-ghost use Rattle.pd_cli.specs.Telling.{NothingIsTold, StepsAreTold, BlocksAreTold};
+ghost use Rattle.pd_cli.specs.Reported.{NothingIsReported, StepsAreReported, BlocksAreReported};
 ghost use Rattle.pd_cli.specs.Laws.{OutputGoesOn, StoriesAreLegal, SettlesPrintScratch, ShowsPrintPart, AloneIsPossibleBeside, SessionsArePossibleBeside, WritesAreOutput};
 
-use pd_book::{accepting, headline, settling};
+use pd_book::{law_accepting, law_headline, law_settling};
 
 /// Each story that serving comes to is legal. A settle leaves nothing pending and the same scripts and settings, and
 /// prints their report from scratch; in a report that a show prints each row is pending or that from scratch. What
 /// commands print they may print beside workers too. What is written in the words of the grammar is just the output.
-pub fn reports()
+pub fn law_reports()
     ensures output { OutputGoesOn }
     ensures legal { StoriesAreLegal }
     ensures settles { SettlesPrintScratch }
@@ -17,15 +17,15 @@ pub fn reports()
     ensures sessions { SessionsArePossibleBeside }
     ensures written { WritesAreOutput }
 {
-    headline();
-    accepting();
-    settling();
+    law_headline();
+    law_accepting();
+    law_settling();
 }
 
 /// Of jobs nothing is reported where nothing is asked for, a line of steps each where steps alone are, and a block each where
 /// explanations alone are.
-pub fn tellings()
-    ensures nothing { NothingIsTold }
-    ensures steps { StepsAreTold }
-    ensures blocks { BlocksAreTold }
+pub fn law_reporting()
+    ensures nothing { NothingIsReported }
+    ensures steps { StepsAreReported }
+    ensures blocks { BlocksAreReported }
 {}

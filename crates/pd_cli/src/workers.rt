@@ -1,13 +1,13 @@
 //! Serving beside workers in threads of their own.
 ghost use Rattle.std.specs.Prelude.{◌≡◌, ◌≤◌};
 ghost use Rattle.pd_cli.specs.Beside.{ServesBeside};
-ghost use Rattle.pd_words.specs.Input.{HasCause};
+ghost use Rattle.pd_protocol.specs.Input.{HasCause};
 
-use crate::serving::serve_seat;
+use crate::serve_commands::serve_seat;
 use pd_desk::{Desk, Gate};
+use pd_protocol::{InputStream, ServeFault};
 use pd_seat::Seat;
 use pd_settings::Settings;
-use pd_words::{InputStream, ServeFault};
 use std::alloc::Global;
 use std::io::Write;
 use std::sync::Wait;
@@ -40,7 +40,7 @@ pub fn serve<H: Threads + Wait + Sync, R: InputStream, W: Write, G: Gate + Sync>
     let Some(mut seat) = seats.pop() else {
         return Err(ServeFault::OutOfMemory);
     };
-    let task = Serving {
+    let task = SeatServing {
         rt,
         alloc,
         desk: &desk,
@@ -50,18 +50,18 @@ pub fn serve<H: Threads + Wait + Sync, R: InputStream, W: Write, G: Gate + Sync>
         writer: &mut *writer,
     };
     let (reader, writer, answer) = run_beside(rt, alloc, &desk, gate, seats, task);
-    take_back(reader, writer);
+    law_returned(reader, writer);
     answer
 }
 
 /// Does nothing: its use ties references that come back to those that were lent.
-fn take_back<R, W>(reader: &mut R, writer: &mut W)
+fn law_returned<R, W>(reader: &mut R, writer: &mut W)
     ensures { (reader.new ≡ reader.old) × (writer.new ≡ writer.old) }
 {}
 
 /// What is done beside workers. Of what a closure wrote into its captures a scope says nothing, but it says what is
 /// returned, and so what this gives.
-trait BesideWork {
+trait ScopedTask {
     type Output;
 
     ghost gives: { Self → Self.Output → Type 0 };
@@ -70,13 +70,13 @@ trait BesideWork {
         ensures { gives self result };
 
     /// Where no thread can be started, in its place.
-    fn give_up(self) -> Self::Output
+    fn on_spawn_error(self) -> Self::Output
         ensures { gives self result };
 }
 
 /// Serving at a seat.
 #[derive(Drop)]
-struct Serving<'a, H, R, W> {
+struct SeatServing<'a, H, R, W> {
     /// What it waits by.
     rt: &'a H,
     /// What it allocates by.
@@ -93,17 +93,17 @@ struct Serving<'a, H, R, W> {
     writer: &'a mut W,
 }
 
-impl<'a, H: Wait, R: InputStream, W: Write> BesideWork for Serving<'a, H, R, W> {
+impl<'a, H: Wait, R: InputStream, W: Write> ScopedTask for SeatServing<'a, H, R, W> {
     ghost use Rattle.std.specs.Prelude.{◌≡◌};
     ghost use Rattle.pd_cli.specs.Beside.{ServesBeside};
-    ghost use Rattle.pd_words.specs.Input.{HasCause};
+    ghost use Rattle.pd_protocol.specs.Input.{HasCause};
 
     type Output = (&'a mut R, &'a mut W, Result<bool, ServeFault>);
 
     ghost gives = { λ s r. (r.0.ghost_name ≡ s.reader.ghost_name) × (r.1.ghost_name ≡ s.writer.ghost_name) × ServesBeside r.2 s.settings (R.remaining s.reader.now) (W.contents s.writer.now) (W.contents r.1.now) × HasCause r.2 (R.has_failed r.0.now) (R.remaining s.reader.now) };
 
     fn run(self) -> (&'a mut R, &'a mut W, Result<bool, ServeFault>) {
-        let Serving {
+        let SeatServing {
             rt,
             alloc,
             desk,
@@ -116,8 +116,8 @@ impl<'a, H: Wait, R: InputStream, W: Write> BesideWork for Serving<'a, H, R, W> 
         (reader, writer, answer)
     }
 
-    fn give_up(self) -> (&'a mut R, &'a mut W, Result<bool, ServeFault>) {
-        let Serving { reader, writer, .. } = self;
+    fn on_spawn_error(self) -> (&'a mut R, &'a mut W, Result<bool, ServeFault>) {
+        let SeatServing { reader, writer, .. } = self;
         (reader, writer, Err(ServeFault::OutOfMemory))
     }
 }
@@ -127,7 +127,7 @@ fn run_beside<
     'x,
     H: Threads + Wait + Sync,
     G: Gate + Sync,
-    T: BesideWork<Output = A> + Drop,
+    T: ScopedTask<Output = A> + Drop,
     A: Drop,
 >(rt: &'x H, alloc: Global, desk: &'x Desk, gate: &'x G, workers: Vec<Seat>, task: T) -> A
     ensures { T.gives task result }
@@ -140,7 +140,7 @@ fn run_beside<
         {
             let work = move || work_all(rt, alloc, desk, gate, workers);
             if scope.spawn(work).is_err() {
-                return task.give_up();
+                return task.on_spawn_error();
             }
             let answer = task.run();
             desk.shut(rt);

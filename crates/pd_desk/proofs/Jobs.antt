@@ -8,13 +8,13 @@ use Rattle.pd_book.specs.declared.act.Act.TheVariants.{Start, Finish, Abandon}
 use Rattle.pd_book.specs.declared.act.Ruling.{Ruling}
 use Rattle.pd_book.specs.declared.faults.FinishFault.{FinishFault}
 use Rattle.pd_book.specs.declared.faults.FinishFault.TheVariants as finish
-use Rattle.pd_book.specs.Given.{GivesFinish, GivesAbandon}
-use Rattle.pd_book.specs.Story.{Story}
+use Rattle.pd_book.specs.Replies.{GivesFinish, GivesAbandon}
+use Rattle.pd_book.specs.History.{History}
 use Rattle.pd_track.specs.declared.task.Task.{Task}
 use Rattle.pd_seat.specs.Seats.{SeatView, with_act, unended, is_unended}
 use Rattle.pd_desk.specs.Desk.{Disagrees}
-use Rattle.pd_desk.specs.Work.{with_acts, with_start, RefusesFinish, RefusesAbandon, none, finished, not_ended, begun, abandoned, not_abandoned, Worked, Left, Strayed, Works}
-use Rattle.pd_desk.specs.Inner.{IsWant, EndsJob, AbandonsJob, Compared, LeavesJob, GivesUp}
+use Rattle.pd_desk.specs.Work.{with_acts, with_start, RefusesFinish, RefusesAbandon, none, finished, not_ended, begun, abandoned, not_abandoned, Worked, Left, FoundDiffering, Works}
+use Rattle.pd_desk.specs.Internal.{IsWant, EndsJob, AbandonsJob, Compared, LeavesJob, GivesUp}
 use Rattle.pd_desk.specs.declared.faults.DeskFault.{DeskFault}
 use Rattle.pd_desk.specs.declared.faults.DeskFault.TheVariants.{HistoryFull, NoWorkers, Differs, OutOfMemory}
 
@@ -33,7 +33,7 @@ worked_none s s' e = record { acts = []; jobs = none; now = e }
 later : (s m s' : SeatView) (older newer : List Act) → m ≡ with_acts s older → s' ≡ with_acts m newer → s' ≡ with_acts s (newer ++ older)
 later s m s' older newer e f =
     f ∙ (ap (λ (t : SeatView). with_acts t newer) e
-    ∙ ap (λ (l : List Act). record { number = s.number; own = l; longest = s.longest }) (sym (append_assoc newer older s.own)))
+    ∙ ap (λ (l : List Act). record { number = s.number; own = l; longest_shown = s.longest_shown }) (sym (append_assoc newer older s.own)))
 
 -- a seat after jobs and a start
 started : (s m b : SeatView) (number : ℕ) (name : List ℕ) (w : Worked s m) → b ≡ with_act m (Start number name) → b ≡ with_start s w.acts number name
@@ -66,14 +66,14 @@ abandoned_more s m b s' number name w e (inr (fault, why, f)) = record {
 }
 
 -- a job more that was left as it is
-strayed_more : (s m b s' : SeatView) (number : ℕ) (name : List ℕ) → Worked s m → b ≡ with_act m (Start number name) → LeavesJob b s' → Strayed s s'
-strayed_more s m b s' number name w e (f, strays) = record {
+strayed_more : (s m b s' : SeatView) (number : ℕ) (name : List ℕ) → Worked s m → b ≡ with_act m (Start number name) → LeavesJob b s' → FoundDiffering s s'
+strayed_more s m b s' number name w e (f, differs) = record {
   acts = w.acts;
   number = number;
   name = name;
   jobs = w.jobs;
   now = f ∙ started s m b number name w e;
-  strays = subst (λ (t : SeatView). Disagrees t) (sym f) strays;
+  differs = subst (λ (t : SeatView). Disagrees t) (sym f) differs;
 }
 
 -- how a worker leaves that gives up the job at hand
@@ -99,7 +99,7 @@ finish_ends (Err fault) true task s s' compared records room started refuses e =
 finish_ends (Err fault) false task s s' compared records room started refuses e = absurd cc
 
 -- a job whose end is refused after a history that disagrees with the seat
-pub leaves_job : {T : Type 0} → (reply : Result T FinishFault) (agrees : Bool) (P : Story → Story → Type 0) (s s' : SeatView) → Compared s reply agrees P → OnErr reply (s' ≡ s) → agrees ≡ false → LeavesJob s s'
+pub leaves_job : {T : Type 0} → (reply : Result T FinishFault) (agrees : Bool) (P : History → History → Type 0) (s s' : SeatView) → Compared s reply agrees P → OnErr reply (s' ≡ s) → agrees ≡ false → LeavesJob s s'
 leaves_job (Ok x) agrees P s s' compared refuses e = absurd cc
 leaves_job (Err fault) true P s s' compared refuses e = absurd cc
 leaves_job (Err fault) false P s s' compared refuses e = (refuses, compared)

@@ -2,7 +2,7 @@
 use Rattle.std.proofs.Common.{◌≡◌, ℕ, ◌==◌, Bool, true, false, not, ◌||◌, cond, List, [], ◌∷◌, ◌++◌, find, Option, Some, None, refl, sym, ap, subst, ◌∙◌, arith}
 use Rattle.std.specs.Prelude.{◌≢◌, if◌then◌else◌}
 use Rattle.std.proofs.lemmas.Bool.Decides.{nat_tests}
-use Rattle.pd_settings.specs.declared.fields.Settings.{Settings}
+use Rattle.pd_settings.specs.declared.settings.Settings.{Settings}
 use Rattle.pd_book.specs.declared.act.Act.{Act}
 use Rattle.pd_book.specs.declared.act.Act.TheVariants.{Add, Edit, Remove, Set, Start, Finish, Abandon}
 use Rattle.pd_book.specs.declared.faults.FinishFault.TheVariants.{NoSuchJob}
@@ -116,9 +116,9 @@ no_job (Some task) e = absurd cc
 
 pub finished_by_another : FinishedByAnother
 finished_by_another seat acts task (held, after, kept, agrees, gives) =
-    let past = held.book.story.past in
-    by_another held.book.story.opening seat.number task.number task.name (acts ++ seat.own) held.notes past agrees.own (no_job (job held.book.story.opening past task.number) gives.1)
+    let past = held.book.history.past in
+    by_another held.book.history.opening seat.number task.number task.name (acts ++ seat.own) held.notes past agrees.own (no_job (job held.book.history.opening past task.number) gives.1)
 
 pub abandoned_by_another : AbandonedByAnother
 abandoned_by_another seat acts number name (held, after, kept, agrees, gives) =
-    by_another held.book.story.opening seat.number number name (acts ++ seat.own) held.notes held.book.story.past agrees.own gives.1
+    by_another held.book.history.opening seat.number number name (acts ++ seat.own) held.notes held.book.history.past agrees.own gives.1

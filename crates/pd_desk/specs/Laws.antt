@@ -9,7 +9,7 @@ use Rattle.pd_desk.specs.Work.{with_start, RefusesFinish, RefusesAbandon}
 
 -- acts that are noted with another number end the job
 abbrev pub IsEndedByAnother : HeldView → ℕ → ℕ → Type 0
-IsEndedByAnother held number job = (other : ℕ) × (other ≢ number) × (ended (made_by other held.notes held.book.story.past) job ≡ true)
+IsEndedByAnother held number job = (other : ℕ) × (other ≢ number) × (ended (made_by other held.notes held.book.history.past) job ≡ true)
 
 -- a law: where a seat's last act starts a job and no such job is there to be finished, another seat ended it
 abbrev pub FinishedByAnother : Type 0

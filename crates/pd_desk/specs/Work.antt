@@ -4,7 +4,7 @@ use Rattle.pd_book.specs.declared.act.Act.{Act}
 use Rattle.pd_book.specs.declared.act.Act.TheVariants.{Start, Finish, Abandon}
 use Rattle.pd_book.specs.declared.act.Ruling.{Ruling}
 use Rattle.pd_book.specs.declared.faults.FinishFault.{FinishFault}
-use Rattle.pd_book.specs.Given.{GivesFinish, GivesAbandon}
+use Rattle.pd_book.specs.Replies.{GivesFinish, GivesAbandon}
 use Rattle.pd_track.specs.declared.task.Task.{Task}
 use Rattle.pd_seat.specs.Seats.{SeatView}
 use Rattle.pd_desk.specs.Desk.{AfterOwn, Disagrees}
@@ -13,7 +13,7 @@ use Rattle.pd_desk.specs.declared.faults.DeskFault.TheVariants.{NoWorkers, Diffe
 
 -- the seat with these acts more, the newest first
 abbrev pub with_acts : SeatView → List Act → SeatView
-with_acts seat acts = record { number = seat.number; own = acts ++ seat.own; longest = seat.longest }
+with_acts seat acts = record { number = seat.number; own = acts ++ seat.own; longest_shown = seat.longest_shown }
 
 -- the seat with these acts and then the start of a job
 abbrev pub with_start : SeatView → List Act → ℕ → List ℕ → SeatView
@@ -52,13 +52,13 @@ pub record Left (seat seat' : SeatView) : Type 0 where
   pub now : seat' ≡ with_acts seat acts
 
 -- the seat has jobs more, and then one that was started and isn't ended: a history was found that disagrees with the seat
-pub record Strayed (seat seat' : SeatView) : Type 0 where
+pub record FoundDiffering (seat seat' : SeatView) : Type 0 where
   pub acts : List Act
   pub number : ℕ
   pub name : List ℕ
   pub jobs : AreJobs seat acts
   pub now : seat' ≡ with_start seat acts number name
-  pub strays : Disagrees seat'
+  pub differs : Disagrees seat'
 
 -- what a worker leaves in its seat and answers: one that isn't let in does nothing, one that wants memory gives its job up
 -- and leaves, and so does, without an end of its job, one at a seat with which a history disagrees
@@ -67,4 +67,4 @@ Works seat (Ok _) seat' = Worked seat seat'
 Works seat (Err HistoryFull) seat' = Worked seat seat'
 Works seat (Err OutOfMemory) seat' = Left seat seat'
 Works seat (Err NoWorkers) seat' = seat' ≡ seat
-Works seat (Err Differs) seat' = Strayed seat seat'
+Works seat (Err Differs) seat' = FoundDiffering seat seat'

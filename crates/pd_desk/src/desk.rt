@@ -1,14 +1,14 @@
 //! The desk: a book under one lock, at which several callers have seats.
 ghost use Rattle.std.specs.Prelude.{◌≡◌, ◌≢◌, ◌≤◌, true, IfOk, IfErr, IfSome, IfNone, OnOk, OnErr, IsSomeAnd, Err};
 ghost use Rattle.pd_settings.specs.Keys.{key_named};
-ghost use Rattle.pd_book.specs.Given.{GivesAdd, GivesEdit, GivesRemove, GivesSet, GivesStart, GivesFinish, GivesAbandon};
+ghost use Rattle.pd_book.specs.Replies.{GivesAdd, GivesEdit, GivesRemove, GivesSet, GivesStart, GivesFinish, GivesAbandon};
 ghost use Rattle.pd_seat.specs.Seats.{new_seats, with_act, is_unended, Unless, IsShown};
-ghost use Rattle.pd_seat.specs.Closing.{ClosesNotAt};
+ghost use Rattle.pd_seat.specs.Close.{RefusesCloseAt};
 ghost use Rattle.pd_desk.specs.Desk.{AfterSome, IsClosed, IsHandedOut};
-ghost use Rattle.pd_desk.specs.Inner.{Compared};
+ghost use Rattle.pd_desk.specs.Internal.{Compared};
 
-use crate::crew::Crew;
-use crate::room::Room;
+use crate::locked::Locked;
+use crate::worker_counts::WorkerCounts;
 use pd_book::{Act, Book, BookFault, Done, FinishFault, Job, Report, Ruling};
 use pd_seat::{CloseFault, Held, Seat, ShowFault};
 use pd_settings::{Settings, Value};
@@ -20,9 +20,9 @@ use std::sync::{Condvar, Mutex, Wait};
 #[derive(Drop)]
 pub struct Desk {
     /// The book and the workers, under the lock.
-    pub(crate) room: Mutex<Room>,
+    pub(crate) locked: Mutex<Locked>,
     /// Wakes those that wait for a job or for a verdict.
-    pub(crate) moved: Condvar,
+    pub(crate) changed: Condvar,
 }
 
 impl Desk {
@@ -45,13 +45,13 @@ impl Desk {
         ensures { IfOk result (λ opened. opened.1.items ≡ new_seats 0 seats) }
     {
         let (held, made) = Held::new(alloc, cache, settings, seats)?;
-        let room = Room {
+        let locked = Locked {
             held,
-            crew: Crew::new(workers),
+            worker_counts: WorkerCounts::new(workers),
         };
         let desk = Desk {
-            room: Mutex::new(room),
-            moved: Condvar::new(),
+            locked: Mutex::new(locked),
+            changed: Condvar::new(),
         };
         Ok((desk, made))
     }
@@ -71,8 +71,8 @@ impl Desk {
         ensures records { OnOk result (seat.new ≡ with_act seat.old (Act.Add name lines)) }
         ensures refuses { OnErr result (seat.new ≡ seat.old) }
     {
-        let reply = self.room.lock(rt).held.add(seat, name, lines);
-        self.moved.notify_all();
+        let reply = self.locked.lock(rt).held.add(seat, name, lines);
+        self.changed.notify_all();
         reply
     }
 
@@ -91,8 +91,8 @@ impl Desk {
         ensures records { OnOk result (seat.new ≡ with_act seat.old (Act.Edit name.now edit.now)) }
         ensures refuses { OnErr result (seat.new ≡ seat.old) }
     {
-        let reply = self.room.lock(rt).held.edit(seat, name, edit);
-        self.moved.notify_all();
+        let reply = self.locked.lock(rt).held.edit(seat, name, edit);
+        self.changed.notify_all();
         reply
     }
 
@@ -105,12 +105,12 @@ impl Desk {
         ensures records { OnOk result (seat.new ≡ with_act seat.old (Act.Remove name.now)) }
         ensures refuses { OnErr result (seat.new ≡ seat.old) }
     {
-        let mut room = self.room.lock(rt);
-        let reply = room.held.remove(seat, name);
-        let spent = room.held.take_spent();
-        drop(room);
-        self.moved.notify_all();
-        drop(spent);
+        let mut locked = self.locked.lock(rt);
+        let reply = locked.held.remove(seat, name);
+        let evicted = locked.held.take_evicted();
+        drop(locked);
+        self.changed.notify_all();
+        drop(evicted);
         reply
     }
 
@@ -129,8 +129,8 @@ impl Desk {
         ensures records { OnOk result (IsSomeAnd (key_named key.now) (λ key. seat.new ≡ with_act seat.old (Act.Set key value))) }
         ensures refuses { OnErr result (seat.new ≡ seat.old) }
     {
-        let reply = self.room.lock(rt).held.set(seat, key, value);
-        self.moved.notify_all();
+        let reply = self.locked.lock(rt).held.set(seat, key, value);
+        self.changed.notify_all();
         reply
     }
 
@@ -146,7 +146,7 @@ impl Desk {
         ensures given { IfOk result (λ given. IfSome given (λ job. IsHandedOut job.task)) }
         ensures refuses { OnErr result (seat.new ≡ seat.old) }
     {
-        self.room.lock(rt).held.start(seat)
+        self.locked.lock(rt).held.start(seat)
     }
 
     /// Takes the result of an outstanding job. It wakes the others where no verdict is awaited any more, since it gives no
@@ -169,7 +169,7 @@ impl Desk {
         reply
     }
 
-    /// Takes the result of an outstanding job; and whether the history agrees with the seat, as `Room::finish` does.
+    /// Takes the result of an outstanding job; and whether the history agrees with the seat, as `Locked::finish` does.
     pub(crate) fn finish_compared<R: Wait>(
         &self,
         rt: &R,
@@ -182,15 +182,15 @@ impl Desk {
         ensures room { is_unended seat.old.own done.now.number ≡ true → result.0 ≢ Err FinishFault.OutOfMemory }
         ensures refuses { OnErr result.0 (seat.new ≡ seat.old) }
     {
-        let mut room = self.room.lock(rt);
-        let ended = room.finish(seat, done);
-        let spent = room.held.take_spent();
-        let is_awaited = room.is_awaited();
-        drop(room);
+        let mut locked = self.locked.lock(rt);
+        let ended = locked.finish(seat, done);
+        let evicted = locked.held.take_evicted();
+        let is_awaited = locked.is_awaited();
+        drop(locked);
         if !is_awaited {
-            self.moved.notify_all();
+            self.changed.notify_all();
         }
-        drop(spent);
+        drop(evicted);
         ended
     }
 
@@ -208,7 +208,7 @@ impl Desk {
         reply
     }
 
-    /// Gives up an outstanding job; and whether the history agrees with the seat, as `Room::finish` does.
+    /// Gives up an outstanding job; and whether the history agrees with the seat, as `Locked::finish` does.
     pub(crate) fn abandon_compared<R: Wait>(
         &self,
         rt: &R,
@@ -221,8 +221,8 @@ impl Desk {
         ensures room { is_unended seat.old.own number ≡ true → result.0 ≢ Err FinishFault.OutOfMemory }
         ensures refuses { OnErr result.0 (seat.new ≡ seat.old) }
     {
-        let ended = self.room.lock(rt).abandon(seat, number);
-        self.moved.notify_all();
+        let ended = self.locked.lock(rt).abandon(seat, number);
+        self.changed.notify_all();
         ended
     }
 
@@ -235,7 +235,7 @@ impl Desk {
         ensures is_shown { IfOk result (λ report. IsShown seat.old report seat.new) }
         ensures refuses { OnErr result (seat.new ≡ seat.old) }
     {
-        self.room.lock(rt).held.show(seat)
+        self.locked.lock(rt).held.show(seat)
     }
 
     /// The book, in which each seat's acts stand once, in its order, and no others. It takes no memory.
@@ -244,16 +244,22 @@ impl Desk {
     /// `MissingSeat`, which hands back all, else `Differs`, which hands back the book.
     pub fn close(self, seats: Vec<Seat>) -> Result<Book, CloseFault<Desk>>
         ensures ok { IfOk result (IsClosed seats.items) }
-        ensures err { IfErr result (ClosesNotAt seats.items) }
+        ensures err { IfErr result (RefusesCloseAt seats.items) }
     {
-        let Desk { room, moved } = self;
-        let Room { held, crew } = room.into_inner();
+        let Desk { locked, changed } = self;
+        let Locked {
+            held,
+            worker_counts,
+        } = locked.into_inner();
         match held.close(seats) {
             Ok(book) => Ok(book),
             Err(CloseFault::MissingSeat(held, seats)) => {
                 let desk = Desk {
-                    room: Mutex::new(Room { held, crew }),
-                    moved,
+                    locked: Mutex::new(Locked {
+                        held,
+                        worker_counts,
+                    }),
+                    changed,
                 };
                 Err(CloseFault::MissingSeat(desk, seats))
             }

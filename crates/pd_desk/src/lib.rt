@@ -4,7 +4,7 @@
 //! and `start` wake those that wait, `finish` only where nothing is awaited any more. Jobs are run,
 //! and tracks freed, outside the lock. `settle` waits for verdicts, `work` is a worker, `pool` runs
 //! one in a thread for each of its seats, and `close` gives the book back. Under the lock is a
-//! `Room`: a `Held`, and how many workers came and left (`Crew`).
+//! `Locked`: a `Held`, and how many workers came and left (`WorkerCounts`).
 //!
 //! ```text
 //!     a worker at its seat:
@@ -35,16 +35,16 @@
 //!   hold a worker at its job.
 #![tactic(auto)]
 
-mod crew;
 mod desk;
 mod faults;
 mod gate;
 mod laws;
+mod locked;
 mod pool;
-mod room;
-mod working;
+mod worker;
+mod worker_counts;
 
 pub use desk::Desk;
 pub use faults::DeskFault;
 pub use gate::{Gate, OpenGate};
-pub use laws::others_end_jobs;
+pub use laws::law_others_end_jobs;

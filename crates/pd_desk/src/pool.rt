@@ -12,7 +12,7 @@ use std::thread;
 use std::thread::Threads;
 
 /// Work for a thread. A scope's closure may hold a `&mut` only inside a value of a type parameter.
-trait ThreadWork {
+trait ThreadTask {
     fn run(self) -> Result<(), DeskFault>;
 }
 
@@ -31,7 +31,7 @@ struct Worker<'a, 'b, R, G> {
     seat: &'b mut Seat,
 }
 
-impl<'a, 'b, R: Wait, G: Gate> ThreadWork for Worker<'a, 'b, R, G> {
+impl<'a, 'b, R: Wait, G: Gate> ThreadTask for Worker<'a, 'b, R, G> {
     fn run(self) -> Result<(), DeskFault> {
         let Worker {
             rt,
@@ -59,7 +59,7 @@ impl Desk {
     ) -> Result<(), DeskFault> {
         let count = seats.len();
         let Ok(mut workers) = Vec::with_capacity(alloc, count) else {
-            return self.start_none(rt, count);
+            return self.count_all_unstarted(rt, count);
         };
         let each = seats.iter_mut();
         for seat in each {
@@ -71,32 +71,32 @@ impl Desk {
                 seat,
             };
             if workers.push(worker).is_err() {
-                return self.start_none(rt, count);
+                return self.count_all_unstarted(rt, count);
             }
         }
         self.run_all(rt, alloc, workers)
     }
 
     /// Counts so many workers as ones that can't be started.
-    fn start_none<R: Wait>(&self, rt: &R, count: usize) -> Result<(), DeskFault> {
+    fn count_all_unstarted<R: Wait>(&self, rt: &R, count: usize) -> Result<(), DeskFault> {
         for _ in 0..count {
-            self.miss(rt);
+            self.count_unstarted(rt);
         }
         Err(DeskFault::OutOfMemory)
     }
 
     /// Counts a worker that can't be started as one that left.
-    fn miss<R: Wait>(&self, rt: &R) {
-        let mut room = self.room.lock(rt);
-        if room.crew.enter() {
-            room.crew.leave();
+    fn count_unstarted<R: Wait>(&self, rt: &R) {
+        let mut locked = self.locked.lock(rt);
+        if locked.worker_counts.enter() {
+            locked.worker_counts.leave();
         }
-        drop(room);
-        self.moved.notify_all();
+        drop(locked);
+        self.changed.notify_all();
     }
 
     /// Runs each task in a thread of its own, and gives the first fault in their order.
-    fn run_all<R: Threads + Wait, T: ThreadWork + Send + Drop>(
+    fn run_all<R: Threads + Wait, T: ThreadTask + Send + Drop>(
         &self,
         rt: &R,
         alloc: Global,
@@ -105,12 +105,12 @@ impl Desk {
         let count = tasks.len();
         thread::scope(thread::scope_env(), rt, |scope| {
             let Ok(mut handles) = Vec::with_capacity(alloc, count) else {
-                return self.start_none(rt, count);
+                return self.count_all_unstarted(rt, count);
             };
             for task in tasks {
                 let started = scope.spawn(move || task.run());
                 if started.is_err() {
-                    self.miss(rt);
+                    self.count_unstarted(rt);
                 }
                 // The list was made with room for all of them.
                 let _ = handles.push(started.ok());

@@ -4,7 +4,7 @@ use Rattle.std.specs.List.{list_all}
 use Rattle.std.proofs.lemmas.Bool.{and_from}
 use Rattle.std.proofs.lemmas.List.Folds.{list_all-append}
 use Rattle.std.proofs.lemmas.List.Concat.{flat_map-append}
-use Rattle.pd_explain.specs.Shown.{are_printable}
+use Rattle.pd_explain.specs.Escape.{are_printable}
 use Rattle.pd_explain.specs.BlockLines.{indented, AreIndented, IsBlock}
 use Rattle.pd_explain.specs.Inner.{AddsLines}
 

@@ -6,20 +6,20 @@ use Rattle.std.proofs.lemmas.Bool.Decides.{nat_tests}
 use Rattle.std.proofs.lemmas.List.{take_more, drop_all, drop-append-le, length-take, length-take-le, length-drop, length-map}
 use Rattle.std.proofs.lemmas.List.Elements.{filter_map-append}
 use Rattle.std.proofs.lemmas.Option.{slice_get_within, slice_get-map, get_or_from_slice_get}
-use Rattle.pd_settings.specs.declared.fields.Settings.{Settings}
-use Rattle.pd_script.specs.declared.parsing.Parsed.{Parsed}
+use Rattle.pd_settings.specs.declared.settings.Settings.{Settings}
+use Rattle.pd_script.specs.declared.parsed.Parsed.{Parsed}
 use Rattle.pd_script.specs.declared.script_events.Event.{Event}
 use Rattle.pd_run.specs.Run.{start_of, states_from}
 use Rattle.pd_run.specs.Step.{RunStateView, on_step, step}
-use Rattle.pd_run.specs.Stops.{reason_on, stop_by, stop_from, stop_in}
-use Rattle.pd_run.specs.declared.stops.Stopped.{Stopped}
-use Rattle.pd_run.specs.declared.verdicts.Verdict.{Verdict}
-use Rattle.pd_run.specs.declared.whys.Why.{Why}
-use Rattle.pd_explain.specs.Dropped.{dropped_at, dropped_in, dropped_before, last, told_of}
+use Rattle.pd_run.specs.StopPoints.{stop_reason_on, stop_by, stop_from, stop_in}
+use Rattle.pd_run.specs.declared.stop_point.StopPoint.{StopPoint}
+use Rattle.pd_run.specs.declared.verdict.Verdict.{Verdict}
+use Rattle.pd_run.specs.declared.stop_reason.StopReason.{StopReason}
+use Rattle.pd_explain.specs.Dropped.{dropped_at, dropped_in, dropped_before, last, last_dropped}
 use Rattle.pd_explain.specs.Inner.{Reaches}
 use Rattle.pd_explain.specs.Origins.{stages}
-use Rattle.pd_explain.specs.declared.dropping.DroppedSegment.{DroppedSegment}
-use Rattle.pd_explain.proofs.TakenUp.{stop_begun}
+use Rattle.pd_explain.specs.declared.dropped.DroppedSegment.{DroppedSegment}
+use Rattle.pd_explain.proofs.ResumedRun.{stop_begun}
 
 -- Lists
 
@@ -95,7 +95,7 @@ begins begun passed h = by (begun == 0) refl h
     by false is h = let far : begun + 16 ≤ passed = leb-true (begun + 16) passed h in omega (arith, far)
 
 pub told_left : (settings : Settings) (p : Parsed) (begun passed : ℕ) → Reaches settings p passed → ((begun == 0) || nat_le (begun + 16) passed) ≡ true
-    → told_of (drop begun (dropped_in settings p passed)) ≡ dropped_before settings p passed
+    → last_dropped (drop begun (dropped_in settings p passed)) ≡ dropped_before settings p passed
 told_left settings p begun passed reached early = by begun (begun == 0) refl early
   where
     all : length (dropped_in settings p passed) ≡ passed
@@ -106,10 +106,10 @@ told_left settings p begun passed reached early = by begun (begun == 0) refl ear
         (omega (arith, zipped, length-map (zip (stages settings p) p.events) (λ (at : RunStateView × Event). dropped_at at.0 at.1)))
 
     by : (b : ℕ) (none : Bool) → (b == 0) ≡ none → ((b == 0) || nat_le (b + 16) passed) ≡ true
-        → told_of (drop b (dropped_in settings p passed)) ≡ dropped_before settings p passed
+        → last_dropped (drop b (dropped_in settings p passed)) ≡ dropped_before settings p passed
     by b true is h =
         let zeroth : b ≡ 0 = grind (arith, nat_tests) in
-        ap (λ (k : ℕ). told_of (drop k (dropped_in settings p passed))) zeroth
+        ap (λ (k : ℕ). last_dropped (drop k (dropped_in settings p passed))) zeroth
     by b false is h =
         let far : nat_le (b + 16) passed ≡ true = let h' = rw is at h in h' in
         let enough : b + 16 ≤ length (dropped_in settings p passed) = omega (arith, all, leb-true (b + 16) passed far) in
@@ -150,26 +150,26 @@ goes_on settings p n passed s e v reached stage found less stops = by (start_of 
     by (Err w) there further = absurd cc
 
 -- a run gets to where it stops
-staged_from : (line n : ℕ) (es : List Event) (r : RunStateView) (stop : Stopped) → stop_from line n es r ≡ Some stop
+staged_from : (line n : ℕ) (es : List Event) (r : RunStateView) (stop : StopPoint) → stop_from line n es r ≡ Some stop
     → (m : ℕ) × (stop.passed ≡ n + m) × (slice_get (r ∷ states_from es r) m ≡ Some stop.before)
 staged_from line n [] r stop h = absurd cc
-staged_from line n (e ∷ es) r stop h = by (λ s is. staged_from line (n + 1) es s stop is) (reason_on line r e) (step r e) h
+staged_from line n (e ∷ es) r stop h = by (λ s is. staged_from line (n + 1) es s stop is) (stop_reason_on line r e) (step r e) h
   where
     by : ((s : RunStateView) → stop_from line (n + 1) es s ≡ Some stop
         → (m : ℕ) × (stop.passed ≡ n + 1 + m) × (slice_get (s ∷ states_from es s) m ≡ Some stop.before))
-        → (reason : Option Why) (came : Result RunStateView Verdict) → stop_by n r reason (on_step (stop_from line (n + 1) es) (λ v. None) came) ≡ Some stop
+        → (reason : Option StopReason) (came : Result RunStateView Verdict) → stop_by n r reason (on_step (stop_from line (n + 1) es) (λ v. None) came) ≡ Some stop
         → (m : ℕ) × (stop.passed ≡ n + m) × (slice_get (r ∷ on_step (λ s. s ∷ states_from es s) (λ v. []) came) m ≡ Some stop.before)
     by ih (Some w) came is =
-        let same : record { passed = n; before = r; why = w } ≡ stop = cc in
-        let passed : n ≡ stop.passed = ap (λ (s : Stopped). s.passed) same in
-        let before : r ≡ stop.before = ap (λ (s : Stopped). s.before) same in
+        let same : record { passed = n; before = r; stop_reason = w } ≡ stop = cc in
+        let passed : n ≡ stop.passed = ap (λ (s : StopPoint). s.passed) same in
+        let before : r ≡ stop.before = ap (λ (s : StopPoint). s.before) same in
         (0, omega (arith, passed), ap (λ (q : RunStateView). Some q) before)
     by ih None (Ok s) is =
         let further = ih s is in
         (suc further.0, omega (arith, further.1), further.2)
     by ih None (Err v) is = absurd cc
 
-pub staged_stop : (settings : Settings) (p : Parsed) (line : ℕ) (stop : Stopped) → stop_in line settings p ≡ Some stop → stop.passed < length p.events
+pub staged_stop : (settings : Settings) (p : Parsed) (line : ℕ) (stop : StopPoint) → stop_in line settings p ≡ Some stop → stop.passed < length p.events
     → Reaches settings p stop.passed
 staged_stop settings p line stop found less = record {
   run = stop.before;

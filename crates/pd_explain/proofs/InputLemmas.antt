@@ -4,12 +4,12 @@ use Rattle.pd_seg.specs.declared.segments.Segment.{Segment}
 use Rattle.pd_host.specs.Arrivals.{is_stray_fin}
 use Rattle.pd_host.specs.Connection.{ConnectionView}
 use Rattle.pd_host.specs.Handshake.{is_listening, is_syn_alone, is_mss_run, length_of, offered_mss}
-use Rattle.pd_host.specs.declared.descriptors.Listener.{Listener}
+use Rattle.pd_host.specs.declared.descriptors.ListenState.{ListenState}
 use Rattle.pd_explain.specs.Rules.{HoldsOfFirst, OpeningsHaveRules, is_closed_by, HoldsOn, ContentsHaveRules}
-use Rattle.pd_explain.specs.declared.rules.inputs.Input.TheVariants.{NotListening, NotSyn, SmallMss, Payload, SecondSyn, StrayFin, AfterReset, AfterFins}
+use Rattle.pd_explain.specs.declared.rules.unsupported_inputs.UnsupportedInput.TheVariants.{NotListening, NotSyn, SmallMss, Payload, SecondSyn, StrayFin, AfterReset, AfterFins}
 
 -- a first segment, by its tests
-opening : (l : Listener) (s : Segment) (listens alone at_start empty large : Bool)
+opening : (l : ListenState) (s : Segment) (listens alone at_start empty large : Bool)
     → is_listening l ≡ listens
     → is_syn_alone s.flags ≡ alone
     → (s.start == 0) ≡ at_start
@@ -30,21 +30,21 @@ openings_have_rules l s e =
     opening l s (is_listening l) (is_syn_alone s.flags) (s.start == 0) (length_of s == 0) (is_mss_run (offered_mss s.options)) refl refl refl refl refl e
 
 -- a segment on a connection, by its tests
-contents : {X : Type 0} (x : X) (c : ConnectionView) (s : Segment) (filled syn stray closed reset : Bool)
+contents : {X : Type 0} (x : X) (c : ConnectionView) (s : Segment) (filled syn foreign_syntax closed is_reset : Bool)
     → nat_lt 0 (length_of s) ≡ filled
     → s.flags.syn ≡ syn
-    → is_stray_fin c s ≡ stray
+    → is_stray_fin c s ≡ foreign_syntax
     → is_closed_by c ≡ closed
-    → c.reset ≡ reset
-    → is_some (if filled || (syn || (stray || closed)) then Some x else None) ≡ true
-    → HoldsOn c s (if filled then Payload else (if syn then SecondSyn else (if not closed then StrayFin else (if reset then AfterReset else AfterFins))))
-contents x c s true syn stray closed reset hd hs ht hc hr e = hd
-contents x c s false true stray closed reset hd hs ht hc hr e = hs
-contents x c s false false stray true true hd hs ht hc hr e = hr
-contents x c s false false stray true false hd hs ht hc hr e = (hc, hr)
-contents x c s false false true false reset hd hs ht hc hr e = ht
-contents x c s false false false false reset hd hs ht hc hr e = absurd (true≢false (sym e))
+    → c.is_reset ≡ is_reset
+    → is_some (if filled || (syn || (foreign_syntax || closed)) then Some x else None) ≡ true
+    → HoldsOn c s (if filled then Payload else (if syn then SecondSyn else (if not closed then StrayFin else (if is_reset then AfterReset else AfterFins))))
+contents x c s true syn foreign_syntax closed is_reset hd hs ht hc hr e = hd
+contents x c s false true foreign_syntax closed is_reset hd hs ht hc hr e = hs
+contents x c s false false foreign_syntax true true hd hs ht hc hr e = hr
+contents x c s false false foreign_syntax true false hd hs ht hc hr e = (hc, hr)
+contents x c s false false true false is_reset hd hs ht hc hr e = ht
+contents x c s false false false false is_reset hd hs ht hc hr e = absurd (true≢false (sym e))
 
 pub contents_have_rules : ContentsHaveRules
 contents_have_rules c s e =
-    contents _ c s (nat_lt 0 (length_of s)) s.flags.syn (is_stray_fin c s) (is_closed_by c) c.reset refl refl refl refl refl e
+    contents _ c s (nat_lt 0 (length_of s)) s.flags.syn (is_stray_fin c s) (is_closed_by c) c.is_reset refl refl refl refl refl e

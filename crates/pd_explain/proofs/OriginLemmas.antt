@@ -1,76 +1,76 @@
 -- What is told to have let packets go, and that nothing else did.
 use Rattle.std.proofs.Common.{◌≡◌, inl, inr, ◌⊎◌, ℕ, zero, suc, ◌+◌, ◌-◌, ◌<◌, ◌≤◌, List, [], ◌∷◌, length, take, slice_get, Some, Result, Ok, Err, refl, sym, ap, ap₂, subst, ◌∙◌, arith}
-use Rattle.pd_settings.specs.declared.fields.Settings.{Settings}
-use Rattle.pd_script.specs.declared.parsing.Parsed.{Parsed}
+use Rattle.pd_settings.specs.declared.settings.Settings.{Settings}
+use Rattle.pd_script.specs.declared.parsed.Parsed.{Parsed}
 use Rattle.pd_script.specs.declared.script_events.Event.{Event}
 use Rattle.pd_seg.specs.declared.segments.Sent.{Sent}
-use Rattle.pd_run.specs.Laws.{untaken}
+use Rattle.pd_run.specs.Laws.{unmatched}
 use Rattle.pd_run.specs.Run.{start_of, states_from}
 use Rattle.pd_run.specs.Step.{RunStateView, on_step, step}
-use Rattle.pd_run.specs.declared.verdicts.Verdict.{Verdict}
+use Rattle.pd_run.specs.declared.verdict.Verdict.{Verdict}
 use Rattle.pd_lex.specs.declared.token.Place.{Place}
-use Rattle.pd_run.specs.declared.stops.Stopped.{Stopped}
+use Rattle.pd_run.specs.declared.stop_point.StopPoint.{StopPoint}
 use Rattle.pd_explain.specs.Causes.{IsCauseOf, HasHistoryOf}
-use Rattle.pd_explain.specs.Dropped.{dropped_till}
+use Rattle.pd_explain.specs.Dropped.{dropped_before_stop}
 use Rattle.pd_explain.specs.Explained.{HasHistory}
 use Rattle.pd_explain.specs.Failures.{Tells}
 use Rattle.pd_explain.specs.declared.causes.Cause.{Cause}
 use Rattle.pd_explain.specs.declared.causes.Cause.TheVariants as cause
-use Rattle.pd_explain.specs.Inner.{PacketsAppend, origin_by, AreSenders, AreToldOf, untaken_at}
-use Rattle.pd_explain.specs.Origins.{stages, takes, taken_by, after_input, IsLetGo, IsSentBy, AreOrigins, OriginsAreUnique}
-use Rattle.pd_explain.specs.declared.causes.origins.Origin.{Origin}
-use Rattle.pd_explain.specs.declared.causes.origins.Origin.TheVariants as origin
-use Rattle.pd_explain.specs.declared.dropping.DroppedSegment.{DroppedSegment}
-use Rattle.pd_explain.specs.declared.noting.Sender.{Sender}
-use Rattle.pd_explain.proofs.NotingLemmas.{passes, timer_grows, input_grows}
+use Rattle.pd_explain.specs.Inner.{PacketsAppend, origin_by, AreTriggers, AreOriginsOf, unmatched_at}
+use Rattle.pd_explain.specs.Origins.{stages, matched_count, taken_by, after_input, IsLetGo, IsSentBy, AreOrigins, OriginsAreUnique}
+use Rattle.pd_explain.specs.declared.causes.origin.Origin.{Origin}
+use Rattle.pd_explain.specs.declared.causes.origin.Origin.TheVariants as origin
+use Rattle.pd_explain.specs.declared.dropped.DroppedSegment.{DroppedSegment}
+use Rattle.pd_explain.specs.declared.origins.Trigger.{Trigger}
+use Rattle.pd_explain.proofs.TriggerLemmas.{passes, timer_grows, input_grows}
 
 -- What is told of packets
 
-pub are_origins : (settings : Settings) (parsed : Parsed) (first passed : ℕ) (packets : List Sent) (senders : List Sender) (origins : List Origin)
-    → AreSenders settings parsed first passed (length packets) senders → length packets ≤ length senders → AreToldOf packets senders origins
+pub are_origins : (settings : Settings) (parsed : Parsed) (first passed : ℕ) (packets : List Sent) (triggers : List Trigger) (origins : List Origin)
+    → AreTriggers settings parsed first passed (length packets) triggers → length packets ≤ length triggers → AreOriginsOf packets triggers origins
     → AreOrigins settings parsed passed packets origins
-are_origins settings parsed first passed packets senders origins known enough told =
-    record { all = told.all; each = each }
+are_origins settings parsed first passed packets triggers origins known enough reported =
+    record { all = reported.all; each = each }
   where
     each : (place : ℕ) (sent : Sent) (origin : Origin) → slice_get packets place ≡ Some sent → slice_get origins place ≡ Some origin
         → IsSentBy settings parsed (taken_by (take passed parsed.events) + place) sent.at origin
     each place sent origin there is =
-        let by = told.each place sent origin there is in
-        let number : first + (length senders - length packets + place) ≡ taken_by (take passed parsed.events) + place =
+        let by = reported.each place sent origin there is in
+        let number : first + (length triggers - length packets + place) ≡ taken_by (take passed parsed.events) + place =
         omega (arith, known.counted, enough) in
         subst (λ (o : Origin). IsSentBy settings parsed (taken_by (take passed parsed.events) + place) sent.at o) (sym by.2)
         (subst (λ (m : ℕ). IsSentBy settings parsed m sent.at (origin_by by.0 sent.at)) number
-        (known.each (length senders - length packets + place) sent.at by.0 by.1))
+        (known.each (length triggers - length packets + place) sent.at by.0 by.1))
 
 -- the same cause with these origins and dropped segments
-pub told_with : (lines : List (List ℕ)) (place : Place) (e : Event) (stop : Stopped) (settings : Settings) (parsed : Parsed) (before told : Cause) (origins : List Origin)
+pub reported_with : (lines : List (List ℕ)) (place : Place) (e : Event) (stop : StopPoint) (settings : Settings) (parsed : Parsed) (before reported : Cause) (origins : List Origin)
     (dropped : List DroppedSegment)
-    → HasHistoryOf before origins dropped told → IsCauseOf lines place e stop before → AreOrigins settings parsed stop.passed (untaken_at stop) origins
-    → dropped ≡ dropped_till settings parsed stop → IsCauseOf lines place e stop told × HasHistory settings parsed stop told
-told_with lines place e stop settings parsed (cause.Failed f) told origins dropped h is known till =
+    → HasHistoryOf before origins dropped reported → IsCauseOf lines place e stop before → AreOrigins settings parsed stop.passed (unmatched_at stop) origins
+    → dropped ≡ dropped_before_stop settings parsed stop → IsCauseOf lines place e stop reported × HasHistory settings parsed stop reported
+reported_with lines place e stop settings parsed (cause.Failed f) reported origins dropped h is known till =
     subst (λ (t : Cause). IsCauseOf lines place e stop t × HasHistory settings parsed stop t) (sym h.1) (
-      (is.0, (subst (Tells is.0 e stop.before stop.why) (sym h.4) is.1.0, h.5 ∙ is.1.1)),
-      (subst (AreOrigins settings parsed stop.passed (untaken_at stop)) (sym h.2) known, h.3 ∙ till),
+      (is.0, (subst (Tells is.0 e stop.before stop.stop_reason) (sym h.4) is.1.0, h.5 ∙ is.1.1)),
+      (subst (AreOrigins settings parsed stop.passed (unmatched_at stop)) (sym h.2) known, h.3 ∙ till),
     )
-told_with lines place e stop settings parsed (cause.Rule ruling) told origins dropped h is known till =
+reported_with lines place e stop settings parsed (cause.Rule violation) reported origins dropped h is known till =
     subst (λ (t : Cause). IsCauseOf lines place e stop t × HasHistory settings parsed stop t) (sym h) (is, tt)
-told_with lines place e stop settings parsed (cause.Syntax refusal) told origins dropped h is known till = absurd is
+reported_with lines place e stop settings parsed (cause.Syntax refusal) reported origins dropped h is known till = absurd is
 
 -- One packet, one origin
 
 -- a run further on has put out no fewer packets
 further : PacketsAppend → (es : List Event) (r s : RunStateView) (m : ℕ) → slice_get (r ∷ states_from es r) m ≡ Some s
-    → length (untaken r) ≤ taken_by (take m es) + length (untaken s)
-further laws es r s zero h = let same : r ≡ s = cc in subst (λ (q : RunStateView). length (untaken r) ≤ 0 + length (untaken q)) same (omega arith)
+    → length (unmatched r) ≤ taken_by (take m es) + length (unmatched s)
+further laws es r s zero h = let same : r ≡ s = cc in subst (λ (q : RunStateView). length (unmatched r) ≤ 0 + length (unmatched q)) same (omega arith)
 further laws [] r s (suc m) h = absurd cc
 further laws (e ∷ es) r s (suc m) h = go (λ t there. further laws es t s m there) (step r e) refl h
   where
-    go : ((t : RunStateView) → slice_get (t ∷ states_from es t) m ≡ Some s → length (untaken t) ≤ taken_by (take m es) + length (untaken s))
+    go : ((t : RunStateView) → slice_get (t ∷ states_from es t) m ≡ Some s → length (unmatched t) ≤ taken_by (take m es) + length (unmatched s))
         → (came : Result RunStateView Verdict) → step r e ≡ came → slice_get (on_step (λ t. t ∷ states_from es t) (λ v. []) came) m ≡ Some s
-        → length (untaken r) ≤ taken_by (take (suc m) (e ∷ es)) + length (untaken s)
+        → length (unmatched r) ≤ taken_by (take (suc m) (e ∷ es)) + length (unmatched s)
     go ih (Ok t) is there =
         let later = ih t there in
-        let first : taken_by (take (suc m) (e ∷ es)) ≡ takes e + taken_by (take m es) = refl in
+        let first : taken_by (take (suc m) (e ∷ es)) ≡ matched_count e + taken_by (take m es) = refl in
         omega (arith, later, first, passes laws.taken r t e is, timer_grows laws r e e.action, input_grows laws r e e.action)
     go ih (Err v) is there = absurd cc
 
@@ -79,23 +79,23 @@ some_is e = cc
 
 at_first : PacketsAppend → (d : Event) (es : List Event) (q r s : RunStateView) (e : Event) (m : ℕ) → d ≡ e → q ≡ r
     → slice_get (on_step (λ t. t ∷ states_from es t) (λ v. []) (step q d)) m ≡ Some s
-    → 0 + length (after_input r e) ≤ taken_by (take (suc m) (d ∷ es)) + length (untaken s)
+    → 0 + length (after_input r e) ≤ taken_by (take (suc m) (d ∷ es)) + length (unmatched s)
 at_first laws d es q r s e m event state there = go (step q d) refl there
   where
     same : length (after_input q d) ≡ length (after_input r e)
     same = ap₂ (λ (x : RunStateView) (y : Event). length (after_input x y)) state event
 
     go : (came : Result RunStateView Verdict) → step q d ≡ came → slice_get (on_step (λ t. t ∷ states_from es t) (λ v. []) came) m ≡ Some s
-        → 0 + length (after_input r e) ≤ taken_by (take (suc m) (d ∷ es)) + length (untaken s)
+        → 0 + length (after_input r e) ≤ taken_by (take (suc m) (d ∷ es)) + length (unmatched s)
     go (Ok t) is later =
-        let first : taken_by (take (suc m) (d ∷ es)) ≡ takes d + taken_by (take m es) = refl in
+        let first : taken_by (take (suc m) (d ∷ es)) ≡ matched_count d + taken_by (take m es) = refl in
         omega (arith, further laws es t s m later, first, passes laws.taken q t d is, same)
     go (Err v) is later = absurd cc
 
 -- nor than those that an event before has put out
 beyond : PacketsAppend → (es : List Event) (q r s : RunStateView) (e : Event) (n m : ℕ) → n < m
     → slice_get es n ≡ Some e → slice_get (q ∷ states_from es q) n ≡ Some r → slice_get (q ∷ states_from es q) m ≡ Some s
-    → taken_by (take n es) + length (after_input r e) ≤ taken_by (take m es) + length (untaken s)
+    → taken_by (take n es) + length (after_input r e) ≤ taken_by (take m es) + length (unmatched s)
 beyond laws [] q r s e n m less found here there = absurd cc
 beyond laws (d ∷ es) q r s e zero zero less found here there = absurd (omega (arith, less))
 beyond laws (d ∷ es) q r s e (suc n) zero less found here there = absurd (omega (arith, less))
@@ -104,20 +104,20 @@ beyond laws (d ∷ es) q r s e (suc n) (suc m) less found here there =
     go (λ t left right. beyond laws es t r s e n m (omega (arith, less)) found left right) (step q d) here there
   where
     go : ((t : RunStateView) → slice_get (t ∷ states_from es t) n ≡ Some r → slice_get (t ∷ states_from es t) m ≡ Some s
-        → taken_by (take n es) + length (after_input r e) ≤ taken_by (take m es) + length (untaken s))
+        → taken_by (take n es) + length (after_input r e) ≤ taken_by (take m es) + length (unmatched s))
         → (came : Result RunStateView Verdict) → slice_get (on_step (λ t. t ∷ states_from es t) (λ v. []) came) n ≡ Some r
         → slice_get (on_step (λ t. t ∷ states_from es t) (λ v. []) came) m ≡ Some s
-        → taken_by (take (suc n) (d ∷ es)) + length (after_input r e) ≤ taken_by (take (suc m) (d ∷ es)) + length (untaken s)
+        → taken_by (take (suc n) (d ∷ es)) + length (after_input r e) ≤ taken_by (take (suc m) (d ∷ es)) + length (unmatched s)
     go ih (Ok t) left right =
         let later = ih t left right in
-        let first : taken_by (take (suc n) (d ∷ es)) ≡ takes d + taken_by (take n es) = refl in
-        let second : taken_by (take (suc m) (d ∷ es)) ≡ takes d + taken_by (take m es) = refl in
+        let first : taken_by (take (suc n) (d ∷ es)) ≡ matched_count d + taken_by (take n es) = refl in
+        let second : taken_by (take (suc m) (d ∷ es)) ≡ matched_count d + taken_by (take m es) = refl in
         omega (arith, later, first, second)
     go ih (Err v) left right = absurd cc
 
 -- of a number that is reached in an event
 reached_in : PacketsAppend → (taken : ℕ) (r : RunStateView) (e : Event) (number at : ℕ) (o : Origin) → IsLetGo taken r e number at o
-    → (taken + length (untaken r) ≤ number) × (number < taken + length (after_input r e))
+    → (taken + length (unmatched r) ≤ number) × (number < taken + length (after_input r e))
 reached_in laws taken r e number at (origin.Timer moment) h = (h.0.0, omega (arith, h.0.1, input_grows laws r e e.action))
 reached_in laws taken r e number at (origin.Line line) h = (omega (arith, h.0.0, timer_grows laws r e e.action), h.0.1)
 

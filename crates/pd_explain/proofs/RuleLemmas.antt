@@ -10,35 +10,35 @@ use Rattle.pd_script.specs.declared.packets.PacketOption.TheVariants.{Mss, Wscal
 use Rattle.pd_script.specs.declared.script_events.Action.{Action}
 use Rattle.pd_script.specs.declared.script_events.Action.TheVariants as action
 use Rattle.pd_script.specs.declared.timing.Time.{Time}
-use Rattle.pd_script.specs.declared.timing.Until.{Until}
-use Rattle.pd_host.specs.Requests.{request_of}
-use Rattle.pd_host.specs.declared.requests.Request.{Request}
+use Rattle.pd_script.specs.declared.timing.BlockingEnd.{BlockingEnd}
+use Rattle.pd_host.specs.Syscalls.{syscall_of}
+use Rattle.pd_host.specs.declared.syscall.Syscall.{Syscall}
 use Rattle.pd_run.specs.Limits.{is_high, is_some_over, is_block_over, is_option_over, are_options_over, is_packet_over, is_action_over}
-use Rattle.pd_run.specs.Shapes.{is_action_run}
+use Rattle.pd_run.specs.Supported.{is_action_run}
 use Rattle.pd_run.specs.Times.{is_single}
 use Rattle.pd_explain.specs.Rules.{limit_of, where_so, above, some_above, is_some_long, option_over, first_option_over, options_over, packet_over, action_over, LimitsHaveNumbers, is_known, call_shape, packet_shape, action_shape, ShapesHaveRules}
-use Rattle.pd_explain.specs.declared.rules.numbers.Number.{Number}
-use Rattle.pd_explain.specs.declared.rules.numbers.Number.TheVariants as number
-use Rattle.pd_explain.specs.declared.rules.shapes.Shape.{Shape}
-use Rattle.pd_explain.specs.declared.rules.shapes.Shape.TheVariants as shape
+use Rattle.pd_explain.specs.declared.rules.limited_numbers.LimitedNumber.{LimitedNumber}
+use Rattle.pd_explain.specs.declared.rules.limited_numbers.LimitedNumber.TheVariants as number
+use Rattle.pd_explain.specs.declared.rules.unsupported_shapes.UnsupportedShape.{UnsupportedShape}
+use Rattle.pd_explain.specs.declared.rules.unsupported_shapes.UnsupportedShape.TheVariants as shape
 
-where_it_is : (b : Bool) (n : Number) → is_some (where_so b n) ≡ b
+where_it_is : (b : Bool) (n : LimitedNumber) → is_some (where_so b n) ≡ b
 where_it_is true n = refl
 where_it_is false n = refl
 
-one_of : (a b : Option Number) → is_some (option_or a b) ≡ (is_some a || is_some b)
+one_of : (a b : Option LimitedNumber) → is_some (option_or a b) ≡ (is_some a || is_some b)
 one_of None b = refl
 one_of (Some n) b = refl
 
 -- two tests, the first before the second
-both : (a b : Option Number) (x y : Bool) → is_some a ≡ x → is_some b ≡ y → is_some (option_or a b) ≡ (x || y)
+both : (a b : Option LimitedNumber) (x y : Bool) → is_some a ≡ x → is_some b ≡ y → is_some (option_or a b) ≡ (x || y)
 both a b x y h k = one_of a b ∙ ap (λ v. v || is_some b) h ∙ ap (λ v. x || v) k
 
-before : (b : Bool) (n : Number) (o : Option Number) (x : Bool) → is_some o ≡ x → is_some (if b then Some n else o) ≡ (b || x)
+before : (b : Bool) (n : LimitedNumber) (o : Option LimitedNumber) (x : Bool) → is_some o ≡ x → is_some (if b then Some n else o) ≡ (b || x)
 before true n o x h = refl
 before false n o x h = h
 
-written : (n : Number) (most : ℕ) (value : Option ℕ) → limit_of n ≡ most → is_some (some_above n value) ≡ is_some_over most value
+written : (n : LimitedNumber) (most : ℕ) (value : Option ℕ) → limit_of n ≡ most → is_some (some_above n value) ≡ is_some_over most value
 written n most None h = refl
 written n most (Some v) h = where_it_is (nat_lt (limit_of n) v) n ∙ ap (λ m. nat_lt m v) h
 
@@ -88,9 +88,9 @@ of_action action.Code = refl
 
 pub limits_have_numbers : LimitsHaveNumbers
 limits_have_numbers e =
-    before (is_some_long e.time e.until) number.Time (action_over e.action) (is_action_over e.action) (of_action e.action)
+    before (is_some_long e.time e.blocking_end) number.Time (action_over e.action) (is_action_over e.action) (of_action e.action)
 
-unsingle : (s : Bool) (r : Shape) (o : Option Shape) (x : Bool) → is_some o ≡ not x → is_some (if not s then Some r else o) ≡ not (s && x)
+unsingle : (s : Bool) (r : UnsupportedShape) (o : Option UnsupportedShape) (x : Bool) → is_some o ≡ not x → is_some (if not s then Some r else o) ≡ not (s && x)
 unsingle true r o x h = h
 unsingle false r o x h = refl
 
@@ -98,7 +98,7 @@ flagged : (b : Bool) → is_some (if b then Some shape.Flag else None) ≡ not (
 flagged true = refl
 flagged false = refl
 
-unrun : (r : Option Request) (known : Bool) → is_some (if is_some r then None else Some (if known then shape.CallShape else shape.CallName)) ≡ not (is_some r)
+unrun : (r : Option Syscall) (known : Bool) → is_some (if is_some r then None else Some (if known then shape.CallShape else shape.CallName)) ≡ not (is_some r)
 unrun None known = refl
 unrun (Some r) known = refl
 
@@ -106,13 +106,13 @@ shaped : (time : Time) (a : Action) → is_some (action_shape time a) ≡ not (i
 shaped time (action.Inbound p) = unsingle (is_single time) shape.InboundTime (packet_shape p) (not p.flags.other) (flagged p.flags.other)
 shaped time (action.Outbound p) = flagged p.flags.other
 shaped time (action.Call call) =
-    unsingle (is_single time) shape.CallTime (call_shape call) (is_some (request_of call)) (unrun (request_of call) (is_known call.function))
+    unsingle (is_single time) shape.CallTime (call_shape call) (is_some (syscall_of call)) (unrun (syscall_of call) (is_known call.function))
 shaped time action.Command = refl
 shaped time action.Code = refl
 
-blocked : (until : Option Until) (o : Option Shape) (x : Bool) → is_some o ≡ not x → is_some (if is_some until then Some shape.Blocking else o) ≡ not (is_none until && x)
+blocked : (blocking_end : Option BlockingEnd) (o : Option UnsupportedShape) (x : Bool) → is_some o ≡ not x → is_some (if is_some blocking_end then Some shape.Blocking else o) ≡ not (is_none blocking_end && x)
 blocked None o x h = h
 blocked (Some u) o x h = refl
 
 pub shapes_have_rules : ShapesHaveRules
-shapes_have_rules e = blocked e.until (action_shape e.time e.action) (is_action_run e.time e.action) (shaped e.time e.action)
+shapes_have_rules e = blocked e.blocking_end (action_shape e.time e.action) (is_action_run e.time e.action) (shaped e.time e.action)

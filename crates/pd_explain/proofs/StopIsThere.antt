@@ -2,37 +2,37 @@
 use Rattle.std.proofs.Common.{◌≡◌, ◌≢◌, ◌<◌, ℕ, ◌+◌, List, [], ◌∷◌, length, Option, Some, None, Result, Ok, Err, IfOk, refl, sym, subst, ◌∙◌, arith, false}
 use Rattle.std.specs.declared.alloc.AllocError.{AllocError}
 use Rattle.std.specs.List.{filter_map, last_or}
-use Rattle.pd_settings.specs.declared.fields.Settings.{Settings}
-use Rattle.pd_script.specs.Header.{Heading}
+use Rattle.pd_settings.specs.declared.settings.Settings.{Settings}
+use Rattle.pd_script.specs.Header.{HeaderView}
 use Rattle.pd_script.specs.Script.{script_of}
-use Rattle.pd_script.specs.declared.parsing.Parsed.{Parsed}
+use Rattle.pd_script.specs.declared.parsed.Parsed.{Parsed}
 use Rattle.pd_script.specs.declared.script_events.Event.{Event}
 use Rattle.pd_script.specs.declared.script_header.HeaderItem.{HeaderItem}
 use Rattle.pd_reparse.specs.Reading.{reading_of}
 use Rattle.pd_host.specs.Host.{fresh_host}
 use Rattle.pd_run.specs.Run.{tolerance_in, start_of, verdict_in, verdict_from}
 use Rattle.pd_run.specs.Step.{RunStateView, on_step, step}
-use Rattle.pd_run.specs.Stops.{reason_on, stop_by, stop_from, stop_in, line_of, VerdictsHaveReasons}
-use Rattle.pd_run.specs.Why.{verdict_at}
-use Rattle.pd_run.specs.declared.stops.Stopped.{Stopped}
-use Rattle.pd_run.specs.declared.verdicts.Verdict.{Verdict}
-use Rattle.pd_run.specs.declared.verdicts.Verdict.TheVariants as verdict
-use Rattle.pd_run.specs.declared.whys.Why.{Why}
+use Rattle.pd_run.specs.StopPoints.{stop_reason_on, stop_by, stop_from, stop_in, line_of, VerdictsHaveReasons}
+use Rattle.pd_run.specs.StopReason.{verdict_at}
+use Rattle.pd_run.specs.declared.stop_point.StopPoint.{StopPoint}
+use Rattle.pd_run.specs.declared.verdict.Verdict.{Verdict}
+use Rattle.pd_run.specs.declared.verdict.Verdict.TheVariants as verdict
+use Rattle.pd_run.specs.declared.stop_reason.StopReason.{StopReason}
 use Rattle.pd_explain.specs.Causes.{IsCauseOf}
 use Rattle.pd_explain.specs.declared.causes.Cause.{Cause}
 use Rattle.pd_explain.specs.Explained.{row_line, not_run, StopsAt, HasHistory, IsCauseIn, IsCause}
 use Rattle.pd_explain.specs.Parts.{event_place}
 
 -- where a stop is found among so many events after n others
-abbrev Within : ℕ → ℕ → Option Stopped → Type 0
+abbrev Within : ℕ → ℕ → Option StopPoint → Type 0
 Within n more None = Unit {0}
 Within n more (Some stop) = stop.passed < n + more
 
-later : (n more : ℕ) (found : Option Stopped) → Within (n + 1) more found → Within n (more + 1) found
+later : (n more : ℕ) (found : Option StopPoint) → Within (n + 1) more found → Within n (more + 1) found
 later n more None h = tt
 later n more (Some stop) h = omega arith
 
-here : (n more : ℕ) (r : RunStateView) (reason : Option Why) (rest : Option Stopped) → Within n (more + 1) rest
+here : (n more : ℕ) (r : RunStateView) (reason : Option StopReason) (rest : Option StopPoint) → Within n (more + 1) rest
     → Within n (more + 1) (stop_by n r reason rest)
 here n more r (Some w) rest h = omega arith
 here n more r None rest h = h
@@ -48,7 +48,7 @@ within line n [] r = tt
 within line n (e ∷ es) r =
     let one_more : length es + 1 ≡ length (e ∷ es) = omega arith in
     subst (λ m. Within n m (stop_from line n (e ∷ es) r)) one_more
-    (here n (length es) r (reason_on line r e) _ (onwards line n es (step r e) (λ s. within line (n + 1) es s)))
+    (here n (length es) r (stop_reason_on line r e) _ (onwards line n es (step r e) (λ s. within line (n + 1) es s)))
 
 -- the run of a header that is run begins
 pub starts : (settings : Settings) (items : List HeaderItem) → not_run items ≡ None → (r : RunStateView) × (start_of items settings ≡ Ok r)
@@ -57,20 +57,20 @@ starts settings items h = (
     host = fresh_host settings;
     clock = 0;
     base = 0;
-    written = last_or None (filter_map tolerance_in items);
-    compared = false;
+    header_tolerance = last_or None (filter_map tolerance_in items);
+    used_tolerance = false;
   },
   rw h refl,
 )
 
 -- a stop among the events that were read, with the verdict of the run
-abbrev pub StopsWithin : ℕ → Settings → Parsed → Stopped → Type 0
-StopsWithin line settings parsed stop = (stop.passed < length parsed.events) × (verdict_at line stop.why ≡ verdict_in settings parsed)
+abbrev pub StopsWithin : ℕ → Settings → Parsed → StopPoint → Type 0
+StopsWithin line settings parsed stop = (stop.passed < length parsed.events) × (verdict_at line stop.stop_reason ≡ verdict_in settings parsed)
 
 abbrev pub IsThere : ℕ → Settings → Parsed → Type 0
-IsThere line settings parsed = (stop : Stopped) × (stop_in line settings parsed ≡ Some stop) × StopsWithin line settings parsed stop
+IsThere line settings parsed = (stop : StopPoint) × (stop_in line settings parsed ≡ Some stop) × StopsWithin line settings parsed stop
 
-by_fault : VerdictsHaveReasons → (settings : Settings) (header : Heading) (events : List Event) (fault : Option ℕ) (line : ℕ)
+by_fault : VerdictsHaveReasons → (settings : Settings) (header : HeaderView) (events : List Event) (fault : Option ℕ) (line : ℕ)
     → line_of (verdict_in settings (record { header = header; events = events; fault = fault })) ≡ Some line
     → not_run header.items ≡ None → IsThere line settings (record { header = header; events = events; fault = fault })
 by_fault law settings header events (Some at) line h run = absurd cc
@@ -86,20 +86,20 @@ pub is_there : VerdictsHaveReasons → (settings : Settings) (parsed : Parsed) (
 is_there law settings parsed line h run = by_fault law settings parsed.header parsed.events parsed.fault line h run
 
 -- the stop that is found is such a stop
-pub stops_within : VerdictsHaveReasons → (settings : Settings) (parsed : Parsed) (line : ℕ) (stop : Stopped)
+pub stops_within : VerdictsHaveReasons → (settings : Settings) (parsed : Parsed) (line : ℕ) (stop : StopPoint)
     → line_of (verdict_in settings parsed) ≡ Some line → not_run parsed.header.items ≡ None → stop_in line settings parsed ≡ Some stop
     → StopsWithin line settings parsed stop
 stops_within law settings parsed line stop h run found =
     let there = is_there law settings parsed line h run in
     subst (StopsWithin line settings parsed) (some_is (sym there.1 ∙ found)) there.2
   where
-    some_is : {a b : Stopped} → Some a ≡ Some b → a ≡ b
+    some_is : {a b : StopPoint} → Some a ≡ Some b → a ≡ b
     some_is e = cc
 
 -- the cause of such a stop at an event is that of the run's verdict
-pub causes_in : (text : List (List ℕ)) (settings : Settings) (parsed : Parsed) (line : ℕ) (v : Verdict) (stop : Stopped) (e : Event) (told : Result Cause AllocError)
-    → not_run parsed.header.items ≡ None → StopsAt line settings parsed v e stop → IfOk told (λ cause. IsCauseOf text (event_place (reading_of text) stop.passed) e stop cause × HasHistory settings parsed stop cause)
-    → IfOk told (IsCauseIn text line settings parsed v)
+pub causes_in : (text : List (List ℕ)) (settings : Settings) (parsed : Parsed) (line : ℕ) (v : Verdict) (stop : StopPoint) (e : Event) (reported : Result Cause AllocError)
+    → not_run parsed.header.items ≡ None → StopsAt line settings parsed v e stop → IfOk reported (λ cause. IsCauseOf text (event_place (reading_of text) stop.passed) e stop cause × HasHistory settings parsed stop cause)
+    → IfOk reported (IsCauseIn text line settings parsed v)
 causes_in text settings parsed line v stop e (Ok cause) run at is = rw run (e, stop, at, is.0, is.1)
 causes_in text settings parsed line v stop e (Err x) run at is = tt
 
@@ -107,16 +107,16 @@ some_line : {a b : ℕ} → Some a ≡ Some b → a ≡ b
 some_line e = cc
 
 -- such a cause is that of the row
-of_stop : (text : List (List ℕ)) (settings : Settings) (v : Verdict) (line : ℕ) (told : Cause)
-    → line_of v ≡ Some line → IsCauseIn text line settings (script_of text) v told → IsCause text settings v told
-of_stop text settings (verdict.Pass n) line told e is = cc
-of_stop text settings (verdict.Syntax l) line told e is = cc
-of_stop text settings (verdict.Fail l kind) line told e is = subst (λ (n : ℕ). IsCauseIn text n settings (script_of text) (verdict.Fail l kind) told) (sym (some_line e)) is
-of_stop text settings (verdict.Unsupported l) line told e is = subst (λ (n : ℕ). IsCauseIn text n settings (script_of text) (verdict.Unsupported l) told) (sym (some_line e)) is
-of_stop text settings (verdict.Limit l) line told e is = subst (λ (n : ℕ). IsCauseIn text n settings (script_of text) (verdict.Limit l) told) (sym (some_line e)) is
+of_stop : (text : List (List ℕ)) (settings : Settings) (v : Verdict) (line : ℕ) (reported : Cause)
+    → line_of v ≡ Some line → IsCauseIn text line settings (script_of text) v reported → IsCause text settings v reported
+of_stop text settings (verdict.Pass n) line reported e is = cc
+of_stop text settings (verdict.Syntax l) line reported e is = cc
+of_stop text settings (verdict.Fail l kind) line reported e is = subst (λ (n : ℕ). IsCauseIn text n settings (script_of text) (verdict.Fail l kind) reported) (sym (some_line e)) is
+of_stop text settings (verdict.Unsupported l) line reported e is = subst (λ (n : ℕ). IsCauseIn text n settings (script_of text) (verdict.Unsupported l) reported) (sym (some_line e)) is
+of_stop text settings (verdict.Limit l) line reported e is = subst (λ (n : ℕ). IsCauseIn text n settings (script_of text) (verdict.Limit l) reported) (sym (some_line e)) is
 
-pub causes_of : (text : List (List ℕ)) (settings : Settings) (v : Verdict) (line : ℕ) (told : Result Cause AllocError)
-    → line_of v ≡ Some line → IfOk told (IsCauseIn text line settings (script_of text) v) → IfOk told (IsCause text settings v)
+pub causes_of : (text : List (List ℕ)) (settings : Settings) (v : Verdict) (line : ℕ) (reported : Result Cause AllocError)
+    → line_of v ≡ Some line → IfOk reported (IsCauseIn text line settings (script_of text) v) → IfOk reported (IsCause text settings v)
 causes_of text settings v line (Ok cause) e is = of_stop text settings v line cause e is
 causes_of text settings v line (Err x) e is = tt
 

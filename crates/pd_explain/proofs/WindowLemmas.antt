@@ -4,24 +4,24 @@ use Rattle.std.specs.Prelude.{⊤}
 use Rattle.std.proofs.lemmas.Bool.Decides.{nat_tests}
 use Rattle.pd_script.specs.declared.script_events.Action.{Action}
 use Rattle.pd_host.specs.Connection.{ConnectionView}
-use Rattle.pd_host.specs.Holds.{wanted, is_enough, hold_of_new, hold_at, hold_in_recovery, hold_since, hold_by, hold_on, hold_in}
-use Rattle.pd_host.specs.Sending.{usable, unsent, is_full, is_all, is_half_window, leaves_now, past_sacked}
+use Rattle.pd_host.specs.SendBlockers.{wanted, is_worth_sending, blocker_of_new, blocker_at, blocker_in_recovery, blocker_since, blocker_by, blocker_on, blocker_in}
+use Rattle.pd_host.specs.Sending.{usable, unsent, is_full, is_all, is_half_max_window, leaves_now, past_sacked}
 use Rattle.pd_host.specs.declared.established.Established.{Established}
-use Rattle.pd_host.specs.declared.connection.observing.Hold.{Hold}
-use Rattle.pd_host.specs.declared.connection.observing.Hold.TheVariants.{Reset, NotEstablished, Acknowledged, PipeFull, NothingNext, Recovering, AllSent, PeerWindow, CongestionWindow, PartOfSegment, Nagle, Open}
-use Rattle.pd_explain.specs.Senders.{is_answer, reason_of}
+use Rattle.pd_host.specs.declared.connection.introspection.SendBlocker.{SendBlocker}
+use Rattle.pd_host.specs.declared.connection.introspection.SendBlocker.TheVariants.{Reset, NotEstablished, Acknowledged, PipeFull, NothingNext, Recovering, AllSent, PeerWindow, CongestionWindow, PartOfSegment, Nagle, Open}
+use Rattle.pd_explain.specs.SenderSnapshots.{is_answer, reason_of}
 use Rattle.pd_explain.specs.Windows.{IsWithin, HoldsByPeer, HoldsByCongestion, LeavesPart, NamedWindowsHold}
-use Rattle.pd_explain.specs.declared.causes.reasons.Reason.TheVariants.{NoOctets, Held}
+use Rattle.pd_explain.specs.declared.causes.not_sent_reason.NotSentReason.TheVariants.{NoOctets, Held}
 
 -- what a reason says of a connection, where it names a window
-abbrev Says : ConnectionView → Established → Hold → Type 0
+abbrev Says : ConnectionView → Established → SendBlocker → Type 0
 Says c e PeerWindow = HoldsByPeer c e
 Says c e CongestionWindow = HoldsByCongestion c e
 Says c e PartOfSegment = LeavesPart c e
 Says c e _ = ⊤
 
 -- what holds of either branch holds of the choice
-chosen : (P : Hold → Type 0) (b : Bool) (x y : Hold) → (b ≡ true → P x) → (b ≡ false → P y) → P (if b then x else y)
+chosen : (P : SendBlocker → Type 0) (b : Bool) (x y : SendBlocker) → (b ≡ true → P x) → (b ≡ false → P y) → P (if b then x else y)
 chosen P true x y then_x else_y = then_x refl
 chosen P false x y then_x else_y = else_y refl
 
@@ -50,28 +50,28 @@ module _ (c : ConnectionView) (e : Established) where
   first_new new = second (nat_lt c.board.next c.board.top) _ c.board.next new
 
   of_new : nat_le (c.board.una + e.rwnd) (wanted c) ≡ false → nat_le (c.board.una + e.congestion.cwnd) (wanted c) ≡ false
-      → nat_lt c.board.next c.board.top ≡ false → Says c e (hold_of_new c e)
+      → nat_lt c.board.next c.board.top ≡ false → Says c e (blocker_of_new c e)
   of_new peer window new =
-      chosen (Says c e) (not (is_enough c e)) PartOfSegment (if leaves_now c e then Open else Nagle) (λ few. part few)
+      chosen (Says c e) (not (is_worth_sending c e)) PartOfSegment (if leaves_now c e then Open else Nagle) (λ few. part few)
       (λ _. chosen (Says c e) (leaves_now c e) Open Nagle (λ _. tt) (λ _. tt))
     where
-      part : not (is_enough c e) ≡ true → LeavesPart c e
+      part : not (is_worth_sending c e) ≡ true → LeavesPart c e
       part few =
-          let tests = neither (is_full c e) (is_all c e) (is_half_window c e) few in (
+          let tests = neither (is_full c e) (is_all c e) (is_half_max_window c e) few in (
             subst (λ (octet : ℕ). IsWithin c e.rwnd octet) (first_new new) (within c.board.una e.rwnd (wanted c) peer),
             subst (λ (octet : ℕ). IsWithin c e.congestion.cwnd octet) (first_new new) (within c.board.una e.congestion.cwnd (wanted c) window),
             fewer (unsent c) (usable c e) c.board.smss tests.0 tests.1,
           )
 
-  outside : Says c e (hold_at c e)
+  outside : Says c e (blocker_at c e)
   outside =
       chosen (Says c e) (nat_le c.board.end c.board.next) AllSent _ (λ _. tt)
       (λ _. chosen (Says c e) (nat_le (c.board.una + e.rwnd) (wanted c)) PeerWindow _ (λ peer. beyond c.board.una e.rwnd (wanted c) peer)
       (λ peer. chosen (Says c e) (nat_le (c.board.una + e.congestion.cwnd) (wanted c)) CongestionWindow _
       (λ window. (within c.board.una e.rwnd (wanted c) peer, beyond c.board.una e.congestion.cwnd (wanted c) window))
-      (λ window. chosen (Says c e) (nat_lt c.board.next c.board.top) Open (hold_of_new c e) (λ _. tt) (λ new. of_new peer window new))))
+      (λ window. chosen (Says c e) (nat_lt c.board.next c.board.top) Open (blocker_of_new c e) (λ _. tt) (λ new. of_new peer window new))))
 
-  recovering : Says c e (hold_in_recovery c e)
+  recovering : Says c e (blocker_in_recovery c e)
   recovering = one_of_three _ _
     where
       one_of_three : (room next : Bool) → Says c e (if not room then PipeFull else (if next then Recovering else NothingNext))
@@ -79,53 +79,53 @@ module _ (c : ConnectionView) (e : Established) where
       one_of_three true false = tt
       one_of_three true true = tt
 
-  since : Says c e (hold_since c e)
+  since : Says c e (blocker_since c e)
   since =
       chosen (Says c e) (c.board.una == c.board.end) Acknowledged _ (λ _. tt)
-      (λ _. chosen (Says c e) (c.sack && e.congestion.recovering) (hold_in_recovery c e) (hold_at c e) (λ _. recovering) (λ _. outside))
+      (λ _. chosen (Says c e) (c.sack && e.congestion.recovering) (blocker_in_recovery c e) (blocker_at c e) (λ _. recovering) (λ _. outside))
 
 -- The same of the sender
 
-told_is : (b : Bool) (h hold : Hold) → (if b then NoOctets else Held h) ≡ Held hold → h ≡ hold
-told_is true h hold e = absurd cc
-told_is false h hold e = cc
+told_is : (b : Bool) (h send_blocker : SendBlocker) → (if b then NoOctets else Held h) ≡ Held send_blocker → h ≡ send_blocker
+told_is true h send_blocker e = absurd cc
+told_is false h send_blocker e = cc
 
 -- the reason that is reported is what holds the sender back
-reason_is : (expected : Action) (h hold : Hold) → reason_of expected h ≡ Held hold → h ≡ hold
-reason_is expected Reset hold e = cc
-reason_is expected NotEstablished hold e = cc
-reason_is expected Acknowledged hold e = told_is (is_answer expected) Acknowledged hold e
-reason_is expected PipeFull hold e = told_is (is_answer expected) PipeFull hold e
-reason_is expected NothingNext hold e = told_is (is_answer expected) NothingNext hold e
-reason_is expected Recovering hold e = told_is (is_answer expected) Recovering hold e
-reason_is expected AllSent hold e = told_is (is_answer expected) AllSent hold e
-reason_is expected PeerWindow hold e = told_is (is_answer expected) PeerWindow hold e
-reason_is expected CongestionWindow hold e = told_is (is_answer expected) CongestionWindow hold e
-reason_is expected PartOfSegment hold e = told_is (is_answer expected) PartOfSegment hold e
-reason_is expected Nagle hold e = told_is (is_answer expected) Nagle hold e
-reason_is expected Open hold e = told_is (is_answer expected) Open hold e
+reason_is : (expected : Action) (h send_blocker : SendBlocker) → reason_of expected h ≡ Held send_blocker → h ≡ send_blocker
+reason_is expected Reset send_blocker e = cc
+reason_is expected NotEstablished send_blocker e = cc
+reason_is expected Acknowledged send_blocker e = told_is (is_answer expected) Acknowledged send_blocker e
+reason_is expected PipeFull send_blocker e = told_is (is_answer expected) PipeFull send_blocker e
+reason_is expected NothingNext send_blocker e = told_is (is_answer expected) NothingNext send_blocker e
+reason_is expected Recovering send_blocker e = told_is (is_answer expected) Recovering send_blocker e
+reason_is expected AllSent send_blocker e = told_is (is_answer expected) AllSent send_blocker e
+reason_is expected PeerWindow send_blocker e = told_is (is_answer expected) PeerWindow send_blocker e
+reason_is expected CongestionWindow send_blocker e = told_is (is_answer expected) CongestionWindow send_blocker e
+reason_is expected PartOfSegment send_blocker e = told_is (is_answer expected) PartOfSegment send_blocker e
+reason_is expected Nagle send_blocker e = told_is (is_answer expected) Nagle send_blocker e
+reason_is expected Open send_blocker e = told_is (is_answer expected) Open send_blocker e
 
-unreset : (b : Bool) (x hold : Hold) → Reset ≢ hold → (if b then Reset else x) ≡ hold → x ≡ hold
-unreset true x hold reset h = absurd (reset h)
-unreset false x hold reset h = h
+unreset : (b : Bool) (x send_blocker : SendBlocker) → Reset ≢ send_blocker → (if b then Reset else x) ≡ send_blocker → x ≡ send_blocker
+unreset true x send_blocker is_reset h = absurd (is_reset h)
+unreset false x send_blocker is_reset h = h
 
-established : (c : ConnectionView) (o : Option Established) (hold : Hold) → NotEstablished ≢ hold → hold_by c o ≡ hold
-    → (e : Established) × (o ≡ Some e) × Says c e hold
-established c None hold out h = absurd (out h)
-established c (Some e) hold out h = (e, refl, subst (λ (x : Hold). Says c e x) h (since c e))
+established : (c : ConnectionView) (o : Option Established) (send_blocker : SendBlocker) → NotEstablished ≢ send_blocker → blocker_by c o ≡ send_blocker
+    → (e : Established) × (o ≡ Some e) × Says c e send_blocker
+established c None send_blocker out h = absurd (out h)
+established c (Some e) send_blocker out h = (e, refl, subst (λ (x : SendBlocker). Says c e x) h (since c e))
 
-begun : (connection : Option ConnectionView) (hold : Hold) → Reset ≢ hold → NotEstablished ≢ hold → hold_on connection ≡ hold
-    → (c : ConnectionView) × (e : Established) × (connection ≡ Some c) × (c.established ≡ Some e) × Says (past_sacked c) e hold
-begun None hold reset out h = absurd (out h)
-begun (Some c) hold reset out h =
-    let goes_on : hold_by (past_sacked c) c.established ≡ hold = unreset c.reset (hold_by (past_sacked c) c.established) hold reset h in
-    let found = established (past_sacked c) c.established hold out goes_on in
+begun : (connection : Option ConnectionView) (send_blocker : SendBlocker) → Reset ≢ send_blocker → NotEstablished ≢ send_blocker → blocker_on connection ≡ send_blocker
+    → (c : ConnectionView) × (e : Established) × (connection ≡ Some c) × (c.established ≡ Some e) × Says (past_sacked c) e send_blocker
+begun None send_blocker is_reset out h = absurd (out h)
+begun (Some c) send_blocker is_reset out h =
+    let goes_on : blocker_by (past_sacked c) c.established ≡ send_blocker = unreset c.is_reset (blocker_by (past_sacked c) c.established) send_blocker is_reset h in
+    let found = established (past_sacked c) c.established send_blocker out goes_on in
     (c, found.0, refl, found.1, found.2)
 
 pub named_windows_hold_so : NamedWindowsHold
 named_windows_hold_so = record {
-  peer = λ expected s h. begun s.endpoint.connection PeerWindow (λ r. cc) (λ n. cc) (reason_is expected (hold_in s) PeerWindow h);
+  peer = λ expected s h. begun s.endpoint.connection PeerWindow (λ r. cc) (λ n. cc) (reason_is expected (blocker_in s) PeerWindow h);
   congestion = λ expected s h.
-      begun s.endpoint.connection CongestionWindow (λ r. cc) (λ n. cc) (reason_is expected (hold_in s) CongestionWindow h);
-  part = λ expected s h. begun s.endpoint.connection PartOfSegment (λ r. cc) (λ n. cc) (reason_is expected (hold_in s) PartOfSegment h);
+      begun s.endpoint.connection CongestionWindow (λ r. cc) (λ n. cc) (reason_is expected (blocker_in s) CongestionWindow h);
+  part = λ expected s h. begun s.endpoint.connection PartOfSegment (λ r. cc) (λ n. cc) (reason_is expected (blocker_in s) PartOfSegment h);
 }

@@ -1,7 +1,7 @@
 -- The lines of a block.
 use Rattle.std.specs.Prelude.{◌≡◌, true, ℕ, List, ◌++◌, codes, flat_map}
 use Rattle.std.specs.List.{list_all}
-use Rattle.pd_explain.specs.Shown.{are_printable}
+use Rattle.pd_explain.specs.Escape.{are_printable}
 
 -- lines, each indented by two spaces and ended by a newline
 abbrev pub indented : List (List ℕ) → List ℕ

@@ -2,28 +2,28 @@
 use Rattle.std.specs.Prelude.{◌≡◌, ℕ, false, List}
 use Rattle.pd_lex.specs.declared.token.Place.{Place}
 use Rattle.pd_script.specs.declared.script_events.Event.{Event}
-use Rattle.pd_run.specs.declared.stops.Stopped.{Stopped}
+use Rattle.pd_run.specs.declared.stop_point.StopPoint.{StopPoint}
 use Rattle.pd_explain.specs.Failures.{is_failure, IsFailureOf}
 use Rattle.pd_explain.specs.Parts.{part_of}
 use Rattle.pd_explain.specs.Rules.{event_rule}
-use Rattle.pd_explain.specs.Rulings.{IsRuling}
+use Rattle.pd_explain.specs.RuleViolations.{IsRuleViolation}
 use Rattle.pd_explain.specs.declared.causes.Cause.{Cause}
 use Rattle.pd_explain.specs.declared.causes.Cause.TheVariants as cause
-use Rattle.pd_explain.specs.declared.causes.failures.Failure.{Failure}
-use Rattle.pd_explain.specs.declared.causes.origins.Origin.{Origin}
-use Rattle.pd_explain.specs.declared.dropping.DroppedSegment.{DroppedSegment}
+use Rattle.pd_explain.specs.declared.causes.failure.Failure.{Failure}
+use Rattle.pd_explain.specs.declared.causes.origin.Origin.{Origin}
+use Rattle.pd_explain.specs.declared.dropped.DroppedSegment.{DroppedSegment}
 
 -- what is reported of an event that stopped a run, and stands at a place of its text: what didn't happen as written, with the time
 -- shown as some octets are, or the rule that stopped it, with the part of the event that it is about
-abbrev pub IsCauseOf : List (List ℕ) → Place → Event → Stopped → Cause → Type 0
+abbrev pub IsCauseOf : List (List ℕ) → Place → Event → StopPoint → Cause → Type 0
 IsCauseOf lines place e stop (cause.Failed f) = (time : List ℕ) × IsFailureOf time e stop f
-IsCauseOf lines place e stop (cause.Rule ruling) =
+IsCauseOf lines place e stop (cause.Rule violation) =
     let rule = event_rule e stop in
-    (is_failure stop.why ≡ false) × IsRuling lines place (part_of rule e) rule ruling
+    (is_failure stop.stop_reason ≡ false) × IsRuleViolation lines place (part_of rule e) rule violation
 IsCauseOf lines place e stop (cause.Syntax refusal) = ⊥
 
 -- a cause is another one, and where an event failed these origins and segments are told of
 abbrev pub HasHistoryOf : Cause → List Origin → List DroppedSegment → Cause → Type 0
-HasHistoryOf (cause.Failed f) origins dropped told =
-    (g : Failure) × (told ≡ cause.Failed g) × (g.origins.items ≡ origins) × (g.dropped.items ≡ dropped) × (g.failed ≡ f.failed) × (g.standing ≡ f.standing)
-HasHistoryOf before origins dropped told = told ≡ before
+HasHistoryOf (cause.Failed f) origins dropped reported =
+    (g : Failure) × (reported ≡ cause.Failed g) × (g.origins.items ≡ origins) × (g.dropped.items ≡ dropped) × (g.failed ≡ f.failed) × (g.sender ≡ f.sender)
+HasHistoryOf before origins dropped reported = reported ≡ before

@@ -1,26 +1,26 @@
 -- Which rows are explained, and by which cause.
 use Rattle.std.specs.Prelude.{◌≡◌, ℕ, List, slice_get, find, is_none, Option, Some, None}
-use Rattle.pd_settings.specs.declared.fields.Settings.{Settings}
+use Rattle.pd_settings.specs.declared.settings.Settings.{Settings}
 use Rattle.pd_lex.specs.Places.{first_place}
 use Rattle.pd_script.specs.Script.{script_of}
-use Rattle.pd_script.specs.declared.parsing.Parsed.{Parsed}
+use Rattle.pd_script.specs.declared.parsed.Parsed.{Parsed}
 use Rattle.pd_script.specs.declared.script_events.Event.{Event}
 use Rattle.pd_script.specs.declared.script_header.HeaderItem.{HeaderItem}
 use Rattle.pd_script.specs.declared.script_header.HeaderKind.{HeaderKind}
 use Rattle.pd_reparse.specs.Reading.{reading_of}
 use Rattle.pd_run.specs.Run.{tolerance_in}
-use Rattle.pd_run.specs.Stops.{stop_in}
-use Rattle.pd_run.specs.Why.{verdict_at}
-use Rattle.pd_run.specs.declared.stops.Stopped.{Stopped}
-use Rattle.pd_run.specs.declared.verdicts.Verdict.{Verdict}
-use Rattle.pd_run.specs.declared.verdicts.Verdict.TheVariants as verdict
+use Rattle.pd_run.specs.StopPoints.{stop_in}
+use Rattle.pd_run.specs.StopReason.{verdict_at}
+use Rattle.pd_run.specs.declared.stop_point.StopPoint.{StopPoint}
+use Rattle.pd_run.specs.declared.verdict.Verdict.{Verdict}
+use Rattle.pd_run.specs.declared.verdict.Verdict.TheVariants as verdict
 use Rattle.pd_explain.specs.Causes.{IsCauseOf}
-use Rattle.pd_explain.specs.Dropped.{dropped_till}
+use Rattle.pd_explain.specs.Dropped.{dropped_before_stop}
 use Rattle.pd_explain.specs.Failures.{sender_at}
 use Rattle.pd_explain.specs.Origins.{AreOrigins}
 use Rattle.pd_explain.specs.Parts.{header_part, event_place}
 use Rattle.pd_explain.specs.Rules.{header_rule}
-use Rattle.pd_explain.specs.Rulings.{IsRuling}
+use Rattle.pd_explain.specs.RuleViolations.{IsRuleViolation}
 use Rattle.pd_explain.specs.declared.causes.Cause.{Cause}
 use Rattle.pd_explain.specs.declared.causes.Cause.TheVariants as cause
 
@@ -37,35 +37,35 @@ abbrev pub not_run : List HeaderItem → Option HeaderItem
 not_run items = find (λ item. is_none (tolerance_in item)) items
 
 -- the run of a script stops on a line at this event, which gives the verdict
-pub record StopsAt (line : ℕ) (settings : Settings) (parsed : Parsed) (v : Verdict) (e : Event) (stop : Stopped) : Type 0 where
+pub record StopsAt (line : ℕ) (settings : Settings) (parsed : Parsed) (v : Verdict) (e : Event) (stop : StopPoint) : Type 0 where
   pub found : stop_in line settings parsed ≡ Some stop
   pub event : slice_get parsed.events stop.passed ≡ Some e
-  pub gives : verdict_at line stop.why ≡ v
+  pub gives : verdict_at line stop.stop_reason ≡ v
 
 -- what is reported of the run before the stop, where an event failed: what let the oldest of the packets go that nobody has taken,
 -- and the last segments that were dropped
-abbrev pub HasHistory : Settings → Parsed → Stopped → Cause → Type 0
+abbrev pub HasHistory : Settings → Parsed → StopPoint → Cause → Type 0
 HasHistory settings parsed stop (cause.Failed f) =
-    AreOrigins settings parsed stop.passed (sender_at stop.before stop.why).state.endpoint.outbox f.origins.items
-    × (f.dropped.items ≡ dropped_till settings parsed stop)
+    AreOrigins settings parsed stop.passed (sender_at stop.before stop.stop_reason).state.endpoint.outbox f.origins.items
+    × (f.dropped.items ≡ dropped_before_stop settings parsed stop)
 HasHistory settings parsed stop _ = Unit {0}
 
 -- what is reported of a header item that isn't run: its rule, with the item
 abbrev pub IsHeaderCause : List (List ℕ) → HeaderKind → Cause → Type 0
-IsHeaderCause lines kind (cause.Rule ruling) = IsRuling lines first_place (header_part kind) (header_rule kind) ruling
+IsHeaderCause lines kind (cause.Rule violation) = IsRuleViolation lines first_place (header_part kind) (header_rule kind) violation
 IsHeaderCause lines kind _ = ⊥
 
 -- what is reported of a script whose run comes to a verdict at a line: the rule of the first header item that isn't run, or the
 -- cause of the stop
 abbrev pub IsCauseIn : List (List ℕ) → ℕ → Settings → Parsed → Verdict → Cause → Type 0
-IsCauseIn lines line settings parsed v told = by_header (not_run parsed.header.items)
+IsCauseIn lines line settings parsed v reported = by_header (not_run parsed.header.items)
   where
     by_header : Option HeaderItem → Type 0
-    by_header (Some item) = IsHeaderCause lines item.kind told
+    by_header (Some item) = IsHeaderCause lines item.kind reported
     by_header None =
-        (e : Event) × (stop : Stopped) × StopsAt line settings parsed v e stop
-        × IsCauseOf lines (event_place (reading_of lines) stop.passed) e stop told
-        × HasHistory settings parsed stop told
+        (e : Event) × (stop : StopPoint) × StopsAt line settings parsed v e stop
+        × IsCauseOf lines (event_place (reading_of lines) stop.passed) e stop reported
+        × HasHistory settings parsed stop reported
 
 -- a text is refused, and nothing else is reported
 abbrev pub IsRefused : Cause → Type 0
@@ -74,8 +74,8 @@ IsRefused _ = ⊥
 
 -- what is reported of a row: of a text that is no script that it is refused, of any other the cause of the stop at its line
 abbrev pub IsCause : List (List ℕ) → Settings → Verdict → Cause → Type 0
-IsCause text settings (verdict.Pass n) told = ⊥
-IsCause text settings (verdict.Syntax line) told = IsRefused told
-IsCause text settings (verdict.Fail line kind) told = IsCauseIn text line settings (script_of text) (verdict.Fail line kind) told
-IsCause text settings (verdict.Unsupported line) told = IsCauseIn text line settings (script_of text) (verdict.Unsupported line) told
-IsCause text settings (verdict.Limit line) told = IsCauseIn text line settings (script_of text) (verdict.Limit line) told
+IsCause text settings (verdict.Pass n) reported = ⊥
+IsCause text settings (verdict.Syntax line) reported = IsRefused reported
+IsCause text settings (verdict.Fail line kind) reported = IsCauseIn text line settings (script_of text) (verdict.Fail line kind) reported
+IsCause text settings (verdict.Unsupported line) reported = IsCauseIn text line settings (script_of text) (verdict.Unsupported line) reported
+IsCause text settings (verdict.Limit line) reported = IsCauseIn text line settings (script_of text) (verdict.Limit line) reported

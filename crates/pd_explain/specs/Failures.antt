@@ -8,57 +8,57 @@ use Rattle.pd_print.specs.Answers.{answer_text}
 use Rattle.pd_print.specs.Numbers.{time_text}
 use Rattle.pd_print.specs.Sent.{packet_of}
 use Rattle.pd_host.specs.Expiries.{deadline_of}
-use Rattle.pd_host.specs.Holds.{hold_in}
+use Rattle.pd_host.specs.SendBlockers.{blocker_in}
 use Rattle.pd_host.specs.Host.{HostView}
 use Rattle.pd_run.specs.RunStates.{RunStateView}
-use Rattle.pd_run.specs.declared.bars.Bar.TheVariants.{Backwards}
-use Rattle.pd_run.specs.declared.stops.Stopped.{Stopped}
-use Rattle.pd_run.specs.declared.whys.Why.{Why}
-use Rattle.pd_run.specs.declared.whys.Why.TheVariants as why
-use Rattle.pd_explain.specs.Columns.{time_since, comment_of, lined_up}
-use Rattle.pd_explain.specs.Prospects.{IsProspects}
-use Rattle.pd_explain.specs.Senders.{standing_of, reason_of}
-use Rattle.pd_explain.specs.Shown.{shown}
-use Rattle.pd_explain.specs.Unasked.{CountsUnasked}
-use Rattle.pd_explain.specs.declared.causes.failures.Comparison.{Comparison}
-use Rattle.pd_explain.specs.declared.causes.failures.Failed.{Failed}
-use Rattle.pd_explain.specs.declared.causes.failures.Failed.TheVariants as failed
-use Rattle.pd_explain.specs.declared.causes.failures.Failure.{Failure}
+use Rattle.pd_run.specs.declared.prechecks.Precheck.TheVariants.{Backwards}
+use Rattle.pd_run.specs.declared.stop_point.StopPoint.{StopPoint}
+use Rattle.pd_run.specs.declared.stop_reason.StopReason.{StopReason}
+use Rattle.pd_run.specs.declared.stop_reason.StopReason.TheVariants as stop_reason
+use Rattle.pd_explain.specs.AlignedPackets.{time_since, comment_of, lined_up}
+use Rattle.pd_explain.specs.Outlook.{IsOutlook}
+use Rattle.pd_explain.specs.SenderSnapshots.{snapshot_of, reason_of}
+use Rattle.pd_explain.specs.Escape.{escaped}
+use Rattle.pd_explain.specs.Unexpected.{CountsUnexpected}
+use Rattle.pd_explain.specs.declared.causes.failure.WrongPacket.{WrongPacket}
+use Rattle.pd_explain.specs.declared.causes.failure.Failed.{Failed}
+use Rattle.pd_explain.specs.declared.causes.failure.Failed.TheVariants as failed
+use Rattle.pd_explain.specs.declared.causes.failure.Failure.{Failure}
 
 -- an event failed, so that no rule stopped it
-abbrev pub is_failure : Why → Bool
-is_failure (why.Barred Backwards) = true
-is_failure why.Missing = true
-is_failure (why.Differs kind sent r) = true
-is_failure (why.Answered answer r) = true
+abbrev pub is_failure : StopReason → Bool
+is_failure (stop_reason.FailedPrecheck Backwards) = true
+is_failure stop_reason.Missing = true
+is_failure (stop_reason.Differs kind sent r) = true
+is_failure (stop_reason.Answered answer r) = true
 is_failure _ = false
 
 -- the sender at the stop: after the call whose result it is, after the expiry that sent the packet compared, else as the event
 -- found it
-abbrev pub sender_at : RunStateView → Why → HostView
-sender_at before (why.Differs kind sent r) = r.host
-sender_at before (why.Answered answer r) = r.host
+abbrev pub sender_at : RunStateView → StopReason → HostView
+sender_at before (stop_reason.Differs kind sent r) = r.host
+sender_at before (stop_reason.Answered answer r) = r.host
 sender_at before _ = before.host
 
 -- the expected packet, whose time is shown so, and the one that was sent, one below the other
-abbrev pub ShowsPackets : List ℕ → Action → Sent → ℕ → Comparison → Type 0
+abbrev pub ShowsPackets : List ℕ → Action → Sent → ℕ → WrongPacket → Type 0
 ShowsPackets time (Outbound p) sent base c =
     (c.script.items ≡ lined_up time p (time_text (time_since base sent.at)) (packet_of sent.segment))
     × (c.actual.items ≡ lined_up (time_text (time_since base sent.at)) (packet_of sent.segment) time p ++ comment_of sent.at)
 ShowsPackets time _ sent base c = Unit {0}
 
 -- what is reported of the event, whose time is written so, by why it stopped the run
-abbrev pub Tells : List ℕ → Event → RunStateView → Why → Failed → Type 0
-Tells time e before (why.Differs kind sent r) (failed.Packet c) =
-    (c.kind ≡ kind) × (c.at ≡ sent.at) × ShowsPackets (shown time) e.action sent r.base c × CountsUnasked e r c.unasked
-Tells time e before why.Missing (failed.Missing w) =
-    (w.reason ≡ reason_of e.action (hold_in before.host.state)) × (w.expiry ≡ deadline_of before.host.state)
-    × IsProspects before.host.state w.prospects
-Tells time e before (why.Answered answer r) (failed.Result reply) = reply.answer.items ≡ answer_text answer
-Tells time e before (why.Barred Backwards) (failed.Backwards setback) = setback.base ≡ before.base
+abbrev pub Tells : List ℕ → Event → RunStateView → StopReason → Failed → Type 0
+Tells time e before (stop_reason.Differs kind sent r) (failed.Packet c) =
+    (c.kind ≡ kind) × (c.at ≡ sent.at) × ShowsPackets (escaped time) e.action sent r.base c × CountsUnexpected e r c.unexpected
+Tells time e before stop_reason.Missing (failed.Missing w) =
+    (w.reason ≡ reason_of e.action (blocker_in before.host.state)) × (w.expiry ≡ deadline_of before.host.state)
+    × IsOutlook before.host.state w.outlook
+Tells time e before (stop_reason.Answered answer r) (failed.Result wrong_result) = wrong_result.answer.items ≡ answer_text answer
+Tells time e before (stop_reason.FailedPrecheck Backwards) (failed.Backwards time_backwards) = time_backwards.base ≡ before.base
 Tells time e before _ _ = ⊥
 
 -- the same with the sender at the stop
-abbrev pub IsFailureOf : List ℕ → Event → Stopped → Failure → Type 0
+abbrev pub IsFailureOf : List ℕ → Event → StopPoint → Failure → Type 0
 IsFailureOf time e stop f =
-    Tells time e stop.before stop.why f.failed × (f.standing ≡ standing_of (sender_at stop.before stop.why))
+    Tells time e stop.before stop.stop_reason f.failed × (f.sender ≡ snapshot_of (sender_at stop.before stop.stop_reason))

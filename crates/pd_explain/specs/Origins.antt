@@ -1,21 +1,21 @@
 -- What let a packet go that a run put out: an event's own input, or the timer.
 use Rattle.std.specs.Prelude.{◌≡◌, Bool, true, false, ℕ, ◌+◌, ◌<◌, ◌≤◌, min, List, [], ◌∷◌, length, take, slice_get, None, Some, Result, Ok, Err, if◌then◌else◌}
-use Rattle.pd_settings.specs.declared.fields.Settings.{Settings}
-use Rattle.pd_script.specs.declared.parsing.Parsed.{Parsed}
+use Rattle.pd_settings.specs.declared.settings.Settings.{Settings}
+use Rattle.pd_script.specs.declared.parsed.Parsed.{Parsed}
 use Rattle.pd_script.specs.declared.script_events.Action.{Action}
 use Rattle.pd_script.specs.declared.script_events.Action.TheVariants.{Inbound, Outbound, Call as Calls}
 use Rattle.pd_script.specs.declared.script_events.Event.{Event}
-use Rattle.pd_seg.specs.declared.answers.Answer.{Answer}
+use Rattle.pd_seg.specs.declared.call_results.Answer.{Answer}
 use Rattle.pd_seg.specs.declared.segments.Sent.{Sent}
 use Rattle.pd_host.specs.Expiries.{advanced}
-use Rattle.pd_host.specs.declared.endpoint.State.{State}
+use Rattle.pd_host.specs.declared.endpoint.SenderState.{SenderState}
 use Rattle.pd_host.specs.declared.halts.Halt.{Halt}
-use Rattle.pd_run.specs.Bars.{bar_of}
-use Rattle.pd_run.specs.Laws.{untaken}
+use Rattle.pd_run.specs.Prechecks.{failed_precheck}
+use Rattle.pd_run.specs.Laws.{unmatched}
 use Rattle.pd_run.specs.Run.{start_of, states_from}
-use Rattle.pd_run.specs.Step.{RunStateView, on_step, noted, acts_at, arrives, answers, awaited}
-use Rattle.pd_explain.specs.declared.causes.origins.Origin.{Origin}
-use Rattle.pd_explain.specs.declared.causes.origins.Origin.TheVariants.{Line, Timer}
+use Rattle.pd_run.specs.Step.{RunStateView, on_step, comparison_noted, action_time, arrives, answers, awaited}
+use Rattle.pd_explain.specs.declared.causes.origin.Origin.{Origin}
+use Rattle.pd_explain.specs.declared.causes.origin.Origin.TheVariants.{Line, Timer}
 
 -- the runs of a script before its first, second, .. event, up to the stop
 abbrev pub stages : Settings → Parsed → List RunStateView
@@ -27,28 +27,28 @@ is_awaited (Outbound p) = true
 is_awaited _ = false
 
 -- how many packets an event takes that passes: one where it awaits one
-abbrev pub takes : Event → ℕ
-takes e = if is_awaited e.action then 1 else 0
+abbrev pub matched_count : Event → ℕ
+matched_count e = if is_awaited e.action then 1 else 0
 
 -- how many packets so many events take that pass
 abbrev pub taken_by : List Event → ℕ
 taken_by [] = 0
-taken_by (e ∷ es) = takes e + taken_by es
+taken_by (e ∷ es) = matched_count e + taken_by es
 
 -- the packets that nobody has taken in the state that came, where one did, else those of before
-abbrev pub packets_in : List Sent → Result State Halt → List Sent
+abbrev pub packets_in : List Sent → Result SenderState Halt → List Sent
 packets_in before (Ok s) = s.endpoint.outbox
 packets_in before (Err halt) = before
 
 -- the same after a call
-abbrev pub packets_after : List Sent → Result (State × Answer) Halt → List Sent
+abbrev pub packets_after : List Sent → Result (SenderState × Answer) Halt → List Sent
 packets_after before (Ok (s, answer)) = s.endpoint.outbox
 packets_after before (Err halt) = before
 
 -- those where all expiries up to an event's moment are over, or the one that it awaits
 abbrev pub put_out_by_timer : RunStateView → Event → Action → List Sent
-put_out_by_timer r e (Outbound p) = on_step untaken (λ w. untaken r) (awaited (noted r) e)
-put_out_by_timer r e _ = packets_in (untaken r) (advanced (acts_at r e) r.host.state)
+put_out_by_timer r e (Outbound p) = on_step unmatched (λ w. unmatched r) (awaited (comparison_noted r) e)
+put_out_by_timer r e _ = packets_in (unmatched r) (advanced (action_time r e) r.host.state)
 
 -- those where what the event's own input leads to is over too, and none is taken yet
 abbrev pub put_out_by_input : RunStateView → Event → Action → List Sent
@@ -72,7 +72,7 @@ IsReached taken before after number = (taken + length before ≤ number) × (num
 -- what let the packet with a number and a moment go in an event, before which so many were taken: the timer where it was put out
 -- by then, else the event's line
 abbrev pub IsLetGo : ℕ → RunStateView → Event → ℕ → ℕ → Origin → Type 0
-IsLetGo taken r e number at (Timer moment) = IsReached taken (untaken r) (after_timer r e) number × (moment ≡ at)
+IsLetGo taken r e number at (Timer moment) = IsReached taken (unmatched r) (after_timer r e) number × (moment ≡ at)
 IsLetGo taken r e number at (Line line) = IsReached taken (after_timer r e) (after_input r e) number × (line ≡ e.line)
 
 -- this let the packet of a script's run go that has a number and a moment: in one of its events, which no check bars
@@ -82,7 +82,7 @@ pub record IsSentBy (settings : Settings) (parsed : Parsed) (number at : ℕ) (o
   pub event : Event
   pub stage : slice_get (stages settings parsed) passed ≡ Some run
   pub found : slice_get parsed.events passed ≡ Some event
-  pub unbarred : bar_of run.base event ≡ None
+  pub unbarred : failed_precheck run.base event ≡ None
   pub let_go : IsLetGo (taken_by (take passed parsed.events)) run event number at origin
 
 -- a law: nothing else let it go
@@ -92,12 +92,12 @@ OriginsAreUnique =
     → IsSentBy settings parsed number at a → IsSentBy settings parsed number at b → a ≡ b
 
 -- so many packets are told of at most: the one compared, and ten others
-abbrev pub told_packets : ℕ
-told_packets = 11
+abbrev pub listed_packets : ℕ
+listed_packets = 11
 
 -- what let the oldest packets go that nobody has taken after so many events
 pub record AreOrigins (settings : Settings) (parsed : Parsed) (passed : ℕ) (packets : List Sent) (origins : List Origin) : Type 0 where
-  pub all : length origins ≡ min told_packets (length packets)
+  pub all : length origins ≡ min listed_packets (length packets)
   pub each :
       (place : ℕ) (sent : Sent) (origin : Origin) → slice_get packets place ≡ Some sent → slice_get origins place ≡ Some origin
       → IsSentBy settings parsed (taken_by (take passed parsed.events) + place) sent.at origin

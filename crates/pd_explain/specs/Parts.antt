@@ -11,35 +11,35 @@ use Rattle.pd_lex.specs.declared.token.Place.{Place}
 use Rattle.pd_lex.specs.declared.token.TokenKind.{TokenKind}
 use Rattle.pd_lex.specs.declared.token.TokenKind.TheVariants as kinds
 use Rattle.pd_script.specs.Header.{option_kind}
-use Rattle.pd_script.specs.Values.{sign}
+use Rattle.pd_script.specs.Values.{role}
 use Rattle.pd_script.specs.declared.script_events.Event.{Event}
 use Rattle.pd_script.specs.declared.script_header.HeaderKind.{HeaderKind}
 use Rattle.pd_script.specs.declared.script_header.HeaderKind.TheVariants as header
-use Rattle.pd_reparse.specs.Reading.{DecidedScript}
-use Rattle.pd_reparse.specs.declared.decided.Decided.{Decided}
+use Rattle.pd_reparse.specs.Reading.{ReadingView}
+use Rattle.pd_reparse.specs.declared.parsed_event.ParsedEvent.{ParsedEvent}
 use Rattle.pd_run.specs.Limits.{is_long, written_times}
 use Rattle.pd_explain.specs.Rules.{limit_of}
-use Rattle.pd_explain.specs.Shown.{shown}
-use Rattle.pd_explain.specs.declared.parts.kinds.Part.{Part}
-use Rattle.pd_explain.specs.declared.parts.kinds.Part.TheVariants as part
-use Rattle.pd_explain.specs.declared.parts.places.ShownPart.{ShownPart}
-use Rattle.pd_explain.specs.declared.parts.signs.Sign.{Sign}
-use Rattle.pd_explain.specs.declared.parts.signs.Sign.TheVariants as sign_is
-use Rattle.pd_explain.specs.declared.parts.standings.Standing.{Standing}
+use Rattle.pd_explain.specs.Escape.{escaped}
+use Rattle.pd_explain.specs.declared.parts.rule_part.RulePart.{RulePart}
+use Rattle.pd_explain.specs.declared.parts.rule_part.RulePart.TheVariants as part
+use Rattle.pd_explain.specs.declared.parts.locate.ShownPart.{ShownPart}
+use Rattle.pd_explain.specs.declared.parts.token_roles.TokenRole.{TokenRole}
+use Rattle.pd_explain.specs.declared.parts.token_roles.TokenRole.TheVariants as sign_is
+use Rattle.pd_explain.specs.declared.parts.nesting.Nesting.{Nesting}
 use Rattle.pd_explain.specs.declared.rules.Rule.{Rule}
 use Rattle.pd_explain.specs.declared.rules.Rule.TheVariants.{Over, NotRun, NotTaken}
-use Rattle.pd_explain.specs.declared.rules.inputs.Input.{Input}
-use Rattle.pd_explain.specs.declared.rules.inputs.Input.TheVariants as input
-use Rattle.pd_explain.specs.declared.rules.numbers.Number.{Number}
-use Rattle.pd_explain.specs.declared.rules.numbers.Number.TheVariants as number
-use Rattle.pd_explain.specs.declared.rules.shapes.Shape.{Shape}
-use Rattle.pd_explain.specs.declared.rules.shapes.Shape.TheVariants as shape
+use Rattle.pd_explain.specs.declared.rules.unsupported_inputs.UnsupportedInput.{UnsupportedInput}
+use Rattle.pd_explain.specs.declared.rules.unsupported_inputs.UnsupportedInput.TheVariants as input
+use Rattle.pd_explain.specs.declared.rules.limited_numbers.LimitedNumber.{LimitedNumber}
+use Rattle.pd_explain.specs.declared.rules.limited_numbers.LimitedNumber.TheVariants as number
+use Rattle.pd_explain.specs.declared.rules.unsupported_shapes.UnsupportedShape.{UnsupportedShape}
+use Rattle.pd_explain.specs.declared.rules.unsupported_shapes.UnsupportedShape.TheVariants as shape
 
 -- ---- what tokens are
 
 -- a word
-abbrev pub word_sign : List ℕ → Sign
-word_sign text =
+abbrev pub word_role : List ℕ → TokenRole
+word_role text =
     if bytes_eq text (codes "ack") then sign_is.Ack
     else (if bytes_eq text (codes "win") then sign_is.Win
     else (if bytes_eq text (codes "mss") then sign_is.Mss
@@ -49,52 +49,52 @@ word_sign text =
     else sign_is.Word)))))
 
 -- the symbol of an octet
-abbrev pub octet_sign : ℕ → Sign
-octet_sign octet =
-    if octet == sign ":" then sign_is.Colon
-    else (if octet == sign "," then sign_is.Comma
-    else (if octet == sign "<" then sign_is.Arrow
-    else (if (octet == sign ".") || (octet == sign "-") then sign_is.Point
-    else (if octet == sign "(" then sign_is.Parenthesis
-    else (if (octet == sign "[") || (octet == sign "{") then sign_is.Bracket
-    else (if (octet == sign ")") || ((octet == sign "]") || (octet == sign "}")) then sign_is.Closing
+abbrev pub octet_role : ℕ → TokenRole
+octet_role octet =
+    if octet == role ":" then sign_is.Colon
+    else (if octet == role "," then sign_is.Comma
+    else (if octet == role "<" then sign_is.Arrow
+    else (if (octet == role ".") || (octet == role "-") then sign_is.Point
+    else (if octet == role "(" then sign_is.Parenthesis
+    else (if (octet == role "[") || (octet == role "{") then sign_is.Bracket
+    else (if (octet == role ")") || ((octet == role "]") || (octet == role "}")) then sign_is.Closing
     else sign_is.Other))))))
 
 -- a symbol is of one octet
-abbrev pub symbol_sign : List ℕ → Sign
-symbol_sign (octet ∷ []) = octet_sign octet
-symbol_sign _ = sign_is.Other
+abbrev pub symbol_role : List ℕ → TokenRole
+symbol_role (octet ∷ []) = octet_role octet
+symbol_role _ = sign_is.Other
 
 -- an option of the header
-abbrev pub option_sign : HeaderKind → Sign
-option_sign (header.Tolerance n) = sign_is.Tolerance
-option_sign _ = sign_is.HeaderOption
+abbrev pub option_role : HeaderKind → TokenRole
+option_role (header.Tolerance n) = sign_is.Tolerance
+option_role _ = sign_is.HeaderOption
 
 -- a token of a kind with these octets
-abbrev pub sign_of : TokenKind → List ℕ → Sign
-sign_of kinds.Int text = sign_is.Whole (capped_number text)
-sign_of kinds.Word text = word_sign text
-sign_of kinds.Symbol text = symbol_sign text
-sign_of kinds.Dots text = sign_is.Dots
-sign_of kinds.Cmd text = sign_is.Command
-sign_of kinds.Code text = sign_is.Code
-sign_of kinds.Opt text = option_sign (option_kind text)
-sign_of kinds.Hex text = sign_is.Other
-sign_of kinds.Decimal text = sign_is.Other
-sign_of kinds.Str text = sign_is.Other
+abbrev pub role_of : TokenKind → List ℕ → TokenRole
+role_of kinds.Int text = sign_is.Whole (capped_number text)
+role_of kinds.Word text = word_role text
+role_of kinds.Symbol text = symbol_role text
+role_of kinds.Dots text = sign_is.Dots
+role_of kinds.Cmd text = sign_is.Command
+role_of kinds.Code text = sign_is.Code
+role_of kinds.Opt text = option_role (option_kind text)
+role_of kinds.Hex text = sign_is.Other
+role_of kinds.Decimal text = sign_is.Other
+role_of kinds.Str text = sign_is.Other
 
 -- a whole number above a limit
-abbrev pub is_above : ℕ → Sign → Bool
+abbrev pub is_above : ℕ → TokenRole → Bool
 is_above limit (sign_is.Whole n) = nat_lt limit n
 is_above limit _ = false
 
 -- a whole number
-abbrev pub is_whole : Sign → Bool
-is_whole (sign_is.Whole n) = true
-is_whole _ = false
+abbrev pub is_whole_number : TokenRole → Bool
+is_whole_number (sign_is.Whole n) = true
+is_whole_number _ = false
 
 -- a word that names a TCP option
-abbrev pub is_named_option : Sign → Bool
+abbrev pub is_named_option : TokenRole → Bool
 is_named_option sign_is.Mss = true
 is_named_option sign_is.Wscale = true
 is_named_option sign_is.Sack = true
@@ -102,89 +102,89 @@ is_named_option sign_is.OtherOption = true
 is_named_option _ = false
 
 -- a word
-abbrev pub is_word : Sign → Bool
+abbrev pub is_word : TokenRole → Bool
 is_word sign_is.Ack = true
 is_word sign_is.Win = true
 is_word sign_is.Word = true
 is_word s = is_named_option s
 
 -- flags may end with it: letters, `.` or `-`
-abbrev pub ends_flags : Sign → Bool
+abbrev pub ends_flags : TokenRole → Bool
 ends_flags sign_is.Word = true
 ends_flags sign_is.Point = true
 ends_flags _ = false
 
 -- an end of a SACK block may follow it: `sack`, `:` or the right end of the block before
-abbrev pub is_before_edge : Sign → Bool
+abbrev pub is_before_edge : TokenRole → Bool
 is_before_edge sign_is.Sack = true
 is_before_edge sign_is.Colon = true
 is_before_edge (sign_is.Whole n) = true
 is_before_edge _ = false
 
 -- `...`
-abbrev pub is_dots : Sign → Bool
+abbrev pub is_dots : TokenRole → Bool
 is_dots sign_is.Dots = true
 is_dots _ = false
 
 -- a command
-abbrev pub is_command : Sign → Bool
+abbrev pub is_command : TokenRole → Bool
 is_command sign_is.Command = true
 is_command _ = false
 
 -- code
-abbrev pub is_code : Sign → Bool
+abbrev pub is_code : TokenRole → Bool
 is_code sign_is.Code = true
 is_code _ = false
 
 -- an option of the header, but for a tolerance within its limit
-abbrev pub is_header_option : Sign → Bool
+abbrev pub is_header_option : TokenRole → Bool
 is_header_option sign_is.HeaderOption = true
 is_header_option _ = false
 
 -- `<`
-abbrev pub is_arrow : Sign → Bool
+abbrev pub is_arrow : TokenRole → Bool
 is_arrow sign_is.Arrow = true
 is_arrow _ = false
 
 -- `:`
-abbrev pub is_colon : Sign → Bool
+abbrev pub is_colon : TokenRole → Bool
 is_colon sign_is.Colon = true
 is_colon _ = false
 
 -- `,`
-abbrev pub is_comma : Sign → Bool
+abbrev pub is_comma : TokenRole → Bool
 is_comma sign_is.Comma = true
 is_comma _ = false
 
 -- `(`
-abbrev pub is_parenthesis : Sign → Bool
+abbrev pub is_parenthesis : TokenRole → Bool
 is_parenthesis sign_is.Parenthesis = true
 is_parenthesis _ = false
 
 -- `ack`
-abbrev pub is_ack : Sign → Bool
+abbrev pub is_ack : TokenRole → Bool
 is_ack sign_is.Ack = true
 is_ack _ = false
 
 -- `win`
-abbrev pub is_win : Sign → Bool
+abbrev pub is_win : TokenRole → Bool
 is_win sign_is.Win = true
 is_win _ = false
 
 -- `mss`
-abbrev pub is_mss : Sign → Bool
+abbrev pub is_mss : TokenRole → Bool
 is_mss sign_is.Mss = true
 is_mss _ = false
 
 -- `wscale`
-abbrev pub is_wscale : Sign → Bool
+abbrev pub is_wscale : TokenRole → Bool
 is_wscale sign_is.Wscale = true
 is_wscale _ = false
 
 -- ---- what stands before a token
 
 -- before the first one
-abbrev pub at_first : Standing
+abbrev pub at_first : Nesting
 at_first = record { last = sign_is.Other; depth = 0; commas = 0; colons = 0 }
 
 -- one more; a count stops at 32
@@ -192,26 +192,26 @@ abbrev pub one_more : ℕ → ℕ
 one_more n = if nat_lt n 32 then n + 1 else n
 
 -- how many brackets are open
-abbrev pub depth_after : ℕ → Sign → ℕ
+abbrev pub depth_after : ℕ → TokenRole → ℕ
 depth_after n sign_is.Parenthesis = one_more n
 depth_after n sign_is.Bracket = one_more n
 depth_after n sign_is.Closing = n - 1
 depth_after n _ = n
 
 -- how many commas came where one bracket was open
-abbrev pub commas_after : ℕ → ℕ → Sign → ℕ
+abbrev pub commas_after : ℕ → ℕ → TokenRole → ℕ
 commas_after depth n sign_is.Comma = if depth == 1 then one_more n else n
 commas_after depth n _ = n
 
 -- how many colons came since the last `sack`
-abbrev pub colons_after : ℕ → Sign → ℕ
+abbrev pub colons_after : ℕ → TokenRole → ℕ
 colons_after n sign_is.Sack = 0
 colons_after n sign_is.Colon = one_more n
 colons_after n _ = n
 
 -- before the token after this one
-abbrev pub after_sign : Standing → Sign → Standing
-after_sign b s = record {
+abbrev pub after_role : Nesting → TokenRole → Nesting
+after_role b s = record {
   last = s;
   depth = depth_after b.depth s;
   commas = commas_after b.depth b.commas s;
@@ -221,17 +221,17 @@ after_sign b s = record {
 -- ---- parts
 
 -- a part of an option or of a call begins with a token, where this stands before it
-abbrev pub begins_inside : Part → Standing → Sign → Bool
+abbrev pub begins_inside : RulePart → Nesting → TokenRole → Bool
 begins_inside part.OfferedMss b s = is_mss b.last
 begins_inside part.LargeMss b s = is_mss b.last && is_above (limit_of number.Mss) s
 begins_inside part.LargeShift b s = is_wscale b.last && is_above (limit_of number.Shift) s
-begins_inside part.FifthBlock b s = (is_whole b.last && is_whole s) && (b.colons == 4)
+begins_inside part.FifthBlock b s = (is_whole_number b.last && is_whole_number s) && (b.colons == 4)
 begins_inside part.LargeEdge b s = is_before_edge b.last && is_above (limit_of number.Edge) s
 begins_inside part.ThirdArgument b s = (is_comma b.last && (b.depth == 1)) && (b.commas == 2)
 begins_inside _ b s = false
 
 -- a part begins with a token, where this stands before it
-abbrev pub is_part : Part → Standing → Sign → Bool
+abbrev pub is_part : RulePart → Nesting → TokenRole → Bool
 is_part part.First b s = true
 is_part part.Dots b s = is_dots s
 is_part part.Command b s = is_command s
@@ -239,7 +239,7 @@ is_part part.Code b s = is_code s
 is_part part.HeaderOption b s = is_header_option s
 is_part part.Word b s = is_word s
 is_part part.Arrow b s = is_arrow s
-is_part part.Start b s = ends_flags b.last && is_whole s
+is_part part.Start b s = ends_flags b.last && is_whole_number s
 is_part part.End b s = is_colon b.last
 is_part part.Length b s = is_parenthesis b.last
 is_part part.AckNumber b s = is_ack b.last
@@ -253,24 +253,24 @@ is_part part.LargeEdge b s = begins_inside part.LargeEdge b s
 is_part part.ThirdArgument b s = begins_inside part.ThirdArgument b s
 
 -- where the first of some tokens stands with which a part begins, where this stands before them
-abbrev pub found : Part → Standing → List Item → Option Place
+abbrev pub found : RulePart → Nesting → List Item → Option Place
 found p b [] = None
-found p b (lexeme x ∷ ts) = if is_part p b (sign_of x.kind x.text) then Some x.from else found p (after_sign b (sign_of x.kind x.text)) ts
+found p b (lexeme x ∷ ts) = if is_part p b (role_of x.kind x.text) then Some x.from else found p (after_role b (role_of x.kind x.text)) ts
 found p b (ending line ∷ ts) = None
 found p b (bad line ∷ ts) = None
 
 -- where the first such part from a place on begins; that place where there is none
-abbrev pub place_of_part : Part → List (List ℕ) → Place → Place
+abbrev pub place_of_part : RulePart → List (List ℕ) → Place → Place
 place_of_part p lines from = unwrap_or (found p at_first (items lines from)) from
 
 -- ---- the parts that rules are about
 
 -- a time over its limit, or else the end of a blocking call
-abbrev pub time_part : Event → Part
+abbrev pub time_part : Event → RulePart
 time_part e = if list_any is_long (written_times e.time) then part.First else part.Dots
 
 -- a number over its limit; a full outbox is about the event
-abbrev pub number_part : Number → Event → Part
+abbrev pub number_part : LimitedNumber → Event → RulePart
 number_part number.Time e = time_part e
 number_part number.Start e = part.Start
 number_part number.End e = part.End
@@ -285,7 +285,7 @@ number_part number.Write e = part.ThirdArgument
 number_part number.Outbox e = part.First
 
 -- a shape that isn't run
-abbrev pub shape_part : Shape → Part
+abbrev pub shape_part : UnsupportedShape → RulePart
 shape_part shape.HeaderOption = part.HeaderOption
 shape_part shape.HeaderCommand = part.Command
 shape_part shape.Blocking = part.Dots
@@ -298,7 +298,7 @@ shape_part shape.CallName = part.Word
 shape_part shape.CallShape = part.Word
 
 -- an input that isn't run in the sender's state: the call's name, or of a packet what makes it so
-abbrev pub input_part : Input → Part
+abbrev pub input_part : UnsupportedInput → RulePart
 input_part input.SecondSocket = part.Word
 input_part input.ListenerClose = part.Word
 input_part input.NotListening = part.Arrow
@@ -311,29 +311,29 @@ input_part input.AfterReset = part.Arrow
 input_part input.AfterFins = part.Arrow
 
 -- what a rule that stops a script at an event is about
-abbrev pub part_of : Rule → Event → Part
+abbrev pub part_of : Rule → Event → RulePart
 part_of (Over n) e = number_part n e
 part_of (NotRun s) e = shape_part s
 part_of (NotTaken i) e = input_part i
 
 -- what one that stops it at a header item is about
-abbrev pub header_part : HeaderKind → Part
+abbrev pub header_part : HeaderKind → RulePart
 header_part header.Command = part.Command
 header_part _ = part.HeaderOption
 
 -- ---- places
 
 -- where the event of a text stands that comes after so many others: at the token after those, the first one after the header
-abbrev pub event_place : DecidedScript → ℕ → Place
+abbrev pub event_place : ReadingView → ℕ → Place
 event_place r zero = r.header.end
-event_place r (suc n) = option_map_or (λ (d : Decided). d.after) (slice_get r.events n) r.header.end
+event_place r (suc n) = option_map_or (λ (d : ParsedEvent). d.after) (slice_get r.events n) r.header.end
 
 -- a line of a text, counted from 1; nothing outside of it
 abbrev pub line_in : List (List ℕ) → ℕ → List ℕ
 line_in lines n = unwrap_or (if nat_le 1 n then slice_get lines (n - 1) else None) []
 
 -- a text is shown at a place: its line as it is shown, and how many octets of that are shown for those before the place
-pub record IsShownAt (lines : List (List ℕ)) (p : Place) (told : ShownPart) : Type 0 where
-  pub line : told.line ≡ p.line
-  pub text : told.text.items ≡ shown (line_in lines p.line)
-  pub column : told.column ≡ length (shown (take p.at (line_in lines p.line)))
+pub record IsShownAt (lines : List (List ℕ)) (p : Place) (reported : ShownPart) : Type 0 where
+  pub line : reported.line ≡ p.line
+  pub text : reported.text.items ≡ escaped (line_in lines p.line)
+  pub column : reported.column ≡ length (escaped (take p.at (line_in lines p.line)))

@@ -1,26 +1,26 @@
 -- The names that reasons have in JSON.
 use Rattle.std.specs.Prelude.{ℕ, List, codes}
-use Rattle.pd_host.specs.declared.connection.observing.Hold.{Hold}
-use Rattle.pd_host.specs.declared.connection.observing.Hold.TheVariants as hold
-use Rattle.pd_explain.specs.declared.causes.reasons.Reason.{Reason}
-use Rattle.pd_explain.specs.declared.causes.reasons.Reason.TheVariants.{NoOctets, Held}
+use Rattle.pd_host.specs.declared.connection.introspection.SendBlocker.{SendBlocker}
+use Rattle.pd_host.specs.declared.connection.introspection.SendBlocker.TheVariants as send_blocker
+use Rattle.pd_explain.specs.declared.causes.not_sent_reason.NotSentReason.{NotSentReason}
+use Rattle.pd_explain.specs.declared.causes.not_sent_reason.NotSentReason.TheVariants.{NoOctets, Held}
 
 -- of what holds the sender back
-abbrev pub hold_key : Hold → List ℕ
-hold_key hold.Reset = codes "reset"
-hold_key hold.NotEstablished = codes "not_established"
-hold_key hold.Acknowledged = codes "acknowledged"
-hold_key hold.PipeFull = codes "pipe_full"
-hold_key hold.NothingNext = codes "nothing_next"
-hold_key hold.Recovering = codes "recovering"
-hold_key hold.AllSent = codes "all_sent"
-hold_key hold.PeerWindow = codes "peer_window"
-hold_key hold.CongestionWindow = codes "congestion_window"
-hold_key hold.PartOfSegment = codes "part_of_segment"
-hold_key hold.Nagle = codes "nagle"
-hold_key hold.Open = codes "open"
+abbrev pub hold_key : SendBlocker → List ℕ
+hold_key send_blocker.Reset = codes "reset"
+hold_key send_blocker.NotEstablished = codes "not_established"
+hold_key send_blocker.Acknowledged = codes "acknowledged"
+hold_key send_blocker.PipeFull = codes "pipe_full"
+hold_key send_blocker.NothingNext = codes "nothing_next"
+hold_key send_blocker.Recovering = codes "recovering"
+hold_key send_blocker.AllSent = codes "all_sent"
+hold_key send_blocker.PeerWindow = codes "peer_window"
+hold_key send_blocker.CongestionWindow = codes "congestion_window"
+hold_key send_blocker.PartOfSegment = codes "part_of_segment"
+hold_key send_blocker.Nagle = codes "nagle"
+hold_key send_blocker.Open = codes "open"
 
 -- of a reason
-abbrev pub reason_key : Reason → List ℕ
+abbrev pub reason_key : NotSentReason → List ℕ
 reason_key NoOctets = codes "no_octets"
-reason_key (Held hold) = hold_key hold
+reason_key (Held send_blocker) = hold_key send_blocker

@@ -17,31 +17,31 @@ use Rattle.pd_script.specs.declared.script_events.Event.{Event}
 use Rattle.pd_script.specs.declared.script_header.HeaderKind.{HeaderKind}
 use Rattle.pd_script.specs.declared.script_header.HeaderKind.TheVariants as header
 use Rattle.pd_script.specs.declared.timing.Time.{Time}
-use Rattle.pd_script.specs.declared.timing.Until.{Until}
+use Rattle.pd_script.specs.declared.timing.BlockingEnd.{BlockingEnd}
 use Rattle.pd_seg.specs.declared.segments.Segment.{Segment}
 use Rattle.pd_host.specs.ConnStates.{state_of, is_closed}
 use Rattle.pd_host.specs.Arrivals.{is_stray_fin, check_contents}
 use Rattle.pd_host.specs.Connection.{ConnectionView}
 use Rattle.pd_host.specs.Handshake.{is_listening, is_syn_alone, is_mss_run, is_opening, length_of, offered_mss}
-use Rattle.pd_host.specs.Requests.{request_of}
+use Rattle.pd_host.specs.Syscalls.{syscall_of}
 use Rattle.pd_host.specs.declared.halts.Halt.TheVariants as halt
-use Rattle.pd_host.specs.declared.descriptors.Listener.{Listener}
-use Rattle.pd_host.specs.declared.endpoint.State.{State}
-use Rattle.pd_run.specs.Inbound.{segment_in}
-use Rattle.pd_run.specs.Limits.{written_times, written_until, is_long, is_block_over, is_action_over, is_over_limit}
-use Rattle.pd_run.specs.Shapes.{is_run}
+use Rattle.pd_host.specs.declared.descriptors.ListenState.{ListenState}
+use Rattle.pd_host.specs.declared.endpoint.SenderState.{SenderState}
+use Rattle.pd_run.specs.InboundSegment.{segment_in}
+use Rattle.pd_run.specs.Limits.{written_times, written_blocking_end, is_long, is_block_over, is_action_over, is_over_limit}
+use Rattle.pd_run.specs.Supported.{is_run}
 use Rattle.pd_run.specs.Times.{is_single}
-use Rattle.pd_run.specs.declared.stops.Stopped.{Stopped}
-use Rattle.pd_run.specs.declared.whys.Why.{Why}
-use Rattle.pd_run.specs.declared.whys.Why.TheVariants.{Halted}
+use Rattle.pd_run.specs.declared.stop_point.StopPoint.{StopPoint}
+use Rattle.pd_run.specs.declared.stop_reason.StopReason.{StopReason}
+use Rattle.pd_run.specs.declared.stop_reason.StopReason.TheVariants.{Halted}
 use Rattle.pd_explain.specs.declared.rules.Rule.{Rule}
 use Rattle.pd_explain.specs.declared.rules.Rule.TheVariants.{Over, NotRun, NotTaken}
-use Rattle.pd_explain.specs.declared.rules.inputs.Input.{Input}
-use Rattle.pd_explain.specs.declared.rules.inputs.Input.TheVariants.{SecondSocket, ListenerClose, NotListening, NotSyn, SmallMss, Payload, SecondSyn, StrayFin, AfterReset, AfterFins}
-use Rattle.pd_explain.specs.declared.rules.numbers.Number.{Number}
-use Rattle.pd_explain.specs.declared.rules.numbers.Number.TheVariants as number
-use Rattle.pd_explain.specs.declared.rules.shapes.Shape.{Shape}
-use Rattle.pd_explain.specs.declared.rules.shapes.Shape.TheVariants as shape
+use Rattle.pd_explain.specs.declared.rules.unsupported_inputs.UnsupportedInput.{UnsupportedInput}
+use Rattle.pd_explain.specs.declared.rules.unsupported_inputs.UnsupportedInput.TheVariants.{SecondSocket, ListenerClose, NotListening, NotSyn, SmallMss, Payload, SecondSyn, StrayFin, AfterReset, AfterFins}
+use Rattle.pd_explain.specs.declared.rules.limited_numbers.LimitedNumber.{LimitedNumber}
+use Rattle.pd_explain.specs.declared.rules.limited_numbers.LimitedNumber.TheVariants as number
+use Rattle.pd_explain.specs.declared.rules.unsupported_shapes.UnsupportedShape.{UnsupportedShape}
+use Rattle.pd_explain.specs.declared.rules.unsupported_shapes.UnsupportedShape.TheVariants as shape
 
 -- of a header item that isn't run
 abbrev pub header_rule : HeaderKind → Rule
@@ -51,7 +51,7 @@ header_rule _ = NotRun shape.HeaderOption
 -- Numbers over their limits
 
 -- the limit of a number; of a time in seconds
-abbrev pub limit_of : Number → ℕ
+abbrev pub limit_of : LimitedNumber → ℕ
 limit_of number.Time = 3600
 limit_of number.Start = 2147483647
 limit_of number.End = 2147483647
@@ -66,41 +66,41 @@ limit_of number.Write = 262144
 limit_of number.Outbox = 1024
 
 -- a number, where a test holds of it
-abbrev pub where_so : Bool → Number → Option Number
+abbrev pub where_so : Bool → LimitedNumber → Option LimitedNumber
 where_so b n = if b then Some n else None
 
 -- a number that is above its limit
-abbrev pub above : Number → ℕ → Option Number
+abbrev pub above : LimitedNumber → ℕ → Option LimitedNumber
 above n value = where_so (nat_lt (limit_of n) value) n
 
 -- the same of one that is written
-abbrev pub some_above : Number → Option ℕ → Option Number
+abbrev pub some_above : LimitedNumber → Option ℕ → Option LimitedNumber
 some_above n None = None
 some_above n (Some value) = above n value
 
 -- some written time of an event is over its limit
-abbrev pub is_some_long : Time → Option Until → Bool
-is_some_long time until = list_any is_long (written_times time) || list_any is_long (written_until until)
+abbrev pub is_some_long : Time → Option BlockingEnd → Bool
+is_some_long time blocking_end = list_any is_long (written_times time) || list_any is_long (written_blocking_end blocking_end)
 
 -- of an option: its value, the number of its blocks, or an edge of one
-abbrev pub option_over : PacketOption → Option Number
+abbrev pub option_over : PacketOption → Option LimitedNumber
 option_over (Mss octets) = above number.Mss octets
 option_over (Wscale count) = above number.Shift count
 option_over (Sack blocks) = option_or (above number.Blocks (length blocks)) (where_so (list_any is_block_over blocks) number.Edge)
 option_over _ = None
 
 -- of the first option that has one
-abbrev pub first_option_over : List PacketOption → Option Number
+abbrev pub first_option_over : List PacketOption → Option LimitedNumber
 first_option_over [] = None
 first_option_over (option ∷ options) = option_or (option_over option) (first_option_over options)
 
 -- of a packet's options: how many they are, before each in order
-abbrev pub options_over : Options → Option Number
+abbrev pub options_over : Options → Option LimitedNumber
 options_over (Listed options) = option_or (above number.Options (length options)) (first_option_over options)
 options_over _ = None
 
 -- of a packet
-abbrev pub packet_over : Packet → Option Number
+abbrev pub packet_over : Packet → Option LimitedNumber
 packet_over p =
     option_or (option_or (option_or (option_or (above number.Start p.start)
     (above number.End p.end))
@@ -109,15 +109,15 @@ packet_over p =
     (options_over p.options)
 
 -- of an action
-abbrev pub action_over : Action → Option Number
+abbrev pub action_over : Action → Option LimitedNumber
 action_over (action.Inbound p) = packet_over p
 action_over (action.Outbound p) = packet_over p
 action_over (action.Call call) = where_so (is_action_over (action.Call call)) number.Write
 action_over _ = None
 
 -- the first number of an event that is over its limit
-abbrev pub number_over : Event → Option Number
-number_over e = if is_some_long e.time e.until then Some number.Time else action_over e.action
+abbrev pub number_over : Event → Option LimitedNumber
+number_over e = if is_some_long e.time e.blocking_end then Some number.Time else action_over e.action
 
 -- a law: there is such a number exactly where one is over its limit
 abbrev pub LimitsHaveNumbers : Type 0
@@ -131,17 +131,17 @@ is_known function.Unknown = false
 is_known _ = true
 
 -- of a call
-abbrev pub call_shape : Call → Option Shape
+abbrev pub call_shape : Call → Option UnsupportedShape
 call_shape call =
-    if is_some (request_of call) then None
+    if is_some (syscall_of call) then None
     else Some (if is_known call.function then shape.CallShape else shape.CallName)
 
 -- of a packet
-abbrev pub packet_shape : Packet → Option Shape
+abbrev pub packet_shape : Packet → Option UnsupportedShape
 packet_shape p = if p.flags.other then Some shape.Flag else None
 
 -- of an action at a time
-abbrev pub action_shape : Time → Action → Option Shape
+abbrev pub action_shape : Time → Action → Option UnsupportedShape
 action_shape time (action.Inbound p) = if not (is_single time) then Some shape.InboundTime else packet_shape p
 action_shape time (action.Outbound p) = packet_shape p
 action_shape time (action.Call call) = if not (is_single time) then Some shape.CallTime else call_shape call
@@ -149,8 +149,8 @@ action_shape time action.Command = Some shape.Command
 action_shape time action.Code = Some shape.Code
 
 -- the first rule by which an event isn't run, whatever the sender's state
-abbrev pub shape_rule : Event → Option Shape
-shape_rule e = if is_some e.until then Some shape.Blocking else action_shape e.time e.action
+abbrev pub shape_rule : Event → Option UnsupportedShape
+shape_rule e = if is_some e.blocking_end then Some shape.Blocking else action_shape e.time e.action
 
 -- a law: there is such a rule exactly where an event isn't run
 abbrev pub ShapesHaveRules : Type 0
@@ -163,13 +163,13 @@ abbrev pub is_exactly_syn : Segment → Bool
 is_exactly_syn segment = is_syn_alone segment.flags && (segment.start == 0 && length_of segment == 0)
 
 -- of a first segment
-abbrev pub opening_rule : Listener → Segment → Input
+abbrev pub opening_rule : ListenState → Segment → UnsupportedInput
 opening_rule listener segment =
     if not (is_listening listener) then NotListening
     else (if is_exactly_syn segment then SmallMss else NotSyn)
 
 -- a rule that names a first segment is right of it
-abbrev pub HoldsOfFirst : Listener → Segment → Input → Type 0
+abbrev pub HoldsOfFirst : ListenState → Segment → UnsupportedInput → Type 0
 HoldsOfFirst listener _ NotListening = is_listening listener ≡ false
 HoldsOfFirst _ segment NotSyn = is_exactly_syn segment ≡ false
 HoldsOfFirst _ segment SmallMss = is_mss_run (offered_mss segment.options) ≡ false
@@ -178,7 +178,7 @@ HoldsOfFirst _ _ _ = ⊥
 -- a law: so is the one that is given for a first segment that begins no connection
 abbrev pub OpeningsHaveRules : Type 0
 OpeningsHaveRules =
-    (listener : Listener) (segment : Segment)
+    (listener : ListenState) (segment : Segment)
     → is_opening listener segment ≡ false
     → HoldsOfFirst listener segment (opening_rule listener segment)
 
@@ -187,20 +187,20 @@ abbrev pub is_closed_by : ConnectionView → Bool
 is_closed_by c = is_closed (state_of c)
 
 -- of a segment on a connection: where it has neither data nor a SYN, and the connection goes on, its FIN is out of place
-abbrev pub contents_rule : ConnectionView → Segment → Input
+abbrev pub contents_rule : ConnectionView → Segment → UnsupportedInput
 contents_rule c segment =
     if nat_lt 0 (length_of segment) then Payload
     else (if segment.flags.syn then SecondSyn
     else (if not (is_closed_by c) then StrayFin
-    else (if c.reset then AfterReset else AfterFins)))
+    else (if c.is_reset then AfterReset else AfterFins)))
 
 -- a rule that names a segment on a connection is right of it
-abbrev pub HoldsOn : ConnectionView → Segment → Input → Type 0
+abbrev pub HoldsOn : ConnectionView → Segment → UnsupportedInput → Type 0
 HoldsOn _ segment Payload = nat_lt 0 (length_of segment) ≡ true
 HoldsOn _ segment SecondSyn = segment.flags.syn ≡ true
 HoldsOn c segment StrayFin = is_stray_fin c segment ≡ true
-HoldsOn c _ AfterReset = c.reset ≡ true
-HoldsOn c _ AfterFins = (is_closed_by c ≡ true) × (c.reset ≡ false)
+HoldsOn c _ AfterReset = c.is_reset ≡ true
+HoldsOn c _ AfterFins = (is_closed_by c ≡ true) × (c.is_reset ≡ false)
 HoldsOn _ _ _ = ⊥
 
 -- a law: so is the one that is given for a segment whose contents aren't run
@@ -211,20 +211,20 @@ ContentsHaveRules =
     → HoldsOn c segment (contents_rule c segment)
 
 -- of a segment, by whether a connection was begun
-abbrev pub arrival_rule : State → Segment → Input
+abbrev pub arrival_rule : SenderState → Segment → UnsupportedInput
 arrival_rule s segment = by s.endpoint.connection
   where
-    by : Option ConnectionView → Input
+    by : Option ConnectionView → UnsupportedInput
     by None = opening_rule s.endpoint.listener segment
     by (Some c) = contents_rule c segment
 
 -- of a call: the others answer
-abbrev pub refused_call : Function → Input
+abbrev pub refused_call : Function → UnsupportedInput
 refused_call function.Socket = SecondSocket
 refused_call _ = ListenerClose
 
 -- of an action
-abbrev pub input_rule : Action → State → Option Input
+abbrev pub input_rule : Action → SenderState → Option UnsupportedInput
 input_rule (action.Inbound p) s = Some (arrival_rule s (segment_in p))
 input_rule (action.Call call) s = Some (refused_call call.function)
 input_rule _ s = None
@@ -232,15 +232,15 @@ input_rule _ s = None
 -- All of them
 
 -- by what the sender halted; an outbox that is full is the only other reason
-abbrev pub halt_rule : Why → Option Input → Rule
+abbrev pub halt_rule : StopReason → Option UnsupportedInput → Rule
 halt_rule (Halted halt.Unsupported) (Some input) = NotTaken input
 halt_rule _ _ = Over number.Outbox
 
 -- of an event that stops a run
-abbrev pub event_rule : Event → Stopped → Rule
+abbrev pub event_rule : Event → StopPoint → Rule
 event_rule e stop = by (number_over e) (shape_rule e)
   where
-    by : Option Number → Option Shape → Rule
+    by : Option LimitedNumber → Option UnsupportedShape → Rule
     by (Some n) _ = Over n
     by None (Some s) = NotRun s
-    by None None = halt_rule stop.why (input_rule e.action stop.before.host.state)
+    by None None = halt_rule stop.stop_reason (input_rule e.action stop.before.host.state)

@@ -2,13 +2,13 @@
 use Rattle.std.specs.Prelude.{◌≡◌, ℕ, ◌+◌, ◌<◌, ◌≤◌, min, Some}
 use Rattle.pd_script.specs.declared.script_events.Action.{Action}
 use Rattle.pd_host.specs.Connection.{ConnectionView}
-use Rattle.pd_host.specs.Holds.{wanted, hold_in}
+use Rattle.pd_host.specs.SendBlockers.{wanted, blocker_in}
 use Rattle.pd_host.specs.Sending.{usable, unsent, past_sacked}
 use Rattle.pd_host.specs.declared.established.Established.{Established}
-use Rattle.pd_host.specs.declared.connection.observing.Hold.TheVariants.{PeerWindow, CongestionWindow, PartOfSegment}
-use Rattle.pd_host.specs.declared.endpoint.State.{State}
-use Rattle.pd_explain.specs.Senders.{reason_of}
-use Rattle.pd_explain.specs.declared.causes.reasons.Reason.TheVariants.{Held}
+use Rattle.pd_host.specs.declared.connection.introspection.SendBlocker.TheVariants.{PeerWindow, CongestionWindow, PartOfSegment}
+use Rattle.pd_host.specs.declared.endpoint.SenderState.{SenderState}
+use Rattle.pd_explain.specs.SenderSnapshots.{reason_of}
+use Rattle.pd_explain.specs.declared.causes.not_sent_reason.NotSentReason.TheVariants.{Held}
 
 -- an octet lies within a window of so many octets from SND.UNA on
 abbrev pub IsWithin : ConnectionView → ℕ → ℕ → Type 0
@@ -32,14 +32,14 @@ LeavesPart c e =
     IsWithin c e.rwnd c.board.next × IsWithin c e.congestion.cwnd c.board.next × (usable c e < min (unsent c) c.board.smss)
 
 -- so it is on the sender's connection, whose sending place has moved past SACKed octets (RFC 2018, section 5)
-abbrev pub IsSoOn : State → (ConnectionView → Established → Type 0) → Type 0
+abbrev pub IsSoOn : SenderState → (ConnectionView → Established → Type 0) → Type 0
 IsSoOn s P =
     (c : ConnectionView) × (e : Established) × (s.endpoint.connection ≡ Some c) × (c.established ≡ Some e) × P (past_sacked c) e
 
 -- a law: where the reason names a window, the octets that it is about lie beyond that window, and within those that the
 -- reasons before it name
 pub record NamedWindowsHold : Type 0 where
-  pub peer : (expected : Action) (s : State) → reason_of expected (hold_in s) ≡ Held PeerWindow → IsSoOn s HoldsByPeer
+  pub peer : (expected : Action) (s : SenderState) → reason_of expected (blocker_in s) ≡ Held PeerWindow → IsSoOn s HoldsByPeer
   pub congestion :
-      (expected : Action) (s : State) → reason_of expected (hold_in s) ≡ Held CongestionWindow → IsSoOn s HoldsByCongestion
-  pub part : (expected : Action) (s : State) → reason_of expected (hold_in s) ≡ Held PartOfSegment → IsSoOn s LeavesPart
+      (expected : Action) (s : SenderState) → reason_of expected (blocker_in s) ≡ Held CongestionWindow → IsSoOn s HoldsByCongestion
+  pub part : (expected : Action) (s : SenderState) → reason_of expected (blocker_in s) ≡ Held PartOfSegment → IsSoOn s LeavesPart

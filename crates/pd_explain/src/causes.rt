@@ -2,39 +2,40 @@
 ghost use Rattle.std.specs.Prelude.{◌≡◌, [], IfOk};
 ghost use Rattle.pd_explain.specs.Causes.{IsCauseOf, HasHistoryOf};
 
-mod columns;
-mod failing;
-mod failures;
-mod origins;
+mod aligned_packets;
+mod failure;
+mod find_failure;
+mod not_sent_reason;
+mod origin;
+mod outlook;
 mod pasted_laws;
-pub(crate) mod phrases;
-mod prospects;
-mod reasons;
-mod unasked;
-mod untaken;
+pub(crate) mod sentences;
+mod source_text;
+mod unexpected;
+mod unmatched;
 mod window_laws;
-mod writings;
 
-use self::failing::failure_of;
-pub(crate) use self::failing::{run_at, standing};
-pub use self::failures::{
-    Awaited, Comparison, Failed, Failure, Reply, SenderSnapshot, Setback, Untaken, Wait,
+pub use self::failure::{
+    ExpectedTime, Failed, Failure, MissingPacket, SenderSnapshot, TimeBackwards, Unmatched,
+    WrongPacket, WrongResult,
 };
-pub use self::origins::Origin;
-pub use self::pasted_laws::actual_packets_pass;
-pub use self::prospects::{Prospects, Sacked};
-pub(crate) use self::prospects::{bound_of, computed_us, span_text};
-pub use self::reasons::Reason;
-pub(crate) use self::untaken::list_untaken;
-pub use self::window_laws::named_windows_hold;
-use self::writings::written_at;
-use crate::dropping::DroppedSegment;
+use self::find_failure::failure_of;
+pub(crate) use self::find_failure::{run_at, sender};
+pub use self::not_sent_reason::NotSentReason;
+pub use self::origin::Origin;
+pub use self::outlook::{Outlook, SackedRanges};
+pub(crate) use self::outlook::{bound_of, computed_us, span_text};
+pub use self::pasted_laws::law_actual_packets_pass;
+use self::source_text::source_text_at;
+pub(crate) use self::unmatched::list_unmatched;
+pub use self::window_laws::law_named_windows_hold;
+use crate::dropped::DroppedSegment;
 use crate::refusals::Refusal;
+use crate::rule_violation::{RuleViolation, violation_at};
 use crate::rules::event_rule;
-use crate::rulings::{Ruling, ruling_at};
 use pd_lex::Place;
-use pd_reparse::Decided;
-use pd_run::Stopped;
+use pd_reparse::ParsedEvent;
+use pd_run::StopPoint;
 use pd_text::Lines;
 use std::alloc::{AllocError, Global};
 
@@ -44,7 +45,7 @@ pub enum Cause {
     /// The text is no script.
     Syntax(Refusal),
     /// A rule by which the script isn't run.
-    Rule(Ruling),
+    Rule(RuleViolation),
     /// An event didn't happen as written.
     Failed(Failure),
 }
@@ -57,18 +58,18 @@ pub fn cause_at(
     alloc: Global,
     lines: &Lines,
     place: Place,
-    decided: &Decided,
-    stop: &Stopped,
+    parsed_event: &ParsedEvent,
+    stop: &StopPoint,
 ) -> Result<Cause, AllocError>
-    ensures { IfOk result (IsCauseOf lines.now place decided.now.event stop.now) }
+    ensures { IfOk result (IsCauseOf lines.now place parsed_event.now.event stop.now) }
 {
-    let event = &decided.event;
-    let writing = written_at(alloc, lines, place, decided.after)?;
-    match failure_of(alloc, event, stop, writing)? {
+    let event = &parsed_event.event;
+    let source_text = source_text_at(alloc, lines, place, parsed_event.after)?;
+    match failure_of(alloc, event, stop, source_text)? {
         Some(failure) => Ok(Cause::Failed(failure)),
         None => {
             let rule = event_rule(event, stop);
-            Ok(Cause::Rule(ruling_at(alloc, lines, place, event, rule)?))
+            Ok(Cause::Rule(violation_at(alloc, lines, place, event, rule)?))
         }
     }
 }
@@ -97,6 +98,6 @@ pub(crate) fn with_history(
             ..failure
         }),
         Cause::Syntax(refusal) => Cause::Syntax(refusal),
-        Cause::Rule(ruling) => Cause::Rule(ruling),
+        Cause::Rule(violation) => Cause::Rule(violation),
     }
 }

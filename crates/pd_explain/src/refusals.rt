@@ -1,15 +1,15 @@
 //! The token at which no script goes on, and what could be there.
+mod blanks;
 mod candidates;
-mod gaps;
-mod refused;
-mod remnant;
-mod strays;
-mod trying;
+mod foreign_syntax;
+mod last_event;
+mod probe;
+mod refusal;
 
 use self::candidates::expected;
-pub use self::refused::Refusal;
-use self::remnant::Remnant;
-pub use self::strays::Stray;
+pub use self::foreign_syntax::ForeignSyntax;
+use self::last_event::LastEvent;
+pub use self::refusal::Refusal;
 use crate::parts::{rest_at, shown_at};
 use pd_lex::Place;
 use pd_text::Lines;
@@ -20,25 +20,29 @@ use std::alloc::{AllocError, Global};
 /// # Errors
 /// `AllocError` where a growth is refused.
 pub fn find_refusal(alloc: Global, lines: &Lines, line: usize) -> Result<Refusal, AllocError> {
-    let remnant = Remnant::read(alloc, lines, line)?;
-    let taken = remnant.count_taken(alloc)?;
-    let refused = remnant.refused_at(lines, line, taken);
-    let marked = remnant.marked_at(alloc, refused, taken)?;
-    let shown = shown_at(alloc, lines, marked.unwrap_or(Place::line_start(line)))?;
-    let expected = expected(alloc, remnant.first(taken), remnant.difference(taken))?;
+    let last_event = LastEvent::read(alloc, lines, line)?;
+    let accepted = last_event.count_accepted(alloc)?;
+    let refused = last_event.refused_at(lines, line, accepted);
+    let marked = last_event.marked_at(alloc, refused, accepted)?;
+    let place_shown = shown_at(alloc, lines, marked.unwrap_or(Place::line_start(line)))?;
+    let expected = expected(
+        alloc,
+        last_event.first(accepted),
+        last_event.difference(accepted),
+    )?;
     Ok(Refusal {
-        line: shown.line,
-        text: shown.text,
-        mark: marked.map(|_| shown.column),
-        stray: stray_in(lines, refused, remnant.symbol_before(taken)),
+        line: place_shown.line,
+        text: place_shown.text,
+        mark: marked.map(|_| place_shown.column),
+        foreign_syntax: foreign_syntax_in(lines, refused, last_event.symbol_before(accepted)),
         expected,
     })
 }
 
 /// What stands where no script goes on, after a token with this octet, if that is a symbol.
-fn stray_in(lines: &Lines, refused: Option<Place>, after: u8) -> Option<Stray> {
+fn foreign_syntax_in(lines: &Lines, refused: Option<Place>, after: u8) -> Option<ForeignSyntax> {
     match refused {
-        Some(place) => Stray::at(rest_at(lines, place), after),
+        Some(place) => ForeignSyntax::at(rest_at(lines, place), after),
         None => None,
     }
 }

@@ -2,32 +2,32 @@
 ghost use Rattle.std.specs.Prelude.{◌≡◌};
 ghost use Rattle.pd_explain.specs.Rules.{header_rule, event_rule};
 
-mod inputs;
 mod laws;
-mod numbers;
-mod shapes;
+mod limited_numbers;
+mod unsupported_inputs;
+mod unsupported_shapes;
 
-pub use self::inputs::Input;
-use self::inputs::input_rule;
-pub use self::laws::rules_are_lawful;
-pub use self::numbers::Number;
-pub(crate) use self::numbers::is_time_long;
-use self::numbers::number_over;
-pub use self::shapes::Shape;
-use self::shapes::shape_rule;
+pub use self::laws::law_rules;
+pub use self::limited_numbers::LimitedNumber;
+pub(crate) use self::limited_numbers::is_time_long;
+use self::limited_numbers::number_over;
+pub use self::unsupported_inputs::UnsupportedInput;
+use self::unsupported_inputs::input_rule;
+pub use self::unsupported_shapes::UnsupportedShape;
+use self::unsupported_shapes::shape_rule;
 use pd_host::Halt;
-use pd_run::{Stopped, Why};
+use pd_run::{StopPoint, StopReason};
 use pd_script::{Event, HeaderItem, HeaderKind};
 
 /// A rule by which a script stops with `limit` or `unsupported`.
 #[derive(Clone, Copy)]
 pub enum Rule {
     /// A number is over its limit: `limit`.
-    Over(Number),
+    Over(LimitedNumber),
     /// What is written isn't run, whatever the sender's state: `unsupported`.
-    NotRun(Shape),
+    NotRun(UnsupportedShape),
     /// The sender doesn't run this in its state: `unsupported`.
-    NotTaken(Input),
+    NotTaken(UnsupportedInput),
 }
 
 impl Rule {
@@ -52,7 +52,7 @@ impl Rule {
     /// How a script may be mended, in words, where no edit by hand is the way.
     pub fn mend(self) -> Option<&'static str> {
         match self {
-            Rule::NotRun(Shape::HeaderCommand | Shape::HeaderOption) => {
+            Rule::NotRun(UnsupportedShape::HeaderCommand | UnsupportedShape::HeaderOption) => {
                 Some("`pdsuite import` takes a kernel's set-up over as settings")
             }
             _ => None,
@@ -62,7 +62,7 @@ impl Rule {
     /// What stands there, in words, where others know it by another name.
     pub fn found(self) -> Option<&'static str> {
         match self {
-            Rule::NotRun(Shape::Flag) => {
+            Rule::NotRun(UnsupportedShape::Flag) => {
                 Some("E, W and C are flags of ECN (RFC 3168), and U is the urgent one")
             }
             _ => None,
@@ -83,14 +83,16 @@ pub fn header_rule(item: &HeaderItem) -> Rule
     ensures { result ≡ header_rule item.now.kind }
 {
     match item.kind {
-        HeaderKind::Command => Rule::NotRun(Shape::HeaderCommand),
-        HeaderKind::OtherOption | HeaderKind::Tolerance(_) => Rule::NotRun(Shape::HeaderOption),
+        HeaderKind::Command => Rule::NotRun(UnsupportedShape::HeaderCommand),
+        HeaderKind::OtherOption | HeaderKind::Tolerance(_) => Rule::NotRun(
+            UnsupportedShape::HeaderOption,
+        ),
     }
 }
 
 /// The rule by which an event stops a run with `limit` or `unsupported`: the first that applies, in the order in which the
 /// step and the sender look.
-pub fn event_rule(event: &Event, stop: &Stopped) -> Rule
+pub fn event_rule(event: &Event, stop: &StopPoint) -> Rule
     ensures { result ≡ event_rule event.now stop.now }
 {
     if let Some(number) = number_over(event) {
@@ -99,8 +101,11 @@ pub fn event_rule(event: &Event, stop: &Stopped) -> Rule
     if let Some(shape) = shape_rule(event) {
         return Rule::NotRun(shape);
     }
-    match (&stop.why, input_rule(&event.action, stop.before.host())) {
-        (Why::Halted(Halt::Unsupported), Some(input)) => Rule::NotTaken(input),
-        _ => Rule::Over(Number::Outbox),
+    match (
+        &stop.stop_reason,
+        input_rule(&event.action, stop.before.host()),
+    ) {
+        (StopReason::Halted(Halt::Unsupported), Some(input)) => Rule::NotTaken(input),
+        _ => Rule::Over(LimitedNumber::Outbox),
     }
 }

@@ -1,13 +1,13 @@
 -- What an ACK leaves of the numbers of loss recovery, and which octets it names.
 use Rattle.std.proofs.Common.{◌≡◌, ℕ, ◌+◌, ◌-◌, ◌<◌, ◌≤◌, ◌==◌, ◌&&◌, min, nat_lt, nat_le, Bool, true, false, Option, Some, None, refl, arith}
 use Rattle.std.proofs.lemmas.Bool.Decides.{nat_tests}
-use Rattle.pd_recover.specs.declared.feedback.Ack.{Ack}
-use Rattle.pd_recover.specs.declared.feedback.News.{News}
-use Rattle.pd_recover.specs.declared.responses.Then.{Then}
-use Rattle.pd_recover.specs.declared.responses.Then.TheVariants.{StepC, NewSegment, Nothing}
-use Rattle.pd_recover.specs.Acks.{IsNamed, acked, renewed, told, told_by_sack, told_by_number, with_delivered, selective_duplicate, plain_duplicate, counted, grown_by, advanced, new_segment, is_duplicate}
+use Rattle.pd_recover.specs.declared.ack.Ack.{Ack}
+use Rattle.pd_recover.specs.declared.ack.SackNews.{SackNews}
+use Rattle.pd_recover.specs.declared.ack_action.AckAction.{AckAction}
+use Rattle.pd_recover.specs.declared.ack_action.AckAction.TheVariants.{StepC, NewSegment, Nothing}
+use Rattle.pd_recover.specs.Acks.{IsNamed, acked, renewed, acked_by, acked_with_sack, acked_without_sack, with_delivered, selective_duplicate, plain_duplicate, dup_ack_counted, grown_by, new_octets_acked, new_segment, is_duplicate}
 use Rattle.pd_recover.specs.Cong.{CongView}
-use Rattle.pd_recover.specs.Prr.{is_proportional}
+use Rattle.pd_recover.specs.Prr.{uses_prr}
 use Rattle.pd_recover.proofs.Cases.{selective_cases, plain_cases}
 use Rattle.pd_recover.proofs.Chosen.{AllOf, one_of, allowed_of}
 use Rattle.pd_host.proofs.Kept.{by_test}
@@ -19,7 +19,7 @@ pub record IsBelow (top : ℕ) (w : CongView) : Type 0 where
   pub rescue_rxt : w.rescue_rxt ≤ top
 
 -- the same after an ACK, and the segment that it names can be sent
-pub record Leads (ack : Ack) (step : CongView × Then) : Type 0 where
+pub record Leads (ack : Ack) (step : CongView × AckAction) : Type 0 where
   pub below : IsBelow ack.top step.0
   pub named : IsNamed ack step.1
 
@@ -60,7 +60,7 @@ module _ (ack : Ack) (smss : 0 < ack.smss) (sent : ack.una ≤ ack.top) where
   abbrev Below : CongView → Type 0
   Below w = IsBelow ack.top w
 
-  abbrev Then_leads : CongView × Then → Type 0
+  abbrev Then_leads : CongView × AckAction → Type 0
   Then_leads step = Leads ack step
 
   renewed_below : (w : CongView) → Below w → Below (renewed ack w)
@@ -75,18 +75,18 @@ module _ (ack : Ack) (smss : 0 < ack.smss) (sent : ack.una ≤ ack.top) where
       (record { below = record { recovery_point = omega arith; high_rxt = sent; rescue_rxt = h.rescue_rxt }; named = tt })
       (record { below = record { recovery_point = h.recovery_point; high_rxt = sent; rescue_rxt = h.rescue_rxt }; named = tt })
 
-  sack_leads : (news : News) (w : CongView) → Below w → Then_leads (told_by_sack ack news w)
-  sack_leads news w h =
+  sack_leads : (sack_news : SackNews) (w : CongView) → Below w → Then_leads (acked_with_sack ack sack_news w)
+  sack_leads sack_news w h =
       by_test Then_leads (w.recovering && nat_le w.recovery_point ack.una) _ _
       (λ _. record { below = kept ack.top w _ refl refl refl h; named = tt })
       (λ _. by_test Then_leads w.recovering _ _
-      (λ _. by_test Then_leads (is_proportional w.rate && ack.delivery.delivered_data == 0) (w, Nothing) (with_delivered ack w, StepC)
+      (λ _. by_test Then_leads (uses_prr w.recovery_algorithm && ack.delivery.delivered_data == 0) (w, Nothing) (with_delivered ack w, StepC)
       (λ _. record { below = h; named = tt }) (λ _. record { below = kept ack.top w _ refl refl refl h; named = tt }))
-      (λ _. by_test Then_leads news.fresh _ _
-      (λ _. duplicate_leads news.lost (counted (grown_by ack w)) (kept ack.top (grown_by ack w) _ refl refl refl (grown_below w h)))
+      (λ _. by_test Then_leads sack_news.fresh _ _
+      (λ _. duplicate_leads sack_news.lost (dup_ack_counted (grown_by ack w)) (kept ack.top (grown_by ack w) _ refl refl refl (grown_below w h)))
       (λ _. record { below = grown_below w h; named = tt })))
 
-  advanced_below : (w : CongView) → Below w → Below (advanced ack w)
+  advanced_below : (w : CongView) → Below w → Below (new_octets_acked ack w)
   advanced_below w h = by_test Below w.recovering _ _ (λ _. kept ack.top w _ refl refl refl h) (λ _. grown_below w h)
 
   plain_leads : (w : CongView) → Below w → ack.una < ack.top → Then_leads (plain_duplicate ack w)
@@ -99,17 +99,17 @@ module _ (ack : Ack) (smss : 0 < ack.smss) (sent : ack.una ≤ ack.top) where
       (record { below = kept ack.top w _ refl refl refl h; named = (refl, omega (arith, smss, outstanding), omega arith) })
       (record { below = kept ack.top w _ refl refl refl h; named = tt })
 
-  number_leads : (w : CongView) → Below w → Then_leads (told_by_number ack w)
+  number_leads : (w : CongView) → Below w → Then_leads (acked_without_sack ack w)
   number_leads w h =
       by_test Then_leads (nat_lt 0 ack.acked) _ _ (λ _. record { below = advanced_below w h; named = tt })
       (λ _. by_test Then_leads (is_duplicate ack && nat_le w.recovery_point ack.una) _ _
-      (λ e. plain_leads (counted w) (kept ack.top w _ refl refl refl h)
+      (λ e. plain_leads (dup_ack_counted w) (kept ack.top w _ refl refl refl h)
       (lt _ _ (first_of_two _ _ (second_of_two _ _ (first_of_two _ _ e)))))
       (λ _. record { below = h; named = tt }))
 
-  told_leads : (o : Option News) (w : CongView) → Below w → Then_leads (told ack o w)
+  told_leads : (o : Option SackNews) (w : CongView) → Below w → Then_leads (acked_by ack o w)
   told_leads None w h = number_leads w h
-  told_leads (Some news) w h = sack_leads news w h
+  told_leads (Some sack_news) w h = sack_leads sack_news w h
 
   pub acked_leads : (w : CongView) → IsBelow ack.top w → Leads ack (acked ack w)
   acked_leads w h = told_leads ack.sack (renewed ack w) (renewed_below w h)

@@ -2,22 +2,22 @@
 use Rattle.std.proofs.Common.{◌≡◌, ℕ, ◌+◌, ◌*◌, ◌≤◌, min, nat_le, Bool, true, false, if◌then◌else◌, List, [], ◌∷◌, ◌++◌, Option, None, Some, unwrap_or, refl, sym, ap, ◌∙◌, append_assoc, append-nil, arith}
 use Rattle.std.specs.List.{AllByRecursion}
 use Rattle.std.proofs.lemmas.Bool.Decides.{nat_tests}
-use Rattle.pd_settings.specs.declared.fields.Settings.{Settings}
+use Rattle.pd_settings.specs.declared.settings.Settings.{Settings}
 use Rattle.pd_seg.specs.declared.segments.Sent.{Sent}
 use Rattle.pd_host.specs.Connection.{ConnectionView}
-use Rattle.pd_host.specs.Expiries.{deadline_of, due_by, segment_again, block_expired, expired, advanced}
-use Rattle.pd_host.specs.InputLaws.{AdvancesPutOutAfter, AdvancesUseNone, rebound}
+use Rattle.pd_host.specs.Expiries.{deadline_of, due_by, segment_again, connection_expired, expired, advanced}
+use Rattle.pd_host.specs.InputLaws.{AdvancesPutOutAfter, AdvancesUseNone, with_settings}
 use Rattle.pd_host.specs.Laws.{AreInOrder}
 use Rattle.pd_host.specs.Sending.{places_left}
 use Rattle.pd_host.specs.declared.established.Established.{Established}
-use Rattle.pd_host.specs.declared.endpoint.State.{State}
+use Rattle.pd_host.specs.declared.endpoint.SenderState.{SenderState}
 use Rattle.pd_host.proofs.Outcomes.{Leaves, came, kept, alike}
 use Rattle.pd_host.proofs.Rebound.{again}
 
-abbrev pub expiry_finds : ℕ → State → Option ℕ
+abbrev pub expiry_finds : ℕ → SenderState → Option ℕ
 expiry_finds until t = due_by until (deadline_of t)
 
-abbrev pub expiry_sends : ℕ → State → State
+abbrev pub expiry_sends : ℕ → SenderState → SenderState
 expiry_sends at t = expired at t.endpoint.connection t
 
 -- Which expiry is due
@@ -65,22 +65,22 @@ in_order until (q ∷ packets) p le before h =
 -- Each expiry
 
 -- expiries were performed: their packets are in order, and none is later than the next expiry
-record IsRun (until : ℕ) (s t : State) : Type 0 where
+record IsRun (until : ℕ) (s t : SenderState) : Type 0 where
   pub packets : List Sent
   pub order : AreInOrder until packets
   pub outbox : t.endpoint.outbox ≡ s.endpoint.outbox ++ packets
   pub last : (at : ℕ) → deadline_of t ≡ Some at → AllByRecursion (λ p. p.at ≤ at) packets
 
-none_run : (until : ℕ) (s : State) → IsRun until s s
+none_run : (until : ℕ) (s : SenderState) → IsRun until s s
 none_run until s = record { packets = []; order = tt; outbox = sym (append-nil s.endpoint.outbox); last = λ at e. tt }
 
 -- the next expiry lies after this one
 next_expiry : (at : ℕ) (c : ConnectionView) (o : Option Established)
-    → (block_expired at c o).timer.deadline ≡ Some (at + min (2 * c.timer.rto) c.timer.max_rto_us)
+    → (connection_expired at c o).timer.deadline ≡ Some (at + min (2 * c.timer.rto) c.timer.max_rto_us)
 next_expiry at c None = refl
 next_expiry at c (Some e) = refl
 
-one_run : (until at : ℕ) (s t : State) (o : Option ConnectionView) → at ≤ until → deadline_of t ≡ Some at → t.endpoint.connection ≡ o
+one_run : (until at : ℕ) (s t : SenderState) (o : Option ConnectionView) → at ≤ until → deadline_of t ≡ Some at → t.endpoint.connection ≡ o
     → IsRun until s t → IsRun until s (expired at o t)
 one_run until at s t None le due e h = h
 one_run until at s t (Some c) le due e h =
@@ -96,7 +96,7 @@ one_run until at s t (Some c) le due e h =
           one_later d h.packets packet ahead (later at d h.packets ahead before);
     }
 
-runs : (until : ℕ) (s : State) → Leaves (IsRun until s) (advanced until s)
+runs : (until : ℕ) (s : SenderState) → Leaves (IsRun until s) (advanced until s)
 runs until s =
     kept (IsRun until s) (expiry_finds until) expiry_sends
     (λ at t e h.
@@ -109,11 +109,11 @@ advances_put_out_after until s t h =
     let run : IsRun until s t = came (IsRun until s) (advanced until s) t h (runs until s) in
     (run.packets, run.order, run.outbox)
 
-expired_again : (b : Settings) (at : ℕ) (o : Option ConnectionView) (s : State) → expired at o (rebound b s) ≡ rebound b (expired at o s)
+expired_again : (b : Settings) (at : ℕ) (o : Option ConnectionView) (s : SenderState) → expired at o (with_settings b s) ≡ with_settings b (expired at o s)
 expired_again b at None s = refl
 expired_again b at (Some c) s = refl
 
 pub advances_use_none : AdvancesUseNone
 advances_use_none until s t b h =
-    alike (rebound b) (expiry_finds until) expiry_sends (λ u. refl) (λ at u. expired_again b at u.endpoint.connection u) (places_left s) s
+    alike (with_settings b) (expiry_finds until) expiry_sends (λ u. refl) (λ at u. expired_again b at u.endpoint.connection u) (places_left s) s
     ∙ ap (again b) h

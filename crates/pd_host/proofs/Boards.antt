@@ -2,12 +2,12 @@
 use Rattle.std.proofs.Common.{◌≡◌, ℕ, ◌<◌, ◌≤◌, max, nat_lt, nat_le, ◌&&◌, ◌||◌, not, List, [], ◌∷◌, Bool, true, false, Option, Some, None, refl, sym, ◌∙◌, arith}
 use Rattle.std.specs.Prelude.{unwrap_or}
 use Rattle.std.proofs.lemmas.Bool.Decides.{nat_tests}
-use Rattle.pd_seg.specs.declared.sack_blocks.Span.{Span}
+use Rattle.pd_seg.specs.declared.sack_spans.Span.{Span}
 use Rattle.pd_board.proofs.Sets.{contains-octets_where, contains_in, octets_where-same, octets_where-none, octets_where-longer}
 use Rattle.pd_board.specs.Octets.{contains, octets_where, least_where}
-use Rattle.pd_board.specs.Board.{BoardView, opened, written, sent_to, acknowledged, covers, marked, has_new, unmarked, skipped}
+use Rattle.pd_board.specs.Board.{BoardView, opened, written, sent_to, acknowledged, covers, with_sacked_block, has_new, with_none_sacked, past_sacked_octets}
 use Rattle.pd_recover.proofs.Found.{least}
-use Rattle.pd_host.specs.Acknowledgments.{is_block_sent, told_block, told_blocks}
+use Rattle.pd_host.specs.AckEffects.{is_block_sent, with_block_marked, with_blocks_marked}
 use Rattle.pd_host.specs.Invariants.{IsOrdered}
 use Rattle.pd_host.proofs.Kept.{by_test}
 
@@ -45,7 +45,7 @@ opened_ordered smss low high = record {
   sacked_sent = none_sent 0 1;
 }
 
-pub unmarked_ordered : (s : BoardView) → IsOrdered s → IsOrdered (unmarked s)
+pub unmarked_ordered : (s : BoardView) → IsOrdered s → IsOrdered (with_none_sacked s)
 unmarked_ordered s h = record {
   smss_low = h.smss_low;
   smss_high = h.smss_high;
@@ -100,8 +100,8 @@ acknowledged_ordered x s from to h = record {
   sacked_sent = members (contains s.sacked) x s.top;
 }
 
-pub marked_ordered : (block : Span) (s : BoardView) → IsOrdered s → IsOrdered (marked block s)
-marked_ordered block s h = record {
+pub with_sacked_block_ordered : (block : Span) (s : BoardView) → IsOrdered s → IsOrdered (with_sacked_block block s)
+with_sacked_block_ordered block s h = record {
   smss_low = h.smss_low;
   smss_high = h.smss_high;
   una_next = h.una_next;
@@ -116,7 +116,7 @@ found_within : (p : ℕ → Bool) (a b : ℕ) → a ≤ b → (o : Option ℕ) �
 found_within p a b le None e = (le, omega arith)
 found_within p a b le (Some r) e = let h = least p a b r e in (h.from, omega (arith, h.to))
 
-pub skipped_ordered : (s : BoardView) → IsOrdered s → IsOrdered (skipped s)
+pub skipped_ordered : (s : BoardView) → IsOrdered s → IsOrdered (past_sacked_octets s)
 skipped_ordered s h =
     let k = found_within (λ x. not (contains s.sacked x)) s.next s.top h.next_top _ refl in
     record {
@@ -138,12 +138,12 @@ pub record HasNumbersOf (s t : BoardView) : Type 0 where
   pub end : t.end ≡ s.end
   pub ordered : IsOrdered t
 
-told_keeps : (s : BoardView) (block : Span) (told : BoardView × Bool) → HasNumbersOf s told.0 → HasNumbersOf s (told_block block told).0
-told_keeps s block told h =
-    by_test (λ (t : BoardView × Bool). HasNumbersOf s t.0) (is_block_sent told.0 block) (marked block told.0, told.1 || has_new block told.0) told
-    (λ _. record { smss = h.smss; una = h.una; top = h.top; end = h.end; ordered = marked_ordered block told.0 h.ordered })
+told_keeps : (s : BoardView) (block : Span) (so_far : BoardView × Bool) → HasNumbersOf s so_far.0 → HasNumbersOf s (with_block_marked block so_far).0
+told_keeps s block so_far h =
+    by_test (λ (t : BoardView × Bool). HasNumbersOf s t.0) (is_block_sent so_far.0 block) (with_sacked_block block so_far.0, so_far.1 || has_new block so_far.0) so_far
+    (λ _. record { smss = h.smss; una = h.una; top = h.top; end = h.end; ordered = with_sacked_block_ordered block so_far.0 h.ordered })
     (λ _. h)
 
-pub blocks_keep : (s : BoardView) (blocks : List Span) (told : BoardView × Bool) → HasNumbersOf s told.0 → HasNumbersOf s (told_blocks blocks told).0
-blocks_keep s [] told h = h
-blocks_keep s (block ∷ blocks) told h = blocks_keep s blocks (told_block block told) (told_keeps s block told h)
+pub blocks_keep : (s : BoardView) (blocks : List Span) (so_far : BoardView × Bool) → HasNumbersOf s so_far.0 → HasNumbersOf s (with_blocks_marked blocks so_far).0
+blocks_keep s [] so_far h = h
+blocks_keep s (block ∷ blocks) so_far h = blocks_keep s blocks (with_block_marked block so_far) (told_keeps s block so_far h)

@@ -2,26 +2,26 @@
 use Rattle.std.proofs.Common.{◌≡◌, ℕ, ◌+◌, ◌-◌, ◌<◌, ◌≤◌, ◌&&◌, min, nat_lt, nat_le, Bool, true, false, if◌then◌else◌, Option, None, Some, refl, sym, subst, arith}
 use Rattle.std.specs.Prelude.{unwrap_or, option_map}
 use Rattle.std.proofs.lemmas.Bool.Decides.{nat_tests}
-use Rattle.pd_board.specs.Choice.{run_at, most_from, next_lost, next_hole, rescue, segment_to}
-use Rattle.pd_board.specs.Loss.{is_free}
+use Rattle.pd_board.specs.Retransmit.{run_at, most_from, next_lost, next_hole, rescue, segment_to}
+use Rattle.pd_board.specs.Loss.{is_unsacked}
 use Rattle.pd_board.specs.Octets.{contains, least_where, greatest_where}
 use Rattle.pd_board.specs.Board.{BoardView, IsBoardView}
 use Rattle.pd_recover.specs.Acks.{new_segment as new_octets}
-use Rattle.pd_recover.specs.Choice.{segment_of, has_room, lost_run, new_data, hole_run, rescue_run, next_send as next_seg, step_c_segment, limited_segment}
+use Rattle.pd_recover.specs.NextSeg.{segment_of, has_room, lost_run, new_data, hole_run, rescue_run, next_send as next_seg, step_c_segment, limited_segment}
 use Rattle.pd_recover.specs.Cong.{CongView}
 use Rattle.pd_recover.specs.Laws.{IsSpared, SparesSacked}
-use Rattle.pd_recover.specs.declared.segments.NextSegment.{NextSegment}
-use Rattle.pd_recover.specs.declared.segments.NextSegment.TheVariants.{Lost, New, Hole, Rescue}
+use Rattle.pd_recover.specs.declared.next_segment.NextSegment.{NextSegment}
+use Rattle.pd_recover.specs.declared.next_segment.NextSegment.TheVariants.{Lost, New, Hole, Rescue}
 use Rattle.pd_recover.proofs.Chosen.{AllOf, one_of, either_of, map_of, allowed_of}
 use Rattle.pd_recover.proofs.Found.{least, greatest}
-use Rattle.pd_seg.specs.declared.sack_blocks.Span.{Span}
-use Rattle.pd_host.specs.Acknowledgments.{next_by}
+use Rattle.pd_seg.specs.declared.sack_spans.Span.{Span}
+use Rattle.pd_host.specs.AckEffects.{next_by}
 use Rattle.pd_host.specs.Connection.{ConnectionView}
-use Rattle.pd_host.specs.Sending.{window_edge, usable, unsent, sendable, unsent_segment, leaves_now, next_new, next_again, ordinary_segment}
+use Rattle.pd_host.specs.Sending.{window_edge, usable, unsent, sendable, unsent_segment, leaves_now, next_new, next_retransmitted, ordinary_segment}
 use Rattle.pd_host.specs.SendingLaws.{IsInPeersWindow}
 use Rattle.pd_host.specs.declared.established.Established.{Established}
-use Rattle.pd_host.specs.declared.connection.acknowledgments.Filling.{Filling}
-use Rattle.pd_host.specs.declared.connection.acknowledgments.Filling.TheVariants.{NextSeg, NewData}
+use Rattle.pd_host.specs.declared.connection.ack_effects.WindowFill.{WindowFill}
+use Rattle.pd_host.specs.declared.connection.ack_effects.WindowFill.TheVariants.{NextSeg, NewData}
 
 -- tests
 
@@ -60,8 +60,8 @@ run_end s x = by (least_where (contains s.sacked) x (most_from x s)) refl
 
 rescue_end : (s : BoardView) → AllOf (λ (segment : Span). segment.end ≤ s.top) (rescue s)
 rescue_end s =
-    map_of (λ (segment : Span). segment.end ≤ s.top) (segment_to s) (greatest_where (λ x. is_free x s) s.una s.top) (λ x e.
-    let h = greatest (λ y. is_free y s) s.una s.top x e in omega (arith, h.to))
+    map_of (λ (segment : Span). segment.end ≤ s.top) (segment_to s) (greatest_where (λ x. is_unsacked x s) s.una s.top) (λ x e.
+    let h = greatest (λ y. is_unsacked y s) s.una s.top x e in omega (arith, h.to))
 
 -- what ends among octets that were sent has no others
 sent_before : (s : BoardView) (rwnd : ℕ) (segment : Span) → segment.end ≤ s.top → IsInPeersWindow s rwnd segment
@@ -80,7 +80,7 @@ new_within c e =
     one_of P (unsent_segment c e)
     (refl, new_end c.board.next (unsent c) (window_edge c e) c.board.smss (is_above 0 (sendable c e) (first_of_two (nat_lt 0 (sendable c e)) (leaves_now c e) t))))
 
-again_within : (c : ConnectionView) (e : Established) → AllOf (λ (segment : Span). (segment ≡ run_at c.board.next c.board) × (segment.end ≤ window_edge c e)) (next_again c e)
+again_within : (c : ConnectionView) (e : Established) → AllOf (λ (segment : Span). (segment ≡ run_at c.board.next c.board) × (segment.end ≤ window_edge c e)) (next_retransmitted c e)
 again_within c e =
     let P : Span → Type 0 = λ segment. (segment ≡ run_at c.board.next c.board) × (segment.end ≤ window_edge c e) in
     let segment : Span = run_at c.board.next c.board in
@@ -89,7 +89,7 @@ again_within c e =
 -- nothing is chosen beyond the windows
 pub chosen_within : (c : ConnectionView) (e : Established) → AllOf (λ (segment : Span). segment.end ≤ window_edge c e) (ordinary_segment c e)
 chosen_within c e =
-    branch_of (λ (segment : Span). segment.end ≤ window_edge c e) (nat_lt c.board.next c.board.top) (next_again c e) (next_new c e)
+    branch_of (λ (segment : Span). segment.end ≤ window_edge c e) (nat_lt c.board.next c.board.top) (next_retransmitted c e) (next_new c e)
     (λ _ segment h. (again_within c e segment h).1) (λ _ segment h. (new_within c e segment h).1)
 
 edge_within : (una cwnd rwnd : ℕ) → (una + min cwnd rwnd ≤ una + cwnd) × (una + min cwnd rwnd ≤ una + rwnd)
@@ -114,7 +114,7 @@ same_place a next top e le ge = omega (arith, e, le, ge)
 
 pub ordinary_flow : (c : ConnectionView) (e : Established) → c.board.next ≤ c.board.top → AllOf (IsInPeersWindow c.board e.rwnd) (ordinary_segment c e)
 ordinary_flow c e order =
-    branch_of (IsInPeersWindow c.board e.rwnd) (nat_lt c.board.next c.board.top) (next_again c e) (next_new c e)
+    branch_of (IsInPeersWindow c.board e.rwnd) (nat_lt c.board.next c.board.top) (next_retransmitted c e) (next_new c e)
     (λ _ segment h. sent_before c.board e.rwnd segment
     (subst (λ (x : Span). x.end ≤ c.board.top) (sym (again_within c e segment h).0) (run_end c.board c.board.next)))
     (λ t segment h _.
@@ -135,7 +135,7 @@ unsent_end next end usable smss some = omega (arith, some)
 
 pub ordinary_queued : (c : ConnectionView) (e : Established) → AllOf (IsQueuedIfNew c.board) (ordinary_segment c e)
 ordinary_queued c e =
-    branch_of (IsQueuedIfNew c.board) (nat_lt c.board.next c.board.top) (next_again c e) (next_new c e)
+    branch_of (IsQueuedIfNew c.board) (nat_lt c.board.next c.board.top) (next_retransmitted c e) (next_new c e)
     (λ _ segment h above some.
     none_new segment.start segment.end c.board.top c.board.end
     (subst (λ (x : Span). x.end ≤ c.board.top) (sym (again_within c e segment h).0) (run_end c.board c.board.next)) above some)
@@ -196,17 +196,17 @@ limited_stands rwnd pipe s w =
     allowed_of (λ segment. Stands rwnd s (New segment)) (has_room pipe s w) (new_data rwnd s) (λ _. data_flow rwnd s)
 
 -- so stands what step C and limited transmit send
-pub filling_stands : (filling : Filling) (pipe : ℕ) (c : ConnectionView) (e : Established) → AllOf (Stands e.rwnd c.board) (next_by filling pipe c e)
+pub filling_stands : (filling : WindowFill) (pipe : ℕ) (c : ConnectionView) (e : Established) → AllOf (Stands e.rwnd c.board) (next_by filling pipe c e)
 filling_stands NextSeg pipe c e = step_c_stands e.rwnd pipe c.board e.congestion
 filling_stands NewData pipe c e =
     map_of (Stands e.rwnd c.board) (λ segment. New segment) (limited_segment e.rwnd pipe c.board e.congestion) (limited_stands e.rwnd pipe c.board e.congestion)
 
-pub filling_flow : (filling : Filling) (pipe : ℕ) (c : ConnectionView) (e : Established)
+pub filling_flow : (filling : WindowFill) (pipe : ℕ) (c : ConnectionView) (e : Established)
     → AllOf (λ sent. IsInPeersWindow c.board e.rwnd (segment_of sent)) (next_by filling pipe c e)
 filling_flow filling pipe c e sent h = stands_in_window e.rwnd c.board sent (filling_stands filling pipe c e sent h)
 
 -- they have room for a full segment
-pub filling_room : (filling : Filling) (pipe : ℕ) (c : ConnectionView) (e : Established)
+pub filling_room : (filling : WindowFill) (pipe : ℕ) (c : ConnectionView) (e : Established)
     → AllOf (λ _. c.board.smss ≤ e.congestion.cwnd - pipe) (next_by filling pipe c e)
 filling_room NextSeg pipe c e =
     allowed_of (λ _. c.board.smss ≤ e.congestion.cwnd - pipe) (has_room pipe c.board e.congestion) (next_seg e.rwnd c.board e.congestion)
@@ -232,7 +232,7 @@ above_spared s segment known above x from to =
 
 pub ordinary_spared : SparesSacked → (c : ConnectionView) (e : Established) → IsBoardView c.board → AllOf (IsSpared c.board) (ordinary_segment c e)
 ordinary_spared spares c e known =
-    branch_of (IsSpared c.board) (nat_lt c.board.next c.board.top) (next_again c e) (next_new c e)
+    branch_of (IsSpared c.board) (nat_lt c.board.next c.board.top) (next_retransmitted c e) (next_new c e)
     (λ _ segment h. subst (IsSpared c.board) (sym (again_within c e segment h).0) (spares.again c.board c.board.next))
     (λ t segment h. above_spared c.board segment known
     (subst (λ (n : ℕ). c.board.top ≤ n) (sym (new_within c e segment h).0) (at_most c.board.next c.board.top t)))
@@ -250,7 +250,7 @@ limited_spared rwnd pipe s w known =
     allowed_of (IsSpared s) (has_room pipe s w) (new_data rwnd s)
     (λ _ segment e. above_spared s segment known (at_top segment.start s.top (data_flow rwnd s segment e).0))
 
-pub filling_spared : SparesSacked → (filling : Filling) (pipe : ℕ) (c : ConnectionView) (e : Established) → IsBoardView c.board
+pub filling_spared : SparesSacked → (filling : WindowFill) (pipe : ℕ) (c : ConnectionView) (e : Established) → IsBoardView c.board
     → AllOf (λ sent. IsSpared c.board (segment_of sent)) (next_by filling pipe c e)
 filling_spared spares NextSeg pipe c e known = step_c_spared spares e.rwnd pipe c.board e.congestion known
 filling_spared spares NewData pipe c e known =

@@ -1,10 +1,10 @@
 -- What an RST ends, and in which range the numbers stay.
 use Rattle.std.proofs.Common.{◌≡◌, ℕ, zero, suc, ◌&&◌, ◌||◌, nat_lt, not, List, [], ◌∷◌, Bool, true, false, if◌then◌else◌, Option, Some, None, Ok, Err, refl, sym, ap, subst, ◌∙◌, arith}
 use Rattle.std.specs.Prelude.{is_some, IfSome}
-use Rattle.pd_settings.specs.declared.fields.Settings.{Settings}
+use Rattle.pd_settings.specs.declared.settings.Settings.{Settings}
 use Rattle.pd_seg.specs.declared.segments.Segment.{Segment}
 use Rattle.pd_seg.specs.declared.segments.Sent.{Sent}
-use Rattle.pd_host.specs.Arrivals.{is_stray_fin, check_window, check_rst, check_ack_flag, check_handshake, check_ack, first_ruling, ruling_of, passed_on, arrived_on}
+use Rattle.pd_host.specs.Arrivals.{is_stray_fin, check_window, check_rst, check_ack_flag, check_handshake, check_ack, first_failed_check, failed_check_of, passed_on, arrived_on}
 use Rattle.pd_host.specs.Calls.{with_stream, with_fin}
 use Rattle.pd_host.specs.ConnStates.{state_since, state_of, is_closed}
 use Rattle.pd_host.specs.Connection.{ConnectionView}
@@ -15,9 +15,9 @@ use Rattle.pd_host.specs.Sending.{repeated, on_found, places_left}
 use Rattle.pd_host.specs.declared.connection.states.ConnState.{ConnState}
 use Rattle.pd_host.specs.declared.connection.states.ConnState.TheVariants.{Closed}
 use Rattle.pd_host.specs.declared.halts.Halt.TheVariants.{Limit}
-use Rattle.pd_host.specs.declared.connection.checks.Ruling.{Ruling}
-use Rattle.pd_host.specs.declared.connection.checks.Ruling.TheVariants.{NotRun}
-use Rattle.pd_host.specs.declared.descriptors.Stream.TheVariants as stream
+use Rattle.pd_host.specs.declared.connection.segment_check.SegmentCheck.{SegmentCheck}
+use Rattle.pd_host.specs.declared.connection.segment_check.SegmentCheck.TheVariants.{NotRun}
+use Rattle.pd_host.specs.declared.descriptors.StreamState.TheVariants as stream
 use Rattle.pd_host.proofs.CallsKept.{called_where}
 use Rattle.pd_host.proofs.Growth.{calls_queue_what_they_ask}
 use Rattle.pd_host.proofs.Kept.{by_test, nothing_found}
@@ -48,25 +48,25 @@ calls_stay_in_range call now s t answer room came =
 
 -- After an RST
 
-not_run : (a b c closed : Bool) (checks : List (Option Ruling)) → closed ≡ true
-    → first_ruling ((if a || (b || (c || closed)) then Some NotRun else None) ∷ checks) ≡ Some NotRun
+not_run : (a b c closed : Bool) (checks : List (Option SegmentCheck)) → closed ≡ true
+    → first_failed_check ((if a || (b || (c || closed)) then Some NotRun else None) ∷ checks) ≡ Some NotRun
 not_run true b c closed checks e = refl
 not_run false true c closed checks e = refl
 not_run false false true closed checks e = refl
 not_run false false false true checks e = refl
 not_run false false false false checks e = absurd cc
 
-reset_closes : (reset : Bool) (state : ConnState) → reset ≡ true → is_closed (if reset then Closed else state) ≡ true
+reset_closes : (is_reset : Bool) (state : ConnState) → is_reset ≡ true → is_closed (if is_reset then Closed else state) ≡ true
 reset_closes true state e = refl
 reset_closes false state e = absurd cc
 
-reset_rules : (c : ConnectionView) (segment : Segment) → c.reset ≡ true → ruling_of c segment ≡ Some NotRun
+reset_rules : (c : ConnectionView) (segment : Segment) → c.is_reset ≡ true → failed_check_of c segment ≡ Some NotRun
 reset_rules c segment e =
     not_run (nat_lt 0 (length_of segment)) segment.flags.syn (is_stray_fin c segment) (is_closed (state_of c))
     (check_window c segment ∷ check_rst c segment ∷ check_ack_flag segment ∷ check_handshake c segment ∷ check_ack c segment ∷ [])
-    (reset_closes c.reset (state_since c c.established) e)
+    (reset_closes c.is_reset (state_since c c.established) e)
 
-off : (x reset : Bool) → reset ≡ true → (x && not reset) ≡ false
+off : (x is_reset : Bool) → is_reset ≡ true → (x && not is_reset) ≡ false
 off true true e = refl
 off false true e = refl
 off x false e = absurd cc
@@ -80,20 +80,20 @@ rests find act (suc n) s e = ap (on_found (repeated find act n) act s) e
 
 -- a connection that was reset sends nothing
 module _ (now : ℕ) where
-  resets : (b : Settings) → KeptByCalls now b (λ _. Unit {0}) (λ c. c.reset ≡ true) (λ _. ⊥)
+  resets : (b : Settings) → KeptByCalls now b (λ _. Unit {0}) (λ c. c.is_reset ≡ true) (λ _. ⊥)
   resets b = record {
     sending = record { ready = λ c never. never; sent = λ c segment never e. never };
     sent = λ c never. absurd never;
     accepted = λ c h e. h;
     nagle = λ on c h. h;
-    queued = λ n c q h unclosed still. clash c.reset h still;
-    finished = λ c q h unclosed still. clash c.reset h still;
+    queued = λ n c q h unclosed still. clash c.is_reset h still;
+    finished = λ c q h unclosed still. clash c.is_reset h still;
     abandoned = λ c h unclosed was.
-        by_test (λ (d : ConnectionView). (with_stream stream.Closed d).reset ≡ true) c.reset c (with_fin c) (λ _. h) (λ _. h);
+        by_test (λ (d : ConnectionView). (with_stream stream.Closed d).is_reset ≡ true) c.is_reset c (with_fin c) (λ _. h) (λ _. h);
   }
 
-  reset_of_some : (o : Option ConnectionView) (c : ConnectionView) → o ≡ Some c → c.reset ≡ true → IfSome o (λ x. x.reset ≡ true)
-  reset_of_some o c is e = subst (λ x. IfSome x (λ y. y.reset ≡ true)) (sym is) e
+  reset_of_some : (o : Option ConnectionView) (c : ConnectionView) → o ≡ Some c → c.is_reset ≡ true → IfSome o (λ x. x.is_reset ≡ true)
+  reset_of_some o c is e = subst (λ x. IfSome x (λ y. y.is_reset ≡ true)) (sym is) e
 
 pub ends_for_good : EndsForGood
 ends_for_good = record {
@@ -101,14 +101,14 @@ ends_for_good = record {
       ap (arrived_on now segment s) is ∙ ap (passed_on now segment c s) (reset_rules c segment e);
   expiries = λ now until s c h is e.
       let k : IsReached s.settings now c = at_some (IsReached s.settings now) s.endpoint.connection c is h.connection in
-      let none : c.timer.deadline ≡ None = nothing_found c.timer.deadline (k.runs ∙ off (nat_lt c.board.una c.board.top) c.reset e) in
+      let none : c.timer.deadline ≡ None = nothing_found c.timer.deadline (k.runs ∙ off (nat_lt c.board.una c.board.top) c.is_reset e) in
       rests (λ t. due_by until (deadline_of t)) (λ at t. expired at t.endpoint.connection t) (places_left s) s
       (nothing_due until s.endpoint.connection c is none);
   calls = λ call now s t answer c d is after e came.
       let O : List Sent → Type 0 = λ packets. packets ≡ s.endpoint.outbox in
-      let C : Settings → ConnectionView → Type 0 = λ b x. x.reset ≡ true in
+      let C : Settings → ConnectionView → Type 0 = λ b x. x.is_reset ≡ true in
       let k : Holds O C t =
       called_where now O C (λ b x. ⊥) (λ _. Unit {0}) (λ b x never. absurd never) (resets now) call s t answer (anything s.endpoint.connection)
       (record { packets = refl; connection = reset_of_some now s.endpoint.connection c is e }) came in
-      (at_some (λ (x : ConnectionView). x.reset ≡ true) t.endpoint.connection d after k.connection, k.packets);
+      (at_some (λ (x : ConnectionView). x.is_reset ≡ true) t.endpoint.connection d after k.connection, k.packets);
 }

@@ -1,22 +1,22 @@
 -- Nothing but an RST at RCV.NXT resets a connection.
 use Rattle.std.proofs.Common.{◌≡◌, ◌⊎◌, inl, inr, ℕ, ◌==◌, Bool, true, false, true≢false, if◌then◌else◌, nat_lt, length, List, ◌∷◌, [], Option, None, Some, Result, Ok, Err, refl, sym, ap, ◌∙◌, arith}
 use Rattle.std.proofs.lemmas.Bool.Decides.{nat_tests}
-use Rattle.pd_settings.specs.declared.fields.Settings.{Settings}
+use Rattle.pd_settings.specs.declared.settings.Settings.{Settings}
 use Rattle.pd_seg.specs.declared.segments.Segment.{Segment}
 use Rattle.pd_seg.specs.declared.segments.Sent.{Sent}
-use Rattle.pd_host.specs.Acknowledgments.{taking, ack_taken}
-use Rattle.pd_host.specs.Arrivals.{first_ruling, ruled, passed_on, arrived_on, ruling_of}
+use Rattle.pd_host.specs.AckEffects.{taking, ack_taken}
+use Rattle.pd_host.specs.Arrivals.{first_failed_check, check_outcome, passed_on, arrived_on, failed_check_of}
 use Rattle.pd_host.specs.Connection.{ConnectionView, rcv_nxt}
 use Rattle.pd_host.specs.Handshake.{established_by, syn_acked}
 use Rattle.pd_host.specs.InputLaws.{OnlyAnExactRstResets}
 use Rattle.pd_host.specs.Host.{beside, with_outbox}
-use Rattle.pd_host.specs.Sending.{with_block}
+use Rattle.pd_host.specs.Sending.{with_begun_connection}
 use Rattle.pd_host.specs.declared.established.Established.{Established}
 use Rattle.pd_host.specs.declared.halts.Halt.{Halt}
 use Rattle.pd_host.specs.declared.halts.Halt.TheVariants.{Limit}
-use Rattle.pd_host.specs.declared.connection.checks.Ruling.{Ruling}
-use Rattle.pd_host.specs.declared.connection.checks.Ruling.TheVariants.{NotRun, StrayRst, OutsideWindow, ExactRst, ChallengedRst, WithoutAck, FirstAck, RefusedAck, EarlyAck, OldAck}
-use Rattle.pd_host.specs.declared.endpoint.State.{State}
+use Rattle.pd_host.specs.declared.connection.segment_check.SegmentCheck.{SegmentCheck}
+use Rattle.pd_host.specs.declared.connection.segment_check.SegmentCheck.TheVariants.{NotRun, StrayRst, OutsideWindow, ExactRst, ChallengedRst, WithoutAck, FirstAck, RefusedAck, EarlyAck, OldAck}
+use Rattle.pd_host.specs.declared.endpoint.SenderState.{SenderState}
 use Rattle.pd_host.proofs.Finishes.{passed_leaves}
 use Rattle.pd_host.proofs.Outcomes.{Leaves, came, leaves_too}
 use Rattle.pd_host.proofs.SentOn.{IsSentOn, stills}
@@ -25,9 +25,9 @@ use Rattle.pd_host.proofs.Taken.{taking_keeps, taken_sends, measured_keeps}
 -- an RST has ended a connection
 abbrev was_reset : Option ConnectionView → Bool
 was_reset None = false
-was_reset (Some c) = c.reset
+was_reset (Some c) = c.is_reset
 
-abbrev IsLive : State → Type 0
+abbrev IsLive : SenderState → Type 0
 IsLive s = was_reset s.endpoint.connection ≡ false
 
 still_reset : (o : Option ConnectionView) → was_reset (stills o) ≡ was_reset o
@@ -35,29 +35,29 @@ still_reset None = refl
 still_reset (Some c) = refl
 
 -- sending resets nothing
-sent_live : (now : ℕ) (s t : State) → IsSentOn now s t → IsLive s → IsLive t
+sent_live : (now : ℕ) (s t : SenderState) → IsSentOn now s t → IsLive s → IsLive t
 sent_live now s t h live =
     sym (still_reset t.endpoint.connection) ∙ ap was_reset h.connection ∙ still_reset s.endpoint.connection ∙ live
 
 -- nor does taking a segment
-taking_live : (now : ℕ) (segment : Segment) (c : ConnectionView) (o : Option Established) → (taking now segment c o).0.reset ≡ c.reset
+taking_live : (now : ℕ) (segment : Segment) (c : ConnectionView) (o : Option Established) → (taking now segment c o).0.is_reset ≡ c.is_reset
 taking_live now segment c None = refl
-taking_live now segment c (Some e) = ap (λ (x : ConnectionView). x.reset) (taking_keeps now segment c e)
+taking_live now segment c (Some e) = ap (λ (x : ConnectionView). x.is_reset) (taking_keeps now segment c e)
 
 -- nor the end of the handshake
-established_live : (now : ℕ) (settings : Settings) (segment : Segment) (c : ConnectionView) → (established_by now settings segment c).reset ≡ c.reset
+established_live : (now : ℕ) (settings : Settings) (segment : Segment) (c : ConnectionView) → (established_by now settings segment c).is_reset ≡ c.is_reset
 established_live now settings segment c =
-    ap (λ (x : ConnectionView). x.reset) (measured_keeps now settings.granularity_us 1 (syn_acked c) (syn_acked c).timed)
+    ap (λ (x : ConnectionView). x.is_reset) (measured_keeps now settings.granularity_us 1 (syn_acked c) (syn_acked c).rtt_segment)
 
 -- nor a packet more
-answers : (b : Bool) (packets : List Sent) (s : State) → IsLive s
+answers : (b : Bool) (packets : List Sent) (s : SenderState) → IsLive s
     → Leaves IsLive (beside s (with_outbox s.endpoint (if b then Ok packets else Err Limit)))
 answers true packets s live = live
 answers false packets s live = tt
 
 -- the ruling that resets
-resets : (r : Option Ruling) (segment : Segment) (now : ℕ) (s : State) (c : ConnectionView) → c.reset ≡ false → IsLive s
-    → (r ≡ Some ExactRst) ⊎ Leaves IsLive (ruled now segment c s r)
+resets : (r : Option SegmentCheck) (segment : Segment) (now : ℕ) (s : SenderState) (c : ConnectionView) → c.is_reset ≡ false → IsLive s
+    → (r ≡ Some ExactRst) ⊎ Leaves IsLive (check_outcome now segment c s r)
 resets (Some NotRun) segment now s c still live = inr tt
 resets (Some StrayRst) segment now s c still live = inr live
 resets (Some OutsideWindow) segment now s c still live = inr (answers (nat_lt (length s.endpoint.outbox) 1024) _ s live)
@@ -69,20 +69,20 @@ resets (Some RefusedAck) segment now s c still live = inr (answers (nat_lt (leng
 resets (Some EarlyAck) segment now s c still live = inr (answers (nat_lt (length s.endpoint.outbox) 1024) _ s live)
 resets (Some OldAck) segment now s c still live = inr live
 resets None segment now s c still live =
-    let left : State = with_block (taking now segment c c.established).0 s in
+    let left : SenderState = with_begun_connection (taking now segment c c.established).0 s in
     inr (leaves_too (IsSentOn now left) IsLive (ack_taken now segment c s c.established)
     (λ t h. sent_live now left t h (taking_live now segment c c.established ∙ still)) (taken_sends now segment c s c.established))
 
 -- nor a FIN of the peer's
-passed : (r : Option Ruling) (segment : Segment) (now : ℕ) (s : State) (c : ConnectionView)
-    → (r ≡ Some ExactRst) ⊎ Leaves IsLive (ruled now segment c s r)
+passed : (r : Option SegmentCheck) (segment : Segment) (now : ℕ) (s : SenderState) (c : ConnectionView)
+    → (r ≡ Some ExactRst) ⊎ Leaves IsLive (check_outcome now segment c s r)
     → (r ≡ Some ExactRst) ⊎ Leaves IsLive (passed_on now segment c s r)
 passed r segment now s c (inl same) = inl same
 passed r segment now s c (inr live) =
     inr (passed_leaves IsLive now segment c s r (λ u d e k. sym (ap was_reset e) ∙ k) live)
 
 -- an arrival that resets was ruled so
-was_exact : (r : Option Ruling) (x : Result State Halt) (t : State) (d : ConnectionView) → t.endpoint.connection ≡ Some d → d.reset ≡ true
+was_exact : (r : Option SegmentCheck) (x : Result SenderState Halt) (t : SenderState) (d : ConnectionView) → t.endpoint.connection ≡ Some d → d.is_reset ≡ true
     → x ≡ Ok t → (r ≡ Some ExactRst) ⊎ Leaves IsLive x → r ≡ Some ExactRst
 was_exact r x t d hd was h (inl same) = same
 was_exact r x t d hd was h (inr live) =
@@ -90,7 +90,7 @@ was_exact r x t d hd was h (inr live) =
 
 -- the check that rules so
 pub at_rcv_nxt : (bad inside rst here flag shaken sent above below : Bool)
-    → first_ruling (
+    → first_failed_check (
     (if bad then Some NotRun else None)
     ∷ (if inside then None else Some (if rst then StrayRst else OutsideWindow))
     ∷ (if rst then Some (if here then ExactRst else ChallengedRst) else None)
@@ -116,10 +116,10 @@ equal m n h = grind (arith, nat_tests)
 
 pub only_an_exact_rst_resets : OnlyAnExactRstResets
 only_an_exact_rst_resets segment now s t c d hc hd still was h =
-    let arrives : passed_on now segment c s (ruling_of c segment) ≡ Ok t = ap (arrived_on now segment s) (sym hc) ∙ h in
-    let ruling : ruling_of c segment ≡ Some ExactRst =
-    was_exact (ruling_of c segment) (passed_on now segment c s (ruling_of c segment)) t d hd was arrives
-    (passed (ruling_of c segment) segment now s c (resets (ruling_of c segment) segment now s c still (ap was_reset hc ∙ still))) in
+    let arrives : passed_on now segment c s (failed_check_of c segment) ≡ Ok t = ap (arrived_on now segment s) (sym hc) ∙ h in
+    let failed_check : failed_check_of c segment ≡ Some ExactRst =
+    was_exact (failed_check_of c segment) (passed_on now segment c s (failed_check_of c segment)) t d hd was arrives
+    (passed (failed_check_of c segment) segment now s c (resets (failed_check_of c segment) segment now s c still (ap was_reset hc ∙ still))) in
     let at : (segment.flags.rst ≡ true) × ((segment.start == rcv_nxt c) ≡ true) =
-    at_rcv_nxt _ _ segment.flags.rst (segment.start == rcv_nxt c) _ _ _ _ _ ruling in
+    at_rcv_nxt _ _ segment.flags.rst (segment.start == rcv_nxt c) _ _ _ _ _ failed_check in
     (at.0, equal segment.start (rcv_nxt c) at.1)

@@ -3,13 +3,13 @@ use Rattle.std.proofs.Common.{◌≡◌, refl, ℕ, ◌≤◌, ◌&&◌, Bool, t
 use Rattle.std.specs.Prelude.{is_some, IfNone}
 use Rattle.std.proofs.lemmas.Bool.Decides.{nat_tests}
 use Rattle.pd_seg.specs.declared.segments.Segment.{Segment}
-use Rattle.pd_host.specs.Arrivals.{first_ruling, ruling_of, is_in_window}
+use Rattle.pd_host.specs.Arrivals.{first_failed_check, failed_check_of, is_in_window}
 use Rattle.pd_host.specs.Connection.{ConnectionView}
-use Rattle.pd_host.specs.declared.connection.checks.Ruling.TheVariants.{NotRun, StrayRst, OutsideWindow, ExactRst, ChallengedRst, WithoutAck, FirstAck, RefusedAck, EarlyAck, OldAck}
+use Rattle.pd_host.specs.declared.connection.segment_check.SegmentCheck.TheVariants.{NotRun, StrayRst, OutsideWindow, ExactRst, ChallengedRst, WithoutAck, FirstAck, RefusedAck, EarlyAck, OldAck}
 
 -- the checks that rule so
 handshake_rules : (bad inside rst here flag shaken sent above below : Bool)
-    → first_ruling (
+    → first_failed_check (
     (if bad then Some NotRun else None)
     ∷ (if inside then None else Some (if rst then StrayRst else OutsideWindow))
     ∷ (if rst then Some (if here then ExactRst else ChallengedRst) else None)
@@ -38,7 +38,7 @@ above_one : (una ack top : ℕ) → (nat_lt una ack && nat_le ack top) ≡ true 
 above_one una ack top h = grind (arith, nat_tests)
 
 -- the SYN alone is acknowledged, if it is, and was sent
-pub first_ack : (c : ConnectionView) (segment : Segment) → IfNone c.established (c.board.una ≤ 1) → ruling_of c segment ≡ Some FirstAck
+pub first_ack : (c : ConnectionView) (segment : Segment) → IfNone c.established (c.board.una ≤ 1) → failed_check_of c segment ≡ Some FirstAck
     → (c.board.una ≤ 1) × (1 ≤ c.board.top)
 first_ack c segment known h =
     let r = handshake_rules _ (is_in_window c segment) segment.flags.rst _ segment.flags.ack (is_some c.established)

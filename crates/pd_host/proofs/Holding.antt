@@ -1,13 +1,13 @@
 -- Where no reason holds a segment back, ordinary sending finds one.
 use Rattle.std.proofs.Common.{◌≡◌, ℕ, ◌+◌, ◌-◌, ◌≤◌, nat_lt, nat_le, min, not, Bool, true, false, ◌&&◌, ◌||◌, if◌then◌else◌, Some, None, is_some, refl, sym, ap, ◌∙◌, arith}
 use Rattle.std.proofs.lemmas.Bool.Decides.{nat_tests}
-use Rattle.pd_seg.specs.declared.sack_blocks.Span.{Span}
-use Rattle.pd_board.specs.Choice.{run_at}
+use Rattle.pd_seg.specs.declared.sack_spans.Span.{Span}
+use Rattle.pd_board.specs.Retransmit.{run_at}
 use Rattle.pd_host.specs.Connection.{ConnectionView}
-use Rattle.pd_host.specs.Holds.{is_enough, hold_of_new, is_open, OpenHoldsSend}
-use Rattle.pd_host.specs.Sending.{window_edge, sendable, unsent_segment, is_full, is_all, is_half_window, is_held_back, leaves_now, next_new, next_again}
+use Rattle.pd_host.specs.SendBlockers.{is_worth_sending, blocker_of_new, is_open, SendsWhereNothingBlocks}
+use Rattle.pd_host.specs.Sending.{window_edge, sendable, unsent_segment, is_full, is_all_unsent, is_half_max_window, is_nagle_delayed, leaves_now, next_new, next_retransmitted}
 use Rattle.pd_host.specs.declared.established.Established.{Established}
-use Rattle.pd_host.specs.declared.connection.observing.Hold.TheVariants.{AllSent, PeerWindow, CongestionWindow, PartOfSegment, Nagle, Open}
+use Rattle.pd_host.specs.declared.connection.introspection.SendBlocker.TheVariants.{AllSent, PeerWindow, CongestionWindow, PartOfSegment, Nagle, Open}
 use Rattle.pd_host.proofs.Runs.{run_within}
 
 -- the reasons by their tests
@@ -51,22 +51,22 @@ joined true true true false false held = refl
 abbrev Claim : ConnectionView → Established → Bool → Type 0
 Claim c e again =
     let wanted : ℕ = if again then (run_at c.board.next c.board).end - 1 else c.board.next in
-    is_open (if nat_le c.board.end c.board.next then AllSent else (if nat_le (c.board.una + e.rwnd) wanted then PeerWindow else (if nat_le (c.board.una + e.congestion.cwnd) wanted then CongestionWindow else (if again then Open else hold_of_new c e))))
-    ≡ is_some (if again then next_again c e else next_new c e)
+    is_open (if nat_le c.board.end c.board.next then AllSent else (if nat_le (c.board.una + e.rwnd) wanted then PeerWindow else (if nat_le (c.board.una + e.congestion.cwnd) wanted then CongestionWindow else (if again then Open else blocker_of_new c e))))
+    ≡ is_some (if again then next_retransmitted c e else next_new c e)
 
 by : (c : ConnectionView) (e : Established) → 1 ≤ c.board.next → c.board.next ≤ c.board.top → c.board.top ≤ c.board.end
     → (again : Bool) → nat_lt c.board.next c.board.top ≡ again → Claim c e again
 by c e some sent queued true before =
     let segment : Span = run_at c.board.next c.board in
     let within = run_within c.board.next c.board sent in
-    opens (nat_le c.board.end c.board.next) (nat_le (c.board.una + e.rwnd) (segment.end - 1)) (nat_le (c.board.una + e.congestion.cwnd) (segment.end - 1)) true (is_enough c e) (leaves_now c e)
-    ∙ (all_within c.board.una e.rwnd e.congestion.cwnd c.board.next c.board.top c.board.end segment.end (is_enough c e && leaves_now c e) before queued (omega (arith, some, within.0))
+    opens (nat_le c.board.end c.board.next) (nat_le (c.board.una + e.rwnd) (segment.end - 1)) (nat_le (c.board.una + e.congestion.cwnd) (segment.end - 1)) true (is_worth_sending c e) (leaves_now c e)
+    ∙ (all_within c.board.una e.rwnd e.congestion.cwnd c.board.next c.board.top c.board.end segment.end (is_worth_sending c e && leaves_now c e) before queued (omega (arith, some, within.0))
     ∙ sym (found_where (nat_le segment.end (window_edge c e)) segment))
 by c e some sent queued false before =
-    opens (nat_le c.board.end c.board.next) (nat_le (c.board.una + e.rwnd) c.board.next) (nat_le (c.board.una + e.congestion.cwnd) c.board.next) false (is_enough c e) (leaves_now c e)
-    ∙ (joined (not (nat_le c.board.end c.board.next)) (not (nat_le (c.board.una + e.rwnd) c.board.next)) (not (nat_le (c.board.una + e.congestion.cwnd) c.board.next)) (is_full c e) (is_all c e || is_half_window c e) (is_held_back c e)
+    opens (nat_le c.board.end c.board.next) (nat_le (c.board.una + e.rwnd) c.board.next) (nat_le (c.board.una + e.congestion.cwnd) c.board.next) false (is_worth_sending c e) (leaves_now c e)
+    ∙ (joined (not (nat_le c.board.end c.board.next)) (not (nat_le (c.board.una + e.rwnd) c.board.next)) (not (nat_le (c.board.una + e.congestion.cwnd) c.board.next)) (is_full c e) (is_all_unsent c e || is_half_max_window c e) (is_nagle_delayed c e)
     ∙ (ap (λ b. b && leaves_now c e) (some_within c.board.una e.rwnd e.congestion.cwnd c.board.next c.board.end)
     ∙ sym (found_where (nat_lt 0 (sendable c e) && leaves_now c e) (unsent_segment c e))))
 
-pub open_holds_send : OpenHoldsSend
+pub open_holds_send : SendsWhereNothingBlocks
 open_holds_send c e some sent queued = by c e some sent queued (nat_lt c.board.next c.board.top) refl

@@ -19,10 +19,10 @@ pub mod ExpiriesKept
 pub mod Finished
 pub mod Finishes
 pub mod Faces
-pub mod FigureOfCalls
-pub mod FigureOfSegments
+pub mod StateEdgesOfCalls
+pub mod StateEdgesOfSegments
 pub mod FirstAck
-pub mod FirstRuling
+pub mod FirstFailedCheck
 pub mod Goes
 pub mod Growth
 pub mod Harmless
@@ -46,7 +46,7 @@ pub mod Recovering
 pub mod Recovers
 pub mod RecoveryEnds
 pub mod Repeats
-pub mod Room
+pub mod WindowRoom
 pub mod Rules
 pub mod Runs
 pub mod Sendables
@@ -59,6 +59,6 @@ pub mod States
 pub mod Tails
 pub mod Taken
 pub mod Timely
-pub mod Told
+pub mod BlocksMarked
 pub mod Within
 pub mod Noted

@@ -3,16 +3,16 @@ use Rattle.std.proofs.Common.{◌≡◌, ℕ, ◌≤◌, nat_le, List, [], ◌�
 use Rattle.std.specs.Prelude.{IfSome}
 use Rattle.std.specs.List.{AllByRecursion}
 use Rattle.std.proofs.lemmas.Bool.Decides.{nat_tests}
-use Rattle.pd_settings.specs.declared.fields.Settings.{Settings}
+use Rattle.pd_settings.specs.declared.settings.Settings.{Settings}
 use Rattle.pd_seg.specs.declared.segments.Segment.{Segment}
 use Rattle.pd_seg.specs.declared.segments.Sent.{Sent}
-use Rattle.pd_timer.specs.Laws.{GoesBy, StaysWithin}
+use Rattle.pd_timer.specs.Laws.{IsBoundedBy, StaysWithin}
 use Rattle.pd_host.specs.Arrivals.{arrived}
 use Rattle.pd_host.specs.Connection.{ConnectionView}
 use Rattle.pd_host.specs.Expiries.{due_by}
-use Rattle.pd_host.specs.InputLaws.{RebindingKeepsUp}
+use Rattle.pd_host.specs.InputLaws.{OtherSettingsKeepUp}
 use Rattle.pd_host.specs.Laws.{AreInOrder, IsUpTo, begun_under, StartsUpToDate, AdvancesKeepUp, ArrivalsKeepUp, CallsKeepUp, TakingKeepsUp}
-use Rattle.pd_host.specs.declared.endpoint.State.{State}
+use Rattle.pd_host.specs.declared.endpoint.SenderState.{SenderState}
 use Rattle.pd_host.proofs.ArrivalsKept.{arrived_holds, arrived_later}
 use Rattle.pd_host.proofs.CallsKept.{called_holds}
 use Rattle.pd_host.proofs.ExpiriesKept.{advanced_holds}
@@ -38,12 +38,12 @@ one_less now (p ∷ packets) h = h.1.1
 
 -- the timer's part of it, by whether there is a connection
 
-joined : (b : Settings) (now : ℕ) (o : Option ConnectionView) → IfSome o (λ c. GoesBy b c.timer) → IfSome (deadline_on o) (IsAhead b now)
+joined : (b : Settings) (now : ℕ) (o : Option ConnectionView) → IfSome o (λ c. IsBoundedBy b c.timer) → IfSome (deadline_on o) (IsAhead b now)
     → IfSome o (λ c. IsTimely b now c.timer)
 joined b now None g d = tt
 joined b now (Some c) g d = record { bounds = g; deadline = d }
 
-bounds_of : (b : Settings) (now : ℕ) (o : Option ConnectionView) → IfSome o (λ c. IsTimely b now c.timer) → IfSome o (λ c. GoesBy b c.timer)
+bounds_of : (b : Settings) (now : ℕ) (o : Option ConnectionView) → IfSome o (λ c. IsTimely b now c.timer) → IfSome o (λ c. IsBoundedBy b c.timer)
 bounds_of b now None h = tt
 bounds_of b now (Some c) h = h.bounds
 
@@ -51,13 +51,13 @@ deadline_in : (b : Settings) (now : ℕ) (o : Option ConnectionView) → IfSome 
 deadline_in b now None h = tt
 deadline_in b now (Some c) h = h.deadline
 
-abbrev pub Good : Settings → ℕ → State → Type 0
+abbrev pub Good : Settings → ℕ → SenderState → Type 0
 Good b now s = Holds (AreInOrder now) (λ _ c. IsTimely b now c.timer) s
 
-pub good : (b : Settings) (now : ℕ) (s : State) → IsUpTo b now s → Good b now s
+pub good : (b : Settings) (now : ℕ) (s : SenderState) → IsUpTo b now s → Good b now s
 good b now s h = record { packets = h.packets; connection = joined b now s.endpoint.connection h.timer h.deadline }
 
-pub up_to : (b : Settings) (now : ℕ) (s : State) → Good b now s → IsUpTo b now s
+pub up_to : (b : Settings) (now : ℕ) (s : SenderState) → Good b now s → IsUpTo b now s
 up_to b now s h = record {
   packets = h.packets;
   timer = bounds_of b now s.endpoint.connection h.connection;
@@ -100,7 +100,7 @@ advances_keep_up within b now until s t le h came =
     (advanced_holds AreInOrder (λ _ now c. IsTimely b now c.timer) (expiries within (λ _. b)) until now s t le (good b now s h) came)
 
 -- a connection that begins goes by the settings held,
-first_arrival : StaysWithin → (segment : Segment) (now : ℕ) (s t : State) → s.endpoint.connection ≡ None → AreInOrder now s.endpoint.outbox
+first_arrival : StaysWithin → (segment : Segment) (now : ℕ) (s t : SenderState) → s.endpoint.connection ≡ None → AreInOrder now s.endpoint.outbox
     → arrived segment now s ≡ Ok t → IsUpTo s.settings now t
 first_arrival within segment now s t none packets came =
     let after : Holds (AreInOrder now) (λ b c. IsTimely b now c.timer) t =
@@ -109,7 +109,7 @@ first_arrival within segment now s t none packets came =
     subst (λ b. IsUpTo b now t) (arrivals_note segment now s t came).settings (up_to t.settings now t (record { packets = after.packets; connection = after.connection }))
 
 -- and one that was begun goes on by its own
-later_arrival : StaysWithin → (b : Settings) (segment : Segment) (now : ℕ) (c : ConnectionView) (s t : State) → s.endpoint.connection ≡ Some c
+later_arrival : StaysWithin → (b : Settings) (segment : Segment) (now : ℕ) (c : ConnectionView) (s t : SenderState) → s.endpoint.connection ≡ Some c
     → IsUpTo b now s → arrived segment now s ≡ Ok t → IsUpTo b now t
 later_arrival within b segment now c s t on h came =
     up_to b now t (arrived_later now (AreInOrder now) (λ _ c. IsTimely b now c.timer) (λ _ c. IsTimely b now c.timer) (one_more now)
@@ -135,5 +135,5 @@ pub taking_keeps_up : TakingKeepsUp
 taking_keeps_up b now sender h =
     record { packets = one_less now sender.state.endpoint.outbox h.packets; timer = h.timer; deadline = h.deadline }
 
-pub rebinding_keeps_up : RebindingKeepsUp
+pub rebinding_keeps_up : OtherSettingsKeepUp
 rebinding_keeps_up b settings now s h = record { packets = h.packets; timer = h.timer; deadline = h.deadline }

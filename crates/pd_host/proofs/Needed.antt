@@ -4,17 +4,17 @@ use Rattle.std.specs.Prelude.{nat_eq}
 use Rattle.std.proofs.lemmas.Bool.Decides.{nat_tests}
 use Rattle.pd_board.specs.Loss.{dup_thresh}
 use Rattle.pd_recover.proofs.Cases.{either}
-use Rattle.pd_recover.specs.Acks.{acked, renewed, told, told_by_sack, told_by_number, selective_duplicate, plain_duplicate, limited_transmit, sent_limited, new_segment, counted, grown_by, entered, is_duplicate}
+use Rattle.pd_recover.specs.Acks.{acked, renewed, acked_by, acked_with_sack, acked_without_sack, selective_duplicate, plain_duplicate, limited_transmit, sent_limited, new_segment, dup_ack_counted, grown_by, entered, is_duplicate}
 use Rattle.pd_recover.specs.Cong.{CongView, grown}
-use Rattle.pd_recover.specs.declared.feedback.Ack.{Ack}
-use Rattle.pd_recover.specs.declared.feedback.News.{News}
-use Rattle.pd_recover.specs.declared.responses.Then.{Then}
-use Rattle.pd_recover.specs.declared.responses.Then.TheVariants.{Ordinary, Entry, LimitedTransmit, Nothing}
-use Rattle.pd_seg.specs.declared.sack_blocks.Span.{Span}
-use Rattle.pd_host.specs.Evidence.{Repeats, NeededIsNeeded}
+use Rattle.pd_recover.specs.declared.ack.Ack.{Ack}
+use Rattle.pd_recover.specs.declared.ack.SackNews.{SackNews}
+use Rattle.pd_recover.specs.declared.ack_action.AckAction.{AckAction}
+use Rattle.pd_recover.specs.declared.ack_action.AckAction.TheVariants.{Ordinary, Entry, LimitedTransmit, Nothing}
+use Rattle.pd_seg.specs.declared.sack_spans.Span.{Span}
+use Rattle.pd_host.specs.LossEvidence.{Repeats, LossEvidenceIsNeeded}
 
 -- recovery goes on after an ACK
-abbrev goes_on : CongView × Then → Bool
+abbrev goes_on : CongView × AckAction → Bool
 goes_on step = step.0.recovering
 
 first_of : {A : Type 0} (b : Bool) (x y : A) → b ≡ true → (if b then x else y) ≡ x
@@ -69,17 +69,17 @@ module _ (ack : Ack) (w : CongView) where
   selective_begins : (lost : Bool) (v : CongView) → v.recovering ≡ false → v.recovery_point ≤ ack.una
       → goes_on (selective_duplicate ack lost v) ≡ (nat_le dup_thresh v.dup_acks || lost)
   selective_begins lost v idle past =
-      selective_by (nat_lt ack.una v.recovery_point) (nat_le dup_thresh v.dup_acks || lost) v.sends_early v (not_below ack.una v.recovery_point past) idle
+      selective_by (nat_lt ack.una v.recovery_point) (nat_le dup_thresh v.dup_acks || lost) v.limited_transmit v (not_below ack.una v.recovery_point past) idle
 
   limited_by : (early : Bool) (o : Option Span) (v : CongView) → goes_on (if early then sent_limited ack o v else (v, Nothing)) ≡ v.recovering
   limited_by false o v = refl
   limited_by true None v = refl
-  limited_by true (Some segment) v = either (λ (step : CongView × Then). goes_on step ≡ v.recovering) _ _ _ refl refl
+  limited_by true (Some segment) v = either (λ (step : CongView × AckAction). goes_on step ≡ v.recovering) _ _ _ refl refl
 
   limited_keeps : (v : CongView) → goes_on (limited_transmit ack v) ≡ v.recovering
-  limited_keeps v = limited_by v.sends_early (new_segment ack.smss ack.una ack.top ack.end ack.rwnd) v
+  limited_keeps v = limited_by v.limited_transmit (new_segment ack.smss ack.una ack.top ack.end ack.rwnd) v
 
-  plain_by : (few same : Bool) (x y z : CongView × Then) → goes_on x ≡ false → goes_on y ≡ true → (few ≡ false → same ≡ true)
+  plain_by : (few same : Bool) (x y z : CongView × AckAction) → goes_on x ≡ false → goes_on y ≡ true → (few ≡ false → same ≡ true)
       → goes_on (if few then x else (if same then y else z)) ≡ not few
   plain_by true same x y z first second h = first
   plain_by false true x y z first second h = second
@@ -93,27 +93,27 @@ module _ (ack : Ack) (w : CongView) where
     grown_so = ap (λ n. if nat_lt 0 n then grown ack.smss n w else w) repeats.nothing
 
     renewed_so : renewed ack w ≡ w
-    renewed_so = ap (λ n. if nat_lt 0 n then record w { dup_acks = 0; limited = 0; expired = false } else w) repeats.nothing
+    renewed_so = ap (λ n. if nat_lt 0 n then record w { dup_acks = 0; limited_octets = 0; expired = false } else w) repeats.nothing
 
-    told_so : (o : Option News) → ack.sack ≡ o → acked ack w ≡ told ack o w
-    told_so o so = λ i. told ack (so i) (renewed_so i)
+    told_so : (o : Option SackNews) → ack.sack ≡ o → acked ack w ≡ acked_by ack o w
+    told_so o so = λ i. acked_by ack (so i) (renewed_so i)
 
-    selective_so : (news : News) → told_by_sack ack news w ≡ (if news.fresh then selective_duplicate ack news.lost (counted w) else (w, Ordinary))
-    selective_so news =
+    selective_so : (sack_news : SackNews) → acked_with_sack ack sack_news w ≡ (if sack_news.fresh then selective_duplicate ack sack_news.lost (dup_ack_counted w) else (w, Ordinary))
+    selective_so sack_news =
         idle_so w.recovering (nat_le w.recovery_point ack.una) _ _ _ repeats.idle
-        ∙ ap (λ v. if news.fresh then selective_duplicate ack news.lost (counted v) else (v, Ordinary)) grown_so
+        ∙ ap (λ v. if sack_news.fresh then selective_duplicate ack sack_news.lost (dup_ack_counted v) else (v, Ordinary)) grown_so
 
-    pub sack_begins : (news : News) → w.recovery_point ≤ ack.una → ack.sack ≡ Some news → news.fresh ≡ true
-        → goes_on (acked ack w) ≡ (nat_le dup_thresh (w.dup_acks + 1) || news.lost)
-    sack_begins news past so fresh =
-        ap goes_on (told_so (Some news) so ∙ selective_so news ∙ first_of news.fresh _ _ fresh)
-        ∙ selective_begins news.lost (counted w) repeats.idle past
-        ∙ ap (λ b. b || news.lost) (with_it w.dup_acks dup_thresh)
+    pub sack_begins : (sack_news : SackNews) → w.recovery_point ≤ ack.una → ack.sack ≡ Some sack_news → sack_news.fresh ≡ true
+        → goes_on (acked ack w) ≡ (nat_le dup_thresh (w.dup_acks + 1) || sack_news.lost)
+    sack_begins sack_news past so fresh =
+        ap goes_on (told_so (Some sack_news) so ∙ selective_so sack_news ∙ first_of sack_news.fresh _ _ fresh)
+        ∙ selective_begins sack_news.lost (dup_ack_counted w) repeats.idle past
+        ∙ ap (λ b. b || sack_news.lost) (with_it w.dup_acks dup_thresh)
 
-    plain_begins : w.dup_acks < dup_thresh → goes_on (plain_duplicate ack (counted w)) ≡ nat_le dup_thresh (w.dup_acks + 1)
+    plain_begins : w.dup_acks < dup_thresh → goes_on (plain_duplicate ack (dup_ack_counted w)) ≡ nat_le dup_thresh (w.dup_acks + 1)
     plain_begins few =
-        plain_by (nat_lt (counted w).dup_acks dup_thresh) (nat_eq (counted w).dup_acks dup_thresh) _ _ _
-        (limited_keeps (counted w) ∙ repeats.idle) refl (exact w.dup_acks dup_thresh few)
+        plain_by (nat_lt (dup_ack_counted w).dup_acks dup_thresh) (nat_eq (dup_ack_counted w).dup_acks dup_thresh) _ _ _
+        (limited_keeps (dup_ack_counted w) ∙ repeats.idle) refl (exact w.dup_acks dup_thresh few)
         ∙ not_few w.dup_acks dup_thresh few
 
     pub number_begins : w.recovery_point ≤ ack.una → ack.sack ≡ None → is_duplicate ack ≡ true → w.dup_acks < dup_thresh
@@ -125,22 +125,22 @@ module _ (ack : Ack) (w : CongView) where
         ∙ plain_begins few
 
     below_by : (fresh lost : Bool) → ack.una < w.recovery_point
-        → goes_on (if fresh then selective_duplicate ack lost (counted w) else (w, Ordinary)) ≡ false
+        → goes_on (if fresh then selective_duplicate ack lost (dup_ack_counted w) else (w, Ordinary)) ≡ false
     below_by true lost l = ap goes_on (first_of (nat_lt ack.una w.recovery_point) _ _ (is_below ack.una w.recovery_point l)) ∙ repeats.idle
     below_by false lost l = repeats.idle
 
-    below_told : (o : Option News) → ack.una < w.recovery_point → goes_on (told ack o w) ≡ false
+    below_told : (o : Option SackNews) → ack.una < w.recovery_point → goes_on (acked_by ack o w) ≡ false
     below_told None l =
         ap goes_on (other_so (nat_lt 0 ack.acked) (is_duplicate ack) (nat_le w.recovery_point ack.una) _ _ _ none_new (not_at_least ack.una w.recovery_point l))
         ∙ repeats.idle
-    below_told (Some news) l = ap goes_on (selective_so news) ∙ below_by news.fresh news.lost l
+    below_told (Some sack_news) l = ap goes_on (selective_so sack_news) ∙ below_by sack_news.fresh sack_news.lost l
 
     pub below_rests : ack.una < w.recovery_point → goes_on (acked ack w) ≡ false
     below_rests l = ap goes_on (told_so ack.sack refl) ∙ below_told ack.sack l
 
-pub needed_is_needed : NeededIsNeeded
+pub needed_is_needed : LossEvidenceIsNeeded
 needed_is_needed = record {
-  with_sack = λ c w ack news repeats past so fresh. sack_begins ack w repeats news past so fresh;
+  with_sack = λ c w ack sack_news repeats past so fresh. sack_begins ack w repeats sack_news past so fresh;
   without_sack = λ c w ack repeats past so duplicate few. number_begins ack w repeats past so duplicate few;
   sacked = λ s. refl;
   below = λ w ack repeats l. below_rests ack w repeats l;

@@ -1,31 +1,31 @@
 -- Each segment that is found, and each expiry that is due, puts out one packet.
 use Rattle.std.proofs.Common.{◌≡◌, ℕ, Option, None, Some, refl}
-use Rattle.pd_recover.specs.Choice.{segment_of}
-use Rattle.pd_recover.specs.declared.segments.NextSegment.{NextSegment}
-use Rattle.pd_seg.specs.declared.sack_blocks.Span.{Span}
+use Rattle.pd_recover.specs.NextSeg.{segment_of}
+use Rattle.pd_recover.specs.declared.next_segment.NextSegment.{NextSegment}
+use Rattle.pd_seg.specs.declared.sack_spans.Span.{Span}
 use Rattle.pd_seg.specs.declared.segments.Sent.{Sent}
-use Rattle.pd_host.specs.Acknowledgments.{OnTheWay, next_found, one_filled}
+use Rattle.pd_host.specs.AckEffects.{OnTheWay, next_fill, one_filled}
 use Rattle.pd_host.specs.Connection.{ConnectionView}
 use Rattle.pd_host.specs.Expiries.{due_by, segment_again, expired}
 use Rattle.pd_host.specs.Packets.{data_of}
 use Rattle.pd_host.specs.Sending.{found, sent_ordinarily}
 use Rattle.pd_host.specs.SendingLaws.{PutsOutOne, SendsOneByOne}
-use Rattle.pd_host.specs.declared.connection.acknowledgments.Filling.{Filling}
-use Rattle.pd_host.specs.declared.endpoint.State.{State}
+use Rattle.pd_host.specs.declared.connection.ack_effects.WindowFill.{WindowFill}
+use Rattle.pd_host.specs.declared.endpoint.SenderState.{SenderState}
 use Rattle.pd_host.proofs.Rules.{deadline_on}
 
-ordinary_one : (now : ℕ) (segment : Span) (s : State) (o : Option ConnectionView) → found o ≡ Some segment → PutsOutOne s (sent_ordinarily now segment o s)
+ordinary_one : (now : ℕ) (segment : Span) (s : SenderState) (o : Option ConnectionView) → found o ≡ Some segment → PutsOutOne s (sent_ordinarily now segment o s)
 ordinary_one now segment s None h = absurd cc
 ordinary_one now segment s (Some c) h =
     let packet : Sent = record { segment = data_of c segment; at = now } in (packet, refl)
 
-filling_one : (now : ℕ) (filling : Filling) (sent : NextSegment) (t : OnTheWay) (o : Option ConnectionView) → next_found filling t.1 o ≡ Some sent
+filling_one : (now : ℕ) (filling : WindowFill) (sent : NextSegment) (t : OnTheWay) (o : Option ConnectionView) → next_fill filling t.1 o ≡ Some sent
     → PutsOutOne t.0 (one_filled now filling sent o t).0
 filling_one now filling sent t None h = absurd cc
 filling_one now filling sent t (Some c) h =
     let packet : Sent = record { segment = data_of c (segment_of sent); at = now } in (packet, refl)
 
-expiry_one : (until at : ℕ) (s : State) (o : Option ConnectionView) → due_by until (deadline_on o) ≡ Some at → PutsOutOne s (expired at o s)
+expiry_one : (until at : ℕ) (s : SenderState) (o : Option ConnectionView) → due_by until (deadline_on o) ≡ Some at → PutsOutOne s (expired at o s)
 expiry_one until at s None h = absurd cc
 expiry_one until at s (Some c) h =
     let packet : Sent = record { segment = segment_again c c.established; at = at } in (packet, refl)

@@ -2,19 +2,19 @@
 use Rattle.std.proofs.Common.{◌≡◌, refl, ◌≤◌, ◌&&◌, ◌||◌, Bool, true, false, if◌then◌else◌, nat_lt, nat_le, ◌∷◌, [], Option, None, Some}
 use Rattle.std.specs.Prelude.{is_some}
 use Rattle.pd_seg.specs.declared.segments.Segment.{Segment}
-use Rattle.pd_host.specs.Arrivals.{first_ruling, ruling_of, is_in_window, is_stray_fin}
+use Rattle.pd_host.specs.Arrivals.{first_failed_check, failed_check_of, is_in_window, is_stray_fin}
 use Rattle.pd_host.specs.ConnStates.{state_since, state_of, is_closed}
 use Rattle.pd_host.specs.Connection.{ConnectionView}
 use Rattle.pd_host.specs.Handshake.{length_of}
 use Rattle.pd_host.specs.declared.connection.states.ConnState.{ConnState}
 use Rattle.pd_host.specs.declared.connection.states.ConnState.TheVariants.{Closed}
-use Rattle.pd_host.specs.declared.connection.checks.Ruling.{Ruling}
-use Rattle.pd_host.specs.declared.connection.checks.Ruling.TheVariants.{NotRun, StrayRst, OutsideWindow, ExactRst, ChallengedRst, WithoutAck, FirstAck, RefusedAck, EarlyAck, OldAck}
+use Rattle.pd_host.specs.declared.connection.segment_check.SegmentCheck.{SegmentCheck}
+use Rattle.pd_host.specs.declared.connection.segment_check.SegmentCheck.TheVariants.{NotRun, StrayRst, OutsideWindow, ExactRst, ChallengedRst, WithoutAck, FirstAck, RefusedAck, EarlyAck, OldAck}
 use Rattle.pd_host.proofs.Kept.{nothing_found}
 use Rattle.pd_host.proofs.AckedBelow.{ge}
 
-abbrev pub checks : (bad inside rst here flag shaken sent above below : Bool) → Option Ruling
-checks bad inside rst here flag shaken sent above below = first_ruling (
+abbrev pub checks : (bad inside rst here flag shaken sent above below : Bool) → Option SegmentCheck
+checks bad inside rst here flag shaken sent above below = first_failed_check (
     (if bad then Some NotRun else None)
     ∷ (if inside then None else Some (if rst then StrayRst else OutsideWindow))
     ∷ (if rst then Some (if here then ExactRst else ChallengedRst) else None)
@@ -58,20 +58,20 @@ last_of_four false false true d h = absurd cc
 
 -- a connection that isn't closed wasn't reset
 
-not_first : (reset : Bool) (state : ConnState) → is_closed (if reset then Closed else state) ≡ false → reset ≡ false
+not_first : (is_reset : Bool) (state : ConnState) → is_closed (if is_reset then Closed else state) ≡ false → is_reset ≡ false
 not_first true state h = absurd cc
 not_first false state h = refl
 
-pub open_live : (c : ConnectionView) → is_closed (state_of c) ≡ false → c.reset ≡ false
-open_live c h = not_first c.reset (state_since c c.established) h
+pub open_live : (c : ConnectionView) → is_closed (state_of c) ≡ false → c.is_reset ≡ false
+open_live c h = not_first c.is_reset (state_since c c.established) h
 
 -- a segment that passes comes before a reset, and acknowledges what was sent
 pub record Passes (c : ConnectionView) (segment : Segment) : Type 0 where
-  pub live : c.reset ≡ false
+  pub live : c.is_reset ≡ false
   pub from : c.board.una ≤ segment.ack
   pub to : segment.ack ≤ c.board.top
 
-pub passes : (c : ConnectionView) (segment : Segment) → ruling_of c segment ≡ None → Passes c segment
+pub passes : (c : ConnectionView) (segment : Segment) → failed_check_of c segment ≡ None → Passes c segment
 passes c segment h =
     let k = none_rules (nat_lt 0 (length_of segment) || (segment.flags.syn || (is_stray_fin c segment || is_closed (state_of c)))) (is_in_window c segment) segment.flags.rst _ segment.flags.ack
     (is_some c.established) (nat_lt c.board.una segment.ack && nat_le segment.ack c.board.top)
@@ -83,7 +83,7 @@ passes c segment h =
     }
 
 -- the first ACK comes before a reset, in the handshake
-pub first_comes : (c : ConnectionView) (segment : Segment) → ruling_of c segment ≡ Some FirstAck → (c.reset ≡ false) × (c.established ≡ None)
+pub first_comes : (c : ConnectionView) (segment : Segment) → failed_check_of c segment ≡ Some FirstAck → (c.is_reset ≡ false) × (c.established ≡ None)
 first_comes c segment h =
     let k = shakes (nat_lt 0 (length_of segment) || (segment.flags.syn || (is_stray_fin c segment || is_closed (state_of c)))) (is_in_window c segment) segment.flags.rst _ segment.flags.ack
     (is_some c.established) (nat_lt c.board.una segment.ack && nat_le segment.ack c.board.top) _ _ h in

@@ -3,9 +3,9 @@ use Rattle.std.proofs.Common.{◌≡◌, ℕ, suc, ◌-◌, ◌<◌, Bool, true,
 use Rattle.std.proofs.lemmas.Bool.Decides.{nat_tests}
 use Rattle.pd_seg.specs.declared.segments.Segment.{Segment}
 use Rattle.pd_seg.specs.declared.segments.Sent.{Sent}
-use Rattle.pd_host.specs.Outcome.{Gives}
+use Rattle.pd_host.specs.InputResults.{Gives}
 use Rattle.pd_host.specs.Host.{with_packet}
-use Rattle.pd_host.specs.declared.halts.Ending.{Ending}
+use Rattle.pd_host.specs.declared.halts.HostEnd.{HostEnd}
 use Rattle.pd_host.specs.declared.halts.Halt.{Halt}
 use Rattle.pd_host.specs.declared.halts.Halt.TheVariants.{Limit}
 
@@ -36,5 +36,5 @@ pub one_place_less : (now : ℕ) (segment : Segment) (packets : List Sent) → l
 one_place_less now segment packets l = omega (arith, length-append {A = Sent})
 
 -- the same outcome gives the same
-pub gives_same : {S : Type 0} → (outcome other : Result S Halt) (r : Result (Unit {0}) Ending) (new : S) → outcome ≡ other → Gives other r new → Gives outcome r new
+pub gives_same : {S : Type 0} → (outcome other : Result S Halt) (r : Result (Unit {0}) HostEnd) (new : S) → outcome ≡ other → Gives other r new → Gives outcome r new
 gives_same {S} outcome other r new e h = subst (λ (o : Result S Halt). Gives o r new) (sym e) h

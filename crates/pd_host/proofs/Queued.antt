@@ -1,7 +1,7 @@
 -- What holds of a connection that the rules reach, through calls.
 use Rattle.std.proofs.Common.{◌≡◌, ℕ, ◌+◌, ◌&&◌, min, Bool, true, false, Option, Some, None, refl, ap, subst, arith}
 use Rattle.std.specs.Prelude.{is_some, option_map, IfSome, if◌then◌else◌}
-use Rattle.pd_settings.specs.declared.fields.Settings.{Settings}
+use Rattle.pd_settings.specs.declared.settings.Settings.{Settings}
 use Rattle.pd_host.specs.Arrivals.{with_peer_fin}
 use Rattle.pd_host.specs.Calls.{is_open, is_waiting, stream_in, stream_of, with_stream, with_nagle, free_of, with_queued, with_fin, closed_stream}
 use Rattle.pd_host.specs.Connection.{ConnectionView}
@@ -9,8 +9,8 @@ use Rattle.pd_host.specs.Invariants.{IsOfPhase, IsInBounds, IsEnding, IsReached,
 use Rattle.pd_host.specs.declared.established.Established.{Established}
 use Rattle.pd_host.specs.declared.established.PeerFin.{PeerFin}
 use Rattle.pd_host.specs.declared.established.PeerFin.TheVariants.{BeforeOurs, AfterOurs}
-use Rattle.pd_host.specs.declared.descriptors.Stream.{Stream}
-use Rattle.pd_host.specs.declared.descriptors.Stream.TheVariants as stream
+use Rattle.pd_host.specs.declared.descriptors.StreamState.{StreamState}
+use Rattle.pd_host.specs.declared.descriptors.StreamState.TheVariants as stream
 use Rattle.pd_host.proofs.Boards.{sure, written_ordered}
 use Rattle.pd_host.proofs.Kept.{by_test}
 use Rattle.pd_host.proofs.Reached.{IsLive, phase_of}
@@ -25,37 +25,37 @@ phase_same : (f : Established → Established) (o : Option Established) (una top
 phase_same f None una top end h = h
 phase_same f (Some e) una top end h = h
 
-bounds_same : (b : Settings) (f : Established → Established) (smss top widest : ℕ) (o : Option Established)
-    → ((e : Established) → IsInBounds b smss top widest e → IsInBounds b smss top widest (f e))
-    → IfSome o (IsInBounds b smss top widest) → IfSome (option_map f o) (IsInBounds b smss top widest)
-bounds_same b f smss top widest None kept h = tt
-bounds_same b f smss top widest (Some e) kept h = kept e h
+bounds_same : (b : Settings) (f : Established → Established) (smss top max_window : ℕ) (o : Option Established)
+    → ((e : Established) → IsInBounds b smss top max_window e → IsInBounds b smss top max_window (f e))
+    → IfSome o (IsInBounds b smss top max_window) → IfSome (option_map f o) (IsInBounds b smss top max_window)
+bounds_same b f smss top max_window None kept h = tt
+bounds_same b f smss top max_window (Some e) kept h = kept e h
 
 -- another stream, or Nagle's algorithm, leaves the windows
-module _ (b : Settings) (smss top widest : ℕ) where
-  stream_bounds : (d : Stream) (e : Established) → IsInBounds b smss top widest e → IsInBounds b smss top widest (record e { stream = d })
+module _ (b : Settings) (smss top max_window : ℕ) where
+  stream_bounds : (d : StreamState) (e : Established) → IsInBounds b smss top max_window e → IsInBounds b smss top max_window (record e { stream = d })
   stream_bounds d e h = record {
     windows = h.windows;
-    widest = h.widest;
+    max_window = h.max_window;
     recovery_point = h.recovery_point;
     high_rxt = h.high_rxt;
     rescue_rxt = h.rescue_rxt;
   }
 
-  nagle_bounds : (on : Bool) (e : Established) → IsInBounds b smss top widest e → IsInBounds b smss top widest (record e { nagle = on })
+  nagle_bounds : (on : Bool) (e : Established) → IsInBounds b smss top max_window e → IsInBounds b smss top max_window (record e { nagle = on })
   nagle_bounds on e h = record {
     windows = h.windows;
-    widest = h.widest;
+    max_window = h.max_window;
     recovery_point = h.recovery_point;
     high_rxt = h.high_rxt;
     rescue_rxt = h.rescue_rxt;
   }
 
-fin_bounds : (b : Settings) (smss top widest : ℕ) (p : PeerFin) (e : Established) → IsInBounds b smss top widest e
-    → IsInBounds b smss top widest (record e { peer_fin = p })
-fin_bounds b smss top widest p e h = record {
+fin_bounds : (b : Settings) (smss top max_window : ℕ) (p : PeerFin) (e : Established) → IsInBounds b smss top max_window e
+    → IsInBounds b smss top max_window (record e { peer_fin = p })
+fin_bounds b smss top max_window p e h = record {
   windows = h.windows;
-  widest = h.widest;
+  max_window = h.max_window;
   recovery_point = h.recovery_point;
   high_rxt = h.high_rxt;
   rescue_rxt = h.rescue_rxt;
@@ -67,7 +67,7 @@ nagle_ending : (on fin : Bool) (o : Option Established) → IsEnding fin o → I
 nagle_ending on fin None h = h
 nagle_ending on fin (Some e) h = h
 
-stream_ending : (d : Stream) (fin : Bool) (o : Option Established)
+stream_ending : (d : StreamState) (fin : Bool) (o : Option Established)
     → (fin ≡ true → stream_in (option_map {T = Established} (λ e. record e { stream = d }) o) ≡ stream.Closed)
     → IsEnding fin o → IsEnding fin (option_map {T = Established} (λ e. record e { stream = d }) o)
 stream_ending d fin None closed h = (closed, h.1)
@@ -87,10 +87,10 @@ closed_in : (o : Option Established) → is_open (stream_in o) ≡ true → stre
 closed_in None e = absurd cc
 closed_in (Some est) e = refl
 
-not_waiting : (d : Stream) → is_waiting d ≡ true → d ≡ stream.Closed → ⊥
+not_waiting : (d : StreamState) → is_waiting d ≡ true → d ≡ stream.Closed → ⊥
 not_waiting d e f = let w : is_waiting stream.Closed ≡ true = subst (λ x. is_waiting x ≡ true) f e in absurd cc
 
-not_open : (d : Stream) → is_open d ≡ true → d ≡ stream.Closed → ⊥
+not_open : (d : StreamState) → is_open d ≡ true → d ≡ stream.Closed → ⊥
 not_open d e f = let w : is_open stream.Closed ≡ true = subst (λ x. is_open x ≡ true) f e in absurd cc
 
 pub clash : (x : Bool) → x ≡ true → x ≡ false → ⊥
@@ -98,7 +98,7 @@ clash x t f = cc
 
 module _ (b : Settings) (now : ℕ) where
   -- descriptor 4 is that far
-  restreamed : (d : Stream) (c : ConnectionView) → IsReached b now c
+  restreamed : (d : StreamState) (c : ConnectionView) → IsReached b now c
       → (c.fin ≡ true → stream_in (option_map {T = Established} (λ e. record e { stream = d }) c.established) ≡ stream.Closed)
       → IsReached b now (with_stream d c)
   restreamed d c h fin = record {
@@ -107,9 +107,9 @@ module _ (b : Settings) (now : ℕ) where
     room = h.room;
     phase = phase_same (λ e. record e { stream = d }) c.established c.board.una c.board.top c.board.end h.phase;
     fin = stream_ending d c.fin c.established fin h.fin;
-    bounds = bounds_same b (λ e. record e { stream = d }) c.board.smss c.board.top c.widest c.established (stream_bounds b c.board.smss c.board.top c.widest d) h.bounds;
+    bounds = bounds_same b (λ e. record e { stream = d }) c.board.smss c.board.top c.max_window c.established (stream_bounds b c.board.smss c.board.top c.max_window d) h.bounds;
     runs = h.runs;
-    timed = h.timed;
+    rtt_segment = h.rtt_segment;
   }
 
   pub accepted_reached : (c : ConnectionView) → IsReached b now c → (is_some c.established && is_waiting (stream_of c)) ≡ true
@@ -124,9 +124,9 @@ module _ (b : Settings) (now : ℕ) where
     room = h.room;
     phase = phase_same (λ e. record e { nagle = on }) c.established c.board.una c.board.top c.board.end h.phase;
     fin = nagle_ending on c.fin c.established h.fin;
-    bounds = bounds_same b (λ e. record e { nagle = on }) c.board.smss c.board.top c.widest c.established (nagle_bounds b c.board.smss c.board.top c.widest on) h.bounds;
+    bounds = bounds_same b (λ e. record e { nagle = on }) c.board.smss c.board.top c.max_window c.established (nagle_bounds b c.board.smss c.board.top c.max_window on) h.bounds;
     runs = h.runs;
-    timed = h.timed;
+    rtt_segment = h.rtt_segment;
   }
 
   pub finned_reached : (c : ConnectionView) → IsReached b now c → IsReached b now (with_peer_fin c)
@@ -139,17 +139,17 @@ module _ (b : Settings) (now : ℕ) where
         phase = phase_same (λ e. record e { peer_fin = p }) c.established c.board.una c.board.top c.board.end h.phase;
         fin = peer_ending c.fin c.established h.fin;
         bounds =
-            bounds_same b (λ e. record e { peer_fin = p }) c.board.smss c.board.top c.widest c.established
-            (fin_bounds b c.board.smss c.board.top c.widest p) h.bounds;
+            bounds_same b (λ e. record e { peer_fin = p }) c.board.smss c.board.top c.max_window c.established
+            (fin_bounds b c.board.smss c.board.top c.max_window p) h.bounds;
         runs = h.runs;
-        timed = h.timed;
+        rtt_segment = h.rtt_segment;
       }
 
   -- no FIN is queued while descriptor 4 is open
   unfinished : (c : ConnectionView) → IsReached b now c → is_open (stream_of c) ≡ true → c.fin ≡ false
   unfinished c h unclosed = sure c.fin (λ queued. not_open (stream_of c) unclosed (h.fin.0 queued))
 
-  pub queued_live : (n : ℕ) (c : ConnectionView) → IsReached b now c → is_open (stream_of c) ≡ true → c.reset ≡ false
+  pub queued_live : (n : ℕ) (c : ConnectionView) → IsReached b now c → is_open (stream_of c) ≡ true → c.is_reset ≡ false
       → IsLive b now (with_queued (min n (free_of b.sndbuf c)) c)
   queued_live n c h unclosed still =
       let none : fin_octets c.fin ≡ 0 = ap fin_octets (unfinished c h unclosed) in
@@ -163,13 +163,13 @@ module _ (b : Settings) (now : ℕ) where
           fin = h.fin;
           bounds = h.bounds;
           runs = h.runs;
-          timed = h.timed;
+          rtt_segment = h.rtt_segment;
         };
         live = still;
       }
 
   -- our FIN is queued, and descriptor 4 is closed
-  fin_live : (c : ConnectionView) → IsReached b now c → is_open (stream_of c) ≡ true → c.reset ≡ false → IsLive b now (with_stream stream.Closed (with_fin c))
+  fin_live : (c : ConnectionView) → IsReached b now c → is_open (stream_of c) ≡ true → c.is_reset ≡ false → IsLive b now (with_stream stream.Closed (with_fin c))
   fin_live c h unclosed still =
       let none : fin_octets c.fin ≡ 0 = ap fin_octets (unfinished c h unclosed) in
       let k = opened_some c.established unclosed in
@@ -183,20 +183,20 @@ module _ (b : Settings) (now : ℕ) where
               (phase_of c.established k.0 c.board.una c.board.top c.board.end c.board.top (c.board.end + 1) k.1 h.phase);
           fin = (λ _. closed_in c.established unclosed, λ _. refl);
           bounds =
-              bounds_same b (λ e. record e { stream = stream.Closed }) c.board.smss c.board.top c.widest c.established
-              (stream_bounds b c.board.smss c.board.top c.widest stream.Closed) h.bounds;
+              bounds_same b (λ e. record e { stream = stream.Closed }) c.board.smss c.board.top c.max_window c.established
+              (stream_bounds b c.board.smss c.board.top c.max_window stream.Closed) h.bounds;
           runs = h.runs;
-          timed = h.timed;
+          rtt_segment = h.rtt_segment;
         };
         live = still;
       }
 
-  pub finished_live : (c : ConnectionView) → IsReached b now c → is_open (stream_of c) ≡ true → c.reset ≡ false → IsLive b now (closed_stream c)
+  pub finished_live : (c : ConnectionView) → IsReached b now c → is_open (stream_of c) ≡ true → c.is_reset ≡ false → IsLive b now (closed_stream c)
   finished_live c h unclosed still =
-      by_test (λ (d : ConnectionView). IsLive b now (with_stream stream.Closed d)) c.reset c (with_fin c)
-      (λ was. absurd (clash c.reset was still)) (λ _. fin_live c h unclosed still)
+      by_test (λ (d : ConnectionView). IsLive b now (with_stream stream.Closed d)) c.is_reset c (with_fin c)
+      (λ was. absurd (clash c.is_reset was still)) (λ _. fin_live c h unclosed still)
 
-  pub abandoned_reached : (c : ConnectionView) → IsReached b now c → is_open (stream_of c) ≡ true → c.reset ≡ true → IsReached b now (closed_stream c)
+  pub abandoned_reached : (c : ConnectionView) → IsReached b now c → is_open (stream_of c) ≡ true → c.is_reset ≡ true → IsReached b now (closed_stream c)
   abandoned_reached c h unclosed was =
-      by_test (λ (d : ConnectionView). IsReached b now (with_stream stream.Closed d)) c.reset c (with_fin c)
-      (λ _. restreamed stream.Closed c h (λ _. closed_in c.established unclosed)) (λ still. absurd (clash c.reset was still))
+      by_test (λ (d : ConnectionView). IsReached b now (with_stream stream.Closed d)) c.is_reset c (with_fin c)
+      (λ _. restreamed stream.Closed c h (λ _. closed_in c.established unclosed)) (λ still. absurd (clash c.is_reset was still))

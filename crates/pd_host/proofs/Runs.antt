@@ -1,10 +1,10 @@
 -- Where a segment that is sent again ends.
 use Rattle.std.proofs.Common.{◌≡◌, ℕ, ◌≤◌, Option, None, Some, refl, ap, arith}
 use Rattle.std.specs.Prelude.{unwrap_or}
-use Rattle.pd_board.specs.Choice.{run_at, most_from}
+use Rattle.pd_board.specs.Retransmit.{run_at, most_from}
 use Rattle.pd_board.specs.Octets.{contains, least_where}
-use Rattle.pd_board.specs.Board.{BoardView, IsBoardView, unmarked}
-use Rattle.pd_seg.specs.declared.sack_blocks.Span.{Span}
+use Rattle.pd_board.specs.Board.{BoardView, IsBoardView, with_none_sacked}
+use Rattle.pd_seg.specs.declared.sack_spans.Span.{Span}
 use Rattle.pd_recover.proofs.Found.{least}
 
 -- between its start and the number after the highest octet sent
@@ -17,7 +17,7 @@ run_within x s sent = by (least_where (contains s.sacked) x (most_from x s)) ref
     by (Some r) e = let h = least (contains s.sacked) x (most_from x s) r e in (h.from, omega (arith, h.to))
 
 -- so the one that an expiry sends again
-pub again_within : (b s : BoardView) (una : ℕ) (segment : Span) → IsBoardView b → una ≡ b.una → s ≡ unmarked b → segment ≡ run_at una s
+pub again_within : (b s : BoardView) (una : ℕ) (segment : Span) → IsBoardView b → una ≡ b.una → s ≡ with_none_sacked b → segment ≡ run_at una s
     → (s.una ≤ segment.end) × (segment.end ≤ s.end)
 again_within b s una segment known at same run =
     let first : s.una ≡ b.una = ap (λ (t : BoardView). t.una) same in

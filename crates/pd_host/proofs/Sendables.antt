@@ -1,25 +1,25 @@
 -- What each rule that finds a segment gives, on a board in order.
 use Rattle.std.proofs.Common.{◌≡◌, ℕ, ◌+◌, ◌-◌, ◌<◌, ◌≤◌, ◌&&◌, max, min, nat_lt, nat_le, Bool, true, false, if◌then◌else◌, Option, Some, None, refl, arith}
 use Rattle.std.specs.Prelude.{option_map}
-use Rattle.pd_seg.specs.declared.sack_blocks.Span.{Span}
-use Rattle.pd_board.specs.Choice.{run_at, next_lost, next_hole, rescue, segment_to}
-use Rattle.pd_board.specs.Loss.{is_free}
+use Rattle.pd_seg.specs.declared.sack_spans.Span.{Span}
+use Rattle.pd_board.specs.Retransmit.{run_at, next_lost, next_hole, rescue, segment_to}
+use Rattle.pd_board.specs.Loss.{is_unsacked}
 use Rattle.pd_board.specs.Octets.{contains, greatest_where, after}
 use Rattle.pd_board.specs.Board.{BoardView}
-use Rattle.pd_recover.specs.declared.segments.NextSegment.{NextSegment}
-use Rattle.pd_recover.specs.declared.segments.NextSegment.TheVariants.{Lost, New, Hole, Rescue}
-use Rattle.pd_recover.specs.Choice.{lost_run, new_data, hole_run, rescue_run, next_send, step_c_segment, limited_segment, has_room}
+use Rattle.pd_recover.specs.declared.next_segment.NextSegment.{NextSegment}
+use Rattle.pd_recover.specs.declared.next_segment.NextSegment.TheVariants.{Lost, New, Hole, Rescue}
+use Rattle.pd_recover.specs.NextSeg.{lost_run, new_data, hole_run, rescue_run, next_send, step_c_segment, limited_segment, has_room}
 use Rattle.pd_recover.specs.Cong.{CongView}
 use Rattle.pd_recover.proofs.Chosen.{AllOf, one_of, either_of, map_of, allowed_of}
 use Rattle.pd_recover.proofs.Found.{least, greatest}
-use Rattle.pd_host.specs.Acknowledgments.{next_by}
+use Rattle.pd_host.specs.AckEffects.{next_by}
 use Rattle.pd_host.specs.Connection.{ConnectionView}
 use Rattle.pd_host.specs.Invariants.{IsOrdered}
-use Rattle.pd_host.specs.Sending.{next_again, next_new, leaves_now, sendable, window_edge}
+use Rattle.pd_host.specs.Sending.{next_retransmitted, next_new, leaves_now, sendable, window_edge}
 use Rattle.pd_host.specs.Sending as sending
 use Rattle.pd_host.specs.declared.established.Established.{Established}
-use Rattle.pd_host.specs.declared.connection.acknowledgments.Filling.{Filling}
-use Rattle.pd_host.specs.declared.connection.acknowledgments.Filling.TheVariants.{NextSeg, NewData}
+use Rattle.pd_host.specs.declared.connection.ack_effects.WindowFill.{WindowFill}
+use Rattle.pd_host.specs.declared.connection.ack_effects.WindowFill.TheVariants.{NextSeg, NewData}
 use Rattle.pd_host.proofs.Runs.{run_within}
 use Rattle.pd_host.proofs.AckedBelow.{first_of_two, lt, ge}
 
@@ -77,8 +77,8 @@ after_below s e (Some g) is = let h = greatest (contains s.sacked) s.una e g is 
 
 rescue_again : (s : BoardView) → 0 < s.smss → AllOf (IsAgain s) (rescue s)
 rescue_again s some =
-    map_of (IsAgain s) (segment_to s) (greatest_where (λ x. is_free x s) s.una s.top) (λ e f.
-    let h = greatest (λ x. is_free x s) s.una s.top e f in
+    map_of (IsAgain s) (segment_to s) (greatest_where (λ x. is_unsacked x s) s.una s.top) (λ e f.
+    let h = greatest (λ x. is_unsacked x s) s.una s.top e f in
     record {
       start = omega (arith, h.from, h.to, some, after_below s e (greatest_where (contains s.sacked) s.una e) refl);
       end = omega (arith, h.to);
@@ -98,14 +98,14 @@ step_c_fits rwnd pipe s w known = allowed_of (IsNext s) (has_room pipe s w) _ (�
 limited_new : (rwnd pipe : ℕ) (s : BoardView) (w : CongView) → AllOf (IsNew s) (limited_segment rwnd pipe s w)
 limited_new rwnd pipe s w = allowed_of (IsNew s) (has_room pipe s w) _ (λ _. data_new rwnd s)
 
-pub filling_fits : (filling : Filling) (pipe : ℕ) (c : ConnectionView) (e : Established) → IsOrdered c.board → AllOf (IsNext c.board) (next_by filling pipe c e)
+pub filling_fits : (filling : WindowFill) (pipe : ℕ) (c : ConnectionView) (e : Established) → IsOrdered c.board → AllOf (IsNext c.board) (next_by filling pipe c e)
 filling_fits NextSeg pipe c e known = step_c_fits e.rwnd pipe c.board e.congestion known
 filling_fits NewData pipe c e known =
     map_of (IsNext c.board) (λ segment. New segment) (limited_segment e.rwnd pipe c.board e.congestion) (limited_new e.rwnd pipe c.board e.congestion)
 
 -- ordinary sending
 
-again_leaves : (c : ConnectionView) (e : Established) → IsOrdered c.board → c.board.next < c.board.top → AllOf (CanLeave c.board) (next_again c e)
+again_leaves : (c : ConnectionView) (e : Established) → IsOrdered c.board → c.board.next < c.board.top → AllOf (CanLeave c.board) (next_retransmitted c e)
 again_leaves c e h below =
     let run = run_within c.board.next c.board h.next_top in
     allowed_of (CanLeave c.board) (nat_le (run_at c.board.next c.board).end (window_edge c e)) _ (λ _. one_of (CanLeave c.board) _ (record {
@@ -129,6 +129,6 @@ new_can_leave c e h above =
 pub ordinary_leaves : (c : ConnectionView) (e : Established) → IsOrdered c.board → AllOf (CanLeave c.board) (sending.ordinary_segment c e)
 ordinary_leaves c e h = by_place (nat_lt c.board.next c.board.top) refl
   where
-    by_place : (b : Bool) → nat_lt c.board.next c.board.top ≡ b → AllOf (CanLeave c.board) (if b then next_again c e else next_new c e)
+    by_place : (b : Bool) → nat_lt c.board.next c.board.top ≡ b → AllOf (CanLeave c.board) (if b then next_retransmitted c e else next_new c e)
     by_place true t = again_leaves c e h (lt _ _ t)
     by_place false t = new_can_leave c e h (ge _ _ t)

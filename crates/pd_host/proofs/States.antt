@@ -1,16 +1,16 @@
 -- Every state that the rules reach is lawful.
 use Rattle.std.proofs.Common.{ℕ, Option, Some, None, refl}
 use Rattle.std.specs.Prelude.{IfSome}
-use Rattle.pd_settings.specs.declared.fields.Settings.{Settings}
+use Rattle.pd_settings.specs.declared.settings.Settings.{Settings}
 use Rattle.pd_timer.specs.Laws.{StaysWithin as Bounds}
 use Rattle.pd_recover.specs.Laws.{StaysWithin as Windows}
 use Rattle.pd_host.specs.Calls.{with_stream, with_fin, closed_stream}
 use Rattle.pd_host.specs.Connection.{ConnectionView}
 use Rattle.pd_host.specs.Invariants.{IsReached, IsBelowPoint, IsLawful, StartsLawful, AdvancesStayLawful, ArrivalsStayLawful, CallsStayLawful, TakingStaysLawful}
 use Rattle.pd_host.specs.Laws.{AreInOrder}
-use Rattle.pd_host.specs.Timing.{clocked}
-use Rattle.pd_host.specs.declared.endpoint.State.{State}
-use Rattle.pd_host.specs.declared.descriptors.Stream.TheVariants as stream
+use Rattle.pd_host.specs.RttSegment.{timing_started}
+use Rattle.pd_host.specs.declared.endpoint.SenderState.{SenderState}
+use Rattle.pd_host.specs.declared.descriptors.StreamState.TheVariants as stream
 use Rattle.pd_host.proofs.Acked.{taking_live, taking_new, taking_again}
 use Rattle.pd_host.proofs.ArrivalsKept.{arrived_holds}
 use Rattle.pd_host.proofs.CallsKept.{called_holds}
@@ -39,7 +39,7 @@ record IsSending (b : Settings) (now : ℕ) (c : ConnectionView) : Type 0 where
 
 closed_below : (c : ConnectionView) → IsBelowPoint c → IsBelowPoint (closed_stream c)
 closed_below c h =
-    by_test (λ (d : ConnectionView). IsBelowPoint (with_stream stream.Closed d)) c.reset c (with_fin c) (λ _. stream_below stream.Closed c h)
+    by_test (λ (d : ConnectionView). IsBelowPoint (with_stream stream.Closed d)) c.is_reset c (with_fin c) (λ _. stream_below stream.Closed c h)
     (λ _. stream_below stream.Closed (with_fin c) h)
 
 module _ (bounds : Bounds) (windows : Windows) where
@@ -68,7 +68,7 @@ module _ (bounds : Bounds) (windows : Windows) where
           entry = λ c h e. record {
             timely = t.acks.entry c h.timely e;
             live = entry_live b now c h.live e;
-            below = entered_below (first_run c) (clocked now (first_run c) c) c.established h.below refl;
+            below = entered_below (first_run c) (timing_started now (first_run c) c) c.established h.below refl;
           };
           entry_alone = λ c h. record {
             timely = t.acks.entry_alone c h.timely;
@@ -96,7 +96,7 @@ module _ (bounds : Bounds) (windows : Windows) where
           reached = established_reached b now windows segment c h.reached e;
           below = λ sack recovering. absurd cc;
         };
-        reset = λ c h. record { timely = t.reset c h.timely; reached = reset_reached b now c h.reached; below = h.below };
+        is_reset = λ c h. record { timely = t.is_reset c h.timely; reached = reset_reached b now c h.reached; below = h.below };
         finished = λ c h. record { timely = t.finished c h.timely; reached = finned_reached b now c h.reached; below = finned_below c h.below };
       }
 
@@ -176,15 +176,15 @@ below_of : (b : Settings) (now : ℕ) (o : Option ConnectionView) → IfSome o (
 below_of b now None h = tt
 below_of b now (Some c) h = h.below
 
-abbrev HoldsAt : ℕ → State → Type 0
+abbrev HoldsAt : ℕ → SenderState → Type 0
 HoldsAt now s = Holds (AreInOrder now) (λ b c. IsKnown b now c) s
 
-holds : (now : ℕ) (s : State) → IsLawful now s → HoldsAt now s
+holds : (now : ℕ) (s : SenderState) → IsLawful now s → HoldsAt now s
 holds now s h =
     let k : Good s.settings now s = good s.settings now s h.moments in
     record { packets = k.packets; connection = known s.settings now s.endpoint.connection k.connection h.connection h.recovery }
 
-lawful : (now : ℕ) (s : State) → HoldsAt now s → IsLawful now s
+lawful : (now : ℕ) (s : SenderState) → HoldsAt now s → IsLawful now s
 lawful now s h = record {
   moments = up_to s.settings now s (record { packets = h.packets; connection = timely_of s.settings now s.endpoint.connection h.connection });
   connection = reached_of s.settings now s.endpoint.connection h.connection;

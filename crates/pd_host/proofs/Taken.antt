@@ -1,18 +1,18 @@
 -- What an ACK that is taken leaves of a connection.
 use Rattle.std.proofs.Common.{◌≡◌, ℕ, ◌-◌, ◌||◌, Bool, true, false, nat_lt, max, List, [], ◌∷◌, Option, None, Some, if◌then◌else◌, refl, ap, ◌∙◌}
-use Rattle.pd_board.specs.Board.{BoardView, marked, has_new}
-use Rattle.pd_recover.specs.declared.responses.Then.{Then}
-use Rattle.pd_seg.specs.declared.sack_blocks.Span.{Span}
+use Rattle.pd_board.specs.Board.{BoardView, with_sacked_block, has_new}
+use Rattle.pd_recover.specs.declared.ack_action.AckAction.{AckAction}
+use Rattle.pd_seg.specs.declared.sack_spans.Span.{Span}
 use Rattle.pd_seg.specs.declared.segments.Segment.{Segment}
 use Rattle.pd_timer.specs.Rto.{initial, sampled}
-use Rattle.pd_host.specs.Acknowledgments.{newly_acked, with_number, blocks_of, is_block_sent, told_block, told_blocks, scored, with_timing, is_current, with_new_window, with_blocks, with_ack, taking, ack_taken}
+use Rattle.pd_host.specs.AckEffects.{newly_acked, with_number, blocks_of, is_block_sent, with_block_marked, with_blocks_marked, blocks_marked, with_timing, is_current, with_new_window, with_blocks, with_ack, taking, ack_taken}
 use Rattle.pd_host.specs.Connection.{ConnectionView}
-use Rattle.pd_host.specs.Handshake.{looked_at, window_in, with_window}
-use Rattle.pd_host.specs.Sending.{with_block}
-use Rattle.pd_host.specs.Timing.{is_measured, measured, with_sample, with_timer_moved}
+use Rattle.pd_host.specs.Handshake.{before_eol, window_in, with_window}
+use Rattle.pd_host.specs.Sending.{with_begun_connection}
+use Rattle.pd_host.specs.RttSegment.{is_measured, measured, with_sample, with_timer_updated}
 use Rattle.pd_host.specs.declared.established.Established.{Established}
-use Rattle.pd_host.specs.declared.endpoint.State.{State}
-use Rattle.pd_host.specs.declared.connection.timing.Timing.{Timing}
+use Rattle.pd_host.specs.declared.endpoint.SenderState.{SenderState}
+use Rattle.pd_host.specs.declared.connection.rtt_segment.RttSegment.{RttSegment}
 use Rattle.pd_host.proofs.Outcomes.{Leaves}
 use Rattle.pd_host.proofs.SentOn.{IsSentOn, led_to_sends}
 
@@ -25,45 +25,45 @@ same_either f false x y z first second = second
 abbrev unsacked : BoardView → BoardView
 unsacked s = record s { sacked = [] }
 
-block_keeps : (block : Span) (told : BoardView × Bool) → unsacked (told_block block told).0 ≡ unsacked told.0
-block_keeps block told =
-    same_either (λ (x : BoardView × Bool). unsacked x.0) (is_block_sent told.0 block) (marked block told.0, told.1 || has_new block told.0) told
-    (unsacked told.0) refl refl
+block_keeps : (block : Span) (so_far : BoardView × Bool) → unsacked (with_block_marked block so_far).0 ≡ unsacked so_far.0
+block_keeps block so_far =
+    same_either (λ (x : BoardView × Bool). unsacked x.0) (is_block_sent so_far.0 block) (with_sacked_block block so_far.0, so_far.1 || has_new block so_far.0) so_far
+    (unsacked so_far.0) refl refl
 
-blocks_keep : (blocks : List Span) (told : BoardView × Bool) → unsacked (told_blocks blocks told).0 ≡ unsacked told.0
-blocks_keep [] told = refl
-blocks_keep (block ∷ blocks) told = blocks_keep blocks (told_block block told) ∙ block_keeps block told
+blocks_keep : (blocks : List Span) (so_far : BoardView × Bool) → unsacked (with_blocks_marked blocks so_far).0 ≡ unsacked so_far.0
+blocks_keep [] so_far = refl
+blocks_keep (block ∷ blocks) so_far = blocks_keep blocks (with_block_marked block so_far) ∙ block_keeps block so_far
 
-scored_keeps : (segment : Segment) (c : ConnectionView) → unsacked (scored segment c).0 ≡ unsacked c.board
+scored_keeps : (segment : Segment) (c : ConnectionView) → unsacked (blocks_marked segment c).0 ≡ unsacked c.board
 scored_keeps segment c =
-    same_either (λ (x : BoardView × Bool). unsacked x.0) c.sack (told_blocks (blocks_of (looked_at segment.options)) (c.board, false)) (c.board, false)
-    (unsacked c.board) (blocks_keep (blocks_of (looked_at segment.options)) (c.board, false)) refl
+    same_either (λ (x : BoardView × Bool). unsacked x.0) c.sack (with_blocks_marked (blocks_of (before_eol segment.options)) (c.board, false)) (c.board, false)
+    (unsacked c.board) (blocks_keep (blocks_of (before_eol segment.options)) (c.board, false)) refl
 
 -- the timer moves alone
 
 abbrev pub timeless : ConnectionView → ConnectionView
-timeless c = record c { timer = initial 0 0; timed = None }
+timeless c = record c { timer = initial 0 0; rtt_segment = None }
 
-pub measured_keeps : (now granularity ack : ℕ) (c : ConnectionView) (o : Option Timing) → timeless (measured now granularity ack c o) ≡ timeless c
+pub measured_keeps : (now granularity ack : ℕ) (c : ConnectionView) (o : Option RttSegment) → timeless (measured now granularity ack c o) ≡ timeless c
 measured_keeps now granularity ack c None = refl
 measured_keeps now granularity ack c (Some t) =
-    same_either timeless (is_measured ack t) (record c { timer = sampled (now - t.sent_at) granularity c.timer; timed = None }) c (timeless c) refl refl
+    same_either timeless (is_measured ack t) (record c { timer = sampled (now - t.sent_at) granularity c.timer; rtt_segment = None }) c (timeless c) refl refl
 
 pub timing_keeps : (now granularity n : ℕ) (c : ConnectionView) → timeless (with_timing now granularity n c) ≡ timeless c
 timing_keeps now granularity n c =
-    same_either timeless (nat_lt 0 n) (with_timer_moved now (with_sample now granularity c.board.una c)) c (timeless c)
-    (measured_keeps now granularity c.board.una c c.timed) refl
+    same_either timeless (nat_lt 0 n) (with_timer_updated now (with_sample now granularity c.board.una c)) c (timeless c)
+    (measured_keeps now granularity c.board.una c c.rtt_segment) refl
 
 -- All of it
 
 -- a connection without what an ACK moves, but its numbers
 abbrev pub basic : ConnectionView → ConnectionView
-basic c = record c { board = unsacked c.board; timer = initial 0 0; timed = None; widest = 0; established = None }
+basic c = record c { board = unsacked c.board; timer = initial 0 0; rtt_segment = None; max_window = 0; established = None }
 
 window_keeps : (segment : Segment) (e : Established) (c : ConnectionView) → basic (with_new_window segment e c).0 ≡ basic c
 window_keeps segment e c =
     same_either (λ (x : ConnectionView × Established). basic x.0) (is_current e segment)
-    (record c { widest = max c.widest (window_in c segment) }, with_window (window_in c segment) segment e) (c, e) (basic c) refl refl
+    (record c { max_window = max c.max_window (window_in c segment) }, with_window (window_in c segment) segment e) (c, e) (basic c) refl refl
 
 -- the connection after the number, its blocks told
 abbrev told_to : Segment → ConnectionView → ConnectionView
@@ -90,7 +90,7 @@ pub ack_leaves_congestion : (now : ℕ) (segment : Segment) (e : Established) (c
 ack_leaves_congestion now segment e c =
     let d : ConnectionView = timed_to now segment e c in
     same_either (λ (x : ConnectionView × Established). x.1.congestion) (is_current e segment)
-    (record d { widest = max d.widest (window_in d segment) }, with_window (window_in d segment) segment e) (d, e) e.congestion refl refl
+    (record d { max_window = max d.max_window (window_in d segment) }, with_window (window_in d segment) segment e) (d, e) e.congestion refl refl
 
 -- taking a segment on an established connection moves the number, and what isn't basic
 pub taking_keeps : (now : ℕ) (segment : Segment) (c : ConnectionView) (e : Established)
@@ -98,8 +98,8 @@ pub taking_keeps : (now : ℕ) (segment : Segment) (c : ConnectionView) (e : Est
 taking_keeps now segment c e = ack_keeps now segment e c
 
 -- what is sent after a segment was taken follows the connection that it left
-pub taken_sends : (now : ℕ) (segment : Segment) (c : ConnectionView) (s : State) (o : Option Established)
-    → Leaves (IsSentOn now (with_block (taking now segment c o).0 s)) (ack_taken now segment c s o)
+pub taken_sends : (now : ℕ) (segment : Segment) (c : ConnectionView) (s : SenderState) (o : Option Established)
+    → Leaves (IsSentOn now (with_begun_connection (taking now segment c o).0 s)) (ack_taken now segment c s o)
 taken_sends now segment c s o =
-    let t : ConnectionView × Then = taking now segment c o in
-    led_to_sends now t.0 (with_block t.0 s) t.1 refl
+    let t : ConnectionView × AckAction = taking now segment c o in
+    led_to_sends now t.0 (with_begun_connection t.0 s) t.1 refl

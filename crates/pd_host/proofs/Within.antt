@@ -1,17 +1,17 @@
 -- Ordinary sending puts out nothing that ends beyond the windows, a FIN counted.
 use Rattle.std.proofs.Common.{◌≡◌, ℕ, ◌+◌, ◌≤◌, min, Bool, true, List, [], ◌∷◌, ◌++◌, Option, None, Some, Ok, refl, sym, subst, ap, ◌∙◌, append_assoc, append-nil, arith}
 use Rattle.std.specs.List.{AllByRecursion}
-use Rattle.pd_seg.specs.declared.sack_blocks.Span.{Span}
+use Rattle.pd_seg.specs.declared.sack_spans.Span.{Span}
 use Rattle.pd_seg.specs.declared.segments.Sent.{Sent}
 use Rattle.pd_settings.specs.declared.initial_window.InitialWindow.{InitialWindow}
 use Rattle.pd_recover.proofs.SlowStart.{restarts_when_idle}
 use Rattle.pd_recover.specs.Cong.{window_by}
 use Rattle.pd_host.specs.Connection.{ConnectionView}
 use Rattle.pd_host.specs.Packets.{data_of}
-use Rattle.pd_host.specs.Sending.{value_on, places_left, window_edge, is_idle, restarted_in, begun_again, past_sacked, sent_on, found, sent_ordinarily, ready, ordinary}
+use Rattle.pd_host.specs.Sending.{value_on, places_left, window_edge, is_idle, restarted_in, restarted_if_idle, past_sacked, sent_on, found, sent_ordinarily, ready, ordinary}
 use Rattle.pd_host.specs.SendingLaws.{end_with_fin, edge_of}
 use Rattle.pd_host.specs.declared.established.Established.{Established}
-use Rattle.pd_host.specs.declared.endpoint.State.{State}
+use Rattle.pd_host.specs.declared.endpoint.SenderState.{SenderState}
 use Rattle.pd_host.proofs.Chosen.{chosen_within}
 use Rattle.pd_host.proofs.InWindow.{packet_ends}
 use Rattle.pd_host.proofs.Outcomes.{Leaves, came, kept}
@@ -19,7 +19,7 @@ use Rattle.pd_host.proofs.SentOn.{finds, sends}
 use Rattle.pd_host.proofs.Rules.{found_on}
 
 -- packets were put out that end at this edge at most, which is that of the connection
-record EndsBelow (edge : ℕ) (s t : State) : Type 0 where
+record EndsBelow (edge : ℕ) (s t : SenderState) : Type 0 where
   pub packets : List Sent
   pub ends : AllByRecursion (λ p. end_with_fin p.segment ≤ edge) packets
   pub outbox : t.endpoint.outbox ≡ s.endpoint.outbox ++ packets
@@ -46,7 +46,7 @@ found_below : (c : ConnectionView) (o : Option Established) (segment : Span) →
 found_below c None segment h = absurd cc
 found_below c (Some e) segment h = chosen_within c e segment h
 
-one_below : (edge now : ℕ) (segment : Span) (s t : State) (o : Option ConnectionView) → t.endpoint.connection ≡ o → found o ≡ Some segment
+one_below : (edge now : ℕ) (segment : Span) (s t : SenderState) (o : Option ConnectionView) → t.endpoint.connection ≡ o → found o ≡ Some segment
     → EndsBelow edge s t → EndsBelow edge s (sent_ordinarily now segment o t)
 one_below edge now segment s t None e f h = h
 one_below edge now segment s t (Some c) e f h =
@@ -65,18 +65,18 @@ abbrev edge_again : ℕ → Option ConnectionView → ℕ
 edge_again now None = 0
 edge_again now (Some c) = edge_on c (restarted_in c.board.smss (is_idle now c) c.established)
 
-made_ready : (now : ℕ) (s : State) (o : Option ConnectionView) → s.endpoint.connection ≡ o → EndsBelow (edge_again now o) s (ready now o s)
+made_ready : (now : ℕ) (s : SenderState) (o : Option ConnectionView) → s.endpoint.connection ≡ o → EndsBelow (edge_again now o) s (ready now o s)
 made_ready now s None e = record { packets = []; ends = tt; outbox = sym (append-nil s.endpoint.outbox); stays = ap edge_of e }
 made_ready now s (Some c) e = record {
   packets = [];
   ends = tt;
   outbox = sym (append-nil s.endpoint.outbox);
-  stays = same_edge c (past_sacked (begun_again now c)) (restarted_in c.board.smss (is_idle now c) c.established) refl;
+  stays = same_edge c (past_sacked (restarted_if_idle now c)) (restarted_in c.board.smss (is_idle now c) c.established) refl;
 }
 
-all_below : (now : ℕ) (s : State) → Leaves (EndsBelow (edge_again now s.endpoint.connection) s) (ordinary now s)
+all_below : (now : ℕ) (s : SenderState) → Leaves (EndsBelow (edge_again now s.endpoint.connection) s) (ordinary now s)
 all_below now s =
-    let u : State = ready now s.endpoint.connection s in
+    let u : SenderState = ready now s.endpoint.connection s in
     let edge : ℕ = edge_again now s.endpoint.connection in
     kept (EndsBelow edge s) finds (sends now)
     (λ segment t f h. one_below edge now segment s t t.endpoint.connection refl f h)
@@ -100,31 +100,31 @@ all_lower edge farther [] k h = tt
 all_lower edge farther (p ∷ packets) k h = (lower (end_with_fin p.segment) edge farther h.0 k, all_lower edge farther packets k h.1)
 
 -- what was put out ends at an edge at most
-abbrev pub PutsOutBelow : ℕ → State → State → Type 0
+abbrev pub PutsOutBelow : ℕ → SenderState → SenderState → Type 0
 PutsOutBelow edge s t =
     (packets : List Sent)
     × AllByRecursion (λ p. end_with_fin p.segment ≤ edge) packets
     × (t.endpoint.outbox ≡ s.endpoint.outbox ++ packets)
 
-below_again : (now edge : ℕ) (s t : State) → edge_again now s.endpoint.connection ≤ edge → ordinary now s ≡ Ok t → PutsOutBelow edge s t
+below_again : (now edge : ℕ) (s t : SenderState) → edge_again now s.endpoint.connection ≤ edge → ordinary now s ≡ Ok t → PutsOutBelow edge s t
 below_again now edge s t near h =
     let below : EndsBelow (edge_again now s.endpoint.connection) s t =
     came (EndsBelow (edge_again now s.endpoint.connection) s) (ordinary now s) t h (all_below now s) in
     (below.packets, all_lower _ edge below.packets near below.ends, below.outbox)
 
-pub ordinary_below : (now : ℕ) (s t : State) → ordinary now s ≡ Ok t → PutsOutBelow (edge_of s.endpoint.connection) s t
+pub ordinary_below : (now : ℕ) (s t : SenderState) → ordinary now s ≡ Ok t → PutsOutBelow (edge_of s.endpoint.connection) s t
 ordinary_below now s t h = below_again now (edge_of s.endpoint.connection) s t (no_farther now s.endpoint.connection) h
 
 -- after an idle time it lies at the end of the restart window at most
 near_window : (una cwnd window rwnd : ℕ) → cwnd ≡ window → una + min cwnd rwnd ≤ una + window
 near_window una cwnd window rwnd e = omega (arith, e)
 
-near_on : (smss : ℕ) (rule : InitialWindow) (c : ConnectionView) (e : Established) → e.congestion.restarts_by ≡ Some rule
+near_on : (smss : ℕ) (rule : InitialWindow) (c : ConnectionView) (e : Established) → e.congestion.restart_rule ≡ Some rule
     → edge_on c (restarted_in smss true (Some e)) ≤ c.board.una + min (window_by rule smss) e.congestion.cwnd
 near_on smss rule c e by = near_window c.board.una _ _ e.rwnd (restarts_when_idle.idle smss rule e.congestion by)
 
-pub restart_below : (now : ℕ) (s t : State) (c : ConnectionView) (e : Established) (rule : InitialWindow) → s.endpoint.connection ≡ Some c
-    → c.established ≡ Some e → e.congestion.restarts_by ≡ Some rule → is_idle now c ≡ true → ordinary now s ≡ Ok t
+pub restart_below : (now : ℕ) (s t : SenderState) (c : ConnectionView) (e : Established) (rule : InitialWindow) → s.endpoint.connection ≡ Some c
+    → c.established ≡ Some e → e.congestion.restart_rule ≡ Some rule → is_idle now c ≡ true → ordinary now s ≡ Ok t
     → PutsOutBelow (c.board.una + min (window_by rule c.board.smss) e.congestion.cwnd) s t
 restart_below now s t c e rule is established by idle h =
     let edge : ℕ = c.board.una + min (window_by rule c.board.smss) e.congestion.cwnd in

@@ -3,11 +3,11 @@ use Rattle.std.specs.Prelude.{ℕ, ◌+◌, ◌==◌, nat_lt, nat_le, not, Bool,
 use Rattle.pd_seg.specs.declared.segments.Segment.{Segment}
 use Rattle.pd_host.specs.declared.halts.Halt.{Halt}
 use Rattle.pd_host.specs.declared.halts.Halt.TheVariants.{Unsupported}
-use Rattle.pd_host.specs.declared.connection.checks.Ruling.{Ruling}
-use Rattle.pd_host.specs.declared.connection.checks.Ruling.TheVariants.{NotRun, StrayRst, OutsideWindow, ExactRst, ChallengedRst, WithoutAck, FirstAck, RefusedAck, EarlyAck, OldAck}
+use Rattle.pd_host.specs.declared.connection.segment_check.SegmentCheck.{SegmentCheck}
+use Rattle.pd_host.specs.declared.connection.segment_check.SegmentCheck.TheVariants.{NotRun, StrayRst, OutsideWindow, ExactRst, ChallengedRst, WithoutAck, FirstAck, RefusedAck, EarlyAck, OldAck}
 use Rattle.pd_timer.specs.Rto.{stopped}
-use Rattle.pd_host.specs.Acknowledgments.{ack_taken}
-use Rattle.pd_host.specs.Handshake.{length_of, opened_by, established_by, establishment_uses}
+use Rattle.pd_host.specs.AckEffects.{ack_taken}
+use Rattle.pd_host.specs.Handshake.{length_of, opened_by, established_by, establishment_settings}
 use Rattle.pd_host.specs.Packets.{ack_of, refusal_of}
 use Rattle.pd_host.specs.ConnStates.{state_of, is_closed}
 use Rattle.pd_host.specs.Connection.{ConnectionView, peer_fin_in, rcv_nxt}
@@ -15,7 +15,7 @@ use Rattle.pd_host.specs.declared.endpoint.Endpoint.{Endpoint}
 use Rattle.pd_host.specs.declared.established.Established.{Established}
 use Rattle.pd_host.specs.declared.established.PeerFin.{PeerFin}
 use Rattle.pd_host.specs.declared.established.PeerFin.TheVariants.{Awaited, BeforeOurs, AfterOurs}
-use Rattle.pd_host.specs.declared.endpoint.State.{State}
+use Rattle.pd_host.specs.declared.endpoint.SenderState.{SenderState}
 use Rattle.pd_host.specs.Host.{beside, put_out, then_on}
 
 -- the sequence number lies in the receive window
@@ -37,7 +37,7 @@ is_stray_fin c segment = segment.flags.fin && (is_in_window c segment && not (is
 
 -- the contents: data, a SYN, a FIN in the receive window that isn't the next octet, and whatever comes to a closed
 -- connection isn't run (own profile)
-abbrev pub check_contents : ConnectionView → Segment → Option Ruling
+abbrev pub check_contents : ConnectionView → Segment → Option SegmentCheck
 check_contents c segment =
     if nat_lt 0 (length_of segment) || (segment.flags.syn || (is_stray_fin c segment || is_closed (state_of c)))
     then Some NotRun
@@ -45,86 +45,86 @@ check_contents c segment =
 
 -- the sequence number: outside the receive window an RST is dropped; any other segment is answered by an ACK and dropped
 -- (RFC 9293, section 3.10.7.4, first check)
-abbrev pub check_window : ConnectionView → Segment → Option Ruling
+abbrev pub check_window : ConnectionView → Segment → Option SegmentCheck
 check_window c segment =
     if is_in_window c segment then None else Some (if segment.flags.rst then StrayRst else OutsideWindow)
 
 -- the RST flag: an RST at RCV.NXT resets the connection; elsewhere in the window it is answered by an ACK and dropped
 -- (RFC 9293, section 3.10.7.4, second check; RFC 5961, section 3.2)
-abbrev pub check_rst : ConnectionView → Segment → Option Ruling
+abbrev pub check_rst : ConnectionView → Segment → Option SegmentCheck
 check_rst c segment =
     if segment.flags.rst then Some (if segment.start == rcv_nxt c then ExactRst else ChallengedRst) else None
 
 -- the ACK flag: a segment without it is dropped (RFC 9293, section 3.10.7.4, fifth check)
-abbrev pub check_ack_flag : Segment → Option Ruling
+abbrev pub check_ack_flag : Segment → Option SegmentCheck
 check_ack_flag segment = if segment.flags.ack then None else Some WithoutAck
 
 -- the handshake: an ACK of our SYN, above SND.UNA and not of more than was sent, establishes the connection, and its FIN is
 -- looked at; any other is refused by an RST (RFC 9293, section 3.10.7.4, fifth check, SYN-RECEIVED)
-abbrev pub check_handshake : ConnectionView → Segment → Option Ruling
+abbrev pub check_handshake : ConnectionView → Segment → Option SegmentCheck
 check_handshake c segment =
     if is_some c.established then None
     else Some (if nat_lt c.board.una segment.ack && nat_le segment.ack c.board.top then FirstAck else RefusedAck)
 
 -- the ack number: an ACK of what wasn't sent is answered by an ACK and dropped; of one below SND.UNA the FIN alone is looked
 -- at (RFC 9293, section 3.10.7.4, fifth check, ESTABLISHED)
-abbrev pub check_ack : ConnectionView → Segment → Option Ruling
+abbrev pub check_ack : ConnectionView → Segment → Option SegmentCheck
 check_ack c segment =
     if nat_lt c.board.top segment.ack then Some EarlyAck
     else if nat_lt segment.ack c.board.una then Some OldAck
     else None
 
 -- the ruling of the first check that rules
-abbrev pub first_ruling : List (Option Ruling) → Option Ruling
-first_ruling [] = None
-first_ruling (Some ruling ∷ checks) = Some ruling
-first_ruling (None ∷ checks) = first_ruling checks
+abbrev pub first_failed_check : List (Option SegmentCheck) → Option SegmentCheck
+first_failed_check [] = None
+first_failed_check (Some failed_check ∷ checks) = Some failed_check
+first_failed_check (None ∷ checks) = first_failed_check checks
 
 -- what becomes of a later segment; one that passes all checks has no ruling
-abbrev pub ruling_of : ConnectionView → Segment → Option Ruling
-ruling_of c segment = first_ruling (
+abbrev pub failed_check_of : ConnectionView → Segment → Option SegmentCheck
+failed_check_of c segment = first_failed_check (
     check_contents c segment ∷ check_window c segment ∷ check_rst c segment
     ∷ check_ack_flag segment ∷ check_handshake c segment ∷ check_ack c segment ∷ [])
 
 -- the same on the connection of a sender, if one was begun
-abbrev pub ruling_on : Segment → Option ConnectionView → Option Ruling
-ruling_on segment None = None
-ruling_on segment (Some c) = ruling_of c segment
+abbrev pub failed_check_on : Segment → Option ConnectionView → Option SegmentCheck
+failed_check_on segment None = None
+failed_check_on segment (Some c) = failed_check_of c segment
 
-abbrev pub ruling_in : Segment → State → Option Ruling
-ruling_in segment s = ruling_on segment s.endpoint.connection
+abbrev pub failed_check_in : Segment → SenderState → Option SegmentCheck
+failed_check_in segment s = failed_check_on segment s.endpoint.connection
 
 -- an RST ends the connection for good (RFC 9293, section 3.10.7.4, second check; in the handshake too: own profile): its
 -- timer stops, and nothing is sent any more
 abbrev pub reset_of : ConnectionView → ConnectionView
-reset_of c = record c { reset = true; timer = stopped c.timer; timed = None }
+reset_of c = record c { is_reset = true; timer = stopped c.timer; rtt_segment = None }
 
 -- the endpoint with this connection
 abbrev pub with_connection : ConnectionView → Endpoint → Endpoint
 with_connection c e = record e { connection = Some c }
 
 -- what comes of a segment that a check rules out, on the connection c of the state; one that passed them all is taken
-abbrev pub ruled : ℕ → Segment → ConnectionView → State → Option Ruling → Result State Halt
-ruled now segment c s (Some NotRun) = Err Unsupported
-ruled now segment c s (Some StrayRst) = Ok s
-ruled now segment c s (Some OutsideWindow) = beside s (put_out now (ack_of c) s.endpoint)
-ruled now segment c s (Some ExactRst) = beside s (Ok (with_connection (reset_of c) s.endpoint))
-ruled now segment c s (Some ChallengedRst) = beside s (put_out now (ack_of c) s.endpoint)
-ruled now segment c s (Some WithoutAck) = Ok s
-ruled now segment c s (Some FirstAck) = Ok (record s {
-  uses = establishment_uses s.uses;
+abbrev pub check_outcome : ℕ → Segment → ConnectionView → SenderState → Option SegmentCheck → Result SenderState Halt
+check_outcome now segment c s (Some NotRun) = Err Unsupported
+check_outcome now segment c s (Some StrayRst) = Ok s
+check_outcome now segment c s (Some OutsideWindow) = beside s (put_out now (ack_of c) s.endpoint)
+check_outcome now segment c s (Some ExactRst) = beside s (Ok (with_connection (reset_of c) s.endpoint))
+check_outcome now segment c s (Some ChallengedRst) = beside s (put_out now (ack_of c) s.endpoint)
+check_outcome now segment c s (Some WithoutAck) = Ok s
+check_outcome now segment c s (Some FirstAck) = Ok (record s {
+  consulted_settings = establishment_settings s.consulted_settings;
   endpoint = with_connection (established_by now s.settings segment c) s.endpoint;
 })
-ruled now segment c s (Some RefusedAck) = beside s (put_out now (refusal_of segment.ack) s.endpoint)
-ruled now segment c s (Some EarlyAck) = beside s (put_out now (ack_of c) s.endpoint)
-ruled now segment c s (Some OldAck) = Ok s
-ruled now segment c s None = ack_taken now segment c s c.established
+check_outcome now segment c s (Some RefusedAck) = beside s (put_out now (refusal_of segment.ack) s.endpoint)
+check_outcome now segment c s (Some EarlyAck) = beside s (put_out now (ack_of c) s.endpoint)
+check_outcome now segment c s (Some OldAck) = Ok s
+check_outcome now segment c s None = ack_taken now segment c s c.established
 
 -- The FIN (RFC 9293, section 3.10.7.4, eighth check)
 
 -- a segment's FIN is looked at where it establishes the connection, where its ACK is old, and where it passed all checks; a
 -- segment that is dropped has none
-abbrev pub goes_on : Option Ruling → Bool
+abbrev pub goes_on : Option SegmentCheck → Bool
 goes_on (Some FirstAck) = true
 goes_on (Some OldAck) = true
 goes_on None = true
@@ -138,23 +138,23 @@ with_peer_fin c = record c {
 }
 
 -- it is taken and answered by an ACK at a moment
-abbrev pub finished_on : ℕ → State → Option ConnectionView → Result State Halt
+abbrev pub finished_on : ℕ → SenderState → Option ConnectionView → Result SenderState Halt
 finished_on now s None = Ok s
 finished_on now s (Some c) = beside s (put_out now (ack_of (with_peer_fin c)) (with_connection (with_peer_fin c) s.endpoint))
 
 -- so it is where the segment has one and goes on to it, after what its ACK led to was sent
-abbrev pub finished_by : ℕ → Segment → Option Ruling → State → Result State Halt
+abbrev pub finished_by : ℕ → Segment → Option SegmentCheck → SenderState → Result SenderState Halt
 finished_by now segment r s = if goes_on r && segment.flags.fin then finished_on now s s.endpoint.connection else Ok s
 
 -- a later segment: the ruling, and then the FIN
-abbrev pub passed_on : ℕ → Segment → ConnectionView → State → Option Ruling → Result State Halt
-passed_on now segment c s r = then_on (finished_by now segment r) (ruled now segment c s r)
+abbrev pub passed_on : ℕ → Segment → ConnectionView → SenderState → Option SegmentCheck → Result SenderState Halt
+passed_on now segment c s r = then_on (finished_by now segment r) (check_outcome now segment c s r)
 
 -- an arrival, by whether a connection was begun
-abbrev pub arrived_on : ℕ → Segment → State → Option ConnectionView → Result State Halt
+abbrev pub arrived_on : ℕ → Segment → SenderState → Option ConnectionView → Result SenderState Halt
 arrived_on now segment s None = opened_by now segment s
-arrived_on now segment s (Some c) = passed_on now segment c s (ruling_of c segment)
+arrived_on now segment s (Some c) = passed_on now segment c s (failed_check_of c segment)
 
 -- a segment arrives at a moment: the first one, or one on the connection that was begun
-abbrev pub arrived : Segment → ℕ → State → Result State Halt
+abbrev pub arrived : Segment → ℕ → SenderState → Result SenderState Halt
 arrived segment now s = arrived_on now segment s s.endpoint.connection

@@ -2,67 +2,67 @@
 -- once, as on a descriptor that doesn't block.
 use Rattle.std.specs.Prelude.{ℕ, ◌-◌, ◌==◌, min, Bool, true, false, not, ◌&&◌, Option, Some, None, is_some, option_map, Result, Ok, Err, if◌then◌else◌}
 use Rattle.pd_script.specs.declared.calls.Call.{Call}
-use Rattle.pd_seg.specs.declared.answers.Answer.{Answer}
-use Rattle.pd_seg.specs.declared.answers.Answer.TheVariants.{Number, Error}
-use Rattle.pd_seg.specs.declared.answers.Errno.TheVariants.{Ebadf, Einval, Eagain, Epipe}
+use Rattle.pd_seg.specs.declared.call_results.Answer.{Answer}
+use Rattle.pd_seg.specs.declared.call_results.Answer.TheVariants.{Number, Error}
+use Rattle.pd_seg.specs.declared.call_results.Errno.TheVariants.{Ebadf, Einval, Eagain, Epipe}
 use Rattle.pd_host.specs.declared.established.Established.{Established}
 use Rattle.pd_host.specs.declared.halts.Halt.{Halt}
 use Rattle.pd_host.specs.declared.halts.Halt.TheVariants.{Unsupported}
-use Rattle.pd_host.specs.declared.descriptors.Listener.{Listener}
-use Rattle.pd_host.specs.declared.descriptors.Listener.TheVariants.{Absent, Open, Bound, Listens, Closed}
-use Rattle.pd_host.specs.declared.requests.Operation.{Operation}
-use Rattle.pd_host.specs.declared.requests.Operation.TheVariants.{Bind, Listen, Accept, ReuseAddress, NoDelay, SetFlags, Write, Close}
-use Rattle.pd_host.specs.declared.requests.Request.{Request}
-use Rattle.pd_host.specs.declared.requests.Request.TheVariants.{Socket, On}
-use Rattle.pd_host.specs.declared.descriptors.Stream.{Stream}
-use Rattle.pd_host.specs.declared.descriptors.Stream.TheVariants as stream
-use Rattle.pd_host.specs.Requests.{request_of}
-use Rattle.pd_settings.specs.declared.use_set.UseSet.{UseSet}
+use Rattle.pd_host.specs.declared.descriptors.ListenState.{ListenState}
+use Rattle.pd_host.specs.declared.descriptors.ListenState.TheVariants.{Absent, Open, Bound, Listens, Closed}
+use Rattle.pd_host.specs.declared.syscall.SocketOperation.{SocketOperation}
+use Rattle.pd_host.specs.declared.syscall.SocketOperation.TheVariants.{Bind, Listen, Accept, ReuseAddress, NoDelay, SetFlags, Write, Close}
+use Rattle.pd_host.specs.declared.syscall.Syscall.{Syscall}
+use Rattle.pd_host.specs.declared.syscall.Syscall.TheVariants.{Socket, On}
+use Rattle.pd_host.specs.declared.descriptors.StreamState.{StreamState}
+use Rattle.pd_host.specs.declared.descriptors.StreamState.TheVariants as stream
+use Rattle.pd_host.specs.Syscalls.{syscall_of}
+use Rattle.pd_settings.specs.declared.setting_set.SettingSet.{SettingSet}
 use Rattle.pd_board.specs.Board.{written}
 use Rattle.pd_host.specs.Connection.{ConnectionView}
 use Rattle.pd_host.specs.Sending.{ordinary_outside_recovery}
 use Rattle.pd_host.specs.declared.endpoint.Endpoint.{Endpoint}
-use Rattle.pd_host.specs.declared.endpoint.State.{State}
+use Rattle.pd_host.specs.declared.endpoint.SenderState.{SenderState}
 
 -- the state after a call with what the call answers, or a halt
 abbrev pub Reply : Type 0
-Reply = Result (State × Answer) Halt
+Reply = Result (SenderState × Answer) Halt
 
 -- an answer, with the state after it
-abbrev pub answered : State → Answer → Reply
+abbrev pub answered : SenderState → Answer → Reply
 answered s answer = Ok (s, answer)
 
 -- the state with another listener
-abbrev pub with_listener : Listener → State → State
+abbrev pub with_listener : ListenState → SenderState → SenderState
 with_listener l s = record s { endpoint = record s.endpoint { listener = l } }
 
 -- the state with another connection
-abbrev pub with_stored : Option ConnectionView → State → State
+abbrev pub with_stored : Option ConnectionView → SenderState → SenderState
 with_stored c s = record s { endpoint = record s.endpoint { connection = c } }
 
 -- whether descriptor 3 is open
-abbrev pub is_listener_open : Listener → Bool
+abbrev pub is_listener_open : ListenState → Bool
 is_listener_open Absent = false
 is_listener_open Closed = false
 is_listener_open _ = true
 
 -- whether `accept` has still to hand out descriptor 4
-abbrev pub is_waiting : Stream → Bool
+abbrev pub is_waiting : StreamState → Bool
 is_waiting stream.Waiting = true
 is_waiting _ = false
 
 -- whether descriptor 4 is open
-abbrev pub is_open : Stream → Bool
+abbrev pub is_open : StreamState → Bool
 is_open stream.Open = true
 is_open _ = false
 
 -- descriptor 4, which waits for `accept` from the SYN on
-abbrev pub stream_in : Option Established → Stream
+abbrev pub stream_in : Option Established → StreamState
 stream_in None = stream.Waiting
 stream_in (Some e) = e.stream
 
 -- descriptor 4 of a connection
-abbrev pub stream_of : ConnectionView → Stream
+abbrev pub stream_of : ConnectionView → StreamState
 stream_of c = stream_in c.established
 
 -- whether a connection was begun that isn't accepted
@@ -88,27 +88,27 @@ open_descriptor e fd =
     else None
 
 -- `socket`: 3; a second one isn't run
-abbrev pub socket_reply : State → Listener → Reply
+abbrev pub socket_reply : SenderState → ListenState → Reply
 socket_reply s Absent = answered (with_listener Open s) (Number 3)
 socket_reply s _ = Err Unsupported
 
 -- `bind`: 0 once on 3, else EINVAL
-abbrev pub bind_reply : State → Listener → Descriptor → Reply
+abbrev pub bind_reply : SenderState → ListenState → Descriptor → Reply
 bind_reply s Open Listening = answered (with_listener Bound s) (Number 0)
 bind_reply s _ _ = answered s (Error Einval)
 
 -- `listen`: 0 on a bound 3, also again, else EINVAL
-abbrev pub listen_reply : State → Listener → Descriptor → Reply
+abbrev pub listen_reply : SenderState → ListenState → Descriptor → Reply
 listen_reply s Bound Listening = answered (with_listener Listens s) (Number 0)
 listen_reply s Listens Listening = answered s (Number 0)
 listen_reply s _ _ = answered s (Error Einval)
 
 -- the connection with descriptor 4 that far
-abbrev pub with_stream : Stream → ConnectionView → ConnectionView
+abbrev pub with_stream : StreamState → ConnectionView → ConnectionView
 with_stream d c = record c { established = option_map {T = Established} (λ e. record e { stream = d }) c.established }
 
 -- `accept` hands out 4 where the connection was established, also if it was reset since, and isn't accepted; else EAGAIN
-abbrev pub handed_out : State → Option ConnectionView → Reply
+abbrev pub handed_out : SenderState → Option ConnectionView → Reply
 handed_out s None = answered s (Error Eagain)
 handed_out s (Some c) =
     if is_some c.established && is_waiting (stream_of c)
@@ -116,7 +116,7 @@ handed_out s (Some c) =
     else answered s (Error Eagain)
 
 -- `accept`: so on a listening 3, else EINVAL
-abbrev pub accept_reply : State → Listener → Descriptor → Reply
+abbrev pub accept_reply : SenderState → ListenState → Descriptor → Reply
 accept_reply s Listens Listening = handed_out s s.endpoint.connection
 accept_reply s _ _ = answered s (Error Einval)
 
@@ -125,16 +125,16 @@ abbrev pub with_nagle : Bool → ConnectionView → ConnectionView
 with_nagle on c = record c { established = option_map {T = Established} (λ e. record e { nagle = on }) c.established }
 
 -- `setsockopt` with `TCP_NODELAY`: 0; on 4 Nagle's algorithm is off where it is set
-abbrev pub no_delay_reply : State → Bool → Descriptor → Reply
+abbrev pub no_delay_reply : SenderState → Bool → Descriptor → Reply
 no_delay_reply s set Listening = answered s (Number 0)
 no_delay_reply s set (Connected c) = answered (with_stored (Some (with_nagle (not set) c)) s) (Number 0)
 
 -- `setsockopt` with `SO_REUSEADDR`, and `fcntl` with `F_SETFL`: 0, no effect
-abbrev pub idle_reply : State → Reply
+abbrev pub idle_reply : SenderState → Reply
 idle_reply s = answered s (Number 0)
 
 -- an answer beside what a rule gives for the state
-abbrev pub with_answer : Answer → Result State Halt → Reply
+abbrev pub with_answer : Answer → Result SenderState Halt → Reply
 with_answer answer (Ok s) = Ok (s, answer)
 with_answer answer (Err halt) = Err halt
 
@@ -147,24 +147,24 @@ abbrev pub with_queued : ℕ → ConnectionView → ConnectionView
 with_queued n c = record c { board = written n c.board }
 
 -- the settings that a `write` of some octets consults
-abbrev pub write_uses : UseSet → UseSet
-write_uses uses = record uses { sndbuf = true }
+abbrev pub write_settings : SettingSet → SettingSet
+write_settings consulted_settings = record consulted_settings { sndbuf = true }
 
 -- octets are queued, as many as there is room for, and sent as the windows let them; without room EAGAIN
-abbrev pub queued : ℕ → ℕ → ℕ → ConnectionView → State → Reply
+abbrev pub queued : ℕ → ℕ → ℕ → ConnectionView → SenderState → Reply
 queued now n free c s =
     if free == 0 then answered s (Error Eagain)
     else with_answer (Number (min n free)) (ordinary_outside_recovery now c (with_stored (Some (with_queued (min n free) c)) s))
 
 -- `write` on an open 4: EPIPE after a reset, 0 for no octets
-abbrev pub written_on : ℕ → ℕ → ConnectionView → State → Reply
+abbrev pub written_on : ℕ → ℕ → ConnectionView → SenderState → Reply
 written_on now n c s =
-    if c.reset then answered s (Error Epipe)
+    if c.is_reset then answered s (Error Epipe)
     else if n == 0 then answered s (Number 0)
-    else queued now n (free_of s.settings.sndbuf c) c (record s { uses = write_uses s.uses })
+    else queued now n (free_of s.settings.sndbuf c) c (record s { consulted_settings = write_settings s.consulted_settings })
 
 -- `write` at a moment: EINVAL on 3
-abbrev pub write_reply : ℕ → State → ℕ → Descriptor → Reply
+abbrev pub write_reply : ℕ → SenderState → ℕ → Descriptor → Reply
 write_reply now s n Listening = answered s (Error Einval)
 write_reply now s n (Connected c) = written_on now n c s
 
@@ -174,22 +174,22 @@ with_fin c = record (with_queued 1 c) { fin = true }
 
 -- the connection whose descriptor is closed; a FIN is queued unless it was reset
 abbrev pub closed_stream : ConnectionView → ConnectionView
-closed_stream c = with_stream stream.Closed (if c.reset then c else with_fin c)
+closed_stream c = with_stream stream.Closed (if c.is_reset then c else with_fin c)
 
 -- `close` on an open 4: 0, and the FIN is sent as the windows let it
-abbrev pub closed_on : ℕ → ConnectionView → State → Reply
+abbrev pub closed_on : ℕ → ConnectionView → SenderState → Reply
 closed_on now c s =
     let closed = with_stored (Some (closed_stream c)) s in
-    with_answer (Number 0) (if c.reset then Ok closed else ordinary_outside_recovery now c closed)
+    with_answer (Number 0) (if c.is_reset then Ok closed else ordinary_outside_recovery now c closed)
 
 -- `close` at a moment: 0 on 3, but not while a connection was begun and isn't accepted
-abbrev pub close_reply : ℕ → State → Descriptor → Reply
+abbrev pub close_reply : ℕ → SenderState → Descriptor → Reply
 close_reply now s Listening =
     if is_pending s.endpoint.connection then Err Unsupported else answered (with_listener Closed s) (Number 0)
 close_reply now s (Connected c) = closed_on now c s
 
 -- the row of an operation on an open descriptor
-abbrev pub operated : ℕ → State → Descriptor → Operation → Reply
+abbrev pub operated : ℕ → SenderState → Descriptor → SocketOperation → Reply
 operated now s descriptor Bind = bind_reply s s.endpoint.listener descriptor
 operated now s descriptor Listen = listen_reply s s.endpoint.listener descriptor
 operated now s descriptor Accept = accept_reply s s.endpoint.listener descriptor
@@ -200,20 +200,20 @@ operated now s descriptor (Write n) = write_reply now s n descriptor
 operated now s descriptor Close = close_reply now s descriptor
 
 -- a descriptor that isn't open answers EBADF, before all else
-abbrev pub on_open : ℕ → State → Operation → Option Descriptor → Reply
+abbrev pub on_open : ℕ → SenderState → SocketOperation → Option Descriptor → Reply
 on_open now s operation None = answered s (Error Ebadf)
 on_open now s operation (Some descriptor) = operated now s descriptor operation
 
 -- the reply to a request
-abbrev pub reply_to : ℕ → State → Request → Reply
+abbrev pub reply_to : ℕ → SenderState → Syscall → Reply
 reply_to now s Socket = socket_reply s s.endpoint.listener
 reply_to now s (On fd operation) = on_open now s operation (open_descriptor s.endpoint fd)
 
 -- what a request does; without one the call isn't run
-abbrev pub requested : ℕ → State → Option Request → Reply
+abbrev pub requested : ℕ → SenderState → Option Syscall → Reply
 requested now s None = Err Unsupported
 requested now s (Some request) = reply_to now s request
 
 -- a call at a moment: the state after it and its answer; a call whose name or shape isn't run halts
-abbrev pub called : Call → ℕ → State → Reply
-called call now s = requested now s (request_of call)
+abbrev pub called : Call → ℕ → SenderState → Reply
+called call now s = requested now s (syscall_of call)

@@ -5,10 +5,10 @@ use Rattle.pd_host.specs.Handshake.{is_listening}
 use Rattle.pd_host.specs.declared.connection.states.ConnState.{ConnState}
 use Rattle.pd_host.specs.declared.connection.states.ConnState.TheVariants.{Closed, Listen, SynReceived, Established, FinWait1, FinWait2, CloseWait, Closing, LastAck, TimeWait}
 use Rattle.pd_host.specs.declared.established.Established as conn
-use Rattle.pd_host.specs.declared.descriptors.Listener.{Listener}
+use Rattle.pd_host.specs.declared.descriptors.ListenState.{ListenState}
 use Rattle.pd_host.specs.declared.established.PeerFin.{PeerFin}
 use Rattle.pd_host.specs.declared.established.PeerFin.TheVariants.{Awaited, BeforeOurs, AfterOurs}
-use Rattle.pd_host.specs.declared.endpoint.State.{State}
+use Rattle.pd_host.specs.declared.endpoint.SenderState.{SenderState}
 
 -- from the end of the handshake on: by the peer's FIN, by whether ours is queued, and by whether all that is queued is
 -- acknowledged, our FIN too
@@ -29,15 +29,15 @@ state_since c (Some e) = synchronized e.peer_fin c.fin (c.board.una == c.board.e
 
 -- the state of a connection that a SYN has begun; after an RST it is CLOSED, in the handshake too (own profile)
 abbrev pub state_of : ConnectionView → ConnState
-state_of c = if c.reset then Closed else state_since c c.established
+state_of c = if c.is_reset then Closed else state_since c c.established
 
 -- the state by the listener and the connection
-abbrev pub state_on : Listener → Option ConnectionView → ConnState
+abbrev pub state_on : ListenState → Option ConnectionView → ConnState
 state_on listener None = if is_listening listener then Listen else Closed
 state_on _ (Some c) = state_of c
 
 -- the state of the sender
-abbrev pub conn_state : State → ConnState
+abbrev pub conn_state : SenderState → ConnState
 conn_state s = state_on s.endpoint.listener s.endpoint.connection
 
 -- nothing is run any more

@@ -6,12 +6,12 @@ use Rattle.pd_host.specs.declared.established.Established.{Established}
 use Rattle.pd_host.specs.declared.established.PeerFin.{PeerFin}
 use Rattle.pd_host.specs.declared.established.PeerFin.TheVariants.{Awaited}
 use Rattle.pd_host.specs.declared.connection.Scaling.{Scaling}
-use Rattle.pd_host.specs.declared.connection.timing.Timing.{Timing}
+use Rattle.pd_host.specs.declared.connection.rtt_segment.RttSegment.{RttSegment}
 
 -- a connection's transmission control block (RFC 9293, section 3.3.1); numbers are relative, both initial ones at 0
 pub record ConnectionView : Type 0 where
   -- the MSS that the SYN/ACK announces, in octets (RFC 9293, section 3.7.1)
-  pub announced : ℕ
+  pub own_mss : ℕ
   -- whether SACK was agreed (RFC 2018, section 2)
   pub sack : Bool
   -- by how much windows are shifted, if that was agreed (RFC 7323, section 2)
@@ -25,17 +25,17 @@ pub record ConnectionView : Type 0 where
   -- the retransmission timer (RFC 6298)
   pub timer : RtoView
   -- the segment whose round trip is measured, if one is (RFC 6298, section 3)
-  pub timed : Option Timing
+  pub rtt_segment : Option RttSegment
   -- when octets were last sent, our SYN and FIN too (RFC 5681, section 4.1)
   pub last_sent : ℕ
   -- the largest of the peer's windows seen so far, in octets, the SYN's too (RFC 9293, section 3.8.6.2.1: Max(SND.WND))
-  pub widest : ℕ
+  pub max_window : ℕ
   -- whether the SYN/ACK was sent again (RFC 5681, section 3.1; RFC 6298, section 5.7)
-  pub resent : Bool
+  pub syn_ack_resent : Bool
   -- what the connection has from the end of its handshake on
   pub established : Option Established
   -- whether an RST has ended it
-  pub reset : Bool
+  pub is_reset : Bool
 
 -- the peer's FIN, which can't have come before the end of the handshake
 abbrev pub peer_fin_in : Option Established → PeerFin

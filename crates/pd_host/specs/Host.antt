@@ -1,23 +1,23 @@
 -- The sender: what it holds between two inputs, and how a rule changes that or halts.
 use Rattle.std.specs.Prelude.{ℕ, ◌+◌, ◌<◌, ◌^◌, List, [], ◌∷◌, ◌++◌, drop, Option, Some, None, unwrap_or, Result, Ok, Err, if◌then◌else◌}
-use Rattle.pd_settings.specs.Uses.{no_uses}
-use Rattle.pd_settings.specs.declared.fields.Settings.{Settings}
+use Rattle.pd_settings.specs.SettingSets.{no_settings}
+use Rattle.pd_settings.specs.declared.settings.Settings.{Settings}
 use Rattle.pd_seg.specs.declared.segments.Segment.{Segment}
 use Rattle.pd_seg.specs.declared.segments.Sent.{Sent}
 use Rattle.pd_host.specs.Connection.{ConnectionView}
-use Rattle.pd_host.specs.Places.{has_place}
+use Rattle.pd_host.specs.OutboxLimit.{has_place}
 use Rattle.pd_host.specs.declared.endpoint.Endpoint.{Endpoint}
 use Rattle.pd_host.specs.declared.halts.Halt.{Halt}
 use Rattle.pd_host.specs.declared.halts.Halt.TheVariants.{Limit}
-use Rattle.pd_host.specs.declared.halts.Ending.{Ending}
-use Rattle.pd_host.specs.declared.halts.Ending.TheVariants.{OutOfMemory}
-use Rattle.pd_host.specs.declared.descriptors.Listener.TheVariants.{Absent}
-use Rattle.pd_host.specs.declared.endpoint.State.{State}
+use Rattle.pd_host.specs.declared.halts.HostEnd.{HostEnd}
+use Rattle.pd_host.specs.declared.halts.HostEnd.TheVariants.{OutOfMemory}
+use Rattle.pd_host.specs.declared.descriptors.ListenState.TheVariants.{Absent}
+use Rattle.pd_host.specs.declared.endpoint.SenderState.{SenderState}
 
 -- a host: its state, and why it has ended, if it has
 pub record HostView : Type 0 where
-  pub state : State
-  pub ended : Option Ending
+  pub state : SenderState
+  pub ended : Option HostEnd
 
 -- the number after the last octet that a connection has queued, 0 without one
 abbrev pub queued_to : Option ConnectionView → ℕ
@@ -25,7 +25,7 @@ queued_to None = 0
 queued_to (Some c) = c.board.end
 
 -- what is queued leaves room below 2^31 for whatever one call may queue: at most the greatest `sndbuf`
-abbrev pub IsShort : State → Type 0
+abbrev pub IsShort : SenderState → Type 0
 IsShort s = queued_to s.endpoint.connection + 1048576 < 2 ^ 31
 
 -- an endpoint that nothing has happened to
@@ -35,12 +35,12 @@ fresh_endpoint = record { listener = Absent; connection = None; outbox = [] }
 -- a host that nothing has happened to
 abbrev pub fresh_host : Settings → HostView
 fresh_host settings = record {
-  state = record { settings = settings; uses = no_uses; endpoint = fresh_endpoint };
+  state = record { settings = settings; consulted_settings = no_settings; endpoint = fresh_endpoint };
   ended = None;
 }
 
 -- what a rule of the endpoint gives for the whole state: settings and uses stay
-abbrev pub beside : State → Result Endpoint Halt → Result State Halt
+abbrev pub beside : SenderState → Result Endpoint Halt → Result SenderState Halt
 beside s (Ok endpoint) = Ok (record s { endpoint = endpoint })
 beside s (Err halt) = Err halt
 
@@ -71,9 +71,9 @@ without_oldest sender = record sender { state = record sender.state { endpoint =
     rest e = record e { outbox = drop 1 e.outbox }
 
 -- why a sender for which no memory was found has ended: by that, unless it had ended before
-abbrev pub end_of : HostView → Ending
+abbrev pub end_of : HostView → HostEnd
 end_of sender = unwrap_or sender.ended OutOfMemory
 
 -- a sender for which no memory was found has ended
-abbrev pub exhausted : HostView → HostView
-exhausted sender = record sender { ended = Some (end_of sender) }
+abbrev pub ended_out_of_memory : HostView → HostView
+ended_out_of_memory sender = record sender { ended = Some (end_of sender) }

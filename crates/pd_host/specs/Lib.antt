@@ -1,18 +1,18 @@
 -- The definitions that the contracts cite.
 pub use Rattle.pd_settings.specs.Settings
 pub mod Connection
-pub mod Places
+pub mod OutboxLimit
 pub mod Host
 pub mod Packets
-pub mod Timing
-pub mod Requests
+pub mod RttSegment
+pub mod Syscalls
 pub mod Sending
 pub mod Calls
 pub mod Handshake
 pub mod ConnStates
-pub mod Acknowledgments
+pub mod AckEffects
 pub mod Arrivals
-pub mod Figure
+pub mod StateDiagram
 pub mod Expiries
 pub mod Steps
 pub mod Laws
@@ -20,8 +20,8 @@ pub mod Growth
 pub mod InputLaws
 pub mod SendingLaws
 pub mod Invariants
-pub mod Outcome
-pub mod Figures
-pub mod Evidence
-pub mod Holds
+pub mod InputResults
+pub mod ConnectionSnapshot
+pub mod LossEvidence
+pub mod SendBlockers
 pub mod Inner

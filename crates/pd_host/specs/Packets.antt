@@ -1,9 +1,9 @@
 -- The segments that a connection puts out: data with our FIN, ACKs, the SYN/ACK, and the RST that refuses an ACK.
 use Rattle.std.specs.Prelude.{ℕ, ◌/◌, ◌^◌, min, nat_lt, nat_le, ◌&&◌, Bool, true, false, List, [], ◌∷◌, ◌++◌, Option, Some, None}
-use Rattle.pd_seg.specs.declared.control_bits.Flags.{Flags}
+use Rattle.pd_seg.specs.declared.flags.Flags.{Flags}
 use Rattle.pd_seg.specs.declared.option_list.SegOption.{SegOption}
 use Rattle.pd_seg.specs.declared.option_list.SegOption.TheVariants.{Mss, Wscale, SackOk, Nop}
-use Rattle.pd_seg.specs.declared.sack_blocks.Span.{Span}
+use Rattle.pd_seg.specs.declared.sack_spans.Span.{Span}
 use Rattle.pd_seg.specs.declared.segments.Segment.{Segment}
 use Rattle.pd_host.specs.declared.connection.Scaling.{Scaling}
 use Rattle.pd_host.specs.Connection.{ConnectionView, rcv_nxt, data_end}
@@ -75,7 +75,7 @@ syn_ack_of c = record {
   end = 0;
   ack = 1;
   win = min c.rcv_wnd 65535;
-  options = Mss c.announced ∷ (sack_options c.sack ++ scale_options c.scaling);
+  options = Mss c.own_mss ∷ (sack_options c.sack ++ scale_options c.scaling);
 }
 
 -- the RST that refuses an ack number: `R ack:ack(0)` with window 0 (RFC 9293, section 3.10.7.4, fifth check)

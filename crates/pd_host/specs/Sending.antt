@@ -1,18 +1,18 @@
 -- Ordinary sending: what the windows and Nagle's algorithm let leave.
 use Rattle.std.specs.Prelude.{ℕ, ◌+◌, ◌-◌, ◌*◌, ◌==◌, nat_lt, nat_le, min, zero, suc, not, Bool, false, ◌&&◌, ◌||◌, [], ◌∷◌, ◌++◌, length, Option, Some, None, is_some, Result, Ok, Err, if◌then◌else◌}
-use Rattle.pd_seg.specs.declared.sack_blocks.Span.{Span}
+use Rattle.pd_seg.specs.declared.sack_spans.Span.{Span}
 use Rattle.pd_seg.specs.declared.segments.Segment.{Segment}
-use Rattle.pd_board.specs.Choice.{run_at}
-use Rattle.pd_board.specs.Board.{sent_to, skipped}
+use Rattle.pd_board.specs.Retransmit.{run_at}
+use Rattle.pd_board.specs.Board.{sent_to, past_sacked_octets}
 use Rattle.pd_recover.specs.Cong.{restarted}
 use Rattle.pd_host.specs.Connection.{ConnectionView}
 use Rattle.pd_host.specs.Packets.{data_of, covers_fin}
-use Rattle.pd_host.specs.Places.{most_packets}
-use Rattle.pd_host.specs.Timing.{clocked}
+use Rattle.pd_host.specs.OutboxLimit.{most_packets}
+use Rattle.pd_host.specs.RttSegment.{timing_started}
 use Rattle.pd_host.specs.declared.established.Established.{Established}
 use Rattle.pd_host.specs.declared.halts.Halt.{Halt}
 use Rattle.pd_host.specs.declared.halts.Halt.TheVariants.{Limit}
-use Rattle.pd_host.specs.declared.endpoint.State.{State}
+use Rattle.pd_host.specs.declared.endpoint.SenderState.{SenderState}
 
 -- Before the end of the handshake
 
@@ -29,18 +29,18 @@ value_in before value (Some c) = value_on before value c c.established
 -- How packets are put out one after the other
 
 -- how many packets the outbox still takes
-abbrev pub places_left : State → ℕ
+abbrev pub places_left : SenderState → ℕ
 places_left s = most_packets - length s.endpoint.outbox
 
 -- a segment is put out at a moment, where the outbox has a place
-abbrev pub with_packet_sent : ℕ → Segment → State → State
+abbrev pub with_packet_sent : ℕ → Segment → SenderState → SenderState
 with_packet_sent now segment s = record s {
   endpoint = record s.endpoint { outbox = s.endpoint.outbox ++ record { segment = segment; at = now } ∷ [] };
 }
 
 -- the state with this connection
-abbrev pub with_block : ConnectionView → State → State
-with_block c s = record s { endpoint = record s.endpoint { connection = Some c } }
+abbrev pub with_begun_connection : ConnectionView → SenderState → SenderState
+with_begun_connection c s = record s { endpoint = record s.endpoint { connection = Some c } }
 
 -- what was found is done, and the rest follows; where nothing is found, all is done
 abbrev pub on_found : {S X : Type 0} → (S → Result S Halt) → (X → S → S) → S → Option X → Result S Halt
@@ -79,56 +79,56 @@ abbrev pub is_full : ConnectionView → Established → Bool
 is_full c e = nat_le c.board.smss (sendable c e)
 
 -- all that is queued can leave (RFC 9293, section 3.8.6.2.1, rule 2: D <= U; each write counts as pushed)
-abbrev pub is_all : ConnectionView → Established → Bool
-is_all c e = nat_le (unsent c) (usable c e)
+abbrev pub is_all_unsent : ConnectionView → Established → Bool
+is_all_unsent c e = nat_le (unsent c) (usable c e)
 
 -- at least half of the largest window seen can leave (RFC 9293, section 3.8.6.2.1, rule 3)
-abbrev pub is_half_window : ConnectionView → Established → Bool
-is_half_window c e = nat_le c.widest (2 * sendable c e)
+abbrev pub is_half_max_window : ConnectionView → Established → Bool
+is_half_max_window c e = nat_le c.max_window (2 * sendable c e)
 
 -- Nagle's algorithm holds a segment that isn't full while octets are outstanding (RFC 9293, section 3.7.4), but not our FIN
 -- (own profile)
-abbrev pub is_held_back : ConnectionView → Established → Bool
-is_held_back c e = e.nagle && (nat_lt c.board.una c.board.top && not (covers_fin c (unsent_segment c e)))
+abbrev pub is_nagle_delayed : ConnectionView → Established → Bool
+is_nagle_delayed c e = e.nagle && (nat_lt c.board.una c.board.top && not (covers_fin c (unsent_segment c e)))
 
 -- a segment of new octets leaves
 abbrev pub leaves_now : ConnectionView → Established → Bool
-leaves_now c e = is_full c e || ((is_all c e || is_half_window c e) && not (is_held_back c e))
+leaves_now c e = is_full c e || ((is_all_unsent c e || is_half_max_window c e) && not (is_nagle_delayed c e))
 
 -- new octets: the next segment, where one leaves
 abbrev pub next_new : ConnectionView → Established → Option Span
 next_new c e = if nat_lt 0 (sendable c e) && leaves_now c e then Some (unsent_segment c e) else None
 
 -- octets that were sent before: the next segment, where the windows let all of it leave
-abbrev pub next_again : ConnectionView → Established → Option Span
-next_again c e =
+abbrev pub next_retransmitted : ConnectionView → Established → Option Span
+next_retransmitted c e =
     let segment = run_at c.board.next c.board in
     if nat_le segment.end (window_edge c e) then Some segment else None
 
 -- the segment that ordinary sending sends next, on a board whose sending place isn't SACKed
 abbrev pub ordinary_segment : ConnectionView → Established → Option Span
-ordinary_segment c e = if nat_lt c.board.next c.board.top then next_again c e else next_new c e
+ordinary_segment c e = if nat_lt c.board.next c.board.top then next_retransmitted c e else next_new c e
 
 -- How a segment is sent
 
 -- the sending place moves past SACKed octets (RFC 2018, section 5)
 abbrev pub past_sacked : ConnectionView → ConnectionView
-past_sacked c = record c { board = skipped c.board }
+past_sacked c = record c { board = past_sacked_octets c.board }
 
 -- a segment was sent at a moment from the sending place, which moves after it
 abbrev pub sent_on : ℕ → Span → ConnectionView → ConnectionView
-sent_on now segment c = record (clocked now segment c) { board = sent_to segment.end c.board }
+sent_on now segment c = record (timing_started now segment c) { board = sent_to segment.end c.board }
 
 -- a segment is put out at a moment, and leaves this connection
-abbrev pub with_segment : ℕ → Span → ConnectionView → ConnectionView → State → State
-with_segment now segment before after s = with_packet_sent now (data_of before segment) (with_block after s)
+abbrev pub with_segment : ℕ → Span → ConnectionView → ConnectionView → SenderState → SenderState
+with_segment now segment before after s = with_packet_sent now (data_of before segment) (with_begun_connection after s)
 
 -- the segment that ordinary sending sends next; none before the end of the handshake
 abbrev pub found : Option ConnectionView → Option Span
 found connection = value_in None ordinary_segment connection
 
 -- that segment is put out at a moment, and the sending place moves after it and past SACKed octets
-abbrev pub sent_ordinarily : ℕ → Span → Option ConnectionView → State → State
+abbrev pub sent_ordinarily : ℕ → Span → Option ConnectionView → SenderState → SenderState
 sent_ordinarily now segment None s = s
 sent_ordinarily now segment (Some c) s = with_segment now segment c (past_sacked (sent_on now segment c)) s
 
@@ -142,22 +142,22 @@ restarted_in smss idle None = None
 restarted_in smss idle (Some e) = Some (record e { congestion = restarted smss idle e.congestion })
 
 -- sending begins at a moment: after an idle time the window restarts, where the setting was on (RFC 5681, section 4.1)
-abbrev pub begun_again : ℕ → ConnectionView → ConnectionView
-begun_again now c = record c { established = restarted_in c.board.smss (is_idle now c) c.established }
+abbrev pub restarted_if_idle : ℕ → ConnectionView → ConnectionView
+restarted_if_idle now c = record c { established = restarted_in c.board.smss (is_idle now c) c.established }
 
 -- before anything is sent at a moment, the sending place moves past SACKed octets too (RFC 2018, section 5)
-abbrev pub ready : ℕ → Option ConnectionView → State → State
+abbrev pub ready : ℕ → Option ConnectionView → SenderState → SenderState
 ready now None s = s
-ready now (Some c) s = with_block (past_sacked (begun_again now c)) s
+ready now (Some c) s = with_begun_connection (past_sacked (restarted_if_idle now c)) s
 
 -- ordinary sending at a moment, until nothing more leaves
-abbrev pub sent_until_done : ℕ → State → Result State Halt
+abbrev pub sent_until_done : ℕ → SenderState → Result SenderState Halt
 sent_until_done now s =
     repeated (λ t. found t.endpoint.connection) (λ segment t. sent_ordinarily now segment t.endpoint.connection t) (places_left s) s
 
 -- ordinary sending at a moment: the window may restart, the sending place moves past SACKed octets, and then segments leave
 -- until none may
-abbrev pub ordinary : ℕ → State → Result State Halt
+abbrev pub ordinary : ℕ → SenderState → Result SenderState Halt
 ordinary now s = sent_until_done now (ready now s.endpoint.connection s)
 
 -- whether loss recovery goes on
@@ -166,5 +166,5 @@ is_recovering None = false
 is_recovering (Some e) = e.congestion.recovering
 
 -- ordinary sending after a call: not in recovery (own; RFC 6675, section 5, goes on after an ACK)
-abbrev pub ordinary_outside_recovery : ℕ → ConnectionView → State → Result State Halt
+abbrev pub ordinary_outside_recovery : ℕ → ConnectionView → SenderState → Result SenderState Halt
 ordinary_outside_recovery now c s = if is_recovering c.established then Ok s else ordinary now s

@@ -3,32 +3,32 @@ ghost use Rattle.std.specs.Prelude.{◌≡◌, ◌≤◌, ◌<◌, ◌^◌, None
 ghost use Rattle.pd_host.specs.Arrivals.{finished_by, passed_on, arrived};
 ghost use Rattle.pd_host.specs.Handshake.{is_syn_alone, is_opening, opened_by};
 ghost use Rattle.pd_host.specs.Host.{with_packet};
-ghost use Rattle.pd_host.specs.Outcome.{Gives};
+ghost use Rattle.pd_host.specs.InputResults.{Gives};
 ghost use Rattle.pd_host.specs.Packets.{ack_of, refusal_of};
 ghost use Rattle.pd_host.specs.Steps.{GivesOn};
 
-use crate::acknowledgments::respond;
-use crate::connection::checks::Ruling;
+use crate::ack_actions::act_on_ack;
+use crate::connection::segment_check::SegmentCheck;
 use crate::connection::{Connection, refusal};
-use crate::descriptors::Listener;
-use crate::endpoint::State;
-use crate::halts::{Ending, Halt};
-use crate::offers::{Offers, is_mss_run};
+use crate::consulted_settings::{with_establishment_settings, with_syn_settings};
+use crate::descriptors::ListenState;
+use crate::endpoint::SenderState;
+use crate::halts::{Halt, HostEnd};
 use crate::outbox::Outbox;
-use crate::uses::{with_establishment, with_syn};
+use crate::syn_options::{SynOptions, is_mss_run};
 use pd_seg::{Flags, Segment};
 
 /// What stops a segment that isn't run.
-const NOT_RUN: Ending = Ending::Halted(Halt::Unsupported);
+const NOT_RUN: HostEnd = HostEnd::Halted(Halt::Unsupported);
 
-impl State {
+impl SenderState {
     /// A segment arrives at a moment: the first one, or one on the connection that was begun.
     ///
     /// # Errors
     /// `Halted` by `Unsupported` where the segment isn't run; else `OutOfMemory` where memory is refused, or `Halted` by
     /// `Limit` where a packet finds the outbox full, whichever comes first.
     #[inline(always)]
-    pub fn arrive(&mut self, segment: &Segment, now: u64) -> Result<(), Ending>
+    pub fn arrive(&mut self, segment: &Segment, now: u64) -> Result<(), HostEnd>
         requires early { now < 2 ^ 62 }
         ensures { Gives (arrived segment.now now self.old) result self.new }
     {
@@ -36,21 +36,21 @@ impl State {
             return self.open(segment, now);
         };
         let outbox = &mut self.endpoint.outbox;
-        match connection.ruling(segment) {
-            Some(Ruling::NotRun) => Err(NOT_RUN),
-            Some(Ruling::StrayRst | Ruling::WithoutAck) => Ok(()),
-            Some(Ruling::OutsideWindow | Ruling::ChallengedRst | Ruling::EarlyAck) => {
-                acknowledge(connection, outbox, now)
-            }
-            Some(Ruling::ExactRst) => {
-                connection.reset();
+        match connection.failed_check(segment) {
+            Some(SegmentCheck::NotRun) => Err(NOT_RUN),
+            Some(SegmentCheck::StrayRst | SegmentCheck::WithoutAck) => Ok(()),
+            Some(
+                SegmentCheck::OutsideWindow | SegmentCheck::ChallengedRst | SegmentCheck::EarlyAck,
+            ) => { acknowledge(connection, outbox, now) }
+            Some(SegmentCheck::ExactRst) => {
+                connection.end_by_rst();
                 Ok(())
             }
-            Some(Ruling::RefusedAck) => refuse(outbox, segment.ack, now),
-            Some(Ruling::OldAck) => finish(connection, outbox, segment, now),
-            Some(Ruling::FirstAck) => {
+            Some(SegmentCheck::RefusedAck) => refuse(outbox, segment.ack, now),
+            Some(SegmentCheck::OldAck) => finish(connection, outbox, segment, now),
+            Some(SegmentCheck::FirstAck) => {
                 connection.establish(&self.settings, segment, now);
-                self.uses = with_establishment(self.uses);
+                self.consulted_settings = with_establishment_settings(self.consulted_settings);
                 finish(connection, outbox, segment, now)
             }
             None => take(connection, outbox, segment, now),
@@ -58,7 +58,7 @@ impl State {
     }
 
     /// The first segment begins the connection, or isn't run.
-    fn open(&mut self, segment: &Segment, now: u64) -> Result<(), Ending>
+    fn open(&mut self, segment: &Segment, now: u64) -> Result<(), HostEnd>
         requires early { now < 2 ^ 62 }
         ensures { Gives (opened_by now segment.now self.old) result self.new }
     {
@@ -68,9 +68,9 @@ impl State {
         let alloc = self.endpoint.outbox.allocator();
         let connection = Connection::begin(alloc, &self.settings, segment, now);
         let syn_ack = connection.syn_ack(alloc)?;
-        self.uses = with_syn(self.uses);
+        self.consulted_settings = with_syn_settings(self.consulted_settings);
         self.endpoint.connection = Some(connection);
-        self.endpoint.outbox.put_out(syn_ack, now)
+        self.endpoint.outbox.push(syn_ack, now)
     }
 }
 
@@ -81,14 +81,14 @@ fn take(
     outbox: &mut Outbox,
     segment: &Segment,
     now: u64,
-) -> Result<(), Ending>
+) -> Result<(), HostEnd>
     requires early { now < 2 ^ 62 }
     requires known { connection.old.board.una ≤ segment.now.ack }
     requires sent { segment.now.ack ≤ connection.old.board.top }
     ensures { GivesOn (λ s. passed_on now segment.now connection.old s None) connection.old outbox.old result connection.new outbox.new }
 {
     let then = connection.take(segment, now)?;
-    respond(connection, outbox, then, now)?;
+    act_on_ack(connection, outbox, then, now)?;
     finish(connection, outbox, segment, now)
 }
 
@@ -99,7 +99,7 @@ fn finish(
     outbox: &mut Outbox,
     segment: &Segment,
     now: u64,
-) -> Result<(), Ending>
+) -> Result<(), HostEnd>
     ensures { GivesOn (finished_by now segment.now None) connection.old outbox.old result connection.new outbox.new }
 {
     if !segment.flags.fin {
@@ -110,19 +110,19 @@ fn finish(
 }
 
 /// An ACK of what was received is put out at a moment.
-fn acknowledge(connection: &Connection, outbox: &mut Outbox, now: u64) -> Result<(), Ending>
+fn acknowledge(connection: &Connection, outbox: &mut Outbox, now: u64) -> Result<(), HostEnd>
     ensures { Gives (with_packet now (ack_of connection.now) outbox.old) result outbox.new }
 {
     let ack = connection.acknowledgment(outbox.allocator());
-    outbox.put_out(ack, now)
+    outbox.push(ack, now)
 }
 
 /// The RST that refuses an ACK is put out at a moment.
-fn refuse(outbox: &mut Outbox, ack: u32, now: u64) -> Result<(), Ending>
+fn refuse(outbox: &mut Outbox, ack: u32, now: u64) -> Result<(), HostEnd>
     ensures { Gives (with_packet now (refusal_of ack) outbox.old) result outbox.new }
 {
     let rst = refusal(ack, outbox.allocator());
-    outbox.put_out(rst, now)
+    outbox.push(rst, now)
 }
 
 fn is_syn_alone(flags: Flags) -> bool
@@ -132,12 +132,12 @@ fn is_syn_alone(flags: Flags) -> bool
 }
 
 /// Whether a first segment begins the connection.
-fn is_opening(listener: Listener, segment: &Segment) -> bool
+fn is_opening(listener: ListenState, segment: &Segment) -> bool
     ensures { result ≡ is_opening listener segment.now }
 {
     listener.is_listening()
         && is_syn_alone(segment.flags)
         && segment.start == 0
         && segment.len() == 0
-        && is_mss_run(Offers::of(segment.options.as_slice()).mss)
+        && is_mss_run(SynOptions::of(segment.options.as_slice()).mss)
 }

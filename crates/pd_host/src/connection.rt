@@ -4,27 +4,27 @@ ghost use Rattle.pd_host.specs.Arrivals.{reset_of, with_peer_fin};
 ghost use Rattle.pd_host.specs.Calls.{stream_of, with_stream, with_nagle, free_of, with_queued, with_fin};
 ghost use Rattle.pd_host.specs.Connection.{peer_fin_in, rcv_nxt};
 ghost use Rattle.pd_host.specs.Inner.{IsScalable};
-ghost use Rattle.pd_host.specs.Handshake.{offered_mss, is_mss_run, smss_of, scaling_of, block_begun, window_in, syn_acked, established_with, established_by};
+ghost use Rattle.pd_host.specs.Handshake.{offered_mss, is_mss_run, smss_of, scaling_of, connection_begun, window_in, syn_acked, established_with, established_by};
 ghost use Rattle.pd_host.specs.Sending.{is_recovering};
-ghost use Rattle.pd_host.specs.declared.descriptors.Stream.TheVariants.{Open as StreamOpen, Closed as StreamClosed};
+ghost use Rattle.pd_host.specs.declared.descriptors.StreamState.TheVariants.{Open as StreamOpen, Closed as StreamClosed};
 ghost use Rattle.pd_host.specs.Packets.{peer_count};
-ghost use Rattle.pd_host.specs.Timing.{with_sample, with_timer_settled};
+ghost use Rattle.pd_host.specs.RttSegment.{with_sample, with_handshake_timer_ended};
 
-pub mod acknowledgments;
-pub mod checks;
-pub mod evidence;
-mod expiring;
-pub mod observing;
-mod packets;
-mod sending;
+pub mod ack_effects;
+mod control_segments;
+mod expiry;
+pub mod introspection;
+pub mod loss_evidence;
+mod next_segment;
+pub mod rtt_segment;
+pub mod segment_check;
 pub mod states;
-pub mod timing;
 
-use self::timing::Timing;
-use crate::descriptors::Stream;
+use self::rtt_segment::RttSegment;
+use crate::descriptors::StreamState;
 use crate::established::{Established, PeerFin};
-use crate::offers::Offers;
-pub use packets::refusal;
+use crate::syn_options::SynOptions;
+pub use control_segments::refusal;
 use pd_board::Board;
 use pd_recover::Cong;
 use pd_seg::{Segment, Span};
@@ -58,15 +58,15 @@ pub struct Connection {
     /// The retransmission timer (RFC 6298).
     timer: Rto,
     /// The segment whose round trip is measured, if one is (RFC 6298, section 3).
-    timed: Option<Timing>,
+    rtt_segment: Option<RttSegment>,
     /// What the connection has from the end of its handshake on.
     established: Option<Established>,
     /// RCV.WND: how many octets the peer may send (RFC 9293, section 3.3.1).
     rcv_wnd: u32,
     /// Max(SND.WND): the largest of the peer's windows seen so far, the SYN's too, in octets (RFC 9293, section 3.8.6.2.1).
-    widest: u32,
+    max_window: u32,
     /// The MSS that our SYN/ACK names, in octets (RFC 9293, section 3.7.1).
-    announced: u16,
+    own_mss: u16,
     /// Whether SACK was agreed (RFC 2018, section 2).
     sack: bool,
     /// By how much windows are shifted, if that was agreed (RFC 7323, section 2).
@@ -74,9 +74,9 @@ pub struct Connection {
     /// Whether the last octet queued is our FIN (RFC 9293, section 3.4).
     fin: bool,
     /// Whether the SYN/ACK was sent again (RFC 5681, section 3.1; RFC 6298, section 5.7).
-    resent: bool,
+    syn_ack_resent: bool,
     /// Whether an RST has ended it (RFC 9293, section 3.10.7.4, second check).
-    reset: bool,
+    is_reset: bool,
 }
 
 impl Model for Connection {
@@ -85,7 +85,7 @@ impl Model for Connection {
 
     ghost Value = { ConnectionView };
 
-    ghost view = { λ c. record { announced = c.announced; sack = c.sack; scaling = c.scaling; rcv_wnd = c.rcv_wnd; board = c.board; fin = c.fin; timer = c.timer; timed = c.timed; last_sent = c.last_sent; widest = c.widest; resent = c.resent; established = c.established; reset = c.reset } };
+    ghost view = { λ c. record { own_mss = c.own_mss; sack = c.sack; scaling = c.scaling; rcv_wnd = c.rcv_wnd; board = c.board; fin = c.fin; timer = c.timer; rtt_segment = c.rtt_segment; last_sent = c.last_sent; max_window = c.max_window; syn_ack_resent = c.syn_ack_resent; established = c.established; is_reset = c.is_reset } };
 
     ghost invariant = { λ c. IsConnection c.scaling c.board.una c.established };
 }
@@ -103,20 +103,20 @@ fn peer_count(scaling: Option<Scaling>) -> u8
 }
 
 /// The greatest segment that is sent to a peer that offers this, in octets.
-fn smss_of(settings: &Settings, offers: Offers) -> u16
-    requires { is_mss_run offers.mss ≡ true }
-    ensures value { result ≡ smss_of settings.now offers }
+fn smss_of(settings: &Settings, syn_options: SynOptions) -> u16
+    requires { is_mss_run syn_options.mss ≡ true }
+    ensures value { result ≡ smss_of settings.now syn_options }
     ensures low { 64 ≤ result }
     ensures high { result ≤ 65495 }
 {
-    settings.mss.min(offers.mss.unwrap_or(DEFAULT_MSS))
+    settings.mss.min(syn_options.mss.unwrap_or(DEFAULT_MSS))
 }
 
-fn scaling_of(settings: &Settings, offers: Offers) -> Option<Scaling>
-    ensures agreed { result ≡ scaling_of settings.now offers }
+fn scaling_of(settings: &Settings, syn_options: SynOptions) -> Option<Scaling>
+    ensures agreed { result ≡ scaling_of settings.now syn_options }
     ensures small { IsScalable result }
 {
-    match offers.count {
+    match syn_options.count {
         None => None,
         Some(count) => Some(Scaling {
             own: settings.wscale,
@@ -130,28 +130,28 @@ impl Connection {
     pub fn begin(alloc: Global, settings: &Settings, syn: &Segment, now: u64) -> Connection
         requires early { now < 2 ^ 62 }
         requires run { is_mss_run (offered_mss syn.now.options) ≡ true }
-        ensures { result ≡ block_begun now settings.now syn.now }
+        ensures { result ≡ connection_begun now settings.now syn.now }
     {
-        let offers = Offers::of(syn.options.as_slice());
+        let syn_options = SynOptions::of(syn.options.as_slice());
         let mut timer = Rto::new(settings);
         timer.start(now);
         Connection {
-            announced: settings.mss,
-            sack: settings.sack && offers.sack,
-            scaling: scaling_of(settings, offers),
+            own_mss: settings.mss,
+            sack: settings.sack && syn_options.sack,
+            scaling: scaling_of(settings, syn_options),
             rcv_wnd: settings.rcv_wnd,
-            board: Board::new(alloc, smss_of(settings, offers)),
+            board: Board::new(alloc, smss_of(settings, syn_options)),
             fin: false,
             timer,
-            timed: Some(Timing {
+            rtt_segment: Some(RttSegment {
                 segment: Span { start: 0, end: 1 },
                 sent_at: now,
             }),
             last_sent: now,
-            widest: u32::from(syn.win),
-            resent: false,
+            max_window: u32::from(syn.win),
+            syn_ack_resent: false,
             established: None,
-            reset: false,
+            is_reset: false,
         }
     }
 
@@ -176,7 +176,7 @@ impl Connection {
 
     /// Puts the same connection in a place, on an equal scoreboard.
     #[inline(always)]
-    pub fn put_copy(&self, scoreboard: Board, place: &mut Option<Connection>)
+    pub fn put_with_board(&self, scoreboard: Board, place: &mut Option<Connection>)
         requires { scoreboard ≡ self.now.board }
         ensures { place.new ≡ Some self.now }
     {
@@ -194,16 +194,16 @@ impl Connection {
         ensures { self.new ≡ established_by now settings.now segment.now self.old }
     {
         let established = self.established_with(settings, segment);
-        let widest = self.widest_with(established.rwnd);
+        let max_window = self.max_window_with(established.rwnd);
         self.take_syn_ack(settings.granularity_us, now);
-        self.finish_handshake(widest, established);
+        self.finish_handshake(max_window, established);
     }
 
     /// The largest window seen, with this one, in octets.
-    fn widest_with(&self, window: u32) -> u32
-        ensures { result ≡ max self.now.widest window }
+    fn max_window_with(&self, window: u32) -> u32
+        ensures { result ≡ max self.now.max_window window }
     {
-        self.widest.max(window)
+        self.max_window.max(window)
     }
 
     /// Our SYN is acknowledged at a moment.
@@ -211,17 +211,17 @@ impl Connection {
         requires early { now < 2 ^ 62 }
         requires begun { self.old.board.una ≤ 1 }
         requires sent { 1 ≤ self.old.board.top }
-        ensures { self.new ≡ with_timer_settled (with_sample now granularity_us 1 (syn_acked self.old)) }
+        ensures { self.new ≡ with_handshake_timer_ended (with_sample now granularity_us 1 (syn_acked self.old)) }
     {
         self.board.take_ack(1);
         self.sample(now, granularity_us, 1);
-        self.settle_timer();
+        self.end_handshake_timer();
     }
 
-    fn finish_handshake(&mut self, widest: u32, established: Established)
-        ensures { self.new ≡ record self.old { widest = widest; established = Some established } }
+    fn finish_handshake(&mut self, max_window: u32, established: Established)
+        ensures { self.new ≡ record self.old { max_window = max_window; established = Some established } }
     {
-        self.widest = widest;
+        self.max_window = max_window;
         self.established = Some(established);
     }
 
@@ -235,8 +235,8 @@ impl Connection {
             wl2: segment.ack,
             nagle: settings.nagle,
             granularity_us: settings.granularity_us,
-            congestion: Cong::new(settings, self.board.smss(), self.resent),
-            stream: Stream::Waiting,
+            congestion: Cong::new(settings, self.board.smss(), self.syn_ack_resent),
+            stream: StreamState::Waiting,
             peer_fin: PeerFin::Awaited,
         }
     }
@@ -280,12 +280,12 @@ impl Connection {
     }
 
     /// An RST ends the connection for good.
-    pub fn reset(&mut self)
+    pub fn end_by_rst(&mut self)
         ensures { self.new ≡ reset_of self.old }
     {
-        self.reset = true;
+        self.is_reset = true;
         self.timer.stop();
-        self.timed = None;
+        self.rtt_segment = None;
     }
 
     /// `accept` hands out the connection.
@@ -293,7 +293,7 @@ impl Connection {
         ensures { self.new ≡ with_stream StreamOpen self.old }
     {
         if let Some(established) = &mut self.established {
-            established.stream = Stream::Open;
+            established.stream = StreamState::Open;
         }
     }
 
@@ -335,7 +335,7 @@ impl Connection {
         ensures { self.new ≡ with_stream StreamClosed self.old }
     {
         if let Some(established) = &mut self.established {
-            established.stream = Stream::Closed;
+            established.stream = StreamState::Closed;
         }
     }
 
@@ -357,19 +357,19 @@ impl Connection {
     }
 
     /// How far descriptor 4 has come.
-    pub fn stream(&self) -> Stream
+    pub fn stream(&self) -> StreamState
         ensures { result ≡ stream_of self.now }
     {
         match &self.established {
-            None => Stream::Waiting,
+            None => StreamState::Waiting,
             Some(established) => established.stream,
         }
     }
 
     /// Whether an RST has ended the connection.
     pub fn is_reset(&self) -> bool
-        ensures { result ≡ self.now.reset }
+        ensures { result ≡ self.now.is_reset }
     {
-        self.reset
+        self.is_reset
     }
 }

@@ -5,7 +5,7 @@ ghost use Rattle.pd_host.specs.Handshake.{is_listening};
 
 /// How far descriptor 3 has come.
 #[derive(Clone, Copy, PartialEq, Eq)]
-pub enum Listener {
+pub enum ListenState {
     /// No `socket` was called.
     Absent,
     Open,
@@ -14,43 +14,43 @@ pub enum Listener {
     Closed,
 }
 
-impl Listener {
+impl ListenState {
     /// Whether descriptor 3 is open: `socket` was called, and it wasn't closed.
     pub fn is_open(self) -> bool
         ensures { result ≡ is_listener_open self }
     {
-        !matches!(self, Listener::Absent | Listener::Closed)
+        !matches!(self, ListenState::Absent | ListenState::Closed)
     }
 
     /// Whether descriptor 3 listens.
     pub fn is_listening(self) -> bool
         ensures { result ≡ is_listening self }
     {
-        matches!(self, Listener::Listens)
+        matches!(self, ListenState::Listens)
     }
 }
 
 /// How far descriptor 4 has come, once the connection is established.
 #[derive(Clone, Copy, PartialEq, Eq)]
-pub enum Stream {
+pub enum StreamState {
     /// `accept` hasn't handed it out.
     Waiting,
     Open,
     Closed,
 }
 
-impl Stream {
+impl StreamState {
     /// Whether `accept` has still to hand it out.
     pub fn is_waiting(self) -> bool
         ensures { result ≡ is_waiting self }
     {
-        matches!(self, Stream::Waiting)
+        matches!(self, StreamState::Waiting)
     }
 
     /// Whether descriptor 4 is open: `accept` has handed it out, and it wasn't closed.
     pub fn is_open(self) -> bool
         ensures { result ≡ is_open self }
     {
-        matches!(self, Stream::Open)
+        matches!(self, StreamState::Open)
     }
 }

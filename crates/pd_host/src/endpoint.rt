@@ -5,17 +5,17 @@ ghost use Rattle.pd_host.specs.ConnStates.{conn_state};
 
 use crate::connection::Connection;
 use crate::connection::states::ConnState;
-use crate::descriptors::Listener;
+use crate::descriptors::ListenState;
 use crate::outbox::Outbox;
 use pd_board::Board;
-use pd_settings::{Settings, UseSet};
+use pd_settings::{SettingSet, Settings};
 use std::alloc::{AllocError, Global};
 
 /// Descriptor 3, the connection once it was begun, and the packets that were put out and not yet taken.
 #[derive(Drop)]
 pub struct Endpoint {
     /// How far descriptor 3 has come.
-    pub listener: Listener,
+    pub listener: ListenState,
     /// The connection, once a SYN has begun it.
     pub connection: Option<Connection>,
     /// The packets that were put out and not yet taken.
@@ -28,7 +28,7 @@ impl Endpoint {
         ensures { result ≡ fresh_endpoint }
     {
         Endpoint {
-            listener: Listener::Absent,
+            listener: ListenState::Absent,
             connection: None,
             outbox: Outbox::new(alloc),
         }
@@ -39,15 +39,15 @@ impl Endpoint {
     /// # Errors
     /// `AllocError` where a growth is refused, or the scoreboard has found no memory before.
     #[inline(always)]
-    pub fn copies(&self) -> Result<Copies, AllocError>
-        ensures board { IfOk result (λ copies. copies.board ≡ option_map (λ c. c.board) self.now.connection) }
-        ensures outbox { IfOk result (λ copies. copies.outbox ≡ self.now.outbox) }
+    pub fn cloned_parts(&self) -> Result<ClonedParts, AllocError>
+        ensures board { IfOk result (λ cloned_parts. cloned_parts.board ≡ option_map (λ c. c.board) self.now.connection) }
+        ensures outbox { IfOk result (λ cloned_parts. cloned_parts.outbox ≡ self.now.outbox) }
     {
         let board = match &self.connection {
             None => None,
             Some(connection) => Some(connection.copy_board()?),
         };
-        Ok(Copies {
+        Ok(ClonedParts {
             board,
             outbox: self.outbox.copy()?,
         })
@@ -56,7 +56,7 @@ impl Endpoint {
 
 /// Copies of what of an endpoint takes memory.
 #[derive(Drop)]
-pub struct Copies {
+pub struct ClonedParts {
     /// The scoreboard of the connection, once it was begun.
     pub board: Option<Board>,
     /// The packets that were put out and not yet taken.
@@ -65,16 +65,16 @@ pub struct Copies {
 
 /// The endpoint, and beside it the settings and which of them were consulted so far.
 #[derive(Drop)]
-pub struct State {
+pub struct SenderState {
     /// The settings, which are copied where a rule consults them.
     pub settings: Settings,
     /// Which of them were consulted so far.
-    pub uses: UseSet,
+    pub consulted_settings: SettingSet,
     /// The descriptors, the connection and the packets.
     pub endpoint: Endpoint,
 }
 
-impl State {
+impl SenderState {
     /// The state of the connection, or of the listener where none was begun.
     pub fn conn_state(&self) -> ConnState
         ensures { result ≡ conn_state self.now }

@@ -2,10 +2,10 @@
 ghost use Rattle.std.specs.Prelude.{◌≡◌, ◌≤◌};
 ghost use Rattle.pd_host.specs.Arrivals.{is_awaited};
 ghost use Rattle.pd_host.specs.Connection.{next_from};
-ghost use Rattle.pd_host.specs.Acknowledgments.{is_current};
+ghost use Rattle.pd_host.specs.AckEffects.{is_current};
 ghost use Rattle.pd_host.specs.Handshake.{with_window};
 
-use crate::descriptors::Stream;
+use crate::descriptors::StreamState;
 use pd_recover::Cong;
 use pd_seg::Segment;
 
@@ -56,7 +56,7 @@ pub struct Established {
     /// The congestion window, and what loss recovery keeps (RFC 5681, RFC 6675).
     pub congestion: Cong,
     /// Descriptor 4.
-    pub stream: Stream,
+    pub stream: StreamState,
     /// Whether the peer's FIN was taken, and whether ours was queued then (RFC 9293, section 3.6).
     pub peer_fin: PeerFin,
 }

@@ -15,20 +15,20 @@ pub enum Halt {
 
 /// Why a host has ended.
 #[derive(Clone, Copy, Debug, PartialEq, Eq, Error)]
-pub enum Ending {
+pub enum HostEnd {
     #[error("{0}")]
     Halted(Halt),
     #[error("out of memory")]
     OutOfMemory,
 }
 
-impl From<AllocError> for Ending {
+impl From<AllocError> for HostEnd {
     ghost use Rattle.std.specs.Prelude.{◌≡◌};
-    ghost use Rattle.pd_host.specs.declared.halts.Ending.TheVariants.{OutOfMemory};
+    ghost use Rattle.pd_host.specs.declared.halts.HostEnd.TheVariants.{OutOfMemory};
 
     ghost from_gives = { λ _ ending. ending ≡ OutOfMemory };
 
-    fn from(_error: AllocError) -> Ending {
-        Ending::OutOfMemory
+    fn from(_error: AllocError) -> HostEnd {
+        HostEnd::OutOfMemory
     }
 }

@@ -1,31 +1,31 @@
 //! A host: the sender behind one interface, with the reason why it has ended.
 ghost use Rattle.std.specs.Prelude.{◌≡◌, ◌<◌, ◌^◌, true, Some, IfOk, IsErr, option_map, slice_get};
-ghost use Rattle.pd_host.specs.Arrivals.{arrived, ruling_in};
+ghost use Rattle.pd_host.specs.Arrivals.{arrived, failed_check_in};
 ghost use Rattle.pd_host.specs.Calls.{called};
 ghost use Rattle.pd_host.specs.ConnStates.{conn_state};
-ghost use Rattle.pd_host.specs.Outcome.{Goes, Answers};
-ghost use Rattle.pd_host.specs.Evidence.{duplicates_in, measured_in, AreSacked};
+ghost use Rattle.pd_host.specs.InputResults.{Goes, Answers};
+ghost use Rattle.pd_host.specs.LossEvidence.{dup_ack_status_in, measured_in, AreSacked};
 ghost use Rattle.pd_host.specs.Expiries.{advanced, deadline_of};
-ghost use Rattle.pd_host.specs.Figures.{figures_in, wanted_in};
+ghost use Rattle.pd_host.specs.ConnectionSnapshot.{connection_snapshot_in, wanted_in};
 ghost use Rattle.pd_host.specs.Growth.{asked_by, HasRoomFor};
-ghost use Rattle.pd_host.specs.Holds.{hold_in};
-ghost use Rattle.pd_host.specs.InputLaws.{rebound_host};
-ghost use Rattle.pd_host.specs.Requests.{request_of};
-ghost use Rattle.pd_host.specs.Host.{fresh_host, without_oldest, exhausted, end_of};
-ghost use Rattle.pd_host.specs.declared.halts.Ending.TheVariants.{OutOfMemory};
+ghost use Rattle.pd_host.specs.SendBlockers.{blocker_in};
+ghost use Rattle.pd_host.specs.InputLaws.{host_with_settings};
+ghost use Rattle.pd_host.specs.Syscalls.{syscall_of};
+ghost use Rattle.pd_host.specs.Host.{fresh_host, without_oldest, ended_out_of_memory, end_of};
+ghost use Rattle.pd_host.specs.declared.halts.HostEnd.TheVariants.{OutOfMemory};
 
-use crate::connection::checks::Ruling;
-use crate::connection::evidence::Duplicate;
-use crate::connection::observing::Hold;
+use crate::connection::introspection::SendBlocker;
+use crate::connection::loss_evidence::DupAckStatus;
+use crate::connection::segment_check::SegmentCheck;
 use crate::connection::states::ConnState;
-use crate::endpoint::{Copies, Endpoint, State};
-use crate::figures::Figures;
-use crate::halts::{Ending, Halt};
+use crate::connection_snapshot::ConnectionSnapshot;
+use crate::endpoint::{ClonedParts, Endpoint, SenderState};
+use crate::halts::{Halt, HostEnd};
 use crate::outbox::Outbox;
-use crate::requests::Request;
+use crate::syscall::Syscall;
 use pd_script::Call;
 use pd_seg::{Answer, Segment, Sent, Span};
-use pd_settings::{Settings, UseSet};
+use pd_settings::{SettingSet, Settings};
 use pd_timer::Timeout;
 use std::alloc::{AllocError, Global};
 use std::marker::Model;
@@ -36,9 +36,9 @@ use std::marker::Model;
 #[derive(Drop)]
 pub struct Host {
     /// What the rules work on.
-    state: State,
+    state: SenderState,
     /// Why the host has ended, if it has.
-    ended: Option<Ending>,
+    ended: Option<HostEnd>,
 }
 
 impl Model for Host {
@@ -55,9 +55,9 @@ impl Host {
         ensures { result ≡ fresh_host settings.now }
     {
         Host {
-            state: State {
+            state: SenderState {
                 settings: *settings,
-                uses: UseSet::new(),
+                consulted_settings: SettingSet::new(),
                 endpoint: Endpoint::new(alloc),
             },
             ended: None,
@@ -70,18 +70,18 @@ impl Host {
     /// What ended the host before; else `Halted` for a call that isn't run, and where more than 1,024 packets would stand
     /// untaken, and `OutOfMemory`.
     #[inline(always)]
-    pub fn call(&mut self, call: &Call, now: u64) -> Result<Answer, Ending>
+    pub fn call(&mut self, call: &Call, now: u64) -> Result<Answer, HostEnd>
         requires early { now < 2 ^ 62 }
-        requires room { HasRoomFor (asked_by self.old.state.settings.sndbuf (request_of call.now)) self.old.state }
+        requires room { HasRoomFor (asked_by self.old.state.settings.sndbuf (syscall_of call.now)) self.old.state }
         ensures { Answers self.old (called call.now now) result self.new }
     {
         if let Some(ending) = self.ended {
             return Err(ending);
         }
-        let Some(request) = Request::of(call) else {
-            return Err(self.end(Ending::Halted(Halt::Unsupported)));
+        let Some(syscall) = Syscall::of(call) else {
+            return Err(self.end(HostEnd::Halted(Halt::Unsupported)));
         };
-        match self.state.call(request, now) {
+        match self.state.call(syscall, now) {
             Ok(answer) => Ok(answer),
             Err(ending) => Err(self.end(ending)),
         }
@@ -93,7 +93,7 @@ impl Host {
     /// What ended the host before; else `Halted` for a segment that isn't run, and where more than 1,024 packets would stand
     /// untaken, and `OutOfMemory`.
     #[inline(always)]
-    pub fn arrive(&mut self, segment: &Segment, now: u64) -> Result<(), Ending>
+    pub fn arrive(&mut self, segment: &Segment, now: u64) -> Result<(), HostEnd>
         requires early { now < 2 ^ 62 }
         ensures { Goes self.old (arrived segment.now now) result self.new }
     {
@@ -108,12 +108,12 @@ impl Host {
 
     /// The check that a segment doesn't pass which arrives on the connection; nothing where it passes all, or no connection was
     /// begun.
-    pub fn ruling(&self, segment: &Segment) -> Option<Ruling>
-        ensures { result ≡ ruling_in segment.now self.now.state }
+    pub fn failed_check(&self, segment: &Segment) -> Option<SegmentCheck>
+        ensures { result ≡ failed_check_in segment.now self.now.state }
     {
         match &self.state.endpoint.connection {
             None => None,
-            Some(connection) => connection.ruling(segment),
+            Some(connection) => connection.failed_check(segment),
         }
     }
 
@@ -122,7 +122,7 @@ impl Host {
     /// # Errors
     /// What ended the host before; else `Halted` where more than 1,024 packets would be untaken, and `OutOfMemory`.
     #[inline(always)]
-    pub fn advance(&mut self, until: u64) -> Result<(), Ending>
+    pub fn advance(&mut self, until: u64) -> Result<(), HostEnd>
         requires early { until < 2 ^ 62 }
         ensures { Goes self.old (advanced until) result self.new }
     {
@@ -150,12 +150,12 @@ impl Host {
     }
 
     /// The numbers of the connection, once a SYN has begun it.
-    pub fn figures(&self) -> Option<Figures>
-        ensures { result ≡ figures_in self.now.state }
+    pub fn connection_snapshot(&self) -> Option<ConnectionSnapshot>
+        ensures { result ≡ connection_snapshot_in self.now.state }
     {
         match &self.state.endpoint.connection {
             None => None,
-            Some(connection) => Some(connection.figures()),
+            Some(connection) => Some(connection.connection_snapshot()),
         }
     }
 
@@ -163,12 +163,12 @@ impl Host {
     ///
     /// # Errors
     /// `AllocError` where a growth is refused, or the host has found no memory before.
-    pub fn hold(&self) -> Result<Hold, AllocError>
-        ensures { IfOk result (λ hold. hold ≡ hold_in self.now.state) }
+    pub fn send_blocker(&self) -> Result<SendBlocker, AllocError>
+        ensures { IfOk result (λ send_blocker. send_blocker ≡ blocker_in self.now.state) }
     {
         match &self.state.endpoint.connection {
-            None => Ok(Hold::NotEstablished),
-            Some(connection) => connection.hold(),
+            None => Ok(SendBlocker::NotEstablished),
+            Some(connection) => connection.send_blocker(),
         }
     }
 
@@ -187,12 +187,12 @@ impl Host {
     }
 
     /// What a duplicate leads to; nothing where no octet is outstanding, loss recovery goes on, or no connection is established.
-    pub fn duplicates(&self) -> Option<Duplicate>
-        ensures { result ≡ duplicates_in self.now.state }
+    pub fn dup_ack_status(&self) -> Option<DupAckStatus>
+        ensures { result ≡ dup_ack_status_in self.now.state }
     {
         match &self.state.endpoint.connection {
             None => None,
-            Some(connection) => connection.duplicates(),
+            Some(connection) => connection.dup_ack_status(),
         }
     }
 
@@ -240,24 +240,24 @@ impl Host {
     }
 
     /// Which of them were consulted so far.
-    pub fn uses(&self) -> UseSet
-        ensures { result ≡ self.now.state.uses }
+    pub fn consulted_settings(&self) -> SettingSet
+        ensures { result ≡ self.now.state.consulted_settings }
     {
-        self.state.uses
+        self.state.consulted_settings
     }
 
     /// Puts the host under other settings. Where they agree with the former on all that was consulted, it is what it would
     /// be had it been under them from the beginning.
     ///
     /// Takes no memory.
-    pub fn rebind(&mut self, settings: &Settings)
-        ensures { self.new ≡ rebound_host settings.now self.old }
+    pub fn set_settings(&mut self, settings: &Settings)
+        ensures { self.new ≡ host_with_settings settings.now self.old }
     {
         self.state.settings = *settings;
     }
 
     /// Why the host has ended, if it has.
-    pub fn ended(&self) -> Option<Ending>
+    pub fn ended(&self) -> Option<HostEnd>
         ensures { result ≡ self.now.ended }
     {
         self.ended
@@ -265,11 +265,11 @@ impl Host {
 
     /// No memory was found for what was to come in: the host answers that from now on, unless it has ended already.
     /// What it answers is returned.
-    pub fn exhaust(&mut self) -> Ending
+    pub fn fail_out_of_memory(&mut self) -> HostEnd
         ensures ending { result ≡ end_of self.old }
-        ensures ended { self.new ≡ exhausted self.old }
+        ensures ended { self.new ≡ ended_out_of_memory self.old }
     {
-        let ending = self.ended.unwrap_or(Ending::OutOfMemory);
+        let ending = self.ended.unwrap_or(HostEnd::OutOfMemory);
         self.end(ending)
     }
 
@@ -281,8 +281,8 @@ impl Host {
         ensures ok { IfOk result (λ copy. copy ≡ self.now) }
         ensures again { self.now.ended ≡ Some OutOfMemory → IsErr result }
     {
-        let copies = self.copies()?;
-        Ok(self.with_copies(copies))
+        let cloned_parts = self.cloned_parts()?;
+        Ok(self.with_cloned_parts(cloned_parts))
     }
 
     /// Copies of what of it takes memory.
@@ -290,31 +290,31 @@ impl Host {
     /// # Errors
     /// Want of memory, also where the host has ended by it.
     #[inline(always)]
-    pub fn copies(&self) -> Result<Copies, AllocError>
-        ensures board { IfOk result (λ copies. copies.board ≡ option_map (λ c. c.board) self.now.state.endpoint.connection) }
-        ensures outbox { IfOk result (λ copies. copies.outbox ≡ self.now.state.endpoint.outbox) }
+    pub fn cloned_parts(&self) -> Result<ClonedParts, AllocError>
+        ensures board { IfOk result (λ cloned_parts. cloned_parts.board ≡ option_map (λ c. c.board) self.now.state.endpoint.connection) }
+        ensures outbox { IfOk result (λ cloned_parts. cloned_parts.outbox ≡ self.now.state.endpoint.outbox) }
         ensures again { self.now.ended ≡ Some OutOfMemory → IsErr result }
     {
-        if let Some(Ending::OutOfMemory) = self.ended {
+        if let Some(HostEnd::OutOfMemory) = self.ended {
             return Err(AllocError);
         }
-        self.state.endpoint.copies()
+        self.state.endpoint.cloned_parts()
     }
 
     /// The same host once more, with copies of what takes memory.
     #[inline(always)]
-    pub fn with_copies(&self, copies: Copies) -> Host
-        requires board { copies.board ≡ option_map (λ c. c.board) self.now.state.endpoint.connection }
-        requires outbox { copies.outbox ≡ self.now.state.endpoint.outbox }
+    pub fn with_cloned_parts(&self, cloned_parts: ClonedParts) -> Host
+        requires board { cloned_parts.board ≡ option_map (λ c. c.board) self.now.state.endpoint.connection }
+        requires outbox { cloned_parts.outbox ≡ self.now.state.endpoint.outbox }
         ensures { result ≡ self.now }
     {
-        let Copies { board, outbox } = copies;
+        let ClonedParts { board, outbox } = cloned_parts;
         let mut connection = None;
         if let (Some(begun), Some(board)) = (&self.state.endpoint.connection, board) {
-            begun.put_copy(board, &mut connection);
+            begun.put_with_board(board, &mut connection);
         }
         Host {
-            state: State {
+            state: SenderState {
                 endpoint: Endpoint {
                     listener: self.state.endpoint.listener,
                     connection,
@@ -327,7 +327,7 @@ impl Host {
     }
 
     /// The host has ended by this.
-    fn end(&mut self, ending: Ending) -> Ending
+    fn end(&mut self, ending: HostEnd) -> HostEnd
         ensures ending { result ≡ ending }
         ensures ended { self.new ≡ record self.old { ended = Some ending } }
     {

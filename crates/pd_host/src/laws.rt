@@ -1,41 +1,41 @@
 //! Laws of the rules: functions without code, whose contracts are the laws.
 ghost use Rattle.pd_host.specs.Growth.{ExpiriesQueueNothing, ArrivalsQueueOurSyn, CallsQueueWhatTheyAsk, CallsAskFew};
-ghost use Rattle.pd_host.specs.Evidence.{NeededIsNeeded};
-ghost use Rattle.pd_host.specs.Figure.{FollowsFigure};
-ghost use Rattle.pd_host.specs.Holds.{OpenHoldsSend};
+ghost use Rattle.pd_host.specs.LossEvidence.{LossEvidenceIsNeeded};
+ghost use Rattle.pd_host.specs.StateDiagram.{FollowsStateDiagram};
+ghost use Rattle.pd_host.specs.SendBlockers.{SendsWhereNothingBlocks};
 ghost use Rattle.pd_host.specs.Laws.{StartsUpToDate, AdvancesKeepUp, ArrivalsKeepUp, CallsKeepUp, TakingKeepsUp};
 ghost use Rattle.pd_host.specs.Invariants.{StartsLawful, AdvancesStayLawful, ArrivalsStayLawful, CallsStayLawful, TakingStaysLawful, BoardsAreLawful, CallsStayInRange, EndsForGood};
-ghost use Rattle.pd_host.specs.InputLaws.{OutsideIsHarmless, OnlyAnExactRstResets, PutsOutAfter, OnlyUsesMatter, RebindingKeepsUp, CallsPutOutAfter, CallsOnlyUse, AdvancesPutOutAfter, AdvancesUseNone, ArrivalsNote, CallsNote, AdvancesNote};
+ghost use Rattle.pd_host.specs.InputLaws.{OutsideIsHarmless, OnlyAnExactRstResets, PutsOutAfter, OnlyUsesMatter, OtherSettingsKeepUp, CallsPutOutAfter, CallsOnlyUse, AdvancesPutOutAfter, AdvancesUseNone, ArrivalsNote, CallsNote, AdvancesNote};
 ghost use Rattle.pd_host.specs.SendingLaws.{ControlsFlow, StaysInWindow, ControlsCongestion, KeepsToWindow, RecoversInProportion, SendsOneByOne, SendsAllThatMay, TimesOnce, MeasuresWhatIsSentOnce, EndsWithFin, SparesWhatArrived, EndsRecovery};
 
-use pd_recover::recovery_is_lawful;
-use pd_timer::timers_are_lawful;
+use pd_recover::law_recovery;
+use pd_timer::law_timers;
 
 /// What holds of every segment that arrives, whatever the checks and their order.
-pub fn arrivals_are_lawful()
+pub fn law_arrivals()
     ensures outside { OutsideIsHarmless }
     ensures resets { OnlyAnExactRstResets }
     ensures packets { PutsOutAfter }
     ensures settings { OnlyUsesMatter }
-    ensures uses { ArrivalsNote }
+    ensures consulted_settings { ArrivalsNote }
 {}
 
 /// What holds of every call, whatever it asks.
-pub fn calls_are_lawful()
+pub fn law_calls()
     ensures packets { CallsPutOutAfter }
     ensures settings { CallsOnlyUse }
-    ensures uses { CallsNote }
+    ensures consulted_settings { CallsNote }
 {}
 
 /// What holds of all expiries up to a moment.
-pub fn advances_are_lawful()
+pub fn law_advances()
     ensures packets { AdvancesPutOutAfter }
     ensures settings { AdvancesUseNone }
-    ensures uses { AdvancesNote }
+    ensures consulted_settings { AdvancesNote }
 {}
 
 /// What holds of all that is sent, whatever came in.
-pub fn sending_is_lawful()
+pub fn law_sending()
     ensures flow { ControlsFlow }
     ensures window { StaysInWindow }
     ensures congestion { ControlsCongestion }
@@ -48,28 +48,28 @@ pub fn sending_is_lawful()
     ensures sacked { SparesWhatArrived }
     ensures recovery { EndsRecovery }
 {
-    recovery_is_lawful();
+    law_recovery();
 }
 
 /// Sending and expiries put out one packet each time that they go on.
-pub fn sending_goes_one_by_one()
+pub fn law_sending_one_by_one()
     ensures { SendsOneByOne }
 {}
 
 /// At which moments packets left and the next expiry lies, whatever came in.
-pub fn moments_are_lawful()
+pub fn law_times()
     ensures start { StartsUpToDate }
     ensures advances { AdvancesKeepUp }
     ensures arrivals { ArrivalsKeepUp }
     ensures calls { CallsKeepUp }
     ensures taking { TakingKeepsUp }
-    ensures rebinding { RebindingKeepsUp }
+    ensures rebinding { OtherSettingsKeepUp }
 {
-    timers_are_lawful();
+    law_timers();
 }
 
 /// What holds of every state that the rules reach, whatever came in.
-pub fn states_are_lawful()
+pub fn law_states()
     ensures start { StartsLawful }
     ensures advances { AdvancesStayLawful }
     ensures arrivals { ArrivalsStayLawful }
@@ -78,24 +78,24 @@ pub fn states_are_lawful()
     ensures boards { BoardsAreLawful }
     ensures range { CallsStayInRange }
     ensures resets { EndsForGood }
-    ensures figure { FollowsFigure }
+    ensures figure { FollowsStateDiagram }
 {
-    timers_are_lawful();
-    recovery_is_lawful();
+    law_timers();
+    law_recovery();
 }
 
 /// Where nothing holds a segment back ordinary sending finds one, and only there.
-pub fn holds_are_lawful()
-    ensures { OpenHoldsSend }
+pub fn law_send_blockers()
+    ensures { SendsWhereNothingBlocks }
 {}
 
 /// What is said to begin loss recovery begins it, and nothing less does.
-pub fn evidence_is_needed()
-    ensures { NeededIsNeeded }
+pub fn law_loss_evidence()
+    ensures { LossEvidenceIsNeeded }
 {}
 
 /// How much an input queues at most.
-pub fn growth_is_lawful()
+pub fn law_growth()
     ensures expiries { ExpiriesQueueNothing }
     ensures arrivals { ArrivalsQueueOurSyn }
     ensures calls { CallsQueueWhatTheyAsk }

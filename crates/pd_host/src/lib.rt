@@ -3,7 +3,7 @@
 //! A `Host` has three inputs, each with its time: `call`, `arrive`, and `advance`, which performs
 //! the expiries up to a time. What it puts out stands in its `Outbox`, until somebody takes it. In
 //! a host are the settings, which of them were consulted, descriptor 3, the connection, and, if it
-//! has ended, why (`Ending`). A connection has a scoreboard (`pd_board`), a timer (`pd_timer`), and
+//! has ended, why (`HostEnd`). A connection has a scoreboard (`pd_board`), a timer (`pd_timer`), and
 //! from the establishment on congestion control (`pd_recover`, which draws the states of recovery).
 //!
 //! ```text
@@ -23,8 +23,8 @@
 //! ```
 //!
 //! Every state that the rules reach is lawful: `IsLawful` (specs/Invariants.antt), the law
-//! `states_are_lawful`. An input gives the state and the answer of its rule, or ends the host by
-//! the rule's halt: `Goes` and `Answers` (specs/Outcome.antt). A host that has ended answers that
+//! `law_states`. An input gives the state and the answer of its rule, or ends the host by
+//! the rule's halt: `Goes` and `Answers` (specs/InputResults.antt). A host that has ended answers that
 //! again.
 //!
 //! Why it is so:
@@ -36,44 +36,43 @@
 //! - The name of a state isn't kept: `Host::state` finds it from the two FINs and from what is
 //!   acknowledged, so it can't be another than these say. The peer's FIN is noted together with
 //!   whether ours was queued then, since LAST-ACK and CLOSING differ in that alone.
-//! - Settings are copied when a rule consults them, and that is noted (the module `uses`). So a
-//!   copy of a host can be put under other settings (`rebind`), and goes on as if it had always
+//! - Settings are copied when a rule consults them, and that is noted (the module `consulted_settings`). So a
+//!   copy of a host can be put under other settings (`set_settings`), and goes on as if it had always
 //!   been under them, if they agree on what was consulted: `OnlyUsesMatter`, `CallsOnlyUse`
 //!   (specs/InputLaws.antt).
 //! - Our SYN counts as outstanding, so that one equation says when the timer runs, in the handshake
 //!   too.
 #![tactic(auto)]
 
-mod acknowledgments;
+mod ack_actions;
 mod arrivals;
-mod calls;
 mod connection;
+mod connection_snapshot;
+mod consulted_settings;
 mod descriptors;
 mod endpoint;
 mod established;
-mod expiries;
-mod figures;
+mod expiry;
 mod halts;
 mod host;
 mod laws;
-mod offers;
 mod outbox;
-mod requests;
-mod sending;
-mod uses;
+mod send;
+mod syn_options;
+mod syscall;
+mod syscall_table;
 
-pub use connection::checks::Ruling;
-pub use connection::evidence::{Duplicate, Evidence, SackedAbove};
-pub use connection::observing::Hold;
+pub use connection::introspection::SendBlocker;
+pub use connection::loss_evidence::{DupAckStatus, LossEvidence, SackEvidence};
+pub use connection::segment_check::SegmentCheck;
 pub use connection::states::ConnState;
-pub use endpoint::Copies;
-pub use figures::{Figures, Recovery, Windows};
-pub use halts::{Ending, Halt};
+pub use connection_snapshot::{ConnectionSnapshot, Recovery, WindowSnapshot};
+pub use endpoint::ClonedParts;
+pub use halts::{Halt, HostEnd};
 pub use host::Host;
 pub use laws::{
-    advances_are_lawful, arrivals_are_lawful, calls_are_lawful, evidence_is_needed,
-    growth_is_lawful, holds_are_lawful, moments_are_lawful, sending_goes_one_by_one,
-    sending_is_lawful, states_are_lawful,
+    law_advances, law_arrivals, law_calls, law_growth, law_loss_evidence, law_send_blockers,
+    law_sending, law_sending_one_by_one, law_states, law_times,
 };
 pub use outbox::Outbox;
-pub use requests::{Operation, Request, is_run};
+pub use syscall::{SocketOperation, Syscall, is_run};

@@ -1,10 +1,10 @@
 //! The packets that were put out and not yet taken.
 ghost use Rattle.std.specs.Prelude.{◌≡◌, ◌==◌, [], not, length, option_copied, slice_get, drop, IfOk, OnOk};
-ghost use Rattle.pd_host.specs.Outcome.{Gives};
-ghost use Rattle.pd_host.specs.Places.{has_place};
+ghost use Rattle.pd_host.specs.InputResults.{Gives};
+ghost use Rattle.pd_host.specs.OutboxLimit.{has_place};
 ghost use Rattle.pd_host.specs.Host.{with_packet};
 
-use crate::halts::{Ending, Halt};
+use crate::halts::{Halt, HostEnd};
 use pd_seg::{Segment, Sent};
 use std::alloc::{AllocError, Global};
 use std::collections::VecDeque;
@@ -23,7 +23,7 @@ pub struct Outbox {
 impl Model for Outbox {
     ghost use Rattle.std.specs.Prelude.{List, ◌≤◌, length};
     ghost use Rattle.pd_seg.specs.declared.segments.Sent.{Sent};
-    ghost use Rattle.pd_host.specs.Places.{most_packets};
+    ghost use Rattle.pd_host.specs.OutboxLimit.{most_packets};
 
     ghost Value = { List Sent };
 
@@ -36,13 +36,16 @@ impl Model for Outbox {
 ///
 /// # Errors
 /// `AllocError` where a growth is refused.
-fn put_copies(packets: &VecDeque<Sent>, copies: &mut VecDeque<Sent>) -> Result<(), AllocError>
-    requires { copies.old.items ≡ [] }
-    ensures { OnOk result (copies.new.items ≡ packets.now.items) }
+fn clone_packets(
+    packets: &VecDeque<Sent>,
+    packet_clones: &mut VecDeque<Sent>,
+) -> Result<(), AllocError>
+    requires { packet_clones.old.items ≡ [] }
+    ensures { OnOk result (packet_clones.new.items ≡ packets.now.items) }
 {
     for sent in packets.iter() {
-        copies.reserve(1)?;
-        copies.push_back_reserved(sent.copy()?);
+        packet_clones.reserve(1)?;
+        packet_clones.push_back_reserved(sent.copy()?);
     }
     Ok(())
 }
@@ -82,11 +85,11 @@ impl Outbox {
     ///
     /// # Errors
     /// `Halted` by `Limit` where the outbox is full, else `OutOfMemory` where a growth is refused.
-    pub fn put_out(&mut self, segment: Segment, now: u64) -> Result<(), Ending>
+    pub fn push(&mut self, segment: Segment, now: u64) -> Result<(), HostEnd>
         ensures { Gives (with_packet now segment self.old) result self.new }
     {
         if self.is_full() {
-            return Err(Ending::Halted(Halt::Limit));
+            return Err(HostEnd::Halted(Halt::Limit));
         }
         self.packets.reserve(1)?;
         self.packets.push_back_reserved(Sent { segment, at: now });
@@ -117,7 +120,7 @@ impl Outbox {
         ensures { IfOk result (λ copy. copy ≡ self.now) }
     {
         let mut packets = VecDeque::with_capacity(self.allocator(), self.packets.len())?;
-        put_copies(&self.packets, &mut packets)?;
+        clone_packets(&self.packets, &mut packets)?;
         Ok(Outbox { packets })
     }
 

@@ -2,7 +2,7 @@
 use Rattle.std.proofs.Common.{◌≡◌, ℕ, ◌&&◌, ◌==◌, Bool, true, false, List, [], ◌∷◌, length, take, drop, Option, Some, None, bytes_eq, codes, if◌then◌else◌, refl, ◌<◌, ◌≤◌, ◌+◌, arith}
 use Rattle.std.specs.Option.{option_map_or}
 use Rattle.std.proofs.lemmas.Slice.Eq.{bytes_eq-Decides}
-use Rattle.pd_layout.specs.Laid.{after_end, trail}
+use Rattle.pd_layout.specs.Canonical.{after_end, trail}
 
 -- within a comment
 pub trail_inside : (s : List ℕ) → trail true s ≡ option_map_or (λ rest. trail false rest) (after_end s) (Some true)

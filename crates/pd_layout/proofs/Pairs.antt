@@ -8,8 +8,8 @@ use Rattle.pd_script.specs.Next.{place_of}
 use Rattle.pd_script.specs.declared.brackets.Bracket.{Bracket}
 use Rattle.pd_script.specs.declared.calls.Argument.{Argument}
 use Rattle.pd_script.proofs.Apart.{apart, or-left, symbol_apart, symbol_kind, word_kind}
-use Rattle.pd_layout.specs.Laid.{depth_after, outside}
-use Rattle.pd_layout.specs.Grammatical.{EqualsSignsStandOutside, NotesEndOutside}
+use Rattle.pd_layout.specs.Canonical.{depth_after, first_outside}
+use Rattle.pd_layout.specs.Grammatical.{EqualsSignsAreOutside, NotesEndOutside}
 use Rattle.pd_layout.proofs.Tokens.{goes_past, stops_at, in_brackets}
 
 -- ---- one pair more or fewer
@@ -46,12 +46,12 @@ within_pairs most pairs next (bad line) e = absurd cc
 
 -- ---- brackets that are balanced
 
-passes : (test : Item → Bool) (parts : List Bracket → Item → Bool) (most : ℕ) (pairs : List Bracket) (ts rest : List Item) → Balances parts most pairs ts → outside test (length pairs + 1) (ts ++ rest) ≡ outside test 1 rest
-passes test parts most pairs [] rest b = ap (λ (p : List Bracket). outside test (length p + 1) rest) b
+passes : (test : Item → Bool) (parts : List Bracket → Item → Bool) (most : ℕ) (pairs : List Bracket) (ts rest : List Item) → Balances parts most pairs ts → first_outside test (length pairs + 1) (ts ++ rest) ≡ first_outside test 1 rest
+passes test parts most pairs [] rest b = ap (λ (p : List Bracket). first_outside test (length p + 1) rest) b
 passes test parts most pairs (t ∷ ts) rest b =
     let deeper : depth_after (length pairs + 1) t ≡ length b.1 + 1 = within_pairs most pairs b.1 t b.2 in
     goes_past test (length pairs + 1) t (ts ++ rest) (rw deeper (in_brackets (test t) (length b.1 + 1) (λ z. omega (arith, z))))
-    ∙ ap (λ (k : ℕ). outside test k (ts ++ rest)) deeper
+    ∙ ap (λ (k : ℕ). first_outside test k (ts ++ rest)) deeper
     ∙ passes test parts most b.1 ts rest b.3
 
 -- ---- single items
@@ -95,24 +95,24 @@ closing_depth t h =
     rw (opens, h) refl
 
 -- an item that doesn't pass
-over : (octet depth now : ℕ) (t : Item) (ts : List Item) → is_symbol octet t ≡ false → depth_after depth t ≡ now → outside (is_symbol octet) depth (t ∷ ts) ≡ outside (is_symbol octet) now ts
-over octet depth now t ts other is = goes_past (is_symbol octet) depth t ts (rw other refl) ∙ ap (λ (k : ℕ). outside (is_symbol octet) k ts) is
+over : (octet depth now : ℕ) (t : Item) (ts : List Item) → is_symbol octet t ≡ false → depth_after depth t ≡ now → first_outside (is_symbol octet) depth (t ∷ ts) ≡ first_outside (is_symbol octet) now ts
+over octet depth now t ts other is = goes_past (is_symbol octet) depth t ts (rw other refl) ∙ ap (λ (k : ℕ). first_outside (is_symbol octet) k ts) is
 
-at_last : (octet depth : ℕ) (t : Item) (ts : List Item) → is_symbol octet t ≡ true → depth_after depth t ≡ 0 → outside (is_symbol octet) depth (t ∷ ts) ≡ Some (place_of t)
+at_last : (octet depth : ℕ) (t : Item) (ts : List Item) → is_symbol octet t ≡ true → depth_after depth t ≡ 0 → first_outside (is_symbol octet) depth (t ∷ ts) ≡ Some (place_of t)
 at_last octet depth t ts found is = stops_at (is_symbol octet) depth t ts (rw (found, is) refl)
 
 -- ---- the equals sign of a call
 
 module _ (equals : Item) (rest : List Item) (sign_is : is_symbol 61 equals ≡ true) where
-  after_last : (c : Item) → is_symbol 41 c ≡ true → outside (is_symbol 61) 1 (c ∷ equals ∷ rest) ≡ Some (place_of equals)
+  after_last : (c : Item) → is_symbol 41 c ≡ true → first_outside (is_symbol 61) 1 (c ∷ equals ∷ rest) ≡ Some (place_of equals)
   after_last c h = over 61 1 0 c (equals ∷ rest) (symbol_apart 41 61 refl c h) (closing_depth c h) ∙ at_last 61 0 equals rest sign_is (equals_depth 0 equals sign_is)
 
-  after_argument : (a : Argument) (ts more : List Item) → IsArgument a ts more → outside (is_symbol 61) 1 ts ≡ outside (is_symbol 61) 1 more
+  after_argument : (a : Argument) (ts more : List Item) → IsArgument a ts more → first_outside (is_symbol 61) 1 ts ≡ first_outside (is_symbol 61) 1 more
   after_argument a ts more h =
-      ap (λ (l : List Item). outside (is_symbol 61) 1 l) h.spelled
+      ap (λ (l : List Item). first_outside (is_symbol 61) 1 l) h.spelled
       ∙ passes (is_symbol 61) _ 16 [] (h.first ∷ h.others) more h.balanced
 
-  after_some : (list : List Argument) (ts : List Item) → IsSomeArguments list ts (equals ∷ rest) → outside (is_symbol 61) 1 ts ≡ Some (place_of equals)
+  after_some : (list : List Argument) (ts : List Item) → IsSomeArguments list ts (equals ∷ rest) → first_outside (is_symbol 61) 1 ts ≡ Some (place_of equals)
   after_some [] ts h = absurd h
   after_some (a ∷ []) ts h = after_argument a ts (h.0 ∷ equals ∷ rest) h.1 ∙ after_last h.0 h.2
   after_some (a ∷ b ∷ more) ts h =
@@ -120,11 +120,11 @@ module _ (equals : Item) (rest : List Item) (sign_is : is_symbol 61 equals ≡ t
       ∙ over 61 1 1 h.0 h.1 (symbol_apart 44 61 refl h.0 h.3) (comma_depth 1 h.0 h.3)
       ∙ after_some (b ∷ more) h.1 h.4
 
-  after_arguments : (list : List Argument) (ts : List Item) → IsArguments list ts (equals ∷ rest) → outside (is_symbol 61) 1 ts ≡ Some (place_of equals)
-  after_arguments [] ts h = ap (λ (l : List Item). outside (is_symbol 61) 1 l) h.1 ∙ after_last h.0 h.2
+  after_arguments : (list : List Argument) (ts : List Item) → IsArguments list ts (equals ∷ rest) → first_outside (is_symbol 61) 1 ts ≡ Some (place_of equals)
+  after_arguments [] ts h = ap (λ (l : List Item). first_outside (is_symbol 61) 1 l) h.1 ∙ after_last h.0 h.2
   after_arguments (a ∷ more) ts h = after_some (a ∷ more) ts h
 
-pub equals_outside : EqualsSignsStandOutside
+pub equals_outside : EqualsSignsAreOutside
 equals_outside name opening equals list ts rest word bracket arguments sign_is =
     over 61 0 0 name (opening ∷ ts) (no_symbol_of 61 name word) (word_depth 0 name word)
     ∙ over 61 0 1 opening ts (symbol_apart 40 61 refl opening bracket) (opening_depth opening bracket)
@@ -137,7 +137,7 @@ notes_outside ts rest h = (
   h.closing,
   h.opening ∷ h.inside,
   h.spelled,
-  ap (λ (l : List Item). outside (is_symbol 41) 0 l) h.spelled
+  ap (λ (l : List Item). first_outside (is_symbol 41) 0 l) h.spelled
       ∙ over 41 0 1 h.opening (h.inside ++ h.closing ∷ rest) (symbol_apart 40 41 refl h.opening h.opens) (opening_depth h.opening h.opens)
       ∙ passes (is_symbol 41) _ 15 [] h.inside (h.closing ∷ rest) h.balanced
       ∙ at_last 41 1 h.closing rest h.ends (closing_depth h.closing h.ends),

@@ -10,21 +10,21 @@ use Rattle.pd_lex.specs.declared.token.Lexed.TheVariants as lexed
 use Rattle.pd_lex.specs.Kinds.{stays_in_line}
 use Rattle.pd_lex.specs.Lexing.{followed, items_within, items, lexeme_of, IsNext}
 use Rattle.pd_lex.specs.Pieces.{Front, nothing, gap, token, stray, front}
-use Rattle.pd_lex.specs.Places.{standing, octets_from, joined, place_after, before, between}
+use Rattle.pd_lex.specs.Places.{clamped_place, octets_from, joined, place_after, before, between}
 use Rattle.pd_lex.specs.Tokens.{Item, lexeme}
 use Rattle.pd_script.specs.Brackets.{opened_by, is_closing}
 use Rattle.pd_script.specs.Cursor.{left, shown}
 use Rattle.pd_script.specs.Items.{is_symbol}
 use Rattle.pd_script.specs.Next.{place_of}
 use Rattle.pd_script.proofs.Taking.{alike}
-use Rattle.pd_layout.specs.Laid.{depth_after, outside}
+use Rattle.pd_layout.specs.Canonical.{depth_after, first_outside}
 
 -- ---- one item
 
-pub goes_past : (test : Item → Bool) (depth : ℕ) (t : Item) (ts : List Item) → (test t && depth_after depth t == 0) ≡ false → outside test depth (t ∷ ts) ≡ outside test (depth_after depth t) ts
+pub goes_past : (test : Item → Bool) (depth : ℕ) (t : Item) (ts : List Item) → (test t && depth_after depth t == 0) ≡ false → first_outside test depth (t ∷ ts) ≡ first_outside test (depth_after depth t) ts
 goes_past test depth t ts none = rw none refl
 
-pub stops_at : (test : Item → Bool) (depth : ℕ) (t : Item) (ts : List Item) → (test t && depth_after depth t == 0) ≡ true → outside test depth (t ∷ ts) ≡ Some (place_of t)
+pub stops_at : (test : Item → Bool) (depth : ℕ) (t : Item) (ts : List Item) → (test t && depth_after depth t == 0) ≡ true → first_outside test depth (t ∷ ts) ≡ Some (place_of t)
 stops_at test depth t ts found = rw found refl
 
 none_of : (found : Bool) → (found && false) ≡ false
@@ -60,12 +60,12 @@ module _ (lines : List (List ℕ)) (t : Token) (h : stays_in_line t.kind ≡ tru
     tested : (b : Bool) → (is_symbol octet (shown t) && now == 0) ≡ b → (is_symbol octet (lexeme (lexeme_of lines t)) && depth_after depth (lexeme (lexeme_of lines t)) == 0) ≡ b
     tested b e = rw (symbol_alike octet, depth_alike depth, ← is) e
 
-    pub goes_on : (is_symbol octet (shown t) && now == 0) ≡ false → outside (is_symbol octet) depth (left lines (lexed.Token t)) ≡ outside (is_symbol octet) now (items lines t.to)
+    pub goes_on : (is_symbol octet (shown t) && now == 0) ≡ false → first_outside (is_symbol octet) depth (left lines (lexed.Token t)) ≡ first_outside (is_symbol octet) now (items lines t.to)
     goes_on none =
         goes_past (is_symbol octet) depth (lexeme (lexeme_of lines t)) (items lines t.to) (tested false none)
-        ∙ ap (λ (k : ℕ). outside (is_symbol octet) k (items lines t.to)) (depth_alike depth ∙ sym is)
+        ∙ ap (λ (k : ℕ). first_outside (is_symbol octet) k (items lines t.to)) (depth_alike depth ∙ sym is)
 
-    pub finds : (is_symbol octet (shown t) && now == 0) ≡ true → outside (is_symbol octet) depth (left lines (lexed.Token t)) ≡ Some t.from
+    pub finds : (is_symbol octet (shown t) && now == 0) ≡ true → first_outside (is_symbol octet) depth (left lines (lexed.Token t)) ≡ Some t.from
     unfolding lexeme_of
     finds found =
         stops_at (is_symbol octet) depth (lexeme (lexeme_of lines t)) (items lines t.to) (tested true found)
@@ -111,6 +111,6 @@ joined_less (suc n) (line ∷ lines) =
 pub few_items : (lines : List (List ℕ)) (p : Place) → FitsText lines → length (items lines p) ≤ 65537
 unfolding items octets_from
 few_items lines p fits =
-    let q : Place = standing lines p in
+    let q : Place = clamped_place lines p in
     omega
     (arith, fits.1, joined_less (q.line - 1) lines, length-drop q.at (joined (drop (q.line - 1) lines)), within_few (length (octets_from lines p)) (max 1 (length lines)) q (octets_from lines p))

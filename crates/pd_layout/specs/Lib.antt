@@ -1,6 +1,6 @@
 -- The definitions that the contracts cite.
-pub mod Sameness
+pub mod ReadAs
 pub mod Traces
-pub mod Laid
+pub mod Canonical
 pub mod Grammatical
-pub mod Inner
+pub mod Internal

@@ -13,8 +13,8 @@ is_fraction [] = false
 is_fraction (octet ∷ digits) = octet == 46 && are_digits digits
 
 -- seconds with six decimals
-abbrev pub is_moment : List ℕ → Bool
-is_moment word = let point = length word - 7 in nat_lt 0 point && are_digits (take point word) && is_fraction (drop point word)
+abbrev pub is_fixed_seconds : List ℕ → Bool
+is_fixed_seconds word = let point = length word - 7 in nat_lt 0 point && are_digits (take point word) && is_fraction (drop point word)
 
 -- the name of a state
 abbrev pub is_state : List ℕ → Bool
@@ -33,48 +33,48 @@ abbrev pub is_value : List ℕ → Bool
 is_value word = nat_lt 0 (length word) && are_letters word
 
 -- a name with its colon, and a value
-abbrev pub is_told : List ℕ → List ℕ → Bool
-is_told word name = bytes_eq (take (length name) word) name && is_value (drop (length name) word)
+abbrev pub is_named_value : List ℕ → List ℕ → Bool
+is_named_value word name = bytes_eq (take (length name) word) name && is_value (drop (length name) word)
 
 -- the name of an octet number or a window, a colon and a value
-abbrev pub is_octets : List ℕ → Bool
-is_octets word =
-    is_told word (codes "una:") || is_told word (codes "next:") || is_told word (codes "top:") || is_told word (codes "end:")
-    || is_told word (codes "cwnd:") || is_told word (codes "ssthresh:") || is_told word (codes "rwnd:")
+abbrev pub is_octet_fact : List ℕ → Bool
+is_octet_fact word =
+    is_named_value word (codes "una:") || is_named_value word (codes "next:") || is_named_value word (codes "top:") || is_named_value word (codes "end:")
+    || is_named_value word (codes "cwnd:") || is_named_value word (codes "ssthresh:") || is_named_value word (codes "rwnd:")
 
 -- the name of a count, a colon and a value
-abbrev pub is_count : List ℕ → Bool
-is_count word =
-    is_told word (codes "FlightSize:") || is_told word (codes "pipe:") || is_told word (codes "prr_delivered:")
-    || is_told word (codes "prr_out:") || is_told word (codes "DupAcks:")
+abbrev pub is_count_fact : List ℕ → Bool
+is_count_fact word =
+    is_named_value word (codes "FlightSize:") || is_named_value word (codes "pipe:") || is_named_value word (codes "prr_delivered:")
+    || is_named_value word (codes "prr_out:") || is_named_value word (codes "DupAcks:")
 
 -- the name of another fact, a colon and a value
-abbrev pub is_course : List ℕ → Bool
-is_course word =
-    is_told word (codes "connection:") || is_told word (codes "RTO:") || is_told word (codes "expiry:")
-    || is_told word (codes "recovery:") || is_told word (codes "sent_by:")
+abbrev pub is_course_fact : List ℕ → Bool
+is_course_fact word =
+    is_named_value word (codes "connection:") || is_named_value word (codes "RTO:") || is_named_value word (codes "expiry:")
+    || is_named_value word (codes "recovery:") || is_named_value word (codes "sent_by:")
 
 -- the name of a fact, a colon and a value
 abbrev pub is_fact : List ℕ → Bool
-is_fact word = is_octets word || is_count word || is_course word
+is_fact word = is_octet_fact word || is_count_fact word || is_course_fact word
 
 -- facts, parted by single blanks
 abbrev pub are_facts : List ℕ → Bool
 are_facts words = list_all is_fact (slice_split (λ octet. octet == 32) words)
 
 -- the first blank
-abbrev pub blank_at : List ℕ → Option ℕ
-blank_at octets = position (λ octet. octet == 32) octets
+abbrev pub first_space : List ℕ → Option ℕ
+first_space octets = position (λ octet. octet == 32) octets
 
 -- a state, and facts after a blank
-abbrev pub is_standing_at : Option ℕ → List ℕ → Bool
-is_standing_at None words = is_state words
-is_standing_at (Some at) words = is_state (take at words) && are_facts (drop (at + 1) words)
+abbrev pub is_state_and_facts_at : Option ℕ → List ℕ → Bool
+is_state_and_facts_at None words = is_state words
+is_state_and_facts_at (Some at) words = is_state (take at words) && are_facts (drop (at + 1) words)
 
 -- a moment, and after a blank a state and facts
-abbrev pub are_told_at : Option ℕ → List ℕ → Bool
-are_told_at None words = false
-are_told_at (Some at) words = let rest = drop (at + 1) words in is_moment (take at words) && is_standing_at (blank_at rest) rest
+abbrev pub is_trace_body_at : Option ℕ → List ℕ → Bool
+is_trace_body_at None words = false
+is_trace_body_at (Some at) words = let rest = drop (at + 1) words in is_fixed_seconds (take at words) && is_state_and_facts_at (first_space rest) rest
 
 -- what a line of a trace begins with
 abbrev pub opening : List ℕ
@@ -82,4 +82,4 @@ opening = codes "//= at "
 
 -- a line of a trace: its opening, and words parted by single blanks
 abbrev pub is_trace : List ℕ → Bool
-is_trace line = let words = drop 7 line in bytes_eq (take 7 line) opening && are_told_at (blank_at words) words
+is_trace line = let words = drop 7 line in bytes_eq (take 7 line) opening && is_trace_body_at (first_space words) words

@@ -1,13 +1,13 @@
 //! Comments and empty lines as they stand in recordings.
 ghost use Rattle.std.specs.Prelude.{◌≡◌, ◌≤◌, false, length, option_copied, IfSome};
-ghost use Rattle.pd_layout.specs.Laid.{after_end, within, comment, alone, lead, trail, gap};
-ghost use Rattle.pd_layout.specs.Inner.{lines_of};
+ghost use Rattle.pd_layout.specs.Canonical.{after_end, still_in_comment, comment, comment_open_after, lead, trail, gap};
+ghost use Rattle.pd_layout.specs.Internal.{lines_of};
 
-use crate::blocks::Block;
+use crate::line_cursor::LineCursor;
 use crate::traces::is_trace;
 
 /// Whether these octets follow an event in its line, and lines up to the next event after them.
-pub fn is_gap(rest: &[u8], lines: Block<'_>) -> bool
+pub fn is_gap(rest: &[u8], lines: LineCursor<'_>) -> bool
     ensures { result ≡ gap (lines_of lines.entry) rest.now }
 {
     match trail(rest) {
@@ -17,13 +17,13 @@ pub fn is_gap(rest: &[u8], lines: Block<'_>) -> bool
 }
 
 /// Whether these are lines in front of an event, the first of them within a comment or not.
-pub fn is_lead(inside: bool, lines: Block<'_>) -> bool
+pub fn is_lead(inside: bool, lines: LineCursor<'_>) -> bool
     ensures { result ≡ lead inside (lines_of lines.entry) }
 {
     let mut inside = inside;
     let mut left = lines;
     while let Some((line, after)) = left.split_first() {
-        match alone(inside, line) {
+        match comment_open_after(inside, line) {
             Some(more) => inside = more,
             None => return false,
         }
@@ -34,20 +34,20 @@ pub fn is_lead(inside: bool, lines: Block<'_>) -> bool
 
 /// Whether a comment goes on after a line in front of an event, which may be within one; nothing where the line is neither
 /// empty nor a comment.
-fn alone(inside: bool, line: &[u8]) -> Option<bool>
-    ensures { result ≡ alone inside line.now }
+fn comment_open_after(inside: bool, line: &[u8]) -> Option<bool>
+    ensures { result ≡ comment_open_after inside line.now }
 {
     if inside {
-        within(line)
+        still_in_comment(line)
     } else if line.is_empty() {
         Some(false)
     } else {
-        comment(line)
+        comment_opened_by(line)
     }
 }
 
 /// Whether a comment alone in its line goes on after it; nothing where the line is none.
-fn comment(line: &[u8]) -> Option<bool>
+fn comment_opened_by(line: &[u8]) -> Option<bool>
     ensures { result ≡ comment line.now }
 {
     if let Some(rest) = line.strip_prefix(b" ") {
@@ -57,14 +57,14 @@ fn comment(line: &[u8]) -> Option<bool>
         return if is_trace(line) { None } else { Some(false) };
     }
     match line.strip_prefix(b"/*") {
-        Some(rest) => within(rest),
+        Some(rest) => still_in_comment(rest),
         None => None,
     }
 }
 
 /// Whether a comment that a line is in goes on after the line; nothing where something follows its end.
-fn within(line: &[u8]) -> Option<bool>
-    ensures { result ≡ within line.now }
+fn still_in_comment(line: &[u8]) -> Option<bool>
+    ensures { result ≡ still_in_comment line.now }
 {
     match after_end(line) {
         Some(rest) => if rest.is_empty() { Some(false) } else { None },
@@ -90,7 +90,7 @@ fn trail(line: &[u8]) -> Option<bool>
     }
 }
 
-/// What follows the end of a comment in a line; nothing where the comment goes on in the next line.
+/// What follows the end of a comment_opened_by in a line; nothing where the comment goes on in the next line.
 fn after_end(line: &[u8]) -> Option<&[u8]>
     ensures what { option_copied result ≡ after_end line.now }
     ensures shorter { IfSome result (λ rest. length rest.now ≤ length line.now) }

@@ -1,9 +1,9 @@
 //! Laws of how calls are laid out.
-ghost use Rattle.pd_layout.specs.Grammatical.{EqualsSignsStandOutside, NotesEndOutside};
+ghost use Rattle.pd_layout.specs.Grammatical.{EqualsSignsAreOutside, NotesEndOutside};
 
 /// Two laws, and no work: the equals sign of a call, as the grammar spells it, is the first of its tokens that is one and leaves
 /// no bracket open, and the last token of a note the first that closes a bracket and leaves none open.
-pub fn answers_stand_outside()
-    ensures equals { EqualsSignsStandOutside }
+pub fn law_answers_stand_outside()
+    ensures equals { EqualsSignsAreOutside }
     ensures notes { NotesEndOutside }
 {}

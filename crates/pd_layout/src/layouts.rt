@@ -1,8 +1,8 @@
 //! How a script stands in its text: the octets of its parts, with the comments and blank lines around them.
-use crate::alone::parts_alone;
-use crate::extents::{Extent, end_of, is_before};
-use crate::gaps::{GapPart, put_gap};
-use crate::parts::{Parts, TextPart};
+use crate::event_parts::{EventParts, TextPart};
+use crate::single_line::parts_on_line;
+use crate::spans::{TextSpan, end_of, is_before};
+use crate::trivia::{TriviaPart, put_trivia};
 use pd_lex::{Lexed, Place, Token, TokenKind, next_token};
 use pd_text::{Lines, MAX_OCTETS};
 use std::alloc::{AllocError, Global};
@@ -12,42 +12,42 @@ use std::mem::replace;
 #[derive(Drop)]
 pub struct Layout {
     /// The comments and blank lines before it and within it, those within a call and its note left out.
-    pub lead: Vec<GapPart>,
+    pub leading: Vec<TriviaPart>,
     /// Where its parts stand.
-    pub parts: Parts,
+    pub parts: EventParts,
     /// The comments and blank lines within the note of a call.
-    pub noted: Vec<GapPart>,
+    pub in_note: Vec<TriviaPart>,
     /// The comments after it on its line.
-    pub trail: Vec<GapPart>,
+    pub trailing: Vec<TriviaPart>,
 }
 
 impl Layout {
     /// With these parts, and no comment within the note or after it.
-    fn of(alloc: Global, lead: Vec<GapPart>, parts: Parts) -> Layout {
+    fn of(alloc: Global, leading: Vec<TriviaPart>, parts: EventParts) -> Layout {
         Layout {
-            lead,
+            leading,
             parts,
-            noted: Vec::new(alloc),
-            trail: Vec::new(alloc),
+            in_note: Vec::new(alloc),
+            trailing: Vec::new(alloc),
         }
     }
 
     /// Reads the next token, with what is before it.
     fn read(&mut self, lines: &Lines, token: &Token<'_>) -> Result<(), AllocError> {
-        let gap = Extent {
+        let gap = TextSpan {
             from: self.parts.event.to,
             to: token.from,
         };
-        match self.parts.reading() {
+        match self.parts.current() {
             TextPart::Call => {}
-            TextPart::Note => put_gap(&mut self.noted, lines, gap)?,
-            _ => put_gap(&mut self.lead, lines, gap)?,
+            TextPart::Note => put_trivia(&mut self.in_note, lines, gap)?,
+            _ => put_trivia(&mut self.leading, lines, gap)?,
         }
-        let extent = Extent {
+        let text_span = TextSpan {
             from: token.from,
             to: token.to,
         };
-        self.parts.read(octet_of(token), extent);
+        self.parts.read(octet_of(token), text_span);
         Ok(())
     }
 }
@@ -59,7 +59,7 @@ pub struct LayoutReader<'a> {
     /// Where the next part begins.
     next: Place,
     /// What is before it.
-    lead: Vec<GapPart>,
+    leading: Vec<TriviaPart>,
 }
 
 impl<'a> LayoutReader<'a> {
@@ -73,12 +73,12 @@ impl<'a> LayoutReader<'a> {
         place: Place,
     ) -> Result<LayoutReader<'a>, AllocError> {
         let gap = gap_after(lines, place);
-        let mut lead = Vec::new(alloc);
-        put_gap(&mut lead, lines, gap)?;
+        let mut leading = Vec::new(alloc);
+        put_trivia(&mut leading, lines, gap)?;
         Ok(LayoutReader {
             lines,
             next: gap.to,
-            lead,
+            leading,
         })
     }
 
@@ -87,11 +87,11 @@ impl<'a> LayoutReader<'a> {
     /// # Errors
     /// `AllocError` where a growth is refused.
     pub fn read_event(&mut self, alloc: Global, until: Place) -> Result<Layout, AllocError> {
-        match parts_alone(self.lines, self.next, until) {
+        match parts_on_line(self.lines, self.next, until) {
             Some(parts) => {
                 self.next = until;
-                let lead = replace(&mut self.lead, Vec::new(alloc));
-                Ok(Layout::of(alloc, lead, parts))
+                let leading = replace(&mut self.leading, Vec::new(alloc));
+                Ok(Layout::of(alloc, leading, parts))
             }
             None => self.read_part(alloc, until),
         }
@@ -111,9 +111,9 @@ impl<'a> LayoutReader<'a> {
 
     /// Reads the tokens of the next part, which are before a place, that of the token after them.
     fn read_part(&mut self, alloc: Global, until: Place) -> Result<Layout, AllocError> {
-        let lead = replace(&mut self.lead, Vec::new(alloc));
+        let leading = replace(&mut self.leading, Vec::new(alloc));
         let mut place = replace(&mut self.next, until);
-        let mut layout = Layout::of(alloc, lead, Parts::at(place));
+        let mut layout = Layout::of(alloc, leading, EventParts::at(place));
         // A text has no more tokens than octets.
         for _ in 0..MAX_OCTETS {
             match next_token(self.lines, place) {
@@ -124,30 +124,31 @@ impl<'a> LayoutReader<'a> {
                 _ => break,
             }
         }
-        let gap = Extent {
+        let gap = TextSpan {
             from: place,
             to: until,
         };
-        self.read_gap(&mut layout, gap)?;
+        self.read_trivia(&mut layout, gap)?;
         Ok(layout)
     }
 
     /// What is after the last part.
-    pub fn rest(self) -> Vec<GapPart> {
-        self.lead
+    pub fn rest(self) -> Vec<TriviaPart> {
+        self.leading
     }
 
     /// Reads what is after a part: what begins in its line stays there, where no further token is in that line.
-    fn read_gap(&mut self, part: &mut Layout, gap: Extent) -> Result<(), AllocError> {
+    fn read_trivia(&mut self, part: &mut Layout, gap: TextSpan) -> Result<(), AllocError> {
         let is_last = gap.to.line > gap.from.line;
-        let mut pieces = Vec::new(*self.lead.allocator());
-        put_gap(&mut pieces, self.lines, gap)?;
+        let mut pieces = Vec::new(*self.leading.allocator());
+        put_trivia(&mut pieces, self.lines, gap)?;
         for piece in &pieces {
             match piece {
-                GapPart::Comment(extent) if is_last && extent.from.line == gap.from.line => {
-                    part.trail.push(*piece)?;
-                }
-                _ => self.lead.push(*piece)?,
+                TriviaPart::Comment(text_span) if is_last && text_span.from.line == gap.from.line =>
+                    {
+                        part.trailing.push(*piece)?;
+                    }
+                _ => self.leading.push(*piece)?,
             }
         }
         Ok(())
@@ -155,12 +156,12 @@ impl<'a> LayoutReader<'a> {
 }
 
 /// From a place to the next token, or to the end of the text.
-fn gap_after(lines: &Lines, place: Place) -> Extent {
+fn gap_after(lines: &Lines, place: Place) -> TextSpan {
     let to = match next_token(lines, place) {
         Lexed::Token(token) => token.from,
         Lexed::End | Lexed::Bad(_) => end_of(lines),
     };
-    Extent { from: place, to }
+    TextSpan { from: place, to }
 }
 
 /// What tells of a token: a symbol's octet, a letter of a word, 0 of any other.

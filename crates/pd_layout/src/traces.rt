@@ -1,6 +1,6 @@
 //! The lines of a trace, which tell of events when they happened and how the sender stood then.
 ghost use Rattle.std.specs.Prelude.{◌≡◌, ◌<◌, length, IfSome};
-ghost use Rattle.pd_layout.specs.Traces.{is_trace, are_told_at, is_standing_at, blank_at, is_moment, is_fraction, are_digits, is_state, is_fact, is_octets, is_count, is_course, are_facts, is_told, is_value, are_letters};
+ghost use Rattle.pd_layout.specs.Traces.{is_trace, is_trace_body_at, is_state_and_facts_at, first_space, is_fixed_seconds, is_fraction, are_digits, is_state, is_fact, is_octet_fact, is_count_fact, is_course_fact, are_facts, is_named_value, is_value, are_letters};
 
 /// What a line of a trace begins with.
 const OPENING: &[u8] = b"//= at ";
@@ -15,26 +15,26 @@ pub fn is_trace(line: &[u8]) -> bool
         return false;
     };
     match line.strip_prefix(OPENING) {
-        Some(told) => are_told(told),
+        Some(trace_body) => is_trace_body(trace_body),
         None => false,
     }
 }
 
 /// Whether these are a moment, a state and facts.
-fn are_told(words: &[u8]) -> bool
-    ensures { result ≡ are_told_at (blank_at words.now) words.now }
+fn is_trace_body(words: &[u8]) -> bool
+    ensures { result ≡ is_trace_body_at (first_space words.now) words.now }
 {
-    match blank_at(words) {
-        Some(at) => is_moment(&words[..at]) && is_standing(&words[at + 1..]),
+    match first_space(words) {
+        Some(at) => is_fixed_seconds(&words[..at]) && is_state_and_facts(&words[at + 1..]),
         None => false,
     }
 }
 
 /// Whether these are a state and facts.
-fn is_standing(words: &[u8]) -> bool
-    ensures { result ≡ is_standing_at (blank_at words.now) words.now }
+fn is_state_and_facts(words: &[u8]) -> bool
+    ensures { result ≡ is_state_and_facts_at (first_space words.now) words.now }
 {
-    match blank_at(words) {
+    match first_space(words) {
         Some(at) => is_state(&words[..at]) && are_facts(&words[at + 1..]),
         None => is_state(words),
     }
@@ -50,16 +50,16 @@ fn are_facts(words: &[u8]) -> bool
 }
 
 /// Where the first blank stands.
-fn blank_at(octets: &[u8]) -> Option<usize>
-    ensures place { result ≡ blank_at octets.now }
+fn first_space(octets: &[u8]) -> Option<usize>
+    ensures place { result ≡ first_space octets.now }
     ensures within { IfSome result (λ at. at < length octets.now) }
 {
     octets.iter().position(|octet| *octet == b' ')
 }
 
 /// Whether a word is seconds with six decimals.
-fn is_moment(word: &[u8]) -> bool
-    ensures { result ≡ is_moment word.now }
+fn is_fixed_seconds(word: &[u8]) -> bool
+    ensures { result ≡ is_fixed_seconds word.now }
 {
     let point = word.len().saturating_sub(7);
     point > 0 && are_digits(&word[..point]) && is_fraction(&word[point..])
@@ -101,47 +101,47 @@ fn is_state(word: &[u8]) -> bool
 fn is_fact(word: &[u8]) -> bool
     ensures { result ≡ is_fact word.now }
 {
-    is_octets(word) || is_count(word) || is_course(word)
+    is_octet_fact(word) || is_count_fact(word) || is_course_fact(word)
 }
 
 /// Whether a word is the name of an octet number or a window, a colon and a value.
-fn is_octets(word: &[u8]) -> bool
-    ensures { result ≡ is_octets word.now }
+fn is_octet_fact(word: &[u8]) -> bool
+    ensures { result ≡ is_octet_fact word.now }
 {
-    is_told(word, b"una:")
-        || is_told(word, b"next:")
-        || is_told(word, b"top:")
-        || is_told(word, b"end:")
-        || is_told(word, b"cwnd:")
-        || is_told(word, b"ssthresh:")
-        || is_told(word, b"rwnd:")
+    is_named_value(word, b"una:")
+        || is_named_value(word, b"next:")
+        || is_named_value(word, b"top:")
+        || is_named_value(word, b"end:")
+        || is_named_value(word, b"cwnd:")
+        || is_named_value(word, b"ssthresh:")
+        || is_named_value(word, b"rwnd:")
 }
 
 /// Whether a word is the name of a count, a colon and a value.
-fn is_count(word: &[u8]) -> bool
-    ensures { result ≡ is_count word.now }
+fn is_count_fact(word: &[u8]) -> bool
+    ensures { result ≡ is_count_fact word.now }
 {
-    is_told(word, b"FlightSize:")
-        || is_told(word, b"pipe:")
-        || is_told(word, b"prr_delivered:")
-        || is_told(word, b"prr_out:")
-        || is_told(word, b"DupAcks:")
+    is_named_value(word, b"FlightSize:")
+        || is_named_value(word, b"pipe:")
+        || is_named_value(word, b"prr_delivered:")
+        || is_named_value(word, b"prr_out:")
+        || is_named_value(word, b"DupAcks:")
 }
 
 /// Whether a word is the name of another fact, a colon and a value.
-fn is_course(word: &[u8]) -> bool
-    ensures { result ≡ is_course word.now }
+fn is_course_fact(word: &[u8]) -> bool
+    ensures { result ≡ is_course_fact word.now }
 {
-    is_told(word, b"connection:")
-        || is_told(word, b"RTO:")
-        || is_told(word, b"expiry:")
-        || is_told(word, b"recovery:")
-        || is_told(word, b"sent_by:")
+    is_named_value(word, b"connection:")
+        || is_named_value(word, b"RTO:")
+        || is_named_value(word, b"expiry:")
+        || is_named_value(word, b"recovery:")
+        || is_named_value(word, b"sent_by:")
 }
 
 /// Whether a word is this name and a value.
-fn is_told(word: &[u8], name: &[u8]) -> bool
-    ensures { result ≡ is_told word.now name.now }
+fn is_named_value(word: &[u8], name: &[u8]) -> bool
+    ensures { result ≡ is_named_value word.now name.now }
 {
     match word.strip_prefix(name) {
         Some(value) => is_value(value),

@@ -4,7 +4,7 @@ use Rattle.std.specs.List.{list_all}
 use Rattle.std.proofs.lemmas.List.{nil_from_length}
 use Rattle.pd_text.specs.Text.{is_line}
 use Rattle.pd_lex.specs.declared.token.Place.{Place}
-use Rattle.pd_lex.specs.Places.{standing, octets_from, place_after, before, IsPlace}
+use Rattle.pd_lex.specs.Places.{clamped_place, octets_from, place_after, before, IsPlace}
 use Rattle.pd_lex.specs.Pieces.{Front, nothing, gap, token, stray, front}
 use Rattle.pd_lex.specs.Tokens.{Lexeme, Item, lexeme}
 use Rattle.pd_lex.specs.Lexing.{items}
@@ -12,7 +12,7 @@ use Rattle.pd_lex.specs.Laws.{GoOn}
 use Rattle.pd_lex.proofs.Fronts.{IsRest-shorter}
 use Rattle.pd_lex.proofs.Items.{items_from, items_past, items_at_end, items_at_stray}
 use Rattle.pd_lex.proofs.Order.{by_line, left_after, gap_rest, items_after_gap, items_after_token, nothing_left}
-use Rattle.pd_lex.proofs.Texts.{standing_is_place}
+use Rattle.pd_lex.proofs.Texts.{clamped_is_place}
 
 module _ (lines : List (List ℕ)) (plain : list_all is_line lines ≡ true) where
   on_by : (k : ℕ) (p : Place) → IsPlace lines p → length (octets_from lines p) ≤ suc k → ((q : Place) → IsPlace lines q → length (octets_from lines q) ≤ k → GoOn lines (items lines q)) → (f : Front) → front (octets_from lines p) ≡ f → GoOn lines (items lines p)
@@ -49,5 +49,5 @@ go_on lines p plain = by_line (length lines) p.line (GoOn lines (items lines p))
 
     within : p.line ≤ length lines → GoOn lines (items lines p)
     within le =
-        let h = standing_is_place lines p le in
-        rw (items_from lines p (standing lines p) h refl) (on_within lines plain (length (octets_from lines (standing lines p))) (standing lines p) h (omega arith))
+        let h = clamped_is_place lines p le in
+        rw (items_from lines p (clamped_place lines p) h refl) (on_within lines plain (length (octets_from lines (clamped_place lines p))) (clamped_place lines p) h (omega arith))

@@ -9,7 +9,7 @@ use Rattle.pd_lex.specs.declared.scan.Piece.{Piece}
 use Rattle.pd_lex.specs.declared.scan.Piece.TheVariants.{Blank, Whole, Open, Stray}
 use Rattle.pd_lex.specs.declared.scan.Opener.{Opener}
 use Rattle.pd_lex.specs.declared.scan.Opener.TheVariants.{Comment, Quote, Backquote, Brace}
-use Rattle.pd_lex.specs.Places.{first_place, joined, line_at, standing, octets_from, place_after, before, IsPlace}
+use Rattle.pd_lex.specs.Places.{first_place, joined, line_at, clamped_place, octets_from, place_after, before, IsPlace}
 use Rattle.pd_lex.specs.Pieces.{piece, after_end, opener_len, Front, nothing, gap, token, stray, closed, parted, front}
 use Rattle.pd_lex.specs.Tokens.{Item, lexeme, ending, bad}
 use Rattle.pd_lex.specs.Lexing.{items}
@@ -18,11 +18,11 @@ use Rattle.pd_lex.specs.Agreement.{IsInOrder, AgreeTo}
 use Rattle.pd_lex.proofs.InLine.{piece_in_line}
 use Rattle.pd_lex.proofs.Endings.{end_in_line, end_past_line, end_suffix}
 use Rattle.pd_lex.proofs.Items.{items_from, items_past, items_at_end, items_at_stray}
-use Rattle.pd_lex.proofs.Texts.{standing_is_place}
+use Rattle.pd_lex.proofs.Texts.{clamped_is_place}
 use Rattle.pd_lex.proofs.Spelled.{before_is}
 use Rattle.pd_lex.proofs.Rests.{octets_in_line}
 use Rattle.pd_lex.proofs.Fronts.{piece_within, IsRest, IsRest-cut, IsRest-shorter}
-use Rattle.pd_lex.proofs.Order.{by_line, left_after, gap_rest, token_rest, items_after_gap, items_after_token, nothing_left, items_rise, standing_rises}
+use Rattle.pd_lex.proofs.Order.{by_line, left_after, gap_rest, token_rest, items_after_gap, items_after_token, nothing_left, items_rise, clamped_rises}
 
 -- the front of a text that goes on after a newline: the piece ends before it, whatever follows, or after it
 abbrev pub GoesOn : List ℕ → List ℕ → Front → Front → Type 0
@@ -181,9 +181,9 @@ module _ (cs xs ys : List (List ℕ)) (plain_x : list_all is_line (cs ++ xs) ≡
   agree_within (suc k) p h le short = agree_by k p h le short (agree_within k) (front (octets_from (cs ++ xs) p)) refl
 
   -- any place
-  standing_same : (p : Place) → p.line ≤ length cs → standing (cs ++ xs) p ≡ standing (cs ++ ys) p
-  unfolding standing
-  standing_same p le = by_test (p.line == 0) refl
+  clamped_same : (p : Place) → p.line ≤ length cs → clamped_place (cs ++ xs) p ≡ clamped_place (cs ++ ys) p
+  unfolding clamped_place
+  clamped_same p le = by_test (p.line == 0) refl
     where
       is_positive : (n : ℕ) → (n == 0) ≡ false → 1 ≤ n
       is_positive n h = grind (arith, nat_tests)
@@ -200,13 +200,13 @@ module _ (cs xs ys : List (List ℕ)) (plain_x : list_all is_line (cs ++ xs) ≡
 
       within : p.line ≤ length (cs ++ xs) → AgreeTo (length cs) (items (cs ++ xs) p) (items (cs ++ ys) p)
       within le =
-          let q = standing (cs ++ xs) p in
-          let h : IsPlace (cs ++ xs) q = standing_is_place (cs ++ xs) p le in
+          let q = clamped_place (cs ++ xs) p in
+          let h : IsPlace (cs ++ xs) q = clamped_is_place (cs ++ xs) p le in
           let is = items_from (cs ++ xs) p q h refl in
           let beyond : length cs < q.line → AgreeTo (length cs) (items (cs ++ xs) q) (items (cs ++ ys) p) = λ lt. far (length cs) q.line (max 1 (length (cs ++ xs))) (items (cs ++ xs) q) (items (cs ++ ys) p) lt (items_rise (cs ++ xs) plain_x q h) in
           let near : q.line ≤ length cs → AgreeTo (length cs) (items (cs ++ xs) q) (items (cs ++ ys) p) = λ close.
           let front = place_in_front cs xs q h close in
-          let same = standing_same p (omega (arith, standing_rises (cs ++ xs) p)) in
+          let same = clamped_same p (omega (arith, clamped_rises (cs ++ xs) p)) in
           let other = items_from (cs ++ ys) p q (place_in_whole cs ys q front close) same in
           rw other (agree_within (length (octets_from (cs ++ xs) q)) q front close (omega arith))
           in

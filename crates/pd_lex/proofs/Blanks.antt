@@ -8,15 +8,15 @@ use Rattle.std.proofs.lemmas.Bool.Decides.{nat_tests}
 use Rattle.pd_text.specs.Text.{is_line}
 use Rattle.pd_lex.specs.declared.token.Place.{Place}
 use Rattle.pd_lex.specs.Octets.{is_blank}
-use Rattle.pd_lex.specs.Places.{first_place, line_at, standing, octets_from, IsPlace}
+use Rattle.pd_lex.specs.Places.{first_place, line_at, clamped_place, octets_from, IsPlace}
 use Rattle.pd_lex.specs.Pieces.{piece, gap, front}
 use Rattle.pd_lex.specs.declared.token.Lexed.{Lexed}
 use Rattle.pd_lex.specs.declared.token.Lexed.TheVariants as lexed
 use Rattle.pd_lex.specs.Lexing.{items, IsNext}
 use Rattle.pd_lex.specs.Next.{IsCut}
 use Rattle.pd_lex.specs.Spellings.{Skips, here}
-use Rattle.pd_lex.proofs.Rests.{place_is, standing_place, standing_first}
-use Rattle.pd_lex.proofs.Texts.{octets_standing}
+use Rattle.pd_lex.proofs.Rests.{place_is, clamped_of_place, clamped_first}
+use Rattle.pd_lex.proofs.Texts.{octets_of_clamped}
 use Rattle.pd_lex.proofs.Items.{items_from, items_over_gap, gap_shorter}
 use Rattle.pd_lex.proofs.Longest.{longest_gap, Skips-then, Skips-over}
 use Rattle.pd_lex.proofs.Steps.{step_blank, step_newline}
@@ -38,14 +38,14 @@ skips_to : (s t : List ℕ) → s ≡ t → Skips s t
 skips_to s t e = rw e here
 
 -- a place stands where it says
-pub stands : (lines : List (List ℕ)) (p q : Place) → IsPlace lines q → q ≡ standing lines p → GoesOn lines p q
+pub stands : (lines : List (List ℕ)) (p q : Place) → IsPlace lines q → q ≡ clamped_place lines p → GoesOn lines p q
 stands lines p q h e =
-    let octets = octets_standing lines p q h e in
+    let octets = octets_of_clamped lines p q h e in
     record { place = h; same = items_from lines p q h e; skipped = skips_to _ _ octets; shorter = rw octets (omega arith) }
 
 -- line 0 stands for the first place
 pub first_stands : (lines : List (List ℕ)) (p : Place) → p.line ≡ 0 → GoesOn lines p first_place
-first_stands lines p e = stands lines p first_place (record { from_one = omega arith; within = omega arith; at = omega arith }) (sym (standing_first lines p e))
+first_stands lines p e = stands lines p first_place (record { from_one = omega arith; within = omega arith; at = omega arith }) (sym (clamped_first lines p e))
 
 module _ (lines : List (List ℕ)) (plain : list_all is_line lines ≡ true) where
   pub then_gap : (p q r : Place) → GoesOn lines p q → IsPlace lines r → front (octets_from lines q) ≡ gap (octets_from lines r) → GoesOn lines p r
@@ -86,7 +86,7 @@ module _ (lines : List (List ℕ)) (plain : list_all is_line lines ≡ true) (p 
   from_place : p.at ≤ length (line_at lines p.line) → GoesOn lines p p
   from_place fits =
       let h : IsPlace lines p = record { from_one = one; within = omega arith; at = fits } in
-      stands lines p p h (sym (standing_place lines p h))
+      stands lines p p h (sym (clamped_of_place lines p h))
 
   -- over blanks to an octet of the line
   pub over_blanks : (n : ℕ) → n ≡ p.at + prefix_len is_blank (drop p.at (line_at lines p.line)) → n < length (line_at lines p.line) → GoesOn lines p (record { line = p.line; at = n })
@@ -94,7 +94,7 @@ module _ (lines : List (List ℕ)) (plain : list_all is_line lines ≡ true) (p 
 
   -- to the newline, where no other octet is left in the line
   to_newline : (n : ℕ) → n ≡ p.at + prefix_len is_blank (drop p.at (line_at lines p.line)) → length (line_at lines p.line) ≤ n → GoesOn lines p (record { line = p.line; at = length (line_at lines p.line) })
-  unfolding standing
+  unfolding clamped_place
   to_newline n e ge = by_place (cases_lt (length (line_at lines p.line)) p.at)
     where
       by_place : ((length (line_at lines p.line) < p.at) ⊎ (p.at ≤ length (line_at lines p.line))) → GoesOn lines p (record { line = p.line; at = length (line_at lines p.line) })

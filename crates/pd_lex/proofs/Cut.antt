@@ -13,7 +13,7 @@ use Rattle.pd_lex.proofs.Bounds.{bound}
 use Rattle.pd_lex.proofs.Fronts.{IsRest-shorter, LeavesRest, front_leaves}
 use Rattle.pd_lex.proofs.Longest.{longest_gap, longest_token, stuck_at}
 use Rattle.pd_lex.proofs.Order.{nothing_left}
-use Rattle.pd_lex.proofs.Rests.{standing_place}
+use Rattle.pd_lex.proofs.Rests.{clamped_of_place}
 
 -- ---- what the scanner gives
 
@@ -35,11 +35,11 @@ first_is_place lines = record { from_one = omega arith; within = omega arith; at
 
 octets_of_all : (lines : List (List ℕ)) → octets_from lines first_place ≡ joined lines
 unfolding octets_from
-octets_of_all lines = rw (standing_place lines first_place (first_is_place lines)) refl
+octets_of_all lines = rw (clamped_of_place lines first_place (first_is_place lines)) refl
 
 pub items_cut : (lines : List (List ℕ)) → AreItemsOf lines (items lines first_place)
 unfolding items
-items_cut lines = rw (standing_place lines first_place (first_is_place lines), octets_of_all lines) (within_cut (max 1 (length lines)) (length (joined lines)) first_place (joined lines) (omega arith))
+items_cut lines = rw (clamped_of_place lines first_place (first_is_place lines), octets_of_all lines) (within_cut (max 1 (length lines)) (length (joined lines)) first_place (joined lines) (omega arith))
 
 -- ---- nothing else is cut so
 

@@ -4,13 +4,13 @@ use Rattle.std.specs.List.{list_all}
 use Rattle.pd_text.specs.Text.{is_line}
 use Rattle.pd_lex.specs.declared.token.TokenKind.{TokenKind}
 use Rattle.pd_lex.specs.declared.token.Place.{Place}
-use Rattle.pd_lex.specs.Places.{standing, octets_from, place_after, before, IsPlace}
+use Rattle.pd_lex.specs.Places.{clamped_place, octets_from, place_after, before, IsPlace}
 use Rattle.pd_lex.specs.Pieces.{Front, nothing, gap, token, stray, front}
 use Rattle.pd_lex.specs.Tokens.{Item, lexeme, ending, bad}
 use Rattle.pd_lex.specs.Lexing.{followed, items_within, items}
 use Rattle.pd_lex.specs.Spellings.{IsStuck}
 use Rattle.std.proofs.lemmas.Bool.{cases_lt}
-use Rattle.pd_lex.proofs.Rests.{standing_place, octets_past, advance, same_place}
+use Rattle.pd_lex.proofs.Rests.{clamped_of_place, octets_past, advance, same_place}
 use Rattle.pd_lex.proofs.Fronts.{IsRest, IsRest-cut, IsRest-shorter, LeavesRest, front_leaves}
 
 -- the items of less are the same with more pieces allowed
@@ -38,14 +38,14 @@ unfolding items_within front
 one_piece last p [] = refl
 one_piece last p (b ∷ s) = same_followed last p (b ∷ s) (front (b ∷ s)) (items_within (length s) last) (all_within last) (front_leaves (b ∷ s)) (λ q r lt. enough (length s) (length r) last q r (omega arith) (omega arith))
 
-pub items_from : (lines : List (List ℕ)) (p q : Place) → IsPlace lines q → q ≡ standing lines p → items lines p ≡ items lines q
+pub items_from : (lines : List (List ℕ)) (p q : Place) → IsPlace lines q → q ≡ clamped_place lines p → items lines p ≡ items lines q
 unfolding items octets_from
-items_from lines p q h e = rw (← e, standing_place lines q h) refl
+items_from lines p q h e = rw (← e, clamped_of_place lines q h) refl
 
 module _ (lines : List (List ℕ)) (plain : list_all is_line lines ≡ true) where
   items_at : (p : Place) → IsPlace lines p → items lines p ≡ all_within (max 1 (length lines)) p (octets_from lines p)
   unfolding items
-  items_at p h = rw (standing_place lines p h) refl
+  items_at p h = rw (clamped_of_place lines p h) refl
 
   pub items_past : (p : Place) → length lines < p.line → items lines p ≡ ending (max 1 (length lines)) ∷ []
   unfolding items items_within

@@ -1,6 +1,6 @@
 -- The lemmas that the proofs cite.
 pub mod Capped
-pub mod PlainTokens
+pub mod FastTokens
 pub mod InLine
 pub mod Endings
 pub mod Rests

@@ -13,7 +13,7 @@ use Rattle.pd_lex.specs.declared.scan.Opener.{Opener}
 use Rattle.pd_lex.specs.declared.scan.Opener.TheVariants.{Comment, Quote, Backquote, Brace}
 use Rattle.pd_lex.specs.declared.token.TokenKind.TheVariants.{Str, Cmd, Code}
 use Rattle.pd_lex.specs.Kinds.{stays_in_line}
-use Rattle.pd_lex.specs.Places.{first_place, joined, line_at, standing, octets_from, place_after, before, IsPlace}
+use Rattle.pd_lex.specs.Places.{first_place, joined, line_at, clamped_place, octets_from, place_after, before, IsPlace}
 use Rattle.pd_lex.specs.Pieces.{piece, after_end, opener_len, Front, nothing, gap, token, stray, closed, parted, front}
 use Rattle.pd_lex.specs.Tokens.{Item, lexeme, ending, bad}
 use Rattle.pd_lex.specs.Lexing.{items}
@@ -21,7 +21,7 @@ use Rattle.pd_lex.specs.Scanned.{IsLeftAt}
 use Rattle.pd_lex.specs.Agreement.{IsInOrder}
 use Rattle.pd_lex.proofs.Longest.{not_empty}
 use Rattle.pd_lex.proofs.Items.{line_within, items_from, items_past, items_over_gap, items_at_token, items_at_end, items_at_stray}
-use Rattle.pd_lex.proofs.Texts.{standing_is_place}
+use Rattle.pd_lex.proofs.Texts.{clamped_is_place}
 use Rattle.pd_lex.proofs.Rests.{octets_in_line, octets_past, advance, further_in_line, same_place}
 use Rattle.pd_lex.proofs.Steps.{front_is}
 use Rattle.pd_lex.proofs.Fronts.{IsWithin, piece_within, IsRest, IsRest-cut, LeavesRest, front_leaves, IsRest-shorter}
@@ -165,9 +165,9 @@ module _ (lines : List (List ℕ)) (plain : list_all is_line lines ≡ true) whe
   items_rise p h = rises_within (length (octets_from lines p)) p h (omega arith)
 
 -- a place is no earlier than it says
-pub standing_rises : (lines : List (List ℕ)) (p : Place) → p.line ≤ (standing lines p).line
-unfolding standing
-standing_rises lines p = by_test (p.line == 0) refl
+pub clamped_rises : (lines : List (List ℕ)) (p : Place) → p.line ≤ (clamped_place lines p).line
+unfolding clamped_place
+clamped_rises lines p = by_test (p.line == 0) refl
   where
     is_zero : (n : ℕ) → (n == 0) ≡ true → n ≡ 0
     is_zero n h = grind (arith, nat_tests)
@@ -184,5 +184,5 @@ rise lines p plain = by_line (length lines) p.line (IsInOrder p.line (max 1 (len
 
     within : p.line ≤ length lines → IsInOrder p.line (max 1 (length lines)) (items lines p)
     within le =
-        let h = standing_is_place lines p le in
-        rw (items_from lines p (standing lines p) h refl) (rises_from p.line (standing lines p).line (max 1 (length lines)) (items lines (standing lines p)) (standing_rises lines p) (items_rise lines plain (standing lines p) h))
+        let h = clamped_is_place lines p le in
+        rw (items_from lines p (clamped_place lines p) h refl) (rises_from p.line (clamped_place lines p).line (max 1 (length lines)) (items lines (clamped_place lines p)) (clamped_rises lines p) (items_rise lines plain (clamped_place lines p) h))

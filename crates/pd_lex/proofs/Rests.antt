@@ -4,7 +4,7 @@ use Rattle.std.proofs.lemmas.List.{drop_more, drop-append-le, drop-drop, length-
 use Rattle.std.proofs.lemmas.Bool.{cases_lt}
 use Rattle.std.proofs.lemmas.Bool.Decides.{nat_tests}
 use Rattle.pd_lex.specs.declared.token.Place.{Place}
-use Rattle.pd_lex.specs.Places.{first_place, joined, line_at, standing, octets_from, place_after, IsPlace}
+use Rattle.pd_lex.specs.Places.{first_place, joined, line_at, clamped_place, octets_from, place_after, IsPlace}
 use Rattle.std.specs.List.{list_all}
 use Rattle.pd_text.specs.Text.{is_line}
 use Rattle.pd_lex.specs.Scanned.{IsLeftAt}
@@ -16,17 +16,17 @@ not_zero : (n : ℕ) → 1 ≤ n → (n == 0) ≡ false
 not_zero n h = grind (arith, nat_tests)
 
 -- a place of the text stands where it says
-pub standing_place : (lines : List (List ℕ)) (p : Place) → IsPlace lines p → standing lines p ≡ p
-unfolding standing
-standing_place lines p h = rw (not_zero p.line h.from_one, min_within p.at (length (line_at lines p.line)) h.at) refl
+pub clamped_of_place : (lines : List (List ℕ)) (p : Place) → IsPlace lines p → clamped_place lines p ≡ p
+unfolding clamped_place
+clamped_of_place lines p h = rw (not_zero p.line h.from_one, min_within p.at (length (line_at lines p.line)) h.at) refl
 
-pub standing_first : (lines : List (List ℕ)) (p : Place) → p.line ≡ 0 → standing lines p ≡ first_place
-unfolding standing
-standing_first lines p e = rw e refl
+pub clamped_first : (lines : List (List ℕ)) (p : Place) → p.line ≡ 0 → clamped_place lines p ≡ first_place
+unfolding clamped_place
+clamped_first lines p e = rw e refl
 
 pub octets_at : (lines : List (List ℕ)) (p : Place) → IsPlace lines p → octets_from lines p ≡ drop p.at (joined (drop (p.line - 1) lines))
 unfolding octets_from
-octets_at lines p h = rw (standing_place lines p h) refl
+octets_at lines p h = rw (clamped_of_place lines p h) refl
 
 -- what is left in a line, and after the last
 pub octets_in_line : (lines : List (List ℕ)) (p : Place) → IsPlace lines p → p.line ≤ length lines → octets_from lines p ≡ drop p.at (line_at lines p.line) ++ 10 ∷ joined (drop p.line lines)
@@ -40,7 +40,7 @@ drop_nothing zero = refl
 drop_nothing (suc n) = refl
 
 pub octets_past : (lines : List (List ℕ)) (p : Place) → length lines < p.line → octets_from lines p ≡ []
-unfolding octets_from standing
+unfolding octets_from clamped_place
 octets_past lines p h =
     rw (not_zero p.line (omega arith), drop_all (p.line - 1) lines (omega arith)) (drop_nothing (min p.at (length (line_at lines p.line))))
 

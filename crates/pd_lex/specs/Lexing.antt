@@ -4,7 +4,7 @@ use Rattle.pd_lex.specs.declared.token.Place.{Place}
 use Rattle.pd_lex.specs.declared.token.Token.{Token}
 use Rattle.pd_lex.specs.declared.token.Lexed.{Lexed}
 use Rattle.pd_lex.specs.declared.token.Lexed.TheVariants as lexed
-use Rattle.pd_lex.specs.Places.{standing, octets_from, place_after, before, between}
+use Rattle.pd_lex.specs.Places.{clamped_place, octets_from, place_after, before, between}
 use Rattle.pd_lex.specs.Tokens.{Lexeme, Item, lexeme, ending, bad}
 use Rattle.pd_lex.specs.Pieces.{Front, nothing, gap, token, stray, front}
 
@@ -23,7 +23,7 @@ items_within (suc pieces) last p s = followed (items_within pieces last) last p 
 -- the items of a text from a place on: the tokens in order, then the end or the first bad place
 -- (a piece has an octet at least)
 unfoldable pub items : List (List ℕ) → Place → List Item
-items lines p = items_within (length (octets_from lines p)) (max 1 (length lines)) (standing lines p) (octets_from lines p)
+items lines p = items_within (length (octets_from lines p)) (max 1 (length lines)) (clamped_place lines p) (octets_from lines p)
 
 -- a token of the code as one of these
 unfoldable pub lexeme_of : List (List ℕ) → Token → Lexeme

@@ -23,12 +23,12 @@ pub record IsPlace (lines : List (List ℕ)) (p : Place) : Type 0 where
   pub at : p.at ≤ length (line_at lines p.line)
 
 -- where a place stands: one of line 0 at the first octet, one past its line's end at that line's newline
-unfoldable pub standing : List (List ℕ) → Place → Place
-standing lines p = if p.line == 0 then first_place else record { line = p.line; at = min p.at (length (line_at lines p.line)) }
+unfoldable pub clamped_place : List (List ℕ) → Place → Place
+clamped_place lines p = if p.line == 0 then first_place else record { line = p.line; at = min p.at (length (line_at lines p.line)) }
 
 -- what is left of a text from a place on
 unfoldable pub octets_from : List (List ℕ) → Place → List ℕ
-octets_from lines p = drop (standing lines p).at (joined (drop ((standing lines p).line - 1) lines))
+octets_from lines p = drop (clamped_place lines p).at (joined (drop ((clamped_place lines p).line - 1) lines))
 
 -- the place after some octets: a newline leads to the start of the next line
 abbrev pub place_after : Place → List ℕ → Place

@@ -2,11 +2,11 @@
 ghost use Rattle.std.specs.Prelude.{◌≡◌};
 ghost use Rattle.pd_lex.specs.Classes.{class_of};
 
-use Class::{Digit, Letter, Other, Point, Symbol};
+use OctetClass::{Digit, Letter, Other, Point, Symbol};
 
 /// What an octet at the front of a line begins.
 #[derive(Clone, Copy)]
-pub enum Class {
+pub enum OctetClass {
     /// A number, or a word that begins with digits.
     Digit,
     /// A word.
@@ -20,7 +20,7 @@ pub enum Class {
 }
 
 /// The class of each octet, eight in a row.
-static CLASSES: [Class; 256] = [
+static CLASSES: [OctetClass; 256] = [
     Other, Other, Other, Other, Other, Other, Other, Other, // 0x00
     Other, Other, Other, Other, Other, Other, Other, Other, // 0x08
     Other, Other, Other, Other, Other, Other, Other, Other, // 0x10
@@ -57,7 +57,7 @@ static CLASSES: [Class; 256] = [
 
 /// The class of an octet.
 #[inline(always)]
-pub fn class_of(octet: u8) -> Class
+pub fn class_of(octet: u8) -> OctetClass
     ensures { result ≡ class_of octet }
 {
     CLASSES[usize::from(octet)]

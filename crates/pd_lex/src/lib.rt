@@ -3,13 +3,13 @@
 //! `next_token` passes over blanks and comments, and gives the token at a `Place` of a text, the
 //! end of the text, or the line where no token can be read (`Lexed`). A `Token` has its kind, its
 //! octets, the meaning of a symbol or a whole number, and the place after it. `look_ahead` and
-//! `read_along` are for a reader that goes on from token to token: they hand on the line of that
+//! `read_on_line` are for a reader that goes on from token to token: they hand on the line of that
 //! place, so that it isn't looked up again.
 //!
 //! A token is the longest piece that the text has at its place: `IsLongest` (specs/Spellings.antt).
 //! A text has the items that follow from that, and no others: `AreItemsOf` (specs/Tokens.antt), the
-//! law `longest_pieces`. Texts with equal first lines have the same tokens there: `AgreeTo`
-//! (specs/Agreement.antt), the law `first_lines`.
+//! law `law_longest_pieces`. Texts with equal first lines have the same tokens there: `AgreeTo`
+//! (specs/Agreement.antt), the law `law_first_lines`.
 //!
 //! Why it is so:
 //! - No list of tokens is made. A place is all that is needed to go on, so the lexer keeps no state
@@ -25,17 +25,17 @@
 #![tactic(auto)]
 
 mod classes;
-mod ending;
+mod closing;
+mod fast_path;
 mod laws;
 mod next;
 mod numbers;
-mod plain;
+mod places;
 mod scan;
-mod standing;
 mod step;
 mod token;
 
-pub use laws::{first_lines, items_after_tokens, longest_pieces};
-pub use next::{look_ahead, next_token, read_along};
+pub use laws::{law_first_lines, law_items_after_tokens, law_longest_pieces};
+pub use next::{look_ahead, next_token, read_on_line};
 pub use numbers::{digit_value, number, value_after};
-pub use token::{Ahead, Lexed, Place, Token, TokenKind};
+pub use token::{Lexed, Lookahead, Place, Token, TokenKind};

@@ -10,13 +10,13 @@ ghost use Rattle.pd_text.specs.Text.{AreLines};
 ghost use Rattle.pd_lex.specs.Next.{IsCut, IsReadAt, HasLine, HasText, HasLineAfter};
 ghost use Rattle.pd_lex.specs.Places.{line_at};
 
-use crate::classes::{Class, class_of};
+use crate::classes::{OctetClass, class_of};
+use crate::fast_path::{FastToken, number_at, point_at, symbol_at, word_at};
 use crate::numbers::number_of;
-use crate::plain::{Plain, name, number_at, point, symbol_at};
-use crate::scan::digit;
-use crate::standing::{after_blanks, octets_of_line};
+use crate::places::{after_blanks, octets_of_line};
+use crate::scan::is_digit;
 use crate::step::{LexStep, step_at};
-use crate::token::{Ahead, Lexed, Place, Token};
+use crate::token::{Lexed, Lookahead, Place, Token};
 use pd_text::Lines;
 
 /// The first token from a place on, with the place after it: blanks and comments are passed over.
@@ -33,54 +33,54 @@ pub fn next_token<'a>(lines: &'a Lines, place: Place) -> Lexed<'a>
 }
 
 /// `next_token`, with the line of the place after it.
-pub fn look_ahead<'a>(lines: &'a Lines, place: Place) -> Ahead<'a>
+pub fn look_ahead<'a>(lines: &'a Lines, place: Place) -> Lookahead<'a>
     ensures next { IsNext lines.now place result.next }
     ensures cut { IsCut lines.now place result.next }
     ensures line { HasLine lines.now result.next }
     ensures text { HasText lines.now result.next }
     ensures after { HasLineAfter lines.now result.next result.line.now }
 {
-    let mut ahead = Ahead {
+    let mut lookahead = Lookahead {
         line: &[],
         next: Lexed::End,
     };
-    read_past(lines, place, &mut ahead);
-    ahead
+    read_next_line(lines, place, &mut lookahead);
+    lookahead
 }
 
 /// The same, put in the place of what was read before, where the line of the place is known.
 #[inline(always)]
-pub fn read_along<'a>(lines: &'a Lines, place: Place, ahead: &mut Ahead<'a>)
+pub fn read_on_line<'a>(lines: &'a Lines, place: Place, lookahead: &mut Lookahead<'a>)
     requires one { 1 ≤ place.line }
-    requires known { ahead.old.line.now ≡ line_at lines.now place.line }
-    ensures next { IsNext lines.now place ahead.new.next }
-    ensures cut { IsCut lines.now place ahead.new.next }
-    ensures line { HasLine lines.now ahead.new.next }
-    ensures text { HasText lines.now ahead.new.next }
-    ensures after { HasLineAfter lines.now ahead.new.next ahead.new.line.now }
+    requires known { lookahead.old.line.now ≡ line_at lines.now place.line }
+    ensures next { IsNext lines.now place lookahead.new.next }
+    ensures cut { IsCut lines.now place lookahead.new.next }
+    ensures line { HasLine lines.now lookahead.new.next }
+    ensures text { HasText lines.now lookahead.new.next }
+    ensures after { HasLineAfter lines.now lookahead.new.next lookahead.new.line.now }
 {
-    lines.facts();
-    let octets = ahead.line;
+    lines.law_invariant();
+    let octets = lookahead.line;
     let at = after_blanks(octets, place.at);
     if at >= octets.len() {
-        return read_past(lines, place, ahead);
+        return read_next_line(lines, place, lookahead);
     }
     let from = Place {
         line: place.line,
         at,
     };
-    read_at(lines, from, &octets[at..], ahead);
+    read_at(lines, from, &octets[at..], lookahead);
 }
 
 /// Looks lines up until one has more than blanks. It is apart, since it comes once a line.
 #[inline(never)]
-fn read_past<'a>(lines: &'a Lines, place: Place, ahead: &mut Ahead<'a>)
-    ensures { IsReadAt lines.now place ahead.new.next ahead.new.line.now }
+fn read_next_line<'a>(lines: &'a Lines, place: Place, lookahead: &mut Lookahead<'a>)
+    ensures { IsReadAt lines.now place lookahead.new.next lookahead.new.line.now }
 {
     let mut here = place;
     'lines: loop {
         let Some(octets) = lines.line(here.line) else {
-            return read_on(lines, here, ahead);
+            return read_any(lines, here, lookahead);
         };
         let at = after_blanks(octets, here.at);
         if at >= octets.len() {
@@ -91,88 +91,88 @@ fn read_past<'a>(lines: &'a Lines, place: Place, ahead: &mut Ahead<'a>)
             line: here.line,
             at,
         };
-        ahead.line = octets;
-        return read_at(lines, from, &octets[at..], ahead);
+        lookahead.line = octets;
+        return read_at(lines, from, &octets[at..], lookahead);
     }
 }
 
 /// Reads the token at a place in a line, of which this much is left, by its first octet.
 #[inline(always)]
-fn read_at<'a>(lines: &'a Lines, from: Place, rest: &'a [u8], ahead: &mut Ahead<'a>)
+fn read_at<'a>(lines: &'a Lines, from: Place, rest: &'a [u8], lookahead: &mut Lookahead<'a>)
     requires left { IsLeftInLine lines.now from rest.now }
     requires plain { AreLines lines.now }
-    requires known { ahead.old.line.now ≡ line_at lines.now from.line }
-    ensures { IsReadAt lines.now from ahead.new.next ahead.new.line.now }
+    requires known { lookahead.old.line.now ≡ line_at lines.now from.line }
+    ensures { IsReadAt lines.now from lookahead.new.next lookahead.new.line.now }
 {
     match class_of(rest[0]) {
-        Class::Symbol => put(lines, from, rest, symbol_at(rest), ahead),
-        _ => read_longer(lines, from, rest, ahead),
+        OctetClass::Symbol => set_or_read_any(lines, from, rest, symbol_at(rest), lookahead),
+        _ => read_non_symbol(lines, from, rest, lookahead),
     }
 }
 
 /// Reads a token that its first octet doesn't tell for a symbol. It is apart, since a symbol
 /// needs fewer registers.
 #[inline(never)]
-fn read_longer<'a>(lines: &'a Lines, from: Place, rest: &'a [u8], ahead: &mut Ahead<'a>)
+fn read_non_symbol<'a>(lines: &'a Lines, from: Place, rest: &'a [u8], lookahead: &mut Lookahead<'a>)
     requires left { IsLeftInLine lines.now from rest.now }
     requires plain { AreLines lines.now }
-    requires known { ahead.old.line.now ≡ line_at lines.now from.line }
-    ensures { IsReadAt lines.now from ahead.new.next ahead.new.line.now }
+    requires known { lookahead.old.line.now ≡ line_at lines.now from.line }
+    ensures { IsReadAt lines.now from lookahead.new.next lookahead.new.line.now }
 {
-    if digit(rest[0]) {
-        return read_number(lines, from, rest, ahead);
+    if is_digit(rest[0]) {
+        return read_number(lines, from, rest, lookahead);
     }
     match class_of(rest[0]) {
-        Class::Letter => put(lines, from, rest, name(rest), ahead),
-        _ => read_point(lines, from, rest, ahead),
+        OctetClass::Letter => set_or_read_any(lines, from, rest, word_at(rest), lookahead),
+        _ => read_point(lines, from, rest, lookahead),
     }
 }
 
 /// Reads what begins with a digit. It is apart, since a word needs fewer registers.
 #[inline(never)]
-fn read_number<'a>(lines: &'a Lines, from: Place, rest: &'a [u8], ahead: &mut Ahead<'a>)
+fn read_number<'a>(lines: &'a Lines, from: Place, rest: &'a [u8], lookahead: &mut Lookahead<'a>)
     requires left { IsLeftInLine lines.now from rest.now }
     requires plain { AreLines lines.now }
-    requires known { ahead.old.line.now ≡ line_at lines.now from.line }
-    ensures { IsReadAt lines.now from ahead.new.next ahead.new.line.now }
+    requires known { lookahead.old.line.now ≡ line_at lines.now from.line }
+    ensures { IsReadAt lines.now from lookahead.new.next lookahead.new.line.now }
 {
-    put(lines, from, rest, number_at(rest), ahead);
+    set_or_read_any(lines, from, rest, number_at(rest), lookahead);
 }
 
 /// Reads what begins with a point, or with an octet of no class.
 #[inline(never)]
-fn read_point<'a>(lines: &'a Lines, from: Place, rest: &'a [u8], ahead: &mut Ahead<'a>)
+fn read_point<'a>(lines: &'a Lines, from: Place, rest: &'a [u8], lookahead: &mut Lookahead<'a>)
     requires left { IsLeftInLine lines.now from rest.now }
     requires plain { AreLines lines.now }
-    requires known { ahead.old.line.now ≡ line_at lines.now from.line }
-    ensures { IsReadAt lines.now from ahead.new.next ahead.new.line.now }
+    requires known { lookahead.old.line.now ≡ line_at lines.now from.line }
+    ensures { IsReadAt lines.now from lookahead.new.next lookahead.new.line.now }
 {
-    put(lines, from, rest, point(rest), ahead);
+    set_or_read_any(lines, from, rest, point_at(rest), lookahead);
 }
 
 /// Puts the token that was found at the front of what is left of a line in the place of what was
 /// read before; reads any where none was found.
 #[inline(always)]
-fn put<'a>(
+fn set_or_read_any<'a>(
     lines: &'a Lines,
     from: Place,
     rest: &'a [u8],
-    found: Option<Plain>,
-    ahead: &mut Ahead<'a>,
+    found: Option<FastToken>,
+    lookahead: &mut Lookahead<'a>,
 )
     requires left { IsLeftInLine lines.now from rest.now }
     requires plain { AreLines lines.now }
-    requires known { ahead.old.line.now ≡ line_at lines.now from.line }
+    requires known { lookahead.old.line.now ≡ line_at lines.now from.line }
     requires piece { IfSome found (λ p. Whole p.kind p.len ≡ piece rest.now) }
     requires within { IfSome found (λ p. p.len ≤ length rest.now) }
     requires number { IfSome found (λ p. p.kind ≡ Int → p.number ≡ capped_number (take p.len rest.now)) }
     requires symbol { IfSome found (λ p. p.kind ≡ Symbol → take p.len rest.now ≡ p.symbol ∷ []) }
-    ensures { IsReadAt lines.now from ahead.new.next ahead.new.line.now }
+    ensures { IsReadAt lines.now from lookahead.new.next lookahead.new.line.now }
 {
     let Some(plain) = found else {
-        return read_on(lines, from, ahead);
+        return read_any(lines, from, lookahead);
     };
-    ahead.next = Lexed::Token(Token {
+    lookahead.next = Lexed::Token(Token {
         kind: plain.kind,
         symbol: plain.symbol,
         number: plain.number,
@@ -187,8 +187,8 @@ fn put<'a>(
 
 /// Reads any token, also after comments.
 #[inline(never)]
-fn read_on<'a>(lines: &'a Lines, place: Place, ahead: &mut Ahead<'a>)
-    ensures { IsReadAt lines.now place ahead.new.next ahead.new.line.now }
+fn read_any<'a>(lines: &'a Lines, place: Place, lookahead: &mut Lookahead<'a>)
+    ensures { IsReadAt lines.now place lookahead.new.next lookahead.new.line.now }
 {
     let mut here = if place.line == 0 {
         Place::first()
@@ -197,7 +197,7 @@ fn read_on<'a>(lines: &'a Lines, place: Place, ahead: &mut Ahead<'a>)
     };
     'gaps: loop {
         let Some(line) = lines.line(here.line) else {
-            ahead.next = Lexed::End;
+            lookahead.next = Lexed::End;
             return;
         };
         let at = after_blanks(line, here.at);
@@ -212,8 +212,8 @@ fn read_on<'a>(lines: &'a Lines, place: Place, ahead: &mut Ahead<'a>)
         match step_at(lines, from, &line[at..]) {
             LexStep::Gap(after) => here = after,
             LexStep::Token(kind, text, to) => {
-                ahead.line = octets_of_line(lines, to.line);
-                ahead.next = Lexed::Token(Token {
+                lookahead.line = octets_of_line(lines, to.line);
+                lookahead.next = Lexed::Token(Token {
                     kind,
                     symbol: first_octet(text),
                     number: number_of(kind, text),
@@ -224,7 +224,7 @@ fn read_on<'a>(lines: &'a Lines, place: Place, ahead: &mut Ahead<'a>)
                 return;
             }
             LexStep::Stray => {
-                ahead.next = Lexed::Bad(from.line);
+                lookahead.next = Lexed::Bad(from.line);
                 return;
             }
         }

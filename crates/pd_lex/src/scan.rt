@@ -5,7 +5,7 @@ ghost use Rattle.pd_lex.specs.Octets.{is_digit, is_hex_digit, is_word, is_blank,
 ghost use Rattle.pd_lex.specs.Pieces.{is_hex, fraction_len, value_len, word_piece, point_piece, dash_piece, piece, after_pair, after_quote, after_backquote, after_end, opener_len};
 ghost use Rattle.pd_lex.specs.Scanned.{piece_len, begins_name, run_piece, slash_piece, percent_piece};
 
-use crate::classes::{Class, class_of};
+use crate::classes::{OctetClass, class_of};
 use crate::token::TokenKind;
 
 /// What opens a piece that may span lines.
@@ -47,39 +47,39 @@ pub enum Piece {
 }
 
 /// Whether an octet is a digit.
-pub fn digit(b: u8) -> bool
+pub fn is_digit(b: u8) -> bool
     ensures { result ≡ is_digit b }
 {
     b.is_ascii_digit()
 }
 
-fn hex_digit(b: u8) -> bool
+fn is_hex_digit(b: u8) -> bool
     ensures { result ≡ is_hex_digit b }
 {
     b.is_ascii_hexdigit()
 }
 
 /// Whether an octet may be in a word: a digit, a letter or an underscore.
-pub fn word(b: u8) -> bool
+pub fn is_word(b: u8) -> bool
     ensures { result ≡ is_word b }
 {
-    matches!(class_of(b), Class::Digit | Class::Letter)
+    matches!(class_of(b), OctetClass::Digit | OctetClass::Letter)
 }
 
 /// Whether an octet is a space, a tab, a carriage return or a newline.
-pub fn blank(b: u8) -> bool
+pub fn is_blank(b: u8) -> bool
     ensures { result ≡ is_blank b }
 {
     b <= b' ' && matches!(b, b' ' | b'\t' | b'\r' | b'\n')
 }
 
-fn solid(b: u8) -> bool
+fn is_solid(b: u8) -> bool
     ensures { result ≡ is_solid b }
 {
-    !blank(b)
+    !is_blank(b)
 }
 
-fn inside_line(b: u8) -> bool
+fn is_inside_line(b: u8) -> bool
     ensures { result ≡ is_inside_line b }
 {
     b != b'\n'
@@ -90,7 +90,7 @@ fn digits_len(s: &[u8]) -> usize
     ensures len { result ≡ prefix_len is_digit s.now }
     ensures within { result ≤ length s.now }
 {
-    s.iter().take_while(|b| digit(**b)).count()
+    s.iter().take_while(|b| is_digit(**b)).count()
 }
 
 /// How many octets of a word are at the front.
@@ -99,7 +99,7 @@ pub fn word_len(s: &[u8]) -> usize
     ensures len { result ≡ prefix_len is_word s.now }
     ensures within { result ≤ length s.now }
 {
-    s.iter().take_while(|b| word(**b)).count()
+    s.iter().take_while(|b| is_word(**b)).count()
 }
 
 /// The same where the first octet begins a word, which is not looked at again.
@@ -119,23 +119,23 @@ fn solid_len(s: &[u8]) -> usize
     ensures len { result ≡ prefix_len is_solid s.now }
     ensures within { result ≤ length s.now }
 {
-    s.iter().take_while(|b| solid(**b)).count()
+    s.iter().take_while(|b| is_solid(**b)).count()
 }
 
 fn line_len(s: &[u8]) -> usize
     ensures len { result ≡ prefix_len is_inside_line s.now }
     ensures within { result ≤ length s.now }
 {
-    s.iter().take_while(|b| inside_line(**b)).count()
+    s.iter().take_while(|b| is_inside_line(**b)).count()
 }
 
 fn all_hex_digits(s: &[u8]) -> bool
     ensures { result ≡ list_all is_hex_digit s.now }
 {
-    s.iter().all(|b| hex_digit(*b))
+    s.iter().all(|b| is_hex_digit(*b))
 }
 
-fn hex(s: &[u8]) -> bool
+fn is_hex(s: &[u8]) -> bool
     ensures { result ≡ is_hex s.now }
 {
     match s {
@@ -146,7 +146,7 @@ fn hex(s: &[u8]) -> bool
 
 /// How many octets a point and the digits after it have at the front; 0 where no point or no digit is there.
 #[inline(always)]
-pub fn fraction(s: &[u8]) -> usize
+pub fn fraction_len(s: &[u8]) -> usize
     ensures len { result ≡ fraction_len s.now }
     ensures within { result ≤ length s.now }
 {
@@ -159,7 +159,7 @@ pub fn fraction(s: &[u8]) -> usize
     }
 }
 
-fn value(s: &[u8]) -> usize
+fn value_len(s: &[u8]) -> usize
     ensures len { result ≡ value_len s.now }
     ensures within { result ≤ length s.now }
 {
@@ -171,11 +171,11 @@ fn value(s: &[u8]) -> usize
 
 /// Whether it begins with a letter, a digit or `_`.
 #[tactic(auto, using(crate::proofs::Words::goes_on_is))]
-pub fn goes_on(s: &[u8]) -> bool
+pub fn starts_with_word(s: &[u8]) -> bool
     ensures { result ≡ nat_lt 0 (prefix_len is_word s.now) }
 {
     match s {
-        [b, ..] => word(*b),
+        [b, ..] => is_word(*b),
         [] => false,
     }
 }
@@ -187,7 +187,7 @@ fn run_at(s: &[u8]) -> Piece
 {
     let n = word_len(s);
     let (run, _) = s.split_at(n);
-    if hex(run) {
+    if is_hex(run) {
         Piece::Whole(TokenKind::Hex, n)
     } else {
         Piece::Whole(TokenKind::Word, n)
@@ -201,11 +201,11 @@ fn number_at(s: &[u8]) -> Piece
 {
     let digits = digits_len(s);
     let (_, rest) = s.split_at(digits);
-    let f = fraction(rest);
+    let f = fraction_len(rest);
     if f > 0 {
         return Piece::Whole(TokenKind::Decimal, digits + f);
     }
-    if goes_on(rest) {
+    if starts_with_word(rest) {
         run_at(s)
     } else {
         Piece::Whole(TokenKind::Int, digits)
@@ -230,7 +230,7 @@ fn point_at(s: &[u8]) -> Piece
     if s.starts_with(b"...") {
         return Piece::Whole(TokenKind::Dots, 3);
     }
-    let f = fraction(s);
+    let f = fraction_len(s);
     if f > 0 {
         Piece::Whole(TokenKind::Decimal, f)
     } else {
@@ -248,7 +248,7 @@ fn dash_at(s: &[u8]) -> Piece
         [b'-', b'-', rest @ ..] => {
             let n = word_len(rest);
             if n > 0 {
-                Piece::Whole(TokenKind::Opt, 2 + n + value(&rest[n..]))
+                Piece::Whole(TokenKind::Opt, 2 + n + value_len(&rest[n..]))
             } else {
                 Piece::Whole(TokenKind::Symbol, 1)
             }
@@ -291,9 +291,9 @@ pub fn piece_at(s: &[u8]) -> Piece
 {
     match s {
         [] => Piece::Stray,
-        [b, ..] if digit(*b) => number_at(s),
-        [b, ..] if word(*b) => name_at(s),
-        [b, ..] if blank(*b) => Piece::Blank(1),
+        [b, ..] if is_digit(*b) => number_at(s),
+        [b, ..] if is_word(*b) => name_at(s),
+        [b, ..] if is_blank(*b) => Piece::Blank(1),
         [b'.', ..] => point_at(s),
         [b'-', ..] => dash_at(s),
         [b'/', ..] => slash_at(s),

@@ -4,9 +4,9 @@ ghost use Rattle.pd_lex.specs.Places.{octets_from, IsPlace};
 ghost use Rattle.pd_lex.specs.Pieces.{after_end};
 ghost use Rattle.pd_lex.specs.Scanned.{IsClosed, IsClosing, IsLeftInLine, IsStep};
 
-use crate::ending::after_end;
+use crate::closing::after_end;
+use crate::places::rest_of_line;
 use crate::scan::{Opener, Piece, piece_at};
-use crate::standing::rest_of_line;
 use crate::token::{Place, TokenKind};
 use pd_text::Lines;
 

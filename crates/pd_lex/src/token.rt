@@ -89,7 +89,7 @@ pub enum Lexed<'a> {
 
 /// What comes next in a text, and the line of the place after it.
 #[derive(Clone, Copy)]
-pub struct Ahead<'a> {
+pub struct Lookahead<'a> {
     /// The octets of the line in which the place after a token lies; none past the last line.
     pub line: &'a [u8],
     /// What comes next.

@@ -4,11 +4,11 @@ use Rattle.std.proofs.lemmas.Bool.Decides.{Decides-int_eq}
 use Rattle.std.specs.Ordering.{int_eq}
 use Rattle.pd_script.specs.declared.calls.ErrorName.{ErrorName}
 use Rattle.pd_script.specs.declared.calls.ErrorName.TheVariants as named
-use Rattle.pd_script.specs.declared.calls.Outcome.{Outcome}
-use Rattle.pd_script.specs.declared.calls.Outcome.TheVariants.{Negative}
-use Rattle.pd_seg.specs.declared.answers.Answer.{Answer}
-use Rattle.pd_seg.specs.declared.answers.Answer.TheVariants.{Error}
-use Rattle.pd_seg.specs.declared.answers.Errno.TheVariants as answered
+use Rattle.pd_script.specs.declared.calls.ExpectedResult.{ExpectedResult}
+use Rattle.pd_script.specs.declared.calls.ExpectedResult.TheVariants.{Negative}
+use Rattle.pd_seg.specs.declared.call_results.Answer.{Answer}
+use Rattle.pd_seg.specs.declared.call_results.Answer.TheVariants.{Error}
+use Rattle.pd_seg.specs.declared.call_results.Errno.TheVariants as answered
 use Rattle.pd_match.specs.Agreement.{IsNamed, HasError}
 use Rattle.pd_match.specs.Calls.{value_written, value_answered, is_answered, same_error}
 use Rattle.pd_match.specs.Laws.{MatchIsResult}
@@ -22,7 +22,7 @@ is_error named.Eagain (Error answered.Eagain) h = refl
 is_error named.Epipe (Error answered.Epipe) h = refl
 is_error _ _ h = absurd cc
 
-has_error : (o : Outcome) (a : Answer) → same_error o a ≡ true → HasError o a
+has_error : (o : ExpectedResult) (a : Answer) → same_error o a ≡ true → HasError o a
 has_error (Negative n (Some name)) a h = is_error name a h
 has_error _ a h = tt
 

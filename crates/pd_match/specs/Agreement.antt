@@ -3,22 +3,22 @@ use Rattle.std.specs.Prelude.{◌≡◌, ℕ, ◌+◌, ◌-◌, ◌≤◌, List,
 use Rattle.std.specs.List.{AllByRecursion}
 use Rattle.pd_script.specs.declared.calls.ErrorName.{ErrorName}
 use Rattle.pd_script.specs.declared.calls.ErrorName.TheVariants as named
-use Rattle.pd_script.specs.declared.calls.Outcome.{Outcome}
-use Rattle.pd_script.specs.declared.calls.Outcome.TheVariants.{Negative}
-use Rattle.pd_script.specs.declared.packets.Block.{Block}
-use Rattle.pd_script.specs.declared.packets.Flags as script
+use Rattle.pd_script.specs.declared.calls.ExpectedResult.{ExpectedResult}
+use Rattle.pd_script.specs.declared.calls.ExpectedResult.TheVariants.{Negative}
+use Rattle.pd_script.specs.declared.packets.SackBlock.{SackBlock}
+use Rattle.pd_script.specs.declared.packets.PacketFlags as script
 use Rattle.pd_script.specs.declared.packets.Options.{Options}
 use Rattle.pd_script.specs.declared.packets.Options.TheVariants.{Absent, Any, Listed}
 use Rattle.pd_script.specs.declared.packets.Packet.{Packet}
 use Rattle.pd_script.specs.declared.packets.PacketOption.{PacketOption}
 use Rattle.pd_script.specs.declared.packets.PacketOption.TheVariants as written
-use Rattle.pd_seg.specs.declared.answers.Answer.{Answer}
-use Rattle.pd_seg.specs.declared.answers.Answer.TheVariants.{Error}
-use Rattle.pd_seg.specs.declared.answers.Errno.TheVariants as answered
-use Rattle.pd_seg.specs.declared.control_bits.Flags.{Flags}
+use Rattle.pd_seg.specs.declared.call_results.Answer.{Answer}
+use Rattle.pd_seg.specs.declared.call_results.Answer.TheVariants.{Error}
+use Rattle.pd_seg.specs.declared.call_results.Errno.TheVariants as answered
+use Rattle.pd_seg.specs.declared.flags.Flags.{Flags}
 use Rattle.pd_seg.specs.declared.option_list.SegOption.{SegOption}
 use Rattle.pd_seg.specs.declared.option_list.SegOption.TheVariants as sent
-use Rattle.pd_seg.specs.declared.sack_blocks.Span.{Span}
+use Rattle.pd_seg.specs.declared.sack_spans.Span.{Span}
 use Rattle.pd_seg.specs.declared.segments.Sent.{Sent}
 use Rattle.pd_match.specs.declared.kinds.Kind.{Kind}
 use Rattle.pd_match.specs.declared.kinds.Kind.TheVariants as kind
@@ -27,19 +27,19 @@ use Rattle.pd_match.specs.Calls.{value_written, value_answered}
 -- from the first moment less the tolerance to the last one plus the tolerance; at any time for `*`
 abbrev pub IsInTime : Option (ℕ × ℕ) → ℕ → ℕ → Type 0
 IsInTime None at tolerance = ⊤
-IsInTime (Some moments) at tolerance = (moments.0 ≤ at + tolerance) × (at ≤ moments.1 + tolerance)
+IsInTime (Some time_range) at tolerance = (time_range.0 ≤ at + tolerance) × (at ≤ time_range.1 + tolerance)
 
 -- the flags that a script writes, as a segment has them
-abbrev pub flags_of : script.Flags → Flags
+abbrev pub flags_of : script.PacketFlags → Flags
 flags_of w = record { syn = w.syn; fin = w.fin; rst = w.rst; psh = w.psh; ack = w.ack }
 
 -- the number is the written one, if one is written
-abbrev pub IsIfWritten : Option ℕ → ℕ → Type 0
-IsIfWritten None n = ⊤
-IsIfWritten (Some w) n = w ≡ n
+abbrev pub MatchesIfWritten : Option ℕ → ℕ → Type 0
+MatchesIfWritten None n = ⊤
+MatchesIfWritten (Some w) n = w ≡ n
 
 -- a span as a script writes it
-abbrev pub block_of : Span → Block
+abbrev pub block_of : Span → SackBlock
 block_of s = record { left = s.start; right = s.end }
 
 -- an option that was sent, as a script writes it
@@ -60,15 +60,15 @@ HasOptions (Listed w) s = w ≡ map option_of s
 
 -- the packet agrees in the field with the expected one
 abbrev pub Agrees : Packet → Option (ℕ × ℕ) → Sent → ℕ → Kind → Type 0
-Agrees packet moments s tolerance kind.Time = IsInTime moments s.at tolerance
-Agrees packet moments s tolerance kind.Flags = flags_of packet.flags ≡ s.segment.flags
-Agrees packet moments s tolerance kind.Seq =
+Agrees packet time_range s tolerance kind.Time = IsInTime time_range s.at tolerance
+Agrees packet time_range s tolerance kind.Flags = flags_of packet.flags ≡ s.segment.flags
+Agrees packet time_range s tolerance kind.Seq =
     (packet.start ≡ s.segment.start)
     × ((packet.end ≡ s.segment.end) × (packet.length ≡ s.segment.end - s.segment.start))
-Agrees packet moments s tolerance kind.Ack = IsIfWritten packet.ack s.segment.ack
-Agrees packet moments s tolerance kind.Win = IsIfWritten packet.win s.segment.win
-Agrees packet moments s tolerance kind.Options = HasOptions packet.options s.segment.options
-Agrees packet moments s tolerance _ = ⊤
+Agrees packet time_range s tolerance kind.Ack = MatchesIfWritten packet.ack s.segment.ack
+Agrees packet time_range s tolerance kind.Win = MatchesIfWritten packet.win s.segment.win
+Agrees packet time_range s tolerance kind.Options = HasOptions packet.options s.segment.options
+Agrees packet time_range s tolerance _ = ⊤
 
 -- the kinds before this one have the fact, and it hasn't
 pub record FirstFails (P : Kind → Type 0) (kinds : List Kind) (k : Kind) : Type 0 where
@@ -92,10 +92,10 @@ IsNamed named.Epipe answer = answer ≡ Error answered.Epipe
 IsNamed named.Unknown answer = ⊥
 
 -- where an error is named, it is the answer
-abbrev pub HasError : Outcome → Answer → Type 0
+abbrev pub HasError : ExpectedResult → Answer → Type 0
 HasError (Negative _ (Some name)) answer = IsNamed name answer
 HasError _ answer = ⊤
 
 -- the answer is the result: the same number, an error being -1, and the error that is named
-abbrev pub IsResult : Outcome → Answer → Type 0
-IsResult outcome answer = (value_written outcome ≡ value_answered answer) × HasError outcome answer
+abbrev pub IsResult : ExpectedResult → Answer → Type 0
+IsResult expected_result answer = (value_written expected_result ≡ value_answered answer) × HasError expected_result answer

@@ -3,16 +3,16 @@ use Rattle.std.specs.Prelude.{ℤ, pos, negsuc, neg_ℤ, Bool, true, false, ◌&
 use Rattle.std.specs.Ordering.{int_eq}
 use Rattle.pd_script.specs.declared.calls.ErrorName.{ErrorName}
 use Rattle.pd_script.specs.declared.calls.ErrorName.TheVariants as named
-use Rattle.pd_script.specs.declared.calls.Outcome.{Outcome}
-use Rattle.pd_script.specs.declared.calls.Outcome.TheVariants.{Int, Hex, Negative}
-use Rattle.pd_seg.specs.declared.answers.Answer.{Answer}
-use Rattle.pd_seg.specs.declared.answers.Answer.TheVariants.{Number, Error}
-use Rattle.pd_seg.specs.declared.answers.Errno.TheVariants as answered
+use Rattle.pd_script.specs.declared.calls.ExpectedResult.{ExpectedResult}
+use Rattle.pd_script.specs.declared.calls.ExpectedResult.TheVariants.{Int, Hex, Negative}
+use Rattle.pd_seg.specs.declared.call_results.Answer.{Answer}
+use Rattle.pd_seg.specs.declared.call_results.Answer.TheVariants.{Number, Error}
+use Rattle.pd_seg.specs.declared.call_results.Errno.TheVariants as answered
 use Rattle.pd_match.specs.declared.kinds.Kind.{Kind}
 use Rattle.pd_match.specs.declared.kinds.Kind.TheVariants.{Result}
 
 -- the number of a written result
-abbrev pub value_written : Outcome → ℤ
+abbrev pub value_written : ExpectedResult → ℤ
 value_written (Int n) = pos n
 value_written (Hex n) = pos n
 value_written (Negative n _) = neg_ℤ (pos n)
@@ -31,11 +31,11 @@ is_answered named.Epipe (Error answered.Epipe) = true
 is_answered _ _ = false
 
 -- where an error is named, it is the answer
-abbrev pub same_error : Outcome → Answer → Bool
+abbrev pub same_error : ExpectedResult → Answer → Bool
 same_error (Negative _ (Some name)) answer = is_answered name answer
 same_error _ _ = true
 
 -- the result differs in its number or in its error
-abbrev pub result_mismatch : Outcome → Answer → Option Kind
-result_mismatch outcome answer =
-    if int_eq (value_written outcome) (value_answered answer) && same_error outcome answer then None else Some Result
+abbrev pub result_mismatch : ExpectedResult → Answer → Option Kind
+result_mismatch expected_result answer =
+    if int_eq (value_written expected_result) (value_answered answer) && same_error expected_result answer then None else Some Result

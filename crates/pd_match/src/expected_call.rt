@@ -4,7 +4,7 @@ ghost use Rattle.pd_match.specs.Agreement.{IsResult};
 ghost use Rattle.pd_match.specs.Calls.{result_mismatch, value_answered, value_written, is_answered, same_error};
 
 use crate::kinds::Kind;
-use pd_script::{Call, ErrorName, Outcome};
+use pd_script::{Call, ErrorName, ExpectedResult};
 use pd_seg::{Answer, Errno};
 
 /// `Result` where the answer of the call isn't the one that the script expects, else None. They are compared as
@@ -22,12 +22,12 @@ pub fn check_call(call: &Call, answer: &Answer) -> Option<Kind>
     }
 }
 
-fn written_value(outcome: Outcome) -> i64
-    ensures { result ≡ value_written outcome }
+fn written_value(expected_result: ExpectedResult) -> i64
+    ensures { result ≡ value_written expected_result }
 {
-    match outcome {
-        Outcome::Int(number) | Outcome::Hex(number) => i64::from(number),
-        Outcome::Negative(number, _) => -i64::from(number),
+    match expected_result {
+        ExpectedResult::Int(number) | ExpectedResult::Hex(number) => i64::from(number),
+        ExpectedResult::Negative(number, _) => -i64::from(number),
     }
 }
 
@@ -40,11 +40,11 @@ fn answered_value(answer: Answer) -> i64
     }
 }
 
-fn has_error(outcome: Outcome, answer: Answer) -> bool
-    ensures { result ≡ same_error outcome answer }
+fn has_error(expected_result: ExpectedResult, answer: Answer) -> bool
+    ensures { result ≡ same_error expected_result answer }
 {
-    match outcome {
-        Outcome::Negative(_, Some(name)) => is_error(name, answer),
+    match expected_result {
+        ExpectedResult::Negative(_, Some(name)) => is_error(name, answer),
         _ => true,
     }
 }

@@ -1,11 +1,11 @@
 //! A packet that was sent against the packet that a script expects.
 ghost use Rattle.std.specs.Prelude.{◌≡◌};
-ghost use Rattle.pd_match.specs.Packets.{compared, in_time, same_flags, same_seq, same_if_written, mismatch};
+ghost use Rattle.pd_match.specs.Packets.{compared_fields, in_time, same_flags, same_seq, same_if_written, mismatch};
 ghost use Rattle.pd_match.specs.Agreement.{Agrees, IsFirstFailing};
 
 use crate::kinds::Kind;
 use crate::written_options::has_options;
-use pd_script::{Flags, Packet};
+use pd_script::{Packet, PacketFlags};
 use pd_seg::{Segment, Sent};
 
 /// An outbound packet of a script, and when it may be sent.
@@ -14,7 +14,7 @@ pub struct Expect<'a> {
     /// The packet as the script writes it.
     pub packet: &'a Packet,
     /// The first and the last moment, in microseconds since the start of the run; None for `*`.
-    pub moments: Option<(u64, u64)>,
+    pub time_range: Option<(u64, u64)>,
 }
 
 /// The first field in the order time, flags, seq, ack, win and options in which the sent packet differs from the
@@ -23,27 +23,27 @@ pub struct Expect<'a> {
 /// Takes no memory.
 #[inline(always)]
 pub fn check_packet(expect: &Expect<'_>, sent: &Sent, tolerance: u64) -> Option<Kind>
-    ensures value { result ≡ mismatch expect.now.packet.now expect.now.moments sent.now tolerance }
-    ensures first { IsFirstFailing (Agrees expect.now.packet.now expect.now.moments sent.now tolerance) compared result }
+    ensures value { result ≡ mismatch expect.now.packet.now expect.now.time_range sent.now tolerance }
+    ensures first { IsFirstFailing (Agrees expect.now.packet.now expect.now.time_range sent.now tolerance) compared_fields result }
 {
     first_difference(expect, sent, tolerance)
 }
 
 #[inline(always)]
 fn first_difference(expect: &Expect<'_>, sent: &Sent, tolerance: u64) -> Option<Kind>
-    ensures { result ≡ mismatch expect.now.packet.now expect.now.moments sent.now tolerance }
+    ensures { result ≡ mismatch expect.now.packet.now expect.now.time_range sent.now tolerance }
 {
     let packet = expect.packet;
     let segment = &sent.segment;
-    if !is_in_time(expect.moments, sent.at, tolerance) {
+    if !is_in_time(expect.time_range, sent.at, tolerance) {
         Some(Kind::Time)
     } else if !has_flags(&packet.flags, &segment.flags) {
         Some(Kind::Flags)
     } else if !has_seq(packet, segment) {
         Some(Kind::Seq)
-    } else if !is_if_written(packet.ack, segment.ack) {
+    } else if !matches_if_written(packet.ack, segment.ack) {
         Some(Kind::Ack)
-    } else if !is_if_written(packet.win, u32::from(segment.win)) {
+    } else if !matches_if_written(packet.win, u32::from(segment.win)) {
         Some(Kind::Win)
     } else if !has_options(&packet.options, &segment.options) {
         Some(Kind::Options)
@@ -52,10 +52,10 @@ fn first_difference(expect: &Expect<'_>, sent: &Sent, tolerance: u64) -> Option<
     }
 }
 
-fn is_in_time(moments: Option<(u64, u64)>, at: u64, tolerance: u64) -> bool
-    ensures { result ≡ in_time moments at tolerance }
+fn is_in_time(time_range: Option<(u64, u64)>, at: u64, tolerance: u64) -> bool
+    ensures { result ≡ in_time time_range at tolerance }
 {
-    match moments {
+    match time_range {
         Some((first, last)) => {
             // Nothing is subtracted, so that a tolerance above the first moment does no harm.
             first <= at.saturating_add(tolerance) && at <= last.saturating_add(tolerance)
@@ -64,7 +64,7 @@ fn is_in_time(moments: Option<(u64, u64)>, at: u64, tolerance: u64) -> bool
     }
 }
 
-fn has_flags(written: &Flags, sent: &pd_seg::Flags) -> bool
+fn has_flags(written: &PacketFlags, sent: &pd_seg::Flags) -> bool
     ensures { result ≡ same_flags written.now sent.now }
 {
     written.syn == sent.syn
@@ -80,7 +80,7 @@ fn has_seq(packet: &Packet, segment: &Segment) -> bool
     packet.start == segment.start && packet.end == segment.end && packet.length == segment.len()
 }
 
-fn is_if_written(written: Option<u32>, sent: u32) -> bool
+fn matches_if_written(written: Option<u32>, sent: u32) -> bool
     ensures { result ≡ same_if_written written sent }
 {
     match written {

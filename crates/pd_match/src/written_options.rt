@@ -2,7 +2,7 @@
 ghost use Rattle.std.specs.Prelude.{◌≡◌};
 ghost use Rattle.pd_match.specs.Packets.{each_pair, same_block, same_option, same_options};
 
-use pd_script::{Block, Options, PacketOption};
+use pd_script::{Options, PacketOption, SackBlock};
 use pd_seg::{SegOption, SegOptions, Span};
 
 /// Whether the options that were sent are those that a script writes: any for `<...>`, none where it writes no angle
@@ -13,11 +13,11 @@ pub fn has_options(written: &Options, sent: &SegOptions) -> bool
     match written {
         Options::Any => true,
         Options::Absent => sent.as_slice().is_empty(),
-        Options::Listed(options) => is_list(options.as_slice(), sent.as_slice()),
+        Options::Listed(options) => are_options(options.as_slice(), sent.as_slice()),
     }
 }
 
-fn is_list(written: &[PacketOption], sent: &[SegOption]) -> bool
+fn are_options(written: &[PacketOption], sent: &[SegOption]) -> bool
     ensures { result ≡ each_pair same_option written.now sent.now }
 {
     written.len() == sent.len() && written.iter().zip(sent).all(|(w, s)| is_option(w, s))
@@ -36,19 +36,19 @@ fn is_option(written: &PacketOption, sent: &SegOption) -> bool
             *number == u64::from(*value) && *reply == u64::from(*echo)
         }
         (PacketOption::Sack(blocks), SegOption::Sack(spans)) => {
-            are_blocks(blocks.as_slice(), spans.as_slice())
+            are_sack_blocks(blocks.as_slice(), spans.as_slice())
         }
         _ => false,
     }
 }
 
-fn are_blocks(written: &[Block], sent: &[Span]) -> bool
+fn are_sack_blocks(written: &[SackBlock], sent: &[Span]) -> bool
     ensures { result ≡ each_pair same_block written.now sent.now }
 {
-    written.len() == sent.len() && written.iter().zip(sent).all(|(w, s)| is_block(w, s))
+    written.len() == sent.len() && written.iter().zip(sent).all(|(w, s)| is_sack_block(w, s))
 }
 
-fn is_block(written: &Block, sent: &Span) -> bool
+fn is_sack_block(written: &SackBlock, sent: &Span) -> bool
     ensures { result ≡ same_block written.now sent.now }
 {
     written.left == u64::from(sent.start) && written.right == u64::from(sent.end)

@@ -21,7 +21,7 @@ use Rattle.pd_lex.proofs.Items.{items_over_gap}
 use Rattle.pd_lex.proofs.Rests.{advance, octets_in_line}
 use Rattle.pd_script.specs.declared.timing.Time.{Time}
 use Rattle.pd_script.specs.declared.calls.ErrorName.{ErrorName}
-use Rattle.pd_script.specs.declared.calls.Outcome.{Outcome}
+use Rattle.pd_script.specs.declared.calls.ExpectedResult.{ExpectedResult}
 use Rattle.pd_script.specs.declared.packets.Options.TheVariants as lists
 use Rattle.pd_script.specs.declared.packets.Packet.{Packet}
 use Rattle.pd_script.specs.declared.script_events.Action.{Action}
@@ -30,22 +30,22 @@ use Rattle.pd_script.specs.Items.{is_word as is_word_item, text_of}
 use Rattle.pd_script.specs.Values.{error_name, error_named}
 use Rattle.pd_script.specs.Spelling.{Spelling, IsSymbol}
 use Rattle.pd_script.specs.PacketGrammar.{IsOctets, IsPacket}
-use Rattle.pd_script.specs.Grammar.{IsTime, IsMaybeUntil, IsErrorName, IsOutcome, IsAction, IsEvent}
-use Rattle.pd_seg.specs.declared.answers.Answer.{Answer}
-use Rattle.pd_seg.specs.declared.answers.Answer.TheVariants.{Number, Error}
-use Rattle.pd_seg.specs.declared.answers.Errno.{Errno}
-use Rattle.pd_seg.specs.declared.answers.Errno.TheVariants as answered
+use Rattle.pd_script.specs.Grammar.{IsTime, IsMaybeUntil, IsErrorName, IsExpectedResult, IsAction, IsEvent}
+use Rattle.pd_seg.specs.declared.call_results.Answer.{Answer}
+use Rattle.pd_seg.specs.declared.call_results.Answer.TheVariants.{Number, Error}
+use Rattle.pd_seg.specs.declared.call_results.Errno.{Errno}
+use Rattle.pd_seg.specs.declared.call_results.Errno.TheVariants as answered
 use Rattle.pd_print.specs.declared.packet_texts.Direction.{Direction}
 use Rattle.pd_print.specs.declared.packet_texts.Direction.TheVariants.{Inbound, Outbound}
 use Rattle.pd_print.specs.Numbers.{time_text}
 use Rattle.pd_print.specs.Options.{options_text}
 use Rattle.pd_print.specs.Packets.{flags_text, numbered, packet_text, arrow, event_text, action_of}
-use Rattle.pd_print.specs.Answers.{name_of, answer_text, outcome_of}
-use Rattle.pd_print.specs.WayBack.{line_after, IsReadAs, event_of, FitsTime, FitsDirection, HasBlock, HaveBlocks, FitsPacket, FitsAnswer}
+use Rattle.pd_print.specs.Answers.{name_of, answer_text, expected_result_of}
+use Rattle.pd_print.specs.RoundTrip.{line_after, IsReadAs, event_of, FitsTime, FitsDirection, HasBlock, HaveBlocks, FitsPacket, FitsAnswer}
 use Rattle.pd_print.proofs.Lexemes.{ends_word, ends_number, number_ends_word, symbol_front, minus_front, newline_front}
 use Rattle.pd_print.proofs.Leaves.{ReadTo, over_space, spaced, one_read, symbol_read, int_read, word_passed}
-use Rattle.pd_print.proofs.Times.{time_read}
-use Rattle.pd_print.proofs.PacketParts.{flags_read, octets_read, ack_read, win_read}
+use Rattle.pd_print.proofs.TimeLemmas.{time_read}
+use Rattle.pd_print.proofs.PacketPartLemmas.{flags_read, octets_read, ack_read, win_read}
 use Rattle.pd_print.proofs.OptionParts.{options_end, options_read}
 
 -- ---- packets
@@ -165,8 +165,8 @@ module _ (lines : List (List ℕ)) (plain : list_all is_line lines ≡ true) whe
   one_digit : decimal 1 ≡ 49 ∷ []
   one_digit = decimal_digit 1 (omega arith)
 
-  answer_read : (answer : Answer) (p : Place) (rest : List ℕ) → FitsAnswer answer → ends_number rest ≡ true → IsLeftAt lines p (answer_text answer ++ rest) → ReadTo lines Outcome IsOutcome (outcome_of answer) p rest
-  unfolding IsOutcome
+  answer_read : (answer : Answer) (p : Place) (rest : List ℕ) → FitsAnswer answer → ends_number rest ≡ true → IsLeftAt lines p (answer_text answer ++ rest) → ReadTo lines ExpectedResult IsExpectedResult (expected_result_of answer) p rest
+  unfolding IsExpectedResult
   answer_read (Number n) p rest small ends h =
       let number = int_read lines plain n p rest small ends h in
       record { to = number.to; line = number.line; left = number.left; spelled = inl (n, items lines number.to, number.spelled, (refl, refl)) }
@@ -208,10 +208,10 @@ event_back time d x short fits lines p plain place le is =
     let more = joined (drop p.line lines) in
     line_read lines plain Event IsEvent (event_of time (action_of d x) p.line) p more (event_read lines plain time d x p (10 ∷ more) short fits refl (line_left lines plain p (event_text time d x) place le is))
 
-pub answer_back : (answer : Answer) → FitsAnswer answer → IsReadAs IsOutcome (λ line. outcome_of answer) (answer_text answer)
+pub answer_back : (answer : Answer) → FitsAnswer answer → IsReadAs IsExpectedResult (λ line. expected_result_of answer) (answer_text answer)
 answer_back answer small lines p plain place le is =
     let more = joined (drop p.line lines) in
-    line_read lines plain Outcome IsOutcome (outcome_of answer) p more (answer_read lines plain answer p (10 ∷ more) small refl (line_left lines plain p (answer_text answer) place le is))
+    line_read lines plain ExpectedResult IsExpectedResult (expected_result_of answer) p more (answer_read lines plain answer p (10 ∷ more) small refl (line_left lines plain p (answer_text answer) place le is))
 
 -- ---- segments
 

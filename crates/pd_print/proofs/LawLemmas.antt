@@ -15,8 +15,8 @@ use Rattle.pd_seg.specs.declared.option_list.SegOption.{SegOption}
 use Rattle.pd_match.specs.declared.kinds.Kind.TheVariants as kind
 use Rattle.pd_match.specs.Agreement.{HasOptions}
 use Rattle.pd_print.specs.Sent.{options_of}
-use Rattle.pd_print.specs.WayBack.{line_after, IsReadAs}
-use Rattle.pd_print.specs.Laws.{only, LinesAreScripts, SentPacketsAgree}
+use Rattle.pd_print.specs.RoundTrip.{line_after, IsReadAs}
+use Rattle.pd_print.specs.Laws.{script_of_one_event, LinesAreScripts, SentPacketsAgree}
 
 module _ (event : ℕ → Event) (octets : List ℕ) (plain : is_line octets ≡ true) (back : IsReadAs IsEvent event octets) where
   lines : List (List ℕ)
@@ -36,11 +36,11 @@ module _ (event : ℕ → Event) (octets : List ℕ) (plain : is_line octets ≡
   script : IsScript [] (event 1 ∷ []) (items (octets ∷ []) first_place)
   script = record { after = items (octets ∷ []) first_place; end = ending 1; begins = refl; goes = (ending 1 ∷ [], read, refl); ends = refl; limit = omega arith }
 
-  pub script_alone : IsScriptOf (octets ∷ []) (only (event 1))
+  pub script_alone : IsScriptOf (octets ∷ []) (script_of_one_event (event 1))
   script_alone = (items (octets ∷ []) first_place, items_cut (octets ∷ []), (refl, script))
 
 pub lines_are_scripts_by : NoOthersAreGrammatical → LinesAreScripts
-lines_are_scripts_by law event octets plain back = sym (law (octets ∷ []) (only (event 1)) (script_alone event octets plain back))
+lines_are_scripts_by law event octets plain back = sym (law (octets ∷ []) (script_of_one_event (event 1)) (script_alone event octets plain back))
 
 all_options : (os : List SegOption) → HasOptions (options_of os) os
 all_options [] = refl

@@ -4,7 +4,7 @@ use Rattle.std.specs.List.{list_all, prefix_len}
 use Rattle.std.proofs.Math.Seq.{drop-append_seam, drop-append-add}
 use Rattle.std.proofs.Math.Numerals.{add-one}
 use Rattle.std.proofs.lemmas.Bool.Decides.{nat_tests}
-use Rattle.pd_lex.specs.declared.classes.Class.TheVariants as classes
+use Rattle.pd_lex.specs.declared.classes.OctetClass.TheVariants as classes
 use Rattle.pd_lex.specs.declared.scan.Piece.TheVariants.{Whole}
 use Rattle.pd_lex.specs.declared.token.TokenKind.{TokenKind}
 use Rattle.pd_lex.specs.declared.token.TokenKind.TheVariants.{Int, Word, Decimal, Dots, Symbol}
@@ -13,7 +13,7 @@ use Rattle.pd_lex.specs.Octets.{is_digit, is_word}
 use Rattle.pd_lex.specs.Pieces.{fraction_len, point_piece, dash_piece, piece, gap, token, parted, front}
 use Rattle.pd_lex.specs.Scanned.{begins_name}
 use Rattle.pd_lex.proofs.Bounds.{digit_is_word}
-use Rattle.pd_lex.proofs.PlainTokens.{int_piece, decimal_piece, name_piece, symbol_piece}
+use Rattle.pd_lex.proofs.FastTokens.{int_piece, decimal_piece, name_piece, symbol_piece}
 use Rattle.pd_script.proofs.Apart.{and-left, and-right, not-true}
 use Rattle.pd_print.proofs.DigitLemmas.{Written}
 use Rattle.pd_print.proofs.Seconds.{run_len}

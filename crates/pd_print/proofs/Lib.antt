@@ -3,9 +3,9 @@ pub mod DigitLemmas
 pub mod Seconds
 pub mod Lexemes
 pub mod Leaves
-pub mod Times
-pub mod PacketParts
+pub mod TimeLemmas
+pub mod PacketPartLemmas
 pub mod OptionParts
-pub mod Inside
+pub mod InOneLine
 pub mod Events
 pub mod LawLemmas

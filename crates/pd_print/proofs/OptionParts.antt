@@ -13,7 +13,7 @@ use Rattle.pd_lex.specs.Tokens.{Item, lexeme}
 use Rattle.pd_lex.specs.Lexing.{items}
 use Rattle.pd_script.specs.declared.names.OptionName.{OptionName}
 use Rattle.pd_script.specs.declared.names.OptionName.TheVariants as names
-use Rattle.pd_script.specs.declared.packets.Block.{Block}
+use Rattle.pd_script.specs.declared.packets.SackBlock.{SackBlock}
 use Rattle.pd_script.specs.declared.packets.PacketOption.{PacketOption}
 use Rattle.pd_script.specs.declared.packets.PacketOption.TheVariants as options
 use Rattle.pd_script.specs.declared.packets.Options.{Options}
@@ -23,7 +23,7 @@ use Rattle.pd_script.specs.Values.{option_named}
 use Rattle.pd_script.specs.Spelling.{IsInt, Repeats}
 use Rattle.pd_script.specs.PacketGrammar.{IsNamed, IsOptionName, IsBlock, AreBlocks, IsOptionRest, IsOption, IsNextOption, AreOptions, IsList, IsInsideOptions, IsOptions}
 use Rattle.pd_print.specs.Options.{block_text, option_text, next_option_text, list_text, options_text}
-use Rattle.pd_print.specs.WayBack.{IsSmall, FitsBlock, IsSmallOption, AreSmallOptions, HasBlock, HaveBlocks}
+use Rattle.pd_print.specs.RoundTrip.{IsSmall, FitsBlock, IsSmallOption, AreSmallOptions, HasBlock, HaveBlocks}
 use Rattle.pd_print.proofs.Lexemes.{ends_word, ends_number, number_ends_word, symbol_front, dots_front}
 use Rattle.pd_print.proofs.Leaves.{ReadTo, passed, over_space, spaced, one_read, symbol_read, int_read, word_passed, named_read}
 
@@ -36,7 +36,7 @@ both [] small blocks = tt
 both (o ∷ os) small blocks = ((small.0, blocks.0), both os small.1 blocks.1)
 
 -- what follows ends a number
-blocks_end : (bs : List Block) (rest : List ℕ) → ends_number rest ≡ true → ends_number (flat_map block_text bs ++ rest) ≡ true
+blocks_end : (bs : List SackBlock) (rest : List ℕ) → ends_number rest ≡ true → ends_number (flat_map block_text bs ++ rest) ≡ true
 blocks_end [] rest h = h
 blocks_end (b ∷ bs) rest h = refl
 
@@ -52,7 +52,7 @@ options_end (lists.Listed os) rest h = refl
 module _ (lines : List (List ℕ)) (plain : list_all is_line lines ≡ true) where
   -- ---- blocks
 
-  block_read : (b : Block) (p : Place) (rest : List ℕ) → FitsBlock b → ends_number rest ≡ true → IsLeftAt lines p (block_text b ++ rest) → ReadTo lines Block IsBlock b p rest
+  block_read : (b : SackBlock) (p : Place) (rest : List ℕ) → FitsBlock b → ends_number rest ≡ true → IsLeftAt lines p (block_text b ++ rest) → ReadTo lines SackBlock IsBlock b p rest
   block_read b p rest fits ends h =
       let right = decimal b.right ++ rest in
       let all : IsLeftAt lines p (32 ∷ (decimal b.left ++ (58 ∷ right))) = subst (IsLeftAt lines p) (ap (λ (s : List ℕ). 32 ∷ s) (append_assoc (decimal b.left) (58 ∷ decimal b.right) rest)) h in
@@ -67,7 +67,7 @@ module _ (lines : List (List ℕ)) (plain : list_all is_line lines ≡ true) whe
         spelled = (b.left, items lines left.to, left.spelled, (left.to.line, items lines colon.to, colon.spelled, (b.right, items lines last.to, last.spelled, (refl, refl))));
       }
 
-  blocks_read : (bs : List Block) (p : Place) (rest : List ℕ) → AllByRecursion FitsBlock bs → ends_number rest ≡ true → IsLeftAt lines p (flat_map block_text bs ++ rest) → ReadTo lines (List Block) (Repeats IsBlock) bs p rest
+  blocks_read : (bs : List SackBlock) (p : Place) (rest : List ℕ) → AllByRecursion FitsBlock bs → ends_number rest ≡ true → IsLeftAt lines p (flat_map block_text bs ++ rest) → ReadTo lines (List SackBlock) (Repeats IsBlock) bs p rest
   blocks_read [] p rest fits ends h = record { to = p; line = refl; left = h; spelled = refl }
   blocks_read (b ∷ bs) p rest fits ends h =
       let after = flat_map block_text bs ++ rest in
@@ -76,7 +76,7 @@ module _ (lines : List (List ℕ)) (plain : list_all is_line lines ≡ true) whe
       let others = blocks_read bs one.to rest fits.1 ends one.left in
       record { to = others.to; line = others.line ∙ one.line; left = others.left; spelled = (items lines one.to, one.spelled, others.spelled) }
 
-  some_blocks_read : (bs : List Block) (p : Place) (rest : List ℕ) → 0 < length bs → AllByRecursion FitsBlock bs → ends_number rest ≡ true → IsLeftAt lines p (flat_map block_text bs ++ rest) → ReadTo lines (List Block) AreBlocks bs p rest
+  some_blocks_read : (bs : List SackBlock) (p : Place) (rest : List ℕ) → 0 < length bs → AllByRecursion FitsBlock bs → ends_number rest ≡ true → IsLeftAt lines p (flat_map block_text bs ++ rest) → ReadTo lines (List SackBlock) AreBlocks bs p rest
   unfolding AreBlocks
   some_blocks_read [] p rest some fits ends h = absurd (omega (arith, some))
   some_blocks_read (b ∷ bs) p rest some fits ends h =

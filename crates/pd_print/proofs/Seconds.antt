@@ -13,7 +13,7 @@ use Rattle.std.proofs.lemmas.Bool.Decides.{nat_tests}
 use Rattle.pd_lex.specs.Octets.{is_digit}
 use Rattle.pd_script.specs.Values.{number, whole_len, whole_digits, six_decimals, microseconds}
 use Rattle.pd_script.proofs.Apart.{and-left, and-right}
-use Rattle.pd_print.specs.Numbers.{digits_of, shortest_digits, moment_text, fraction_text, seconds_text}
+use Rattle.pd_print.specs.Numbers.{digits_of, shortest_digits, fixed_seconds_text, fraction_text, seconds_text}
 use Rattle.pd_print.proofs.DigitLemmas.{Written, decimal_written, six_are_enough, digits_of-value, length-digits_of, filled_up}
 
 -- ---- runs
@@ -99,20 +99,20 @@ without_decimals whole w h = value_is whole whole (48 ∷ 48 ∷ 48 ∷ 48 ∷ 4
 
 -- ---- moments
 
-pub moment_part : (moment : ℕ) → moment % 1000000 < 1000000
-moment_part moment = mod-lt moment (omega arith)
+pub microseconds_part : (time_us : ℕ) → time_us % 1000000 < 1000000
+microseconds_part time_us = mod-lt time_us (omega arith)
 
-pub whole_small : (moment : ℕ) → moment < 2 ^ 64 → moment / 1000000 < 2 ^ 64
-whole_small moment h = omega (arith, div-add-mod' moment 1000000)
+pub whole_small : (time_us : ℕ) → time_us < 2 ^ 64 → time_us / 1000000 < 2 ^ 64
+whole_small time_us h = omega (arith, div-add-mod' time_us 1000000)
 
-pub moment_back : (moment : ℕ) → moment < 2 ^ 64 → microseconds (moment_text moment) ≡ moment
-moment_back moment h =
-    let part = moment % 1000000 in
+pub fixed_seconds_back : (time_us : ℕ) → time_us < 2 ^ 64 → microseconds (fixed_seconds_text time_us) ≡ time_us
+fixed_seconds_back time_us h =
+    let part = time_us % 1000000 in
     let six = digits_of 6 part in
-    let w = decimal_written (moment / 1000000) (whole_small moment h) in
-    let below = six_are_enough part (moment_part moment) in
-    let e = with_decimals (decimal (moment / 1000000)) six six 0 (moment / 1000000) part w (append-nil six) (length-digits_of 6 part) (digits_of-value 6 part below) in
-    ap microseconds (append_assoc (decimal (moment / 1000000)) (46 ∷ []) six) ∙ (e ∙ div-add-mod' moment 1000000)
+    let w = decimal_written (time_us / 1000000) (whole_small time_us h) in
+    let below = six_are_enough part (microseconds_part time_us) in
+    let e = with_decimals (decimal (time_us / 1000000)) six six 0 (time_us / 1000000) part w (append-nil six) (length-digits_of 6 part) (digits_of-value 6 part below) in
+    ap microseconds (append_assoc (decimal (time_us / 1000000)) (46 ∷ []) six) ∙ (e ∙ div-add-mod' time_us 1000000)
 
 -- ---- the shortest
 
@@ -135,20 +135,20 @@ fraction_none part h = rw h refl
 pub fraction_some : (part : ℕ) → (part == 0) ≡ false → fraction_text part ≡ 46 ∷ shortest_digits 6 part
 fraction_some part h = rw h refl
 
-pub seconds_back : (moment : ℕ) → moment < 2 ^ 64 → microseconds (seconds_text moment) ≡ moment
-seconds_back moment h = by_part (moment % 1000000) (microseconds (seconds_text moment) ≡ moment) none some
+pub seconds_back : (time_us : ℕ) → time_us < 2 ^ 64 → microseconds (seconds_text time_us) ≡ time_us
+seconds_back time_us h = by_part (time_us % 1000000) (microseconds (seconds_text time_us) ≡ time_us) none some
   where
-    none : moment % 1000000 ≡ 0 → microseconds (seconds_text moment) ≡ moment
+    none : time_us % 1000000 ≡ 0 → microseconds (seconds_text time_us) ≡ time_us
     none e =
-        let w = decimal_written (moment / 1000000) (whole_small moment h) in
-        ap microseconds (ap (λ (s : List ℕ). decimal (moment / 1000000) ++ s) (fraction_none (moment % 1000000) e) ∙ append-nil (decimal (moment / 1000000)))
-        ∙ (without_decimals (decimal (moment / 1000000)) (moment / 1000000) w ∙ omega (arith, div-add-mod' moment 1000000, e))
+        let w = decimal_written (time_us / 1000000) (whole_small time_us h) in
+        ap microseconds (ap (λ (s : List ℕ). decimal (time_us / 1000000) ++ s) (fraction_none (time_us % 1000000) e) ∙ append-nil (decimal (time_us / 1000000)))
+        ∙ (without_decimals (decimal (time_us / 1000000)) (time_us / 1000000) w ∙ omega (arith, div-add-mod' time_us 1000000, e))
 
-    some : (moment % 1000000 == 0) ≡ false → 0 < moment % 1000000 → microseconds (seconds_text moment) ≡ moment
+    some : (time_us % 1000000 == 0) ≡ false → 0 < time_us % 1000000 → microseconds (seconds_text time_us) ≡ time_us
     some e more =
-        let w = decimal_written (moment / 1000000) (whole_small moment h) in
-        let F = filled_up 6 (moment % 1000000) in
-        let below = six_are_enough (moment % 1000000) (moment_part moment) in
-        ap microseconds (ap (λ (s : List ℕ). decimal (moment / 1000000) ++ s) (fraction_some (moment % 1000000) e))
-        ∙ (with_decimals (decimal (moment / 1000000)) (shortest_digits 6 (moment % 1000000)) (digits_of 6 (moment % 1000000)) F.0 (moment / 1000000) (moment % 1000000) w F.1 (length-digits_of 6 (moment % 1000000)) (digits_of-value 6 (moment % 1000000) below)
-        ∙ div-add-mod' moment 1000000)
+        let w = decimal_written (time_us / 1000000) (whole_small time_us h) in
+        let F = filled_up 6 (time_us % 1000000) in
+        let below = six_are_enough (time_us % 1000000) (microseconds_part time_us) in
+        ap microseconds (ap (λ (s : List ℕ). decimal (time_us / 1000000) ++ s) (fraction_some (time_us % 1000000) e))
+        ∙ (with_decimals (decimal (time_us / 1000000)) (shortest_digits 6 (time_us % 1000000)) (digits_of 6 (time_us % 1000000)) F.0 (time_us / 1000000) (time_us % 1000000) w F.1 (length-digits_of 6 (time_us % 1000000)) (digits_of-value 6 (time_us % 1000000) below)
+        ∙ div-add-mod' time_us 1000000)

@@ -4,12 +4,12 @@ use Rattle.std.specs.Fmt.{decimal}
 use Rattle.pd_script.specs.Values.{error_name}
 use Rattle.pd_script.specs.declared.calls.ErrorName.{ErrorName}
 use Rattle.pd_script.specs.declared.calls.ErrorName.TheVariants as named
-use Rattle.pd_script.specs.declared.calls.Outcome.{Outcome}
-use Rattle.pd_script.specs.declared.calls.Outcome.TheVariants.{Int, Negative}
-use Rattle.pd_seg.specs.declared.answers.Answer.{Answer}
-use Rattle.pd_seg.specs.declared.answers.Answer.TheVariants.{Number, Error}
-use Rattle.pd_seg.specs.declared.answers.Errno.{Errno}
-use Rattle.pd_seg.specs.declared.answers.Errno.TheVariants as answered
+use Rattle.pd_script.specs.declared.calls.ExpectedResult.{ExpectedResult}
+use Rattle.pd_script.specs.declared.calls.ExpectedResult.TheVariants.{Int, Negative}
+use Rattle.pd_seg.specs.declared.call_results.Answer.{Answer}
+use Rattle.pd_seg.specs.declared.call_results.Answer.TheVariants.{Number, Error}
+use Rattle.pd_seg.specs.declared.call_results.Errno.{Errno}
+use Rattle.pd_seg.specs.declared.call_results.Errno.TheVariants as answered
 
 -- the name of an error
 abbrev pub name_of : Errno → ErrorName
@@ -24,6 +24,6 @@ answer_text (Number n) = decimal n
 answer_text (Error e) = codes "-1 " ++ error_name (name_of e)
 
 -- the result of a script that is this answer
-abbrev pub outcome_of : Answer → Outcome
-outcome_of (Number n) = Int n
-outcome_of (Error e) = Negative 1 (Some (name_of e))
+abbrev pub expected_result_of : Answer → ExpectedResult
+expected_result_of (Number n) = Int n
+expected_result_of (Error e) = Negative 1 (Some (name_of e))

@@ -4,5 +4,5 @@ pub mod Options
 pub mod Packets
 pub mod Sent
 pub mod Answers
-pub mod WayBack
+pub mod RoundTrip
 pub mod Laws

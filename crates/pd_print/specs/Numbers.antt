@@ -16,8 +16,8 @@ shortest_digits zero n = []
 shortest_digits (suc places) n = if n % 10 == 0 then shortest_digits places (n / 10) else digits_of (suc places) n
 
 -- a moment in seconds, with six decimals
-abbrev pub moment_text : ℕ → List ℕ
-moment_text moment = decimal (moment / 1000000) ++ codes "." ++ digits_of 6 (moment % 1000000)
+abbrev pub fixed_seconds_text : ℕ → List ℕ
+fixed_seconds_text time_us = decimal (time_us / 1000000) ++ codes "." ++ digits_of 6 (time_us % 1000000)
 
 -- a point and the decimals of so many microseconds, unless all are zeros
 abbrev pub fraction_text : ℕ → List ℕ
@@ -25,12 +25,12 @@ fraction_text part = if part == 0 then [] else codes "." ++ shortest_digits 6 pa
 
 -- a moment in seconds, with no more decimals than it takes
 abbrev pub seconds_text : ℕ → List ℕ
-seconds_text moment = decimal (moment / 1000000) ++ fraction_text (moment % 1000000)
+seconds_text time_us = decimal (time_us / 1000000) ++ fraction_text (time_us % 1000000)
 
 -- the time of an event
 abbrev pub time_text : Time → List ℕ
 time_text times.Any = codes "*"
-time_text (times.Absolute moment) = seconds_text moment
-time_text (times.Relative moment) = codes "+" ++ seconds_text moment
+time_text (times.Absolute time_us) = seconds_text time_us
+time_text (times.Relative time_us) = codes "+" ++ seconds_text time_us
 time_text (times.AbsoluteRange first last) = seconds_text first ++ (codes "~" ++ seconds_text last)
 time_text (times.RelativeRange first last) = codes "+" ++ seconds_text first ++ (codes "~+" ++ seconds_text last)

@@ -1,14 +1,14 @@
 -- How the TCP options of a packet are written.
 use Rattle.std.specs.Prelude.{codes, ℕ, List, [], ◌∷◌, ◌++◌, flat_map}
 use Rattle.std.specs.Fmt.{decimal}
-use Rattle.pd_script.specs.declared.packets.Block.{Block}
+use Rattle.pd_script.specs.declared.packets.SackBlock.{SackBlock}
 use Rattle.pd_script.specs.declared.packets.PacketOption.{PacketOption}
 use Rattle.pd_script.specs.declared.packets.PacketOption.TheVariants as options
 use Rattle.pd_script.specs.declared.packets.Options.{Options}
 use Rattle.pd_script.specs.declared.packets.Options.TheVariants as lists
 
 -- a SACK block and the blank before it
-abbrev pub block_text : Block → List ℕ
+abbrev pub block_text : SackBlock → List ℕ
 block_text b = codes " " ++ decimal b.left ++ (codes ":" ++ decimal b.right)
 
 -- an option

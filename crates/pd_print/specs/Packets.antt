@@ -3,7 +3,7 @@ use Rattle.std.specs.Prelude.{codes, ℕ, Bool, ◌||◌, List, [], ◌∷◌, �
 use Rattle.std.specs.Fmt.{decimal}
 use Rattle.pd_script.specs.Values.{sign}
 use Rattle.pd_script.specs.declared.timing.Time.{Time}
-use Rattle.pd_script.specs.declared.packets.Flags.{Flags}
+use Rattle.pd_script.specs.declared.packets.PacketFlags.{PacketFlags}
 use Rattle.pd_script.specs.declared.packets.Packet.{Packet}
 use Rattle.pd_script.specs.declared.script_events.Action.{Action}
 use Rattle.pd_script.specs.declared.script_events.Action.TheVariants as actions
@@ -13,17 +13,17 @@ use Rattle.pd_print.specs.Numbers.{time_text}
 use Rattle.pd_print.specs.Options.{options_text}
 
 -- an octet, if it is wanted
-abbrev pub letter : Bool → ℕ → List ℕ
-letter wanted octet = if wanted then octet ∷ [] else []
+abbrev pub flag_letter : Bool → ℕ → List ℕ
+flag_letter wanted octet = if wanted then octet ∷ [] else []
 
 -- the point of ACK, or `-` where no flag is set
-abbrev pub point_text : Flags → List ℕ
+abbrev pub point_text : PacketFlags → List ℕ
 point_text f = if f.ack then codes "." else (if f.fin || f.syn || f.rst || f.psh then [] else codes "-")
 
 -- the flags: the letters F, S, R and P of those that are set, in this order, and the point; `-` for none
-abbrev pub flags_text : Flags → List ℕ
+abbrev pub flags_text : PacketFlags → List ℕ
 flags_text f =
-    letter f.fin (sign "F") ++ letter f.syn (sign "S") ++ letter f.rst (sign "R") ++ letter f.psh (sign "P") ++ point_text f
+    flag_letter f.fin (sign "F") ++ flag_letter f.syn (sign "S") ++ flag_letter f.rst (sign "R") ++ flag_letter f.psh (sign "P") ++ point_text f
 
 -- the start, the end and the length
 abbrev pub octets_text : Packet → List ℕ

@@ -1,9 +1,9 @@
 //! What calls answer.
 ghost use Rattle.std.specs.Prelude.{◌≡◌, ◌++◌, IfOk, OnOk};
-ghost use Rattle.pd_script.specs.Grammar.{IsOutcome};
+ghost use Rattle.pd_script.specs.Grammar.{IsExpectedResult};
 ghost use Rattle.pd_script.specs.Values.{error_name};
-ghost use Rattle.pd_print.specs.Answers.{answer_text, outcome_of, name_of};
-ghost use Rattle.pd_print.specs.WayBack.{IsReadAs, FitsAnswer};
+ghost use Rattle.pd_print.specs.Answers.{answer_text, expected_result_of, name_of};
+ghost use Rattle.pd_print.specs.RoundTrip.{IsReadAs, FitsAnswer};
 
 use crate::digits::put_number;
 use pd_seg::{Answer, Errno};
@@ -17,7 +17,7 @@ pub fn write_answer(alloc: Global, answer: Answer) -> Result<Vec<u8>, AllocError
     ensures octets { IfOk result (λ text. text.items ≡ answer_text answer) }
 
     // At the end of a line just this result is read.
-    ensures back { IfOk result (λ text. IsReadAs IsOutcome (λ line. outcome_of answer) text.items) }
+    ensures back { IfOk result (λ text. IsReadAs IsExpectedResult (λ line. expected_result_of answer) text.items) }
 {
     let mut out = Vec::new(alloc);
     put_answer(&mut out, answer)?;

@@ -1,16 +1,16 @@
 //! Laws of what is written: functions without work, whose contracts are the laws.
 ghost use Rattle.pd_print.specs.Laws.{LinesAreScripts, SentPacketsAgree};
 
-use pd_script::scripts_are_grammatical;
+use pd_script::law_scripts_are_grammatical;
 
 /// A law: octets that are read as an event are, as a text of one line, a script with just this event.
-pub fn lines_are_scripts()
+pub fn law_lines_are_scripts()
     ensures { LinesAreScripts }
 {
-    scripts_are_grammatical();
+    law_scripts_are_grammatical();
 }
 
 /// A law: a segment that was sent agrees, in each field, with the packet that is written of it.
-pub fn sent_packets_agree()
+pub fn law_sent_packets_agree()
     ensures { SentPacketsAgree }
 {}

@@ -4,7 +4,7 @@ ghost use Rattle.std.specs.Fmt.{decimal};
 ghost use Rattle.pd_print.specs.Options.{block_text, option_text, next_option_text, list_text, options_text};
 
 use crate::digits::put_number;
-use pd_script::{Block, Options, PacketOption};
+use pd_script::{Options, PacketOption, SackBlock};
 use std::alloc::AllocError;
 
 /// Adds the options of a packet in angle brackets; nothing where it writes none.
@@ -68,7 +68,7 @@ fn put_option(out: &mut Vec<u8>, option: &PacketOption) -> Result<(), AllocError
 }
 
 /// Adds SACK blocks with a blank before each.
-fn put_blocks(out: &mut Vec<u8>, blocks: &[Block]) -> Result<(), AllocError>
+fn put_blocks(out: &mut Vec<u8>, blocks: &[SackBlock]) -> Result<(), AllocError>
     ensures { OnOk result (out.new.items ≡ out.old.items ++ flat_map block_text blocks.now) }
 {
     for block in blocks {

@@ -3,13 +3,13 @@ ghost use Rattle.std.specs.Prelude.{◌≡◌, ◌++◌, IfOk, OnOk, IsTrue};
 ghost use Rattle.std.specs.Fmt.{decimal};
 ghost use Rattle.pd_text.specs.Text.{is_line};
 ghost use Rattle.pd_script.specs.Grammar.{IsEvent};
-ghost use Rattle.pd_print.specs.Packets.{arrow, letter, point_text, flags_text, octets_text, fields_text, numbered, packet_text, event_text, action_of};
-ghost use Rattle.pd_print.specs.WayBack.{IsReadAs, FitsTime, FitsPacket, event_of};
+ghost use Rattle.pd_print.specs.Packets.{arrow, flag_letter, point_text, flags_text, octets_text, fields_text, numbered, packet_text, event_text, action_of};
+ghost use Rattle.pd_print.specs.RoundTrip.{IsReadAs, FitsTime, FitsPacket, event_of};
 
 use crate::digits::put_number;
-use crate::moments::put_time;
 use crate::option_texts::put_options;
-use pd_script::{Flags, Packet, Time};
+use crate::times::put_time;
+use pd_script::{Packet, PacketFlags, Time};
 use std::alloc::{AllocError, Global};
 
 /// Which way a packet goes.
@@ -82,7 +82,7 @@ fn put_packet(out: &mut Vec<u8>, packet: &Packet) -> Result<(), AllocError>
 }
 
 /// Adds the letters of flags in the order F, S, R and P, and the point of ACK; `-` where none is set.
-pub fn put_flags(out: &mut Vec<u8>, flags: Flags) -> Result<(), AllocError>
+pub fn put_flags(out: &mut Vec<u8>, flags: PacketFlags) -> Result<(), AllocError>
     ensures { OnOk result (out.new.items ≡ out.old.items ++ flags_text flags) }
 {
     put_letter(out, flags.fin, b'F')?;
@@ -94,7 +94,7 @@ pub fn put_flags(out: &mut Vec<u8>, flags: Flags) -> Result<(), AllocError>
 
 /// Adds the octet if it is wanted.
 fn put_letter(out: &mut Vec<u8>, wanted: bool, octet: u8) -> Result<(), AllocError>
-    ensures { OnOk result (out.new.items ≡ out.old.items ++ letter wanted octet) }
+    ensures { OnOk result (out.new.items ≡ out.old.items ++ flag_letter wanted octet) }
 {
     if wanted {
         out.push(octet)?;
@@ -103,7 +103,7 @@ fn put_letter(out: &mut Vec<u8>, wanted: bool, octet: u8) -> Result<(), AllocErr
 }
 
 /// Adds the point of ACK, or `-` where no flag is set.
-fn put_point(out: &mut Vec<u8>, flags: Flags) -> Result<(), AllocError>
+fn put_point(out: &mut Vec<u8>, flags: PacketFlags) -> Result<(), AllocError>
     ensures { OnOk result (out.new.items ≡ out.old.items ++ point_text flags) }
 {
     if flags.ack {

@@ -11,7 +11,7 @@ use std::alloc::{AllocError, Global};
 /// The parts of a packet, which make the packet one after the other. All but the flags begin with a blank; one that isn't
 /// written is empty.
 #[derive(Drop)]
-pub struct Parts {
+pub struct PacketParts {
     /// The flags.
     pub flags: Vec<u8>,
     /// The start, the end and the length.
@@ -28,7 +28,7 @@ pub struct Parts {
 ///
 /// # Errors
 /// `AllocError` where a growth is refused.
-pub fn write_parts(alloc: Global, packet: &Packet) -> Result<Parts, AllocError>
+pub fn write_parts(alloc: Global, packet: &Packet) -> Result<PacketParts, AllocError>
     ensures flags { IfOk result (λ parts. parts.flags.items ≡ flags_text packet.now.flags) }
     ensures octets { IfOk result (λ parts. parts.octets.items ≡ octets_text packet.now) }
     ensures ack { IfOk result (λ parts. parts.ack.items ≡ numbered (codes " ack ") packet.now.ack) }
@@ -45,7 +45,7 @@ pub fn write_parts(alloc: Global, packet: &Packet) -> Result<Parts, AllocError>
     put_numbered(&mut win, b" win ", packet.win)?;
     let mut options = Vec::new(alloc);
     put_options(&mut options, &packet.options)?;
-    Ok(Parts {
+    Ok(PacketParts {
         flags,
         octets,
         ack,

@@ -6,10 +6,12 @@ ghost use Rattle.pd_text.specs.Text.{is_line};
 ghost use Rattle.pd_script.specs.Grammar.{IsEvent};
 ghost use Rattle.pd_print.specs.Packets.{event_text, action_of};
 ghost use Rattle.pd_print.specs.Sent.{packet_of, options_of, written_flags};
-ghost use Rattle.pd_print.specs.WayBack.{IsReadAs, FitsTime, IsSmall, FitsBlock, IsSmallOption, AreSmallOptions, FitsPacket, FitsSegment, event_of};
+ghost use Rattle.pd_print.specs.RoundTrip.{IsReadAs, FitsTime, IsSmall, FitsBlock, IsSmallOption, AreSmallOptions, FitsPacket, FitsSegment, event_of};
 
 use crate::packet_texts::{Direction, write_event};
-use pd_script::{Block, Blocks, Flags, OptionList, Options, Packet, PacketOption, Time};
+use pd_script::{
+    OptionList, Options, Packet, PacketFlags, PacketOption, SackBlock, SackBlockList, Time,
+};
 use pd_seg::{SegOption, SegOptions, Segment, Span};
 use std::alloc::{AllocError, Global};
 
@@ -59,10 +61,10 @@ fn writable(number: u32) -> u32
     number
 }
 
-fn written_flags(flags: &pd_seg::Flags) -> Flags
+fn written_flags(flags: &pd_seg::Flags) -> PacketFlags
     ensures { result ≡ written_flags flags.now }
 {
-    Flags {
+    PacketFlags {
         syn: flags.syn,
         fin: flags.fin,
         rst: flags.rst,
@@ -111,22 +113,22 @@ fn written_option(alloc: Global, option: &SegOption) -> Result<PacketOption, All
     })
 }
 
-fn written_blocks(alloc: Global, spans: &[Span]) -> Result<Blocks, AllocError>
+fn written_blocks(alloc: Global, spans: &[Span]) -> Result<SackBlockList, AllocError>
     ensures blocks { IfOk result (λ blocks. blocks ≡ map block_of spans.now) }
     ensures small { IfOk result (λ blocks. AllByRecursion FitsBlock blocks) }
 {
-    let mut blocks = Blocks::new(alloc);
+    let mut blocks = SackBlockList::new(alloc);
     for span in spans {
         blocks.push(written_block(*span))?;
     }
     Ok(blocks)
 }
 
-fn written_block(span: Span) -> Block
+fn written_block(span: Span) -> SackBlock
     ensures block { result ≡ block_of span }
     ensures small { FitsBlock result }
 {
-    Block {
+    SackBlock {
         left: u64::from(span.start),
         right: u64::from(span.end),
     }

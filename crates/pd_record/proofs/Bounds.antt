@@ -10,10 +10,10 @@ use Rattle.pd_host.specs.Expiries.{deadline_of}
 use Rattle.pd_run.specs.Laws.{IsUnderway}
 use Rattle.pd_run.specs.Limits.{is_long, written_times}
 use Rattle.pd_run.specs.Step.{RunStateView}
-use Rattle.pd_run.specs.Times.{moment_of, base_after}
+use Rattle.pd_run.specs.Times.{time_of, base_after}
 use Rattle.pd_record.specs.Recorder.{RecorderView, refusal_at, with_unmet}
 use Rattle.pd_record.specs.Inner.{Sound, IsReached}
-use Rattle.pd_record.specs.declared.refusals.NotRecorded.TheVariants.{TooManyEvents, TooLongGap}
+use Rattle.pd_record.specs.declared.record_error.RecordError.TheVariants.{TooManyEvents, TooLongGap}
 
 -- what isn't refused is no 4,097th event, and comes at most 3,600 seconds after the one before
 pub not_refused : (t : RecorderView) (at : ℕ) → refusal_at t at ≡ None → (t.count < 4096) × (at ≤ t.run.base + 3600000000)
@@ -38,19 +38,19 @@ is_reached t at sound h =
 -- the next expiry lies at most an hour ahead
 pub deadline_near : (n at : ℕ) (r : RunStateView) → IsUnderway n r → deadline_of r.host.state ≡ Some at → at ≤ r.clock + 3600000000
 deadline_near n at r underway is =
-    let most : underway.up_to.begun.max_rto_us ≤ 3600000000 = underway.up_to.begun.max_rto_us_in_range.1 in
+    let most : underway.up_to.recorder_at_start.max_rto_us ≤ 3600000000 = underway.up_to.recorder_at_start.max_rto_us_in_range.1 in
     go (deadline_of r.host.state) underway.up_to.up_to.deadline is
   where
-    go : (due : Option ℕ) → IfSome due (λ d. (r.clock < d) × (d ≤ r.clock + underway.up_to.begun.max_rto_us)) → due ≡ Some at
+    go : (due : Option ℕ) → IfSome due (λ d. (r.clock < d) × (d ≤ r.clock + underway.up_to.recorder_at_start.max_rto_us)) → due ≡ Some at
         → at ≤ r.clock + 3600000000
     go None h is = absurd cc
     go (Some d) h is =
-        let most : underway.up_to.begun.max_rto_us ≤ 3600000000 = underway.up_to.begun.max_rto_us_in_range.1 in
+        let most : underway.up_to.recorder_at_start.max_rto_us ≤ 3600000000 = underway.up_to.recorder_at_start.max_rto_us_in_range.1 in
         let same : d ≡ at = cc in
         omega (arith, h.1, most, same)
 
 -- a single time within its limit lies at most 3,600 seconds after the base, or after the start
-pub moment_within : (base : ℕ) (time : Time) → list_any is_long (written_times time) ≡ false → moment_of base time ≤ base + 3600000000
+pub moment_within : (base : ℕ) (time : Time) → list_any is_long (written_times time) ≡ false → time_of base time ≤ base + 3600000000
 moment_within base Any h = omega arith
 moment_within base (Absolute t) h = grind (arith, nat_tests)
 moment_within base (Relative t) h = grind (arith, nat_tests)

@@ -2,63 +2,63 @@
 use Rattle.std.proofs.Common.{ℕ, ◌&&◌, ◌++◌, Option, None, Some, List, Ok, Err, refl}
 use Rattle.pd_seg.specs.declared.segments.Segment.{Segment}
 use Rattle.pd_seg.specs.declared.segments.Sent.{Sent}
-use Rattle.pd_host.specs.Arrivals.{ruled, goes_on, finished_on, finished_by, arrived_on, arrived, ruling_of, reset_of, with_peer_fin, with_connection}
+use Rattle.pd_host.specs.Arrivals.{check_outcome, goes_on, finished_on, finished_by, arrived_on, arrived, failed_check_of, reset_of, with_peer_fin, with_connection}
 use Rattle.pd_host.specs.Connection.{ConnectionView}
-use Rattle.pd_host.specs.Handshake.{is_opening, block_begun, answered_syn, syn_uses, established_by, establishment_uses}
+use Rattle.pd_host.specs.Handshake.{is_opening, connection_begun, answered_syn, syn_settings, established_by, establishment_settings}
 use Rattle.pd_host.specs.Packets.{ack_of, refusal_of, syn_ack_of}
-use Rattle.pd_host.specs.Places.{has_place}
+use Rattle.pd_host.specs.OutboxLimit.{has_place}
 use Rattle.pd_host.specs.Host.{beside, put_out}
-use Rattle.pd_host.specs.Sending.{with_block}
+use Rattle.pd_host.specs.Sending.{with_begun_connection}
 use Rattle.pd_host.specs.declared.endpoint.Endpoint.{Endpoint}
 use Rattle.pd_host.specs.declared.halts.Halt.TheVariants.{Unsupported}
-use Rattle.pd_host.specs.declared.connection.checks.Ruling.{Ruling}
-use Rattle.pd_host.specs.declared.connection.checks.Ruling.TheVariants.{NotRun, StrayRst, OutsideWindow, ExactRst, ChallengedRst, WithoutAck, FirstAck, RefusedAck, EarlyAck, OldAck}
-use Rattle.pd_host.specs.declared.endpoint.State.{State}
+use Rattle.pd_host.specs.declared.connection.segment_check.SegmentCheck.{SegmentCheck}
+use Rattle.pd_host.specs.declared.connection.segment_check.SegmentCheck.TheVariants.{NotRun, StrayRst, OutsideWindow, ExactRst, ChallengedRst, WithoutAck, FirstAck, RefusedAck, EarlyAck, OldAck}
+use Rattle.pd_host.specs.declared.endpoint.SenderState.{SenderState}
 use Rattle.pd_record.proofs.Freed.{CameBy, either_by, then_by, in_front, in_front_on, put_out_freed, room_freed, taken_freed}
 
 -- a segment that is put out in answer
-answered_freed : (w : List Sent) (now : ℕ) (segment : Segment) (s : State) (e : Endpoint)
+answered_freed : (w : List Sent) (now : ℕ) (segment : Segment) (s : SenderState) (e : Endpoint)
     → CameBy (in_front w) (beside (in_front w s) (put_out now segment (in_front_on w e))) (beside s (put_out now segment e))
 answered_freed w now segment s e =
     let packet : Sent = record { segment = segment; at = now } in
     put_out_freed w (has_place (w ++ e.outbox)) (has_place e.outbox) packet s e (room_freed w e.outbox)
 
-ruled_freed : (w : List Sent) (r : Option Ruling) (now : ℕ) (segment : Segment) (c : ConnectionView) (s : State)
-    → CameBy (in_front w) (ruled now segment c (in_front w s) r) (ruled now segment c s r)
+ruled_freed : (w : List Sent) (r : Option SegmentCheck) (now : ℕ) (segment : Segment) (c : ConnectionView) (s : SenderState)
+    → CameBy (in_front w) (check_outcome now segment c (in_front w s) r) (check_outcome now segment c s r)
 ruled_freed w (Some NotRun) now segment c s = tt
 ruled_freed w (Some StrayRst) now segment c s = (s, refl, refl)
 ruled_freed w (Some OutsideWindow) now segment c s = answered_freed w now (ack_of c) s s.endpoint
-ruled_freed w (Some ExactRst) now segment c s = (with_block (reset_of c) s, refl, refl)
+ruled_freed w (Some ExactRst) now segment c s = (with_begun_connection (reset_of c) s, refl, refl)
 ruled_freed w (Some ChallengedRst) now segment c s = answered_freed w now (ack_of c) s s.endpoint
 ruled_freed w (Some WithoutAck) now segment c s = (s, refl, refl)
 ruled_freed w (Some FirstAck) now segment c s =
-    let left : State = with_block (established_by now s.settings segment c) s in
-    (record left { uses = establishment_uses s.uses }, refl, refl)
+    let left : SenderState = with_begun_connection (established_by now s.settings segment c) s in
+    (record left { consulted_settings = establishment_settings s.consulted_settings }, refl, refl)
 ruled_freed w (Some RefusedAck) now segment c s = answered_freed w now (refusal_of segment.ack) s s.endpoint
 ruled_freed w (Some EarlyAck) now segment c s = answered_freed w now (ack_of c) s s.endpoint
 ruled_freed w (Some OldAck) now segment c s = (s, refl, refl)
 ruled_freed w None now segment c s = taken_freed w now segment c s c.established
 
-finished_on_freed : (w : List Sent) (now : ℕ) (o : Option ConnectionView) (s : State) → CameBy (in_front w) (finished_on now (in_front w s) o) (finished_on now s o)
+finished_on_freed : (w : List Sent) (now : ℕ) (o : Option ConnectionView) (s : SenderState) → CameBy (in_front w) (finished_on now (in_front w s) o) (finished_on now s o)
 finished_on_freed w now None s = (s, refl, refl)
 finished_on_freed w now (Some c) s = answered_freed w now (ack_of (with_peer_fin c)) s (with_connection (with_peer_fin c) s.endpoint)
 
-finished_freed : (w : List Sent) (now : ℕ) (segment : Segment) (r : Option Ruling) (s : State)
+finished_freed : (w : List Sent) (now : ℕ) (segment : Segment) (r : Option SegmentCheck) (s : SenderState)
     → CameBy (in_front w) (finished_by now segment r (in_front w s)) (finished_by now segment r s)
 finished_freed w now segment r s =
     either_by (in_front w) (goes_on r && segment.flags.fin) (finished_on now (in_front w s) s.endpoint.connection) (Ok (in_front w s))
     (finished_on now s s.endpoint.connection) (Ok s) (finished_on_freed w now s.endpoint.connection s) (s, refl, refl)
 
-on_connection_freed : (w : List Sent) (o : Option ConnectionView) (segment : Segment) (now : ℕ) (s : State)
+on_connection_freed : (w : List Sent) (o : Option ConnectionView) (segment : Segment) (now : ℕ) (s : SenderState)
     → CameBy (in_front w) (arrived_on now segment (in_front w s) o) (arrived_on now segment s o)
 on_connection_freed w None segment now s =
-    let begun : ConnectionView = block_begun now s.settings segment in
-    either_by (in_front w) (is_opening s.endpoint.listener segment) (answered_syn now begun (in_front w s)) (Err Unsupported) (answered_syn now begun s) (Err Unsupported)
-    (answered_freed w now (syn_ack_of begun) (record s { uses = syn_uses s.uses }) (record s.endpoint { connection = Some begun })) tt
+    let recorder_at_start : ConnectionView = connection_begun now s.settings segment in
+    either_by (in_front w) (is_opening s.endpoint.listener segment) (answered_syn now recorder_at_start (in_front w s)) (Err Unsupported) (answered_syn now recorder_at_start s) (Err Unsupported)
+    (answered_freed w now (syn_ack_of recorder_at_start) (record s { consulted_settings = syn_settings s.consulted_settings }) (record s.endpoint { connection = Some recorder_at_start })) tt
 on_connection_freed w (Some c) segment now s =
-    let r : Option Ruling = ruling_of c segment in
-    then_by (in_front w) (in_front w) (finished_by now segment r) (ruled now segment c (in_front w s) r) (ruled now segment c s r)
+    let r : Option SegmentCheck = failed_check_of c segment in
+    then_by (in_front w) (in_front w) (finished_by now segment r) (check_outcome now segment c (in_front w s) r) (check_outcome now segment c s r)
     (ruled_freed w r now segment c s) (λ t. finished_freed w now segment r t)
 
-pub arrived_freed : (w : List Sent) (segment : Segment) (now : ℕ) (s : State) → CameBy (in_front w) (arrived segment now (in_front w s)) (arrived segment now s)
+pub arrived_freed : (w : List Sent) (segment : Segment) (now : ℕ) (s : SenderState) → CameBy (in_front w) (arrived segment now (in_front w s)) (arrived segment now s)
 arrived_freed w segment now s = on_connection_freed w s.endpoint.connection segment now s

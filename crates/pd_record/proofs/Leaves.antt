@@ -8,7 +8,7 @@ use Rattle.pd_script.specs.declared.packets.Packet.{Packet}
 use Rattle.pd_script.specs.declared.script_events.Action.{Action}
 use Rattle.pd_script.specs.declared.script_events.Action.TheVariants.{Inbound, Outbound, Call as Calls}
 use Rattle.pd_script.specs.declared.script_events.Event.{Event}
-use Rattle.pd_seg.specs.declared.answers.Answer.{Answer}
+use Rattle.pd_seg.specs.declared.call_results.Answer.{Answer}
 use Rattle.pd_seg.specs.declared.segments.Sent.{Sent}
 use Rattle.pd_host.specs.Connection.{ConnectionView}
 use Rattle.pd_host.specs.Expiries.{advanced, deadline_of, due_by, expired, segment_again}
@@ -17,33 +17,33 @@ use Rattle.pd_host.specs.Laws.{AreInOrder}
 use Rattle.pd_host.specs.Host.{without_oldest}
 use Rattle.pd_host.specs.Sending.{on_found, repeated, places_left}
 use Rattle.pd_host.specs.declared.halts.Halt.{Halt}
-use Rattle.pd_host.specs.declared.endpoint.State.{State}
+use Rattle.pd_host.specs.declared.endpoint.SenderState.{SenderState}
 use Rattle.pd_match.specs.Calls.{result_mismatch}
 use Rattle.pd_match.specs.Packets.{mismatch}
-use Rattle.pd_run.specs.Bars.{bar_of}
+use Rattle.pd_run.specs.Prechecks.{failed_precheck}
 use Rattle.pd_run.specs.RunStates.{RunStateView, KeepsTime}
-use Rattle.pd_run.specs.Step.{tolerance_of, noted, on_step, with_state, acts_at, acted, arrives, on_arrival, answers, on_answer, on_expiry, expires, awaited, packet_taken, leaves, performed, outcome, step}
-use Rattle.pd_run.specs.Times.{is_single, moment_of, moments_of, is_in_reach, base_after}
-use Rattle.pd_run.specs.declared.whys.Why.{Why}
-use Rattle.pd_run.specs.declared.whys.Why.TheVariants.{Missing}
+use Rattle.pd_run.specs.Step.{tolerance_of, comparison_noted, on_step, with_state, action_time, acted, arrives, on_arrival, answers, on_answer, on_expiry, expires, awaited, packet_taken, leaves, performed, outcome, step}
+use Rattle.pd_run.specs.Times.{is_single, time_of, time_range_of, may_be_in_time, base_after}
+use Rattle.pd_run.specs.declared.stop_reason.StopReason.{StopReason}
+use Rattle.pd_run.specs.declared.stop_reason.StopReason.TheVariants.{Missing}
 use Rattle.pd_run.proofs.Bounds.{given, agreed, goes, unbarred, step_performs}
 use Rattle.pd_record.specs.Recorder.{oldest_of, or_expired, due_where, leaves_next}
 
 -- no check barred an event whose step goes on
-pub step_unbarred : (r s : RunStateView) (e : Event) → step r e ≡ Ok s → bar_of r.base e ≡ None
-step_unbarred r s e h = (unbarred (performed r e e.action) (bar_of r.base e) s (goes e.line (outcome r e) s h)).0
+pub step_unbarred : (r s : RunStateView) (e : Event) → step r e ≡ Ok s → failed_precheck r.base e ≡ None
+step_unbarred r s e h = (unbarred (performed r e e.action) (failed_precheck r.base e) s (goes e.line (outcome r e) s h)).0
 
 -- ---- inputs
 
 -- after an input the clock and the base are those of its moment
 abbrev Acted : RunStateView → RunStateView → Event → Type 0
-Acted r s e = (s.base ≡ moment_of r.base e.time) × (s.clock ≡ acts_at r e)
+Acted r s e = (s.base ≡ time_of r.base e.time) × (s.clock ≡ action_time r e)
 
-arrived_acted : (r s : RunStateView) (e : Event) (came : Result State Halt) → on_arrival r e came ≡ Ok s → Acted r s e
+arrived_acted : (r s : RunStateView) (e : Event) (came : Result SenderState Halt) → on_arrival r e came ≡ Ok s → Acted r s e
 arrived_acted r s e (Ok t) h = subst (λ (x : RunStateView). Acted r x e) (given (acted r e t) s h) (refl, refl)
 arrived_acted r s e (Err halt) h = absurd cc
 
-answered_acted : (r s : RunStateView) (e : Event) (call : Call) (came : Result (State × Answer) Halt) → on_answer r e call came ≡ Ok s → Acted r s e
+answered_acted : (r s : RunStateView) (e : Event) (call : Call) (came : Result (SenderState × Answer) Halt) → on_answer r e call came ≡ Ok s → Acted r s e
 answered_acted r s e call (Ok (t, answer)) h = subst (λ (x : RunStateView). Acted r x e) (agreed (acted r e t) s _ (result_mismatch call.result answer) h) (refl, refl)
 answered_acted r s e call (Err halt) h = absurd cc
 
@@ -58,7 +58,7 @@ after_call r s e call is h = answered_acted r s e call (answers r e call) (subst
 -- what an expected packet awaited, and that it was taken
 abbrev Taken : RunStateView → RunStateView → Event → Packet → Type 0
 Taken r s e p =
-    (q : RunStateView) × (sent : Sent) × (awaited (noted r) e ≡ Ok q) × (slice_get q.host.state.endpoint.outbox 0 ≡ Some sent)
+    (q : RunStateView) × (sent : Sent) × (awaited (comparison_noted r) e ≡ Ok q) × (slice_get q.host.state.endpoint.outbox 0 ≡ Some sent)
     × (s.base ≡ base_after q.base e.time sent.at) × (s.clock ≡ q.clock)
 
 took : (e : Event) (p : Packet) (q s : RunStateView) (o : Option Sent) → slice_get q.host.state.endpoint.outbox 0 ≡ o → packet_taken e p q o ≡ Ok s
@@ -66,17 +66,17 @@ took : (e : Event) (p : Packet) (q s : RunStateView) (o : Option Sent) → slice
 took e p q s None is h = absurd cc
 took e p q s (Some sent) is h =
     let next : RunStateView = record q { host = without_oldest q.host; base = base_after q.base e.time sent.at } in
-    let same : next ≡ s = agreed next s _ (mismatch p (moments_of q.base e.time) sent (tolerance_of q)) h in
+    let same : next ≡ s = agreed next s _ (mismatch p (time_range_of q.base e.time) sent (tolerance_of q)) h in
     (sent, is, sym (ap (λ (x : RunStateView). x.base) same), sym (ap (λ (x : RunStateView). x.clock) same))
 
-pub both : (go : RunStateView → Result RunStateView Why) (came : Result RunStateView Why) (s : RunStateView) → on_step go (λ reason. Err reason) came ≡ Ok s
+pub both : (go : RunStateView → Result RunStateView StopReason) (came : Result RunStateView StopReason) (s : RunStateView) → on_step go (λ reason. Err reason) came ≡ Ok s
     → (t : RunStateView) × (came ≡ Ok t) × (go t ≡ Ok s)
 both go (Ok t) s h = (t, refl, h)
 both go (Err reason) s h = absurd cc
 
-after_leaving : (r s : RunStateView) (e : Event) (p : Packet) → leaves (noted r) e p ≡ Ok s → Taken r s e p
+after_leaving : (r s : RunStateView) (e : Event) (p : Packet) → leaves (comparison_noted r) e p ≡ Ok s → Taken r s e p
 after_leaving r s e p h =
-    let went = both (λ (q : RunStateView). packet_taken e p q (slice_get q.host.state.endpoint.outbox 0)) (awaited (noted r) e) s h in
+    let went = both (λ (q : RunStateView). packet_taken e p q (slice_get q.host.state.endpoint.outbox 0)) (awaited (comparison_noted r) e) s h in
     let last = took e p went.0 s (slice_get went.0.host.state.endpoint.outbox 0) refl went.2 in
     (went.0, last.0, went.1, last.1, last.2, last.3)
 
@@ -85,23 +85,23 @@ after_packet r s e p is h = after_leaving r s e p (subst (λ (a : Action). perfo
 
 -- what was awaited: the packet was there, or the next expiry sent it
 abbrev pub Awaited : RunStateView → RunStateView → Event → Type 0
-Awaited r q e = (length r.host.state.endpoint.outbox ≡ 0) × (at : ℕ) × (t : State) × (deadline_of r.host.state ≡ Some at) × (advanced at r.host.state ≡ Ok t) × (q ≡ record (with_state r t) { clock = at })
-    × (is_in_reach (moments_of r.base e.time) (tolerance_of r) at ≡ true)
+Awaited r q e = (length r.host.state.endpoint.outbox ≡ 0) × (at : ℕ) × (t : SenderState) × (deadline_of r.host.state ≡ Some at) × (advanced at r.host.state ≡ Ok t) × (q ≡ record (with_state r t) { clock = at })
+    × (may_be_in_time (time_range_of r.base e.time) (tolerance_of r) at ≡ true)
 
-on_time : (r q : RunStateView) (at : ℕ) (came : Result State Halt) → on_expiry r at came ≡ Ok q → (t : State) × (came ≡ Ok t) × (q ≡ record (with_state r t) { clock = at })
+on_time : (r q : RunStateView) (at : ℕ) (came : Result SenderState Halt) → on_expiry r at came ≡ Ok q → (t : SenderState) × (came ≡ Ok t) × (q ≡ record (with_state r t) { clock = at })
 on_time r q at (Ok t) h = (t, refl, sym (given (record (with_state r t) { clock = at }) q h))
 on_time r q at (Err halt) h = absurd cc
 
-in_reach : (b : Bool) (came : Result RunStateView Why) (q : RunStateView) → (if b then came else Err Missing) ≡ Ok q → (came ≡ Ok q) × (b ≡ true)
+in_reach : (b : Bool) (came : Result RunStateView StopReason) (q : RunStateView) → (if b then came else Err Missing) ≡ Ok q → (came ≡ Ok q) × (b ≡ true)
 in_reach true came q h = (h, refl)
 in_reach false came q h = absurd cc
 
 expired_at : (r q : RunStateView) (e : Event) (o : Option ℕ) → deadline_of r.host.state ≡ o → expires r e o ≡ Ok q
-    → (at : ℕ) × (t : State) × (deadline_of r.host.state ≡ Some at) × (advanced at r.host.state ≡ Ok t) × (q ≡ record (with_state r t) { clock = at })
-    × (is_in_reach (moments_of r.base e.time) (tolerance_of r) at ≡ true)
+    → (at : ℕ) × (t : SenderState) × (deadline_of r.host.state ≡ Some at) × (advanced at r.host.state ≡ Ok t) × (q ≡ record (with_state r t) { clock = at })
+    × (may_be_in_time (time_range_of r.base e.time) (tolerance_of r) at ≡ true)
 expired_at r q e None is h = absurd cc
 expired_at r q e (Some at) is h =
-    let reached = in_reach (is_in_reach (moments_of r.base e.time) (tolerance_of r) at) (on_expiry r at (advanced at r.host.state)) q h in
+    let reached = in_reach (may_be_in_time (time_range_of r.base e.time) (tolerance_of r) at) (on_expiry r at (advanced at r.host.state)) q h in
     let came = on_time r q at (advanced at r.host.state) reached.0 in
     (at, came.0, is, came.1, came.2, reached.1)
 
@@ -135,10 +135,10 @@ Stands r sent = slice_get r.host.state.endpoint.outbox 0 ≡ Some sent
 
 abbrev pub Expires : (ℕ → Bool) → RunStateView → Sent → Type 0
 Expires may r sent =
-    (slice_get r.host.state.endpoint.outbox 0 ≡ None) × (at : ℕ) × (t : State) × (deadline_of r.host.state ≡ Some at) × (may at ≡ true)
+    (slice_get r.host.state.endpoint.outbox 0 ≡ None) × (at : ℕ) × (t : SenderState) × (deadline_of r.host.state ≡ Some at) × (may at ≡ true)
     × (advanced at r.host.state ≡ Ok t) × (slice_get t.endpoint.outbox 0 ≡ Some sent)
 
-sent_by : (may : ℕ → Bool) (r : RunStateView) (sent : Sent) (at : ℕ) (came : Result State Halt) → slice_get r.host.state.endpoint.outbox 0 ≡ None
+sent_by : (may : ℕ → Bool) (r : RunStateView) (sent : Sent) (at : ℕ) (came : Result SenderState Halt) → slice_get r.host.state.endpoint.outbox 0 ≡ None
     → deadline_of r.host.state ≡ Some at → may at ≡ true → advanced at r.host.state ≡ came → oldest_of came ≡ Some sent → Expires may r sent
 sent_by may r sent at (Ok t) none due comes is h = (none, at, t, due, comes, is, h)
 sent_by may r sent at (Err halt) none due comes is h = absurd cc
@@ -183,24 +183,24 @@ connection_of (Some b) at h = (b, refl)
 due_itself : (at : ℕ) → due_by at (Some at) ≡ Some at
 due_itself at = let same : nat_le at at ≡ true = le-leb at at (omega arith) in ap (λ (b : Bool). if b then Some at else None) same
 
-abbrev find_due : ℕ → State → Option ℕ
+abbrev find_due : ℕ → SenderState → Option ℕ
 find_due at s = due_by at (deadline_of s)
 
-abbrev expire : ℕ → State → State
+abbrev expire : ℕ → SenderState → SenderState
 expire at s = expired at s.endpoint.connection s
 
-one_sent : (s : State) (at : ℕ) → length s.endpoint.outbox ≡ 0 → deadline_of s ≡ Some at → (x : Sent) × (x.at ≡ at) × ((expire at s).endpoint.outbox ≡ x ∷ [])
+one_sent : (s : SenderState) (at : ℕ) → length s.endpoint.outbox ≡ 0 → deadline_of s ≡ Some at → (x : Sent) × (x.at ≡ at) × ((expire at s).endpoint.outbox ≡ x ∷ [])
 one_sent s at empty due =
     let c = connection_of s.endpoint.connection at due in
     let x : Sent = record { segment = segment_again c.0 c.0.established; at = at } in
     (x, refl, ap (λ (o : Option ConnectionView). (expired at o s).endpoint.outbox) c.1 ∙ ap (λ (list : List Sent). list ++ x ∷ []) (no_items s.endpoint.outbox empty))
 
 -- the expiries up to the next one send a packet first that carries its moment
-pub first_sent : AdvancesPutOutAfter → (s t : State) (at : ℕ) → length s.endpoint.outbox ≡ 0 → deadline_of s ≡ Some at
+pub first_sent : AdvancesPutOutAfter → (s t : SenderState) (at : ℕ) → length s.endpoint.outbox ≡ 0 → deadline_of s ≡ Some at
     → advanced at s ≡ Ok t → (x : Sent) × (x.at ≡ at) × (slice_get t.endpoint.outbox 0 ≡ Some x)
 first_sent puts_after s t at empty due went =
     let one = one_sent s at empty due in
-    let after : State = expire at s in
+    let after : SenderState = expire at s in
     let many : places_left s ≡ suc 1023 = omega (arith, empty) in
     let length_one : length after.endpoint.outbox ≡ 1 = ap (λ (list : List Sent). length list) one.2 in
     let few : 1023 ≡ places_left after = omega (arith, length_one) in
@@ -211,7 +211,7 @@ first_sent puts_after s t at empty due went =
     let outbox : t.endpoint.outbox ≡ one.0 ∷ more.0 = more.2 ∙ ap (λ (list : List Sent). list ++ more.0) one.2 in
     (one.0, one.1, ap (λ (list : List Sent). slice_get list 0) outbox)
 
-pub sent_at_expiry : AdvancesPutOutAfter → (s t : State) (at : ℕ) (sent : Sent) → length s.endpoint.outbox ≡ 0 → deadline_of s ≡ Some at
+pub sent_at_expiry : AdvancesPutOutAfter → (s t : SenderState) (at : ℕ) (sent : Sent) → length s.endpoint.outbox ≡ 0 → deadline_of s ≡ Some at
     → advanced at s ≡ Ok t → slice_get t.endpoint.outbox 0 ≡ Some sent → sent.at ≡ at
 sent_at_expiry puts_after s t at sent empty due went first =
     let one = first_sent puts_after s t at empty due went in
@@ -225,14 +225,14 @@ sent_at_expiry puts_after s t at sent empty due went first =
 pub record IsMoved (may : ℕ → Bool) (r s : RunStateView) (time : Time) (sent : Sent) : Type 0 where
   pub left : sent.at ≤ s.clock
   pub clock : r.clock ≤ s.clock
-  pub base : s.base ≡ moment_of r.base time
+  pub base : s.base ≡ time_of r.base time
   pub until : (until : ℕ) → ((at : ℕ) → may at ≡ true → at ≤ until) → r.clock ≤ until → s.clock ≤ until
 
-single_base : (base : ℕ) (time : Time) (at : ℕ) → is_single time ≡ true → base_after base time at ≡ moment_of base time
-single_base base time at single = ap (λ (b : Bool). if b then moment_of base time else max base at) single
+single_base : (base : ℕ) (time : Time) (at : ℕ) → is_single time ≡ true → base_after base time at ≡ time_of base time
+single_base base time at single = ap (λ (b : Bool). if b then time_of base time else max base at) single
 
 stood : (may : ℕ → Bool) (r s q : RunStateView) (e : Event) (sent other : Sent) → is_single e.time ≡ true → KeepsTime r.clock r.host.state
-    → Stands r sent → q ≡ noted r → s.base ≡ base_after q.base e.time other.at → s.clock ≡ q.clock → IsMoved may r s e.time sent
+    → Stands r sent → q ≡ comparison_noted r → s.base ≡ base_after q.base e.time other.at → s.clock ≡ q.clock → IsMoved may r s e.time sent
 stood may r s q e sent other single up stands same base clock =
     let its : s.clock ≡ r.clock = clock ∙ ap (λ (x : RunStateView). x.clock) same in
     let at : sent.at ≤ r.clock = first_in_order r.clock r.host.state.endpoint.outbox sent up.up_to.packets stands in
@@ -248,12 +248,12 @@ ahead now most None at h is = absurd cc
 ahead now most (Some d) at h is = let same : d ≡ at = cc in subst (λ (x : ℕ). now < x) same h.0
 
 came : (puts_after : AdvancesPutOutAfter) (may : ℕ → Bool) (r s q : RunStateView) (e : Event) (sent other : Sent) → is_single e.time ≡ true → KeepsTime r.clock r.host.state
-    → Expires may r sent → Awaited (noted r) q e → s.base ≡ base_after q.base e.time other.at → s.clock ≡ q.clock → IsMoved may r s e.time sent
+    → Expires may r sent → Awaited (comparison_noted r) q e → s.base ≡ base_after q.base e.time other.at → s.clock ≡ q.clock → IsMoved may r s e.time sent
 came puts_after may r s q e sent other single up h wait base clock =
     let due : wait.1 ≡ h.1 = (let both_due : Some wait.1 ≡ Some h.1 = sym wait.3 ∙ h.3 in cc) in
     let its : s.clock ≡ wait.1 = clock ∙ ap (λ (x : RunStateView). x.clock) wait.5 in
     let at : sent.at ≡ h.1 = sent_at_expiry puts_after r.host.state h.2 h.1 sent wait.0 h.3 h.5 h.6 in
-    let later : r.clock < h.1 = ahead r.clock up.begun.max_rto_us (deadline_of r.host.state) h.1 up.up_to.deadline h.3 in
+    let later : r.clock < h.1 = ahead r.clock up.recorder_at_start.max_rto_us (deadline_of r.host.state) h.1 up.up_to.deadline h.3 in
     record {
       left = omega (arith, its, at, due);
       clock = omega (arith, its, later, due);
@@ -265,10 +265,10 @@ pub moved : AdvancesPutOutAfter → (may : ℕ → Bool) (r s : RunStateView) (e
     → KeepsTime r.clock r.host.state → leaves_next may r ≡ Some sent → step r e ≡ Ok s → IsMoved may r s e.time sent
 moved puts_after may r s e p sent is single up next h =
     let last = after_packet r s e p is h in
-    go last.0 last.1 last.3 last.4 last.5 (what_leaves may r sent next) (which_awaited (noted r) last.0 e last.2)
+    go last.0 last.1 last.3 last.4 last.5 (what_leaves may r sent next) (which_awaited (comparison_noted r) last.0 e last.2)
   where
     go : (q : RunStateView) (other : Sent) → slice_get q.host.state.endpoint.outbox 0 ≡ Some other → s.base ≡ base_after q.base e.time other.at → s.clock ≡ q.clock
-        → Stands r sent ⊎ Expires may r sent → (q ≡ noted r) ⊎ Awaited (noted r) q e → IsMoved may r s e.time sent
+        → Stands r sent ⊎ Expires may r sent → (q ≡ comparison_noted r) ⊎ Awaited (comparison_noted r) q e → IsMoved may r s e.time sent
     go q other there base clock (inl stands) (inl same) = stood may r s q e sent other single up stands same base clock
     go q other there base clock (inl stands) (inr wait) =
         absurd (let empty : slice_get r.host.state.endpoint.outbox 0 ≡ None = ap (λ (list : List Sent). slice_get list 0) (no_items r.host.state.endpoint.outbox wait.0) in let clash : None ≡ Some sent = sym empty ∙ stands in cc)
@@ -278,12 +278,12 @@ moved puts_after may r s e p sent is single up next h =
 
 -- an expected packet at the moment of one that left meets it again
 pub met_again : AdvancesPutOutAfter → (may : ℕ → Bool) (r : RunStateView) (sent : Sent) (tolerance : ℕ) → leaves_next may r ≡ Some sent
-    → leaves_next (is_in_reach (Some (r.base + (sent.at - r.base), r.base + (sent.at - r.base))) tolerance) r ≡ Some sent
+    → leaves_next (may_be_in_time (Some (r.base + (sent.at - r.base), r.base + (sent.at - r.base))) tolerance) r ≡ Some sent
 met_again puts_after may r sent tolerance next = go (what_leaves may r sent next)
   where
-    go : Stands r sent ⊎ Expires may r sent → leaves_next (is_in_reach (Some (r.base + (sent.at - r.base), r.base + (sent.at - r.base))) tolerance) r ≡ Some sent
-    go (inl stands) = stands_next (is_in_reach (Some (r.base + (sent.at - r.base), r.base + (sent.at - r.base))) tolerance) r sent stands
+    go : Stands r sent ⊎ Expires may r sent → leaves_next (may_be_in_time (Some (r.base + (sent.at - r.base), r.base + (sent.at - r.base))) tolerance) r ≡ Some sent
+    go (inl stands) = stands_next (may_be_in_time (Some (r.base + (sent.at - r.base), r.base + (sent.at - r.base))) tolerance) r sent stands
     go (inr h) =
         let at : sent.at ≡ h.1 = sent_at_expiry puts_after r.host.state h.2 h.1 sent (none_in r.host.state.endpoint.outbox h.0) h.3 h.5 h.6 in
-        expires_next may (is_in_reach (Some (r.base + (sent.at - r.base), r.base + (sent.at - r.base))) tolerance) r sent h
+        expires_next may (may_be_in_time (Some (r.base + (sent.at - r.base), r.base + (sent.at - r.base))) tolerance) r sent h
         (le-leb h.1 (r.base + (sent.at - r.base) + tolerance) (omega (arith, at)))

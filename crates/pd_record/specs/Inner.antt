@@ -2,28 +2,28 @@
 use denote.Bor.{Bor}
 use Rattle.std.specs.Prelude.{◌≡◌, ◌≢◌, ◌↔◌, ℕ, ◌*◌, ◌≤◌, List, ◌++◌, length, Option, Some, None, Result, Ok, Err}
 use Rattle.std.specs.List.{AllByRecursion}
-use Rattle.pd_layout.specs.Laid.{IsLaid}
-use Rattle.pd_layout.specs.Sameness.{AreTheSame, IsReadAs}
+use Rattle.pd_layout.specs.Canonical.{IsCanonical}
+use Rattle.pd_layout.specs.ReadAs.{AreSameEvents, IsReadAs}
 use Rattle.pd_script.specs.declared.script_events.Event.{Event}
 use Rattle.pd_script.specs.declared.script_header.HeaderItem.{HeaderItem}
 use Rattle.pd_run.specs.Laws.{IsUnderway}
-use Rattle.pd_record.specs.declared.recordings.Recording.{Recording}
-use Rattle.pd_record.specs.declared.refusals.NotRecorded.{NotRecorded}
-use Rattle.pd_record.specs.declared.refusals.NotRecorded.TheVariants.{OutOfMemory}
+use Rattle.pd_record.specs.declared.recording_text.Recording.{Recording}
+use Rattle.pd_record.specs.declared.record_error.RecordError.{RecordError}
+use Rattle.pd_record.specs.declared.record_error.RecordError.TheVariants.{OutOfMemory}
 use Rattle.pd_record.specs.Recorder.{RecorderView, Answers}
 
 -- what was recorded and the tape after it, or why nothing is; for want of memory nothing is claimed
-abbrev pub Gives : {A B : Type 0} → (A → B) → Answers (RecorderView × B) → Result A NotRecorded → RecorderView → Type 0
+abbrev pub Gives : {A B : Type 0} → (A → B) → Answers (RecorderView × B) → Result A RecordError → RecorderView → Type 0
 Gives seen outcome (Ok x) new = outcome ≡ Ok (new, seen x)
 Gives seen outcome (Err refusal) new = refusal ≢ OutOfMemory → outcome ≡ Err refusal
 
 -- the same where the tape stays as it is
-abbrev pub Finds : {A : Type 0} → Answers A → Result A NotRecorded → Type 0
+abbrev pub Finds : {A : Type 0} → Answers A → Result A RecordError → Type 0
 Finds outcome (Ok x) = outcome ≡ Ok x
 Finds outcome (Err refusal) = refusal ≢ OutOfMemory → outcome ≡ Err refusal
 
 -- the same of a step, which records nothing
-abbrev pub Goes : Answers RecorderView → Result (Unit {0}) NotRecorded → RecorderView → Type 0
+abbrev pub Goes : Answers RecorderView → Result (Unit {0}) RecordError → RecorderView → Type 0
 Goes outcome (Ok done) new = outcome ≡ Ok new
 Goes outcome (Err refusal) new = refusal ≢ OutOfMemory → outcome ≡ Err refusal
 
@@ -39,9 +39,9 @@ pub record Sound (t : RecorderView) : Type 0 where
 
 -- some events are others and what is after these, whatever follows; or they are not, whatever follows. Lines don't count
 abbrev pub GoesAfter : List Event → List Event → Option (Bor (List Event)) → Type 0
-GoesAfter events others None = (rest : List Event) → AreTheSame events (others ++ rest) → ⊥
-GoesAfter events others (Some after) = (rest : List Event) → AreTheSame events (others ++ rest) ↔ AreTheSame after.now rest
+GoesAfter events others None = (rest : List Event) → AreSameEvents events (others ++ rest) → ⊥
+GoesAfter events others (Some after) = (rest : List Event) → AreSameEvents events (others ++ rest) ↔ AreSameEvents after.now rest
 
 -- a recording is read as a header and events, laid out as recordings are, and has their number
 abbrev pub IsWritten : List HeaderItem → List Event → Recording → Type 0
-IsWritten header events recording = IsReadAs header events recording.lines × IsLaid recording.lines × (recording.events ≡ length events)
+IsWritten header events recording = IsReadAs header events recording.lines × IsCanonical recording.lines × (recording.events ≡ length events)

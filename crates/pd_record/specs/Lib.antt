@@ -1,9 +1,9 @@
 -- The definitions that the contracts cite.
-pub mod Scripts
-pub mod Standings
+pub mod PlacedScripts
+pub mod SenderSnapshots
 pub mod Recorder
 pub mod Stops
 pub mod Recording
-pub mod Following
+pub mod FollowsRun
 pub mod Answered
 pub mod Inner

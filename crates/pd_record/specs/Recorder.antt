@@ -1,6 +1,6 @@
 -- What is recorded, event by event.
 use Rattle.std.specs.Prelude.{ℕ, zero, suc, ◌+◌, ◌-◌, max, nat_le, nat_lt, Bool, slice_get, List, [], ◌∷◌, ◌++◌, Option, Some, None, option_map, unwrap_or, is_none, Result, Ok, Err, if◌then◌else◌}
-use Rattle.pd_settings.specs.declared.fields.Settings.{Settings}
+use Rattle.pd_settings.specs.declared.settings.Settings.{Settings}
 use Rattle.pd_script.specs.declared.calls.Call.{Call}
 use Rattle.pd_script.specs.declared.packets.Packet.{Packet}
 use Rattle.pd_script.specs.declared.script_events.Action.{Action}
@@ -9,29 +9,29 @@ use Rattle.pd_script.specs.declared.script_events.Event.{Event}
 use Rattle.pd_script.specs.declared.timing.Time.{Time}
 use Rattle.pd_script.specs.declared.timing.Time.TheVariants.{Relative}
 use Rattle.pd_script.specs.declared.script_header.HeaderItem.{HeaderItem}
-use Rattle.pd_seg.specs.declared.answers.Answer.{Answer}
+use Rattle.pd_seg.specs.declared.call_results.Answer.{Answer}
 use Rattle.pd_seg.specs.declared.segments.Sent.{Sent}
 use Rattle.pd_host.specs.Calls.{called}
 use Rattle.pd_host.specs.Expiries.{advanced, deadline_of}
 use Rattle.pd_host.specs.Host.{then_on}
 use Rattle.pd_host.specs.declared.halts.Halt.{Halt}
-use Rattle.pd_host.specs.declared.endpoint.State.{State}
+use Rattle.pd_host.specs.declared.endpoint.SenderState.{SenderState}
 use Rattle.pd_match.specs.Calls.{result_mismatch}
-use Rattle.pd_print.specs.Answers.{outcome_of}
+use Rattle.pd_print.specs.Answers.{expected_result_of}
 use Rattle.pd_print.specs.Sent.{packet_of}
-use Rattle.pd_run.specs.Bars.{bar_of}
+use Rattle.pd_run.specs.Prechecks.{failed_precheck}
 use Rattle.pd_run.specs.Run.{start_of}
 use Rattle.pd_run.specs.RunStates.{RunStateView}
 use Rattle.pd_run.specs.Step.{tolerance_of, step}
-use Rattle.pd_run.specs.Times.{moment_of, moments_of, is_in_reach, base_after}
-use Rattle.pd_run.specs.Verdicts.{barred_at, verdict_by}
-use Rattle.pd_run.specs.declared.verdicts.Verdict.{Verdict}
-use Rattle.pd_run.specs.declared.verdicts.Verdict.TheVariants as verdict
-use Rattle.pd_record.specs.declared.refusals.NotRecorded.{NotRecorded}
-use Rattle.pd_record.specs.declared.refusals.NotRecorded.TheVariants.{Stopped, TooManyEvents, TooLongGap}
-use Rattle.pd_record.specs.declared.tape.Own.{Own}
-use Rattle.pd_record.specs.declared.tape.Recorded.{Recorded}
-use Rattle.pd_record.specs.declared.tape.Reply.{Reply}
+use Rattle.pd_run.specs.Times.{time_of, time_range_of, may_be_in_time, base_after}
+use Rattle.pd_run.specs.Verdicts.{precheck_verdict, verdict_by}
+use Rattle.pd_run.specs.declared.verdict.Verdict.{Verdict}
+use Rattle.pd_run.specs.declared.verdict.Verdict.TheVariants as verdict
+use Rattle.pd_record.specs.declared.record_error.RecordError.{RecordError}
+use Rattle.pd_record.specs.declared.record_error.RecordError.TheVariants.{Stopped, TooManyEvents, TooLongGap}
+use Rattle.pd_record.specs.declared.recorded.OwnEvent.{OwnEvent}
+use Rattle.pd_record.specs.declared.recorded.RecordedEvent.{RecordedEvent}
+use Rattle.pd_record.specs.declared.recorded.RecordedAnswer.{RecordedAnswer}
 
 -- what holds between two events of a script: the run of what was recorded so far and the number of its events, the base of
 -- the script's times in microseconds, and the moments of the packets that were recorded and that no expected packet has met,
@@ -43,13 +43,13 @@ pub record RecorderView : Type 0 where
   pub unmet : List ℕ
 
 -- what is recorded of one event of a script: the packets that are before it, and what is in its place, if anything does
-pub record Took : Type 0 where
-  pub before : List Recorded
-  pub own : Option Own
+pub record EventRecordingView : Type 0 where
+  pub before : List RecordedEvent
+  pub own : Option OwnEvent
 
 -- what is recorded, or why nothing is
 abbrev pub Answers : Type 0 → Type 0
-Answers A = Result A NotRecorded
+Answers A = Result A RecordError
 
 -- goes on with what was recorded
 abbrev pub then_do : {A B : Type 0} → (A → Answers B) → Answers A → Answers B
@@ -62,25 +62,25 @@ blank_from (Ok r) = Ok (record { run = r; count = 0; base = 0; unmet = [] })
 blank_from (Err v) = Err (Stopped v)
 
 -- before the first event
-abbrev pub begun : List HeaderItem → Settings → Answers RecorderView
-begun header settings = blank_from (start_of header settings)
+abbrev pub recorder_at_start : List HeaderItem → Settings → Answers RecorderView
+recorder_at_start header settings = blank_from (start_of header settings)
 
 -- ---- one event of the recording
 
 -- why nothing is recorded at a moment: it would be the 4,097th event, or come more than 3,600 seconds after the one before
-abbrev pub refusal_at : RecorderView → ℕ → Option NotRecorded
+abbrev pub refusal_at : RecorderView → ℕ → Option RecordError
 refusal_at t at =
     if nat_le 4096 t.count then Some TooManyEvents
     else (if nat_lt 3600000000 (at - t.run.base) then Some TooLongGap else None)
 
 -- goes on unless there is a reason not to
-abbrev pub unless : {A : Type 0} → Answers A → Option NotRecorded → Answers A
+abbrev pub unless : {A : Type 0} → Answers A → Option RecordError → Answers A
 unless answer None = answer
 unless answer (Some refusal) = Err refusal
 
 -- an event at a moment, counted from the event recorded before
 abbrev pub event_at : RecorderView → ℕ → ℕ → Action → Event
-event_at t line at action = record { line = line; time = Relative (at - t.run.base); until = None; action = action }
+event_at t line at action = record { line = line; time = Relative (at - t.run.base); blocking_end = None; action = action }
 
 -- the tape after a step
 abbrev pub gone_to : RecorderView → Result RunStateView Verdict → Answers RecorderView
@@ -92,29 +92,29 @@ abbrev pub stepped : RecorderView → Event → Answers RecorderView
 stepped t e = gone_to t (step t.run e)
 
 -- an event of the recording, with its moment
-abbrev pub recorded_as : ℕ → Event → Recorded
+abbrev pub recorded_as : ℕ → Event → RecordedEvent
 recorded_as at e = record { event = e; at = at }
 
 -- what happens at a moment is recorded; halts are reported at a line of the script
-abbrev pub happened : RecorderView → ℕ → ℕ → Action → Answers (RecorderView × Recorded)
+abbrev pub happened : RecorderView → ℕ → ℕ → Action → Answers (RecorderView × RecordedEvent)
 happened t line at action =
     unless (then_do (λ u. Ok (u, recorded_as at (event_at t line at action))) (stepped t (event_at t line at action))) (refusal_at t at)
 
 -- ---- packets that leave
 
 -- the oldest packet that is untaken after expiries
-abbrev pub oldest_of : Result State Halt → Option Sent
+abbrev pub oldest_of : Result SenderState Halt → Option Sent
 oldest_of (Ok s) = slice_get s.endpoint.outbox 0
 oldest_of (Err halt) = None
 
 -- the packet that is untaken, else what the next expiry sends, if one may come
-abbrev pub or_expired : State → Option Sent → Option ℕ → Option Sent
+abbrev pub or_expired : SenderState → Option Sent → Option ℕ → Option Sent
 or_expired s (Some sent) due = Some sent
 or_expired s None None = None
 or_expired s None (Some at) = oldest_of (advanced at s)
 
 -- the packet that leaves next: the oldest that is untaken, else what the next expiry sends, if one may come
-abbrev pub next_packet : State → Option ℕ → Option Sent
+abbrev pub next_packet : SenderState → Option ℕ → Option Sent
 next_packet s due = or_expired s (slice_get s.endpoint.outbox 0) due
 
 -- the moment of an expiry that may come
@@ -127,7 +127,7 @@ abbrev pub leaves_next : (ℕ → Bool) → RunStateView → Option Sent
 leaves_next may_come r = next_packet r.host.state (due_where may_come (deadline_of r.host.state))
 
 -- a packet is recorded as it left, at its own moment
-abbrev pub departs : RecorderView → ℕ → Sent → Answers (RecorderView × Recorded)
+abbrev pub departs : RecorderView → ℕ → Sent → Answers (RecorderView × RecordedEvent)
 departs t line sent = happened t line sent.at (Outbound (packet_of sent.segment))
 
 -- a packet was recorded that no expected packet has met
@@ -135,20 +135,20 @@ abbrev pub with_unmet : RecorderView → ℕ → RecorderView
 with_unmet t at = record t { unmet = t.unmet ++ at ∷ [] }
 
 -- a packet that leaves next is recorded after others, and then what follows; without one that is all
-abbrev pub comes_on : (List Recorded → RecorderView → Answers (RecorderView × List Recorded)) → ℕ → List Recorded → RecorderView → Option Sent → Answers (RecorderView × List Recorded)
+abbrev pub comes_on : (List RecordedEvent → RecorderView → Answers (RecorderView × List RecordedEvent)) → ℕ → List RecordedEvent → RecorderView → Option Sent → Answers (RecorderView × List RecordedEvent)
 comes_on further line before t None = Ok (t, before)
 comes_on further line before t (Some sent) =
     then_do (λ x. further (before ++ x.1 ∷ []) (with_unmet x.0 sent.at)) (departs t line sent)
 
 -- packets that are untaken, and those that the expiries up to a moment send, are recorded one by one after others; so many
 -- at most
-unfoldable pub comes : ℕ → ℕ → ℕ → List Recorded → RecorderView → Answers (RecorderView × List Recorded)
+unfoldable pub comes : ℕ → ℕ → ℕ → List RecordedEvent → RecorderView → Answers (RecorderView × List RecordedEvent)
 comes zero line until before t = Err TooManyEvents
 comes (suc n) line until before t =
     comes_on (comes n line until) line before t (leaves_next (λ due. nat_le due until) t.run)
 
 -- all that leaves up to a moment
-abbrev pub left_by : ℕ → ℕ → RecorderView → Answers (RecorderView × List Recorded)
+abbrev pub left_by : ℕ → ℕ → RecorderView → Answers (RecorderView × List RecordedEvent)
 left_by line until t = comes 4096 line until [] t
 
 -- ---- inputs
@@ -158,21 +158,21 @@ abbrev pub with_base : ℕ → RecorderView → RecorderView
 with_base base t = record t { base = base }
 
 -- an input acts at the later of its time and the clock
-abbrev pub acts_at : RecorderView → Event → ℕ
-acts_at t e = max (moment_of t.base e.time) t.run.clock
+abbrev pub action_time : RecorderView → Event → ℕ
+action_time t e = max (time_of t.base e.time) t.run.clock
 
 -- what left before an input comes before it; afterwards the base is the input's time
-abbrev pub inputs : (RecorderView → Answers (RecorderView × Own)) → RecorderView → Event → Answers (RecorderView × Took)
+abbrev pub inputs : (RecorderView → Answers (RecorderView × OwnEvent)) → RecorderView → Event → Answers (RecorderView × EventRecordingView)
 inputs act t e =
-    then_do (λ x. then_do (λ y. Ok (with_base (moment_of t.base e.time) y.0, record { before = x.1; own = Some y.1 })) (act x.0))
-    (left_by e.line (acts_at t e) t)
+    then_do (λ x. then_do (λ y. Ok (with_base (time_of t.base e.time) y.0, record { before = x.1; own = Some y.1 })) (act x.0))
+    (left_by e.line (action_time t e) t)
 
 -- a packet arrives
-abbrev pub arrives : ℕ → ℕ → Packet → RecorderView → Answers (RecorderView × Own)
-arrives line at packet t = then_do (λ x. Ok (x.0, record { recorded = x.1; reply = None })) (happened t line at (Inbound packet))
+abbrev pub arrives : ℕ → ℕ → Packet → RecorderView → Answers (RecorderView × OwnEvent)
+arrives line at packet t = then_do (λ x. Ok (x.0, record { recorded = x.1; recorded_answer = None })) (happened t line at (Inbound packet))
 
 -- what the sender answers, or the halt at a line
-abbrev pub answered : ℕ → Result (State × Answer) Halt → Answers Answer
+abbrev pub answered : ℕ → Result (SenderState × Answer) Halt → Answers Answer
 answered line (Ok x) = Ok x.1
 answered line (Err halt) = Err (Stopped (verdict_by line halt))
 
@@ -182,17 +182,17 @@ answer_at t line at call = unless (answered line (then_on (called call at) (adva
 
 -- the same call with an answer for its result
 abbrev pub with_answer : Call → Answer → Call
-with_answer call answer = record call { result = outcome_of answer }
+with_answer call answer = record call { result = expected_result_of answer }
 
 -- what a call answers, and whether it is the written result
-abbrev pub reply_of : Call → Answer → Reply
-reply_of call answer = record { answer = answer; is_written = is_none (result_mismatch call.result answer) }
+abbrev pub recorded_answer_of : Call → Answer → RecordedAnswer
+recorded_answer_of call answer = record { answer = answer; is_expected = is_none (result_mismatch call.result answer) }
 
 -- a call is made, and recorded with what the sender answers
-abbrev pub calls : ℕ → ℕ → Call → RecorderView → Answers (RecorderView × Own)
+abbrev pub calls : ℕ → ℕ → Call → RecorderView → Answers (RecorderView × OwnEvent)
 calls line at call t =
     then_do
-    (λ answer. then_do (λ x. Ok (x.0, record { recorded = x.1; reply = Some (reply_of call answer) }))
+    (λ answer. then_do (λ x. Ok (x.0, record { recorded = x.1; recorded_answer = Some (recorded_answer_of call answer) }))
     (happened t line at (Calls (with_answer call answer))))
     (answer_at t line at call)
 
@@ -203,35 +203,35 @@ abbrev pub based_after : Time → Option ℕ → RecorderView → RecorderView
 based_after time met t = with_base (base_after t.base time (unwrap_or met t.base)) t
 
 -- an expected packet that no recorded one is there for meets the one that leaves next, if any does
-abbrev pub meets : RecorderView → Event → Option Sent → Answers (RecorderView × Took)
+abbrev pub meets : RecorderView → Event → Option Sent → Answers (RecorderView × EventRecordingView)
 meets t e None = Ok (based_after e.time None t, record { before = []; own = None })
 meets t e (Some sent) =
-    then_do (λ x. Ok (based_after e.time (Some sent.at) x.0, record { before = []; own = Some (record { recorded = x.1; reply = None }) }))
+    then_do (λ x. Ok (based_after e.time (Some sent.at) x.0, record { before = []; own = Some (record { recorded = x.1; recorded_answer = None }) }))
     (departs t e.line sent)
 
 -- an expected packet meets the oldest of those that were recorded and that none has met; without one the packet that leaves
 -- next, by an expiry within reach
-abbrev pub meets_oldest : RecorderView → Event → List ℕ → Answers (RecorderView × Took)
+abbrev pub meets_oldest : RecorderView → Event → List ℕ → Answers (RecorderView × EventRecordingView)
 meets_oldest t e (at ∷ others) = Ok (based_after e.time (Some at) (record t { unmet = others }), record { before = []; own = None })
-meets_oldest t e [] = meets t e (leaves_next (is_in_reach (moments_of t.base e.time) (tolerance_of t.run)) t.run)
+meets_oldest t e [] = meets t e (leaves_next (may_be_in_time (time_range_of t.base e.time) (tolerance_of t.run)) t.run)
 
 -- an expected packet meets the oldest that none has met
-abbrev pub expects : RecorderView → Event → Answers (RecorderView × Took)
+abbrev pub expects : RecorderView → Event → Answers (RecorderView × EventRecordingView)
 expects t e = meets_oldest t e t.unmet
 
 -- ---- events of the script
 
 -- the checks of a step before anything happens, from the base of the script's times
-abbrev pub ruling_at : RecorderView → Event → Option NotRecorded
-ruling_at t e = option_map (λ bar. Stopped (barred_at e.line bar)) (bar_of t.base e)
+abbrev pub precheck_at : RecorderView → Event → Option RecordError
+precheck_at t e = option_map (λ bar. Stopped (precheck_verdict e.line bar)) (failed_precheck t.base e)
 
 -- what is recorded of an action
-abbrev pub performed : RecorderView → Event → Action → Answers (RecorderView × Took)
-performed t e (Inbound packet) = inputs (arrives e.line (acts_at t e) packet) t e
+abbrev pub performed : RecorderView → Event → Action → Answers (RecorderView × EventRecordingView)
+performed t e (Inbound packet) = inputs (arrives e.line (action_time t e) packet) t e
 performed t e (Outbound packet) = expects t e
-performed t e (Calls call) = inputs (calls e.line (acts_at t e) call) t e
+performed t e (Calls call) = inputs (calls e.line (action_time t e) call) t e
 performed t e _ = Err (Stopped (verdict.Unsupported e.line))
 
 -- what is recorded of an event of the script
-abbrev pub recorded : RecorderView → Event → Answers (RecorderView × Took)
-recorded t e = unless (performed t e e.action) (ruling_at t e)
+abbrev pub recorded : RecorderView → Event → Answers (RecorderView × EventRecordingView)
+recorded t e = unless (performed t e e.action) (precheck_at t e)

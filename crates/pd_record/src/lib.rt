@@ -1,7 +1,7 @@
 //! Recordings: a script's inputs with all that the sender answers and puts out, as a script that passes.
 //!
 //! `record` gives the `Recording` of a text: its lines, how many events it has and, for a trace, a
-//! `Mark` of each event that says how the sender stood (`Standing`). `NotRecorded` says why there
+//! `TraceEntry` of each event that says how the sender stood (`SenderSnapshot`). `RecordError` says why there
 //! is none, and `find_recording_stop` where on a line recording stops.
 //!
 //! ```text
@@ -9,7 +9,7 @@
 //!      |                     | no trace is asked for, these are the text's own events, and
 //!      |                     | it has the layout of recordings: the text itself
 //!      |                     v else
-//!      '--> LayoutReader --> Writer: the lines --> read again: is_laid_script --no--> Differs
+//!      '--> LayoutReader --> Writer: the lines --> read again: is_canonical_script --no--> Differs
 //!                                                     '-- yes --> the recording
 //! ```
 //!
@@ -28,22 +28,22 @@
 //!   keeps its lines, however they were written.
 #![tactic(auto)]
 
-mod kept;
-mod outcomes;
-mod probes;
+mod compose;
+mod find_stop;
+mod placed_script;
+mod preview;
+mod record_error;
+mod recorded;
+mod recorded_script;
 mod recorder;
 mod recording;
-mod recordings;
-mod refusals;
-mod scripts;
-mod stops;
-mod tape;
-mod tracks;
-mod transcripts;
+mod recording_text;
+mod results;
+mod unchanged;
 mod writer;
 
+pub use find_stop::{RecordingStop, find_recording_stop};
+pub use record_error::RecordError;
+pub use recorded::SenderSnapshot;
 pub use recording::record;
-pub use recordings::{Mark, Recording, SentBy};
-pub use refusals::NotRecorded;
-pub use stops::{RecordingStop, find_recording_stop};
-pub use tape::Standing;
+pub use recording_text::{Origin, Recording, TraceEntry};

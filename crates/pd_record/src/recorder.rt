@@ -3,19 +3,19 @@ ghost use Rattle.std.specs.Prelude.{◌≡◌, ◌≤◌, ◌<◌, ◌+◌, ◌*
 ghost use Rattle.std.specs.List.{list_any};
 ghost use Rattle.pd_run.specs.Limits.{is_long, written_times};
 ghost use Rattle.pd_run.specs.Step.{tolerance_of};
-ghost use Rattle.pd_run.specs.Times.{moment_of, moments_of, is_in_reach};
-ghost use Rattle.pd_record.specs.Recorder.{acts_at, answer_at, arrives, begun, calls, departs, event_at, expects, inputs, leaves_next, left_by, recorded, refusal_at, ruling_at, stepped, happened, with_base, with_unmet};
+ghost use Rattle.pd_run.specs.Times.{time_of, time_range_of, may_be_in_time};
+ghost use Rattle.pd_record.specs.Recorder.{action_time, answer_at, arrives, recorder_at_start, calls, departs, event_at, expects, inputs, leaves_next, left_by, recorded, refusal_at, precheck_at, stepped, happened, with_base, with_unmet};
 ghost use Rattle.pd_record.specs.Inner.{Finds, Gives, Goes, IsReached, Sound};
 
-use crate::outcomes::outcome_of;
-use crate::probes::{answer_of, next_packet};
-use crate::refusals::NotRecorded;
-use crate::tape::{Own, Recorded, Reply, Standing, Take};
+use crate::preview::{answer_of, next_packet};
+use crate::record_error::RecordError;
+use crate::recorded::{EventRecording, OwnEvent, RecordedAnswer, RecordedEvent, SenderSnapshot};
+use crate::results::expected_result_of;
 use pd_match::check_call;
 use pd_print::sent_packet;
 use pd_run::{
-    Plain, RunState, StepEnd, Stepper, Verdict, bar_of, base_after, is_in_reach, moment_of,
-    moments_of, runs_are_bounded,
+    Plain, RunState, StepEnd, Stepper, Verdict, base_after, failed_precheck, law_runs_are_bounded,
+    may_be_in_time, time_of, time_range_of,
 };
 use pd_script::{Action, Call, Event, Header, MAX_EVENTS, Packet, Time};
 use pd_seg::{Answer, Sent};
@@ -42,7 +42,7 @@ pub struct Recorder {
     /// The moments of the packets that were recorded and that no expected packet has met, the oldest first.
     unmet: VecDeque<u64>,
     /// How the sender stood after each recorded event, where a trace tells it.
-    standings: Option<Vec<Standing>>,
+    senders: Option<Vec<SenderSnapshot>>,
 }
 
 impl Model for Recorder {
@@ -63,15 +63,15 @@ impl Recorder {
         header: &Header,
         settings: &Settings,
         with_trace: bool,
-    ) -> Result<Recorder, NotRecorded>
-        ensures begins { Finds (begun header.now.items settings.now) result }
+    ) -> Result<Recorder, RecordError>
+        ensures begins { Finds (recorder_at_start header.now.items settings.now) result }
         ensures sound { IfOk result (λ recorder. Sound recorder) }
         ensures base { IfOk result (λ recorder. recorder.base ≡ 0) }
     {
-        runs_are_bounded();
+        law_runs_are_bounded();
         let run = match RunState::new(alloc, header, settings) {
             Ok(run) => run,
-            Err(verdict) => return Err(NotRecorded::Stopped(verdict)),
+            Err(verdict) => return Err(RecordError::Stopped(verdict)),
         };
         Ok(Recorder {
             run,
@@ -79,7 +79,7 @@ impl Recorder {
             count: 0,
             base: 0,
             unmet: VecDeque::new(alloc),
-            standings: with_trace.then(|| Vec::new(alloc)),
+            senders: with_trace.then(|| Vec::new(alloc)),
         })
     }
 
@@ -91,9 +91,9 @@ impl Recorder {
     }
 
     /// How the sender stood after each recorded event, in order; nothing where no trace was asked for.
-    pub fn into_standings(self) -> Option<Vec<Standing>> {
-        let Recorder { standings, .. } = self;
-        standings
+    pub fn into_senders(self) -> Option<Vec<SenderSnapshot>> {
+        let Recorder { senders, .. } = self;
+        senders
     }
 
     /// The present moment of the recording, in microseconds since the start of the run.
@@ -124,79 +124,89 @@ impl Recorder {
     ///
     /// # Errors
     /// `Stopped` where a run stops at the event, whatever it expects; `TooManyEvents`, `TooLongGap` and `OutOfMemory`.
-    pub fn record(&mut self, alloc: Global, event: &Event) -> Result<Take, NotRecorded>
+    pub fn record(&mut self, alloc: Global, event: &Event) -> Result<EventRecording, RecordError>
         requires sound { Sound self.old }
         requires early { self.old.base < 2 ^ 60 }
-        ensures take { Gives (λ take. take) (recorded self.old event.now) result self.new }
+        ensures event_recording { Gives (λ event_recording. event_recording) (recorded self.old event.now) result self.new }
         ensures sound { OnOk result (Sound self.new) }
         ensures base { OnOk result (self.new.base ≤ max (self.old.base + 3600000000) (3600000000 * 4097)) }
     {
-        if let Some(refusal) = self.ruling(event) {
+        if let Some(refusal) = self.precheck(event) {
             return Err(refusal);
         }
         match &event.action {
-            Action::Outbound(_) => self.expect(alloc, event),
-            Action::Inbound(packet) => self.arrive(alloc, event, packet),
+            Action::Outbound(_) => self.record_expected(alloc, event),
+            Action::Inbound(packet) => self.record_arrival(alloc, event, packet),
             Action::Call(call) => self.call(alloc, event, call),
             Action::Command | Action::Code => {
-                Err(NotRecorded::Stopped(Verdict::Unsupported(event.line)))
+                Err(RecordError::Stopped(Verdict::Unsupported(event.line)))
             }
         }
     }
 
     /// The checks of a step before anything happens: limits, shapes that aren't run, and times that go backwards.
-    fn ruling(&self, event: &Event) -> Option<NotRecorded>
-        ensures { result ≡ ruling_at self.now event.now }
+    fn precheck(&self, event: &Event) -> Option<RecordError>
+        ensures { result ≡ precheck_at self.now event.now }
     {
-        let bar = bar_of(self.base, event)?;
-        Some(NotRecorded::Stopped(bar.verdict(event.line)))
+        let bar = failed_precheck(self.base, event)?;
+        Some(RecordError::Stopped(bar.verdict(event.line)))
     }
 
     /// The moment at which an input acts.
-    fn acts_at(&self, event: &Event) -> u64
+    fn action_time(&self, event: &Event) -> u64
         requires early { self.now.base < 2 ^ 60 }
         requires short { list_any is_long (written_times event.now.time) ≡ false }
-        ensures { result ≡ acts_at self.now event.now }
+        ensures { result ≡ action_time self.now event.now }
     {
-        moment_of(self.base, event.time).max(self.run.clock())
+        time_of(self.base, event.time).max(self.run.clock())
     }
 
     /// A packet arrives.
-    fn arrive(&mut self, alloc: Global, event: &Event, packet: &Packet) -> Result<Take, NotRecorded>
+    fn record_arrival(
+        &mut self,
+        alloc: Global,
+        event: &Event,
+        packet: &Packet,
+    ) -> Result<EventRecording, RecordError>
         requires sound { Sound self.old }
         requires early { self.old.base < 2 ^ 60 }
         requires short { list_any is_long (written_times event.now.time) ≡ false }
-        ensures take { Gives (λ take. take) (inputs (arrives event.now.line (acts_at self.old event.now) packet.now) self.old event.now) result self.new }
+        ensures event_recording { Gives (λ event_recording. event_recording) (inputs (arrives event.now.line (action_time self.old event.now) packet.now) self.old event.now) result self.new }
         ensures sound { OnOk result (Sound self.new) }
-        ensures base { OnOk result (self.new.base ≡ moment_of self.old.base event.now.time) }
+        ensures base { OnOk result (self.new.base ≡ time_of self.old.base event.now.time) }
     {
-        let at = self.acts_at(event);
-        let before = self.record_left(alloc, event.line, at)?;
-        let recorded = self.happen(event.line, at, Action::Inbound(packet.copy()?))?;
-        self.base = moment_of(self.base, event.time);
-        Ok(Take {
+        let at = self.action_time(event);
+        let before = self.record_departures(alloc, event.line, at)?;
+        let recorded = self.record_event(event.line, at, Action::Inbound(packet.copy()?))?;
+        self.base = time_of(self.base, event.time);
+        Ok(EventRecording {
             before,
-            own: Some(Own {
+            own: Some(OwnEvent {
                 recorded,
-                reply: None,
+                recorded_answer: None,
             }),
         })
     }
 
     /// A call is made.
-    fn call(&mut self, alloc: Global, event: &Event, call: &Call) -> Result<Take, NotRecorded>
+    fn call(
+        &mut self,
+        alloc: Global,
+        event: &Event,
+        call: &Call,
+    ) -> Result<EventRecording, RecordError>
         requires sound { Sound self.old }
         requires early { self.old.base < 2 ^ 60 }
         requires short { list_any is_long (written_times event.now.time) ≡ false }
-        ensures take { Gives (λ take. take) (inputs (calls event.now.line (acts_at self.old event.now) call.now) self.old event.now) result self.new }
+        ensures event_recording { Gives (λ event_recording. event_recording) (inputs (calls event.now.line (action_time self.old event.now) call.now) self.old event.now) result self.new }
         ensures sound { OnOk result (Sound self.new) }
-        ensures base { OnOk result (self.new.base ≡ moment_of self.old.base event.now.time) }
+        ensures base { OnOk result (self.new.base ≡ time_of self.old.base event.now.time) }
     {
-        let at = self.acts_at(event);
-        let before = self.record_left(alloc, event.line, at)?;
+        let at = self.action_time(event);
+        let before = self.record_departures(alloc, event.line, at)?;
         let own = self.record_call(event.line, at, call)?;
-        self.base = moment_of(self.base, event.time);
-        Ok(Take {
+        self.base = time_of(self.base, event.time);
+        Ok(EventRecording {
             before,
             own: Some(own),
         })
@@ -206,12 +216,12 @@ impl Recorder {
     ///
     /// # Errors
     /// `Stopped`, `TooManyEvents`, `TooLongGap` and `OutOfMemory`.
-    pub fn record_left(
+    pub fn record_departures(
         &mut self,
         alloc: Global,
         line: usize,
         until: u64,
-    ) -> Result<Vec<Recorded>, NotRecorded>
+    ) -> Result<Vec<RecordedEvent>, RecordError>
         requires sound { Sound self.old }
         requires early { until < 2 ^ 61 }
         ensures packets { Gives (λ packets. packets.items) (left_by line until self.old) result self.new }
@@ -220,18 +230,18 @@ impl Recorder {
     {
         let mut before = Vec::new(alloc);
         'packets: for _ in 0..MAX_EVENTS {
-            let Some(sent) = self.next_by(until)? else {
+            let Some(sent) = self.next_packet_until(until)? else {
                 return Ok(before);
             };
-            let recorded = self.leave(alloc, line, &sent)?;
-            keep(&mut before, recorded)?;
-            self.keep_unmet(sent.at)?;
+            let recorded = self.record_packet(alloc, line, &sent)?;
+            append(&mut before, recorded)?;
+            self.add_unmet(sent.at)?;
         }
-        Err(NotRecorded::TooManyEvents)
+        Err(RecordError::TooManyEvents)
     }
 
     /// The packet that leaves next, if it is untaken, or an expiry up to a moment sends it.
-    fn next_by(&self, until: u64) -> Result<Option<Sent>, AllocError>
+    fn next_packet_until(&self, until: u64) -> Result<Option<Sent>, AllocError>
         requires sound { Sound self.now }
         ensures { IfOk result (λ sent. sent ≡ leaves_next (λ due. nat_le due until) self.now.run) }
     {
@@ -243,22 +253,22 @@ impl Recorder {
     }
 
     /// The packet that leaves next, if it is untaken, or an expiry that may come in time for an expected one sends it.
-    fn next_in_reach(&self, event: &Event) -> Result<Option<Sent>, AllocError>
+    fn next_packet_in_time(&self, event: &Event) -> Result<Option<Sent>, AllocError>
         requires sound { Sound self.now }
         requires early { self.now.base < 2 ^ 60 }
         requires short { list_any is_long (written_times event.now.time) ≡ false }
-        ensures { IfOk result (λ sent. sent ≡ leaves_next (is_in_reach (moments_of self.now.base event.now.time) (tolerance_of self.now.run)) self.now.run) }
+        ensures { IfOk result (λ sent. sent ≡ leaves_next (may_be_in_time (time_range_of self.now.base event.now.time) (tolerance_of self.now.run)) self.now.run) }
     {
-        let moments = moments_of(self.base, event.time);
+        let time_range = time_range_of(self.base, event.time);
         let due = match self.run.host().deadline() {
-            Some(due) if is_in_reach(moments, self.run.tolerance(), due) => Some(due),
+            Some(due) if may_be_in_time(time_range, self.run.tolerance(), due) => Some(due),
             _ => None,
         };
         next_packet(self.run.host(), due)
     }
 
     /// A packet was recorded that no expected packet has met.
-    fn keep_unmet(&mut self, at: u64) -> Result<(), AllocError>
+    fn add_unmet(&mut self, at: u64) -> Result<(), AllocError>
         ensures { OnOk result (self.new ≡ with_unmet self.old at) }
     {
         self.unmet.push_back(at)?;
@@ -266,7 +276,7 @@ impl Recorder {
     }
 
     /// Makes a call, and records it with what the sender answers.
-    fn record_call(&mut self, line: usize, at: u64, call: &Call) -> Result<Own, NotRecorded>
+    fn record_call(&mut self, line: usize, at: u64, call: &Call) -> Result<OwnEvent, RecordError>
         requires sound { Sound self.old }
         requires early { at < 2 ^ 61 }
         ensures own { Gives (λ own. own) (calls line at call.now self.old) result self.new }
@@ -275,19 +285,19 @@ impl Recorder {
     {
         let answer = self.answer_at(line, at, call)?;
         let mut answered = call.copy()?;
-        answered.result = outcome_of(answer);
-        let recorded = self.happen(line, at, Action::Call(answered))?;
-        Ok(Own {
+        answered.result = expected_result_of(answer);
+        let recorded = self.record_event(line, at, Action::Call(answered))?;
+        Ok(OwnEvent {
             recorded,
-            reply: Some(Reply {
+            recorded_answer: Some(RecordedAnswer {
                 answer,
-                is_written: check_call(call, &answer).is_none(),
+                is_expected: check_call(call, &answer).is_none(),
             }),
         })
     }
 
     /// What the sender answers to a call at a moment.
-    fn answer_at(&self, line: usize, at: u64, call: &Call) -> Result<Answer, NotRecorded>
+    fn answer_at(&self, line: usize, at: u64, call: &Call) -> Result<Answer, RecordError>
         requires sound { Sound self.now }
         requires early { at < 2 ^ 61 }
         ensures { Finds (answer_at self.now line at call.now) result }
@@ -299,35 +309,44 @@ impl Recorder {
     }
 
     /// An expected packet meets the oldest that none met before: one that was recorded, else the one that leaves next.
-    fn expect(&mut self, alloc: Global, event: &Event) -> Result<Take, NotRecorded>
+    fn record_expected(
+        &mut self,
+        alloc: Global,
+        event: &Event,
+    ) -> Result<EventRecording, RecordError>
         requires sound { Sound self.old }
         requires early { self.old.base < 2 ^ 60 }
         requires short { list_any is_long (written_times event.now.time) ≡ false }
-        ensures take { Gives (λ take. take) (expects self.old event.now) result self.new }
+        ensures event_recording { Gives (λ event_recording. event_recording) (expects self.old event.now) result self.new }
         ensures sound { OnOk result (Sound self.new) }
         ensures base { OnOk result (self.new.base ≤ max (self.old.base + 3600000000) (3600000000 * 4097)) }
     {
         if let Some(at) = self.unmet.pop_front() {
             self.base = base_after(self.base, event.time, at);
-            return Ok(nothing(alloc));
+            return Ok(no_recording(alloc));
         }
-        let Some(sent) = self.next_in_reach(event)? else {
+        let Some(sent) = self.next_packet_in_time(event)? else {
             self.base = base_after(self.base, event.time, self.base);
-            return Ok(nothing(alloc));
+            return Ok(no_recording(alloc));
         };
-        let recorded = self.leave(alloc, event.line, &sent)?;
+        let recorded = self.record_packet(alloc, event.line, &sent)?;
         self.base = base_after(self.base, event.time, sent.at);
-        Ok(Take {
+        Ok(EventRecording {
             before: Vec::new(alloc),
-            own: Some(Own {
+            own: Some(OwnEvent {
                 recorded,
-                reply: None,
+                recorded_answer: None,
             }),
         })
     }
 
     /// Records a packet as it left.
-    fn leave(&mut self, alloc: Global, line: usize, sent: &Sent) -> Result<Recorded, NotRecorded>
+    fn record_packet(
+        &mut self,
+        alloc: Global,
+        line: usize,
+        sent: &Sent,
+    ) -> Result<RecordedEvent, RecordError>
         requires sound { Sound self.old }
         ensures packet { Gives (λ recorded. recorded) (departs self.old line sent.now) result self.new }
         ensures sound { OnOk result (Sound self.new) }
@@ -336,11 +355,16 @@ impl Recorder {
         ensures base { OnOk result (self.new.base ≡ self.old.base) }
     {
         let packet = sent_packet(alloc, &sent.segment)?;
-        self.happen(line, sent.at, Action::Outbound(packet))
+        self.record_event(line, sent.at, Action::Outbound(packet))
     }
 
     /// Records what happens at a moment, and takes its step.
-    fn happen(&mut self, line: usize, at: u64, action: Action) -> Result<Recorded, NotRecorded>
+    fn record_event(
+        &mut self,
+        line: usize,
+        at: u64,
+        action: Action,
+    ) -> Result<RecordedEvent, RecordError>
         requires sound { Sound self.old }
         ensures event { Gives (λ recorded. recorded) (happened self.old line at action) result self.new }
         ensures sound { OnOk result (Sound self.new) }
@@ -353,22 +377,22 @@ impl Recorder {
         }
         let event = self.event_at(line, at, action);
         self.step(&event)?;
-        self.keep_standing()?;
-        Ok(Recorded { event, at })
+        self.note_sender()?;
+        Ok(RecordedEvent { event, at })
     }
 
     /// Notes how the sender stands, where a trace tells it.
-    fn keep_standing(&mut self) -> Result<(), AllocError>
+    fn note_sender(&mut self) -> Result<(), AllocError>
         ensures { self.new ≡ self.old }
     {
-        if let Some(standings) = &mut self.standings {
-            standings.push(Standing::of(self.run.host()))?;
+        if let Some(senders) = &mut self.senders {
+            senders.push(SenderSnapshot::of(self.run.host()))?;
         }
         Ok(())
     }
 
     /// Takes the step of a recorded event.
-    fn step(&mut self, event: &Event) -> Result<(), NotRecorded>
+    fn step(&mut self, event: &Event) -> Result<(), RecordError>
         requires sound { Sound self.old }
         requires few { self.old.count < 4096 }
         ensures step { Goes (stepped self.old event.now) result self.new }
@@ -376,23 +400,23 @@ impl Recorder {
         ensures same { OnOk result (self.new.unmet ≡ self.old.unmet) }
         ensures base { OnOk result (self.new.base ≡ self.old.base) }
     {
-        runs_are_bounded();
+        law_runs_are_bounded();
         match Plain::new().step(&mut self.run, event, &self.settings)? {
             StepEnd::Go => {}
-            StepEnd::Stop(verdict) => return Err(NotRecorded::Stopped(verdict)),
+            StepEnd::Stop(verdict) => return Err(RecordError::Stopped(verdict)),
         }
         self.count += 1;
         Ok(())
     }
 
     /// Why nothing is recorded at a moment, if there is a reason.
-    fn refusal_at(&self, at: u64) -> Option<NotRecorded>
+    fn refusal_at(&self, at: u64) -> Option<RecordError>
         ensures { result ≡ refusal_at self.now at }
     {
         if self.count >= MAX_EVENTS {
-            Some(NotRecorded::TooManyEvents)
+            Some(RecordError::TooManyEvents)
         } else if at.saturating_sub(self.run.base()) > MAX_GAP {
-            Some(NotRecorded::TooLongGap)
+            Some(RecordError::TooLongGap)
         } else {
             None
         }
@@ -405,24 +429,24 @@ impl Recorder {
         Event {
             line,
             time: Time::Relative(at.saturating_sub(self.run.base())),
-            until: None,
+            blocking_end: None,
             action,
         }
     }
 }
 
 /// An event that records nothing.
-fn nothing(alloc: Global) -> Take
+fn no_recording(alloc: Global) -> EventRecording
     ensures before { result.before ≡ [] }
     ensures own { result.own ≡ None }
 {
-    Take {
+    EventRecording {
         before: Vec::new(alloc),
         own: None,
     }
 }
 
-fn keep(list: &mut Vec<Recorded>, recorded: Recorded) -> Result<(), AllocError>
+fn append(list: &mut Vec<RecordedEvent>, recorded: RecordedEvent) -> Result<(), AllocError>
     ensures { OnOk result (list.new.items ≡ list.old.items ++ recorded ∷ []) }
 {
     list.push(recorded)?;

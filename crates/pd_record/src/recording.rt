@@ -3,21 +3,21 @@ ghost use Rattle.std.specs.Prelude.{◌≡◌, false, IfErr, IfOk, length, Ok, S
 ghost use Rattle.pd_script.specs.Script.{script_of};
 ghost use Rattle.pd_record.specs.Recording.{events_of, recording_of};
 ghost use Rattle.pd_record.specs.Answered.{IsRecording, IsSettled, Refuses};
-ghost use Rattle.pd_layout.specs.Laid.{IsLaid};
-ghost use Rattle.pd_layout.specs.Sameness.{IsReadAs};
+ghost use Rattle.pd_layout.specs.Canonical.{IsCanonical};
+ghost use Rattle.pd_layout.specs.ReadAs.{IsReadAs};
 ghost use Rattle.pd_record.specs.Inner.{IsWritten};
-ghost use Rattle.pd_record.specs.Scripts.{IsRead};
-ghost use Rattle.pd_record.specs.declared.refusals.NotRecorded.TheVariants.{OutOfMemory};
+ghost use Rattle.pd_record.specs.PlacedScripts.{IsRead};
+ghost use Rattle.pd_record.specs.declared.record_error.RecordError.TheVariants.{OutOfMemory};
 
-use crate::kept::is_kept;
-use crate::recordings::Recording;
-use crate::refusals::NotRecorded;
-use crate::scripts::{Script, read_script};
-use crate::tracks::{Tracks, events_of, record_script};
-use crate::transcripts::write_tracks;
-use pd_host::{advances_are_lawful, sending_goes_one_by_one};
-use pd_layout::is_laid_script;
-use pd_run::{run_all, runs_are_bounded, verdicts_have_reasons};
+use crate::compose::compose_recording;
+use crate::placed_script::{Script, read_script};
+use crate::record_error::RecordError;
+use crate::recorded_script::{RecordedScript, events_of, record_script};
+use crate::recording_text::Recording;
+use crate::unchanged::is_unchanged;
+use pd_host::{law_advances, law_sending_one_by_one};
+use pd_layout::is_canonical_script;
+use pd_run::{law_runs_are_bounded, law_verdicts_have_reasons, run_all};
 use pd_settings::Settings;
 use pd_text::Lines;
 use std::alloc::Global;
@@ -35,7 +35,7 @@ pub fn record(
     lines: &Lines,
     settings: &Settings,
     with_trace: bool,
-) -> Result<Recording, NotRecorded>
+) -> Result<Recording, RecordError>
     ensures recorded { IfOk result (λ recording. IsRecording lines.now settings.now recording.lines recording.events) }
 
     // Recording it gives the same events, and the same lines: those of a text like it stay as they are.
@@ -45,15 +45,15 @@ pub fn record(
     ensures spared { IsSettled lines.now settings.now → with_trace ≡ false → IfErr result (λ refusal. refusal ≡ OutOfMemory) }
     ensures refused { IfErr result (Refuses (recording_of lines.now settings.now)) }
 {
-    runs_are_bounded();
-    advances_are_lawful();
-    sending_goes_one_by_one();
-    verdicts_have_reasons();
+    law_runs_are_bounded();
+    law_advances();
+    law_sending_one_by_one();
+    law_verdicts_have_reasons();
     let Some(script) = read_script(alloc, lines)? else {
         let verdict = run_all(alloc, lines, settings)?;
-        return Err(NotRecorded::Stopped(verdict));
+        return Err(RecordError::Stopped(verdict));
     };
-    let tracks = record_script(
+    let recorded_script = record_script(
         alloc,
         &script.header,
         script.events.as_slice(),
@@ -61,28 +61,28 @@ pub fn record(
         with_trace,
     )?;
     // A text that is its own recording keeps its lines.
-    if is_kept(alloc, lines, &script, &tracks, with_trace)? {
-        keep(alloc, lines, &script, &tracks)
+    if is_unchanged(alloc, lines, &script, &recorded_script, with_trace)? {
+        unchanged_recording(alloc, lines, &script, &recorded_script)
     } else {
-        write(alloc, lines, &script, tracks)
+        write(alloc, lines, &script, recorded_script)
     }
 }
 
 /// The recording that is its text itself.
-fn keep(
+fn unchanged_recording(
     alloc: Global,
     lines: &Lines,
     script: &Script,
-    tracks: &Tracks,
-) -> Result<Recording, NotRecorded>
+    recorded_script: &RecordedScript,
+) -> Result<Recording, RecordError>
     ensures same { IfOk result (λ recording. (recording.lines ≡ lines.now) × (recording.events ≡ length script.now.events.items)) }
     ensures spared { IfErr result (λ refusal. refusal ≡ OutOfMemory) }
-    ensures refused { IfErr result (Refuses (Ok tracks.now)) }
+    ensures refused { IfErr result (Refuses (Ok recorded_script.now)) }
 {
     Ok(Recording {
         lines: lines.copy()?,
         events: script.events.len(),
-        marks: Vec::new(alloc),
+        trace_entries: Vec::new(alloc),
     })
 }
 
@@ -92,19 +92,19 @@ fn write(
     alloc: Global,
     lines: &Lines,
     script: &Script,
-    tracks: Tracks,
-) -> Result<Recording, NotRecorded>
-    ensures written { IfOk result (IsWritten script.now.header.items (events_of tracks)) }
-    ensures refused { IfErr result (Refuses (Ok tracks)) }
+    recorded_script: RecordedScript,
+) -> Result<Recording, RecordError>
+    ensures written { IfOk result (IsWritten script.now.header.items (events_of recorded_script)) }
+    ensures refused { IfErr result (Refuses (Ok recorded_script)) }
 {
-    let recording = written(alloc, lines, script, &tracks)?;
-    let events = events_of(alloc, tracks)?;
+    let recording = written(alloc, lines, script, &recorded_script)?;
+    let events = events_of(alloc, recorded_script)?;
     if recording.events == events.len()
-        && is_laid_script(alloc, &recording.lines, &script.header, events.as_slice())?
+        && is_canonical_script(alloc, &recording.lines, &script.header, events.as_slice())?
     {
         Ok(recording)
     } else {
-        Err(NotRecorded::Differs)
+        Err(RecordError::Differs)
     }
 }
 
@@ -113,13 +113,13 @@ fn written(
     alloc: Global,
     lines: &Lines,
     script: &Script,
-    tracks: &Tracks,
-) -> Result<Recording, NotRecorded>
-    ensures { IfErr result (Refuses (Ok tracks.now)) }
+    recorded_script: &RecordedScript,
+) -> Result<Recording, RecordError>
+    ensures { IfErr result (Refuses (Ok recorded_script.now)) }
 {
-    match write_tracks(alloc, lines, script, tracks) {
+    match compose_recording(alloc, lines, script, recorded_script) {
         Ok(recording) => Ok(recording),
-        Err(NotRecorded::TooLarge) => Err(NotRecorded::TooLarge),
-        Err(_) => Err(NotRecorded::OutOfMemory),
+        Err(RecordError::TooLarge) => Err(RecordError::TooLarge),
+        Err(_) => Err(RecordError::OutOfMemory),
     }
 }

@@ -2,10 +2,10 @@
 ghost use Rattle.std.specs.Prelude.{◌≡◌};
 ghost use Rattle.pd_text.specs.Text.{is_line};
 
-use crate::recordings::{Mark, Recording, SentBy};
-use crate::refusals::NotRecorded;
-use crate::tape::{Own, Recorded, Reply, Standing};
-use pd_layout::{Extent, GapPart, Layout, is_trace, put_extent};
+use crate::record_error::RecordError;
+use crate::recorded::{OwnEvent, RecordedAnswer, RecordedEvent, SenderSnapshot};
+use crate::recording_text::{Origin, Recording, TraceEntry};
+use pd_layout::{Layout, TextSpan, TriviaPart, is_trace, put_text_span};
 use pd_print::{Direction, put_answer, put_event, put_time};
 use pd_script::{Action, Time};
 use pd_text::{LineList, Lines, MAX_OCTETS};
@@ -22,27 +22,27 @@ pub struct Writer<'a> {
     /// The octets of the line or lines that are being written.
     line: Vec<u8>,
     /// How the sender stood after each event, where a trace tells it.
-    standings: &'a [Standing],
+    senders: &'a [SenderSnapshot],
     /// What a trace tells of each event so far.
-    marks: Vec<Mark>,
+    trace_entries: Vec<TraceEntry>,
     /// At which line of the trace the last input begins.
     input: usize,
     /// How many packets that it let go are still to be written.
-    by_input: usize,
+    left_of_input: usize,
 }
 
 impl<'a> Writer<'a> {
     /// Before the first line of the recording of a text; for a trace with how the sender stood after each event.
-    pub fn new(alloc: Global, source: &'a Lines, standings: &'a [Standing]) -> Writer<'a> {
+    pub fn new(alloc: Global, source: &'a Lines, senders: &'a [SenderSnapshot]) -> Writer<'a> {
         Writer {
             alloc,
             source,
-            standings,
+            senders,
             list: LineList::new(alloc),
             line: Vec::new(alloc),
-            marks: Vec::new(alloc),
+            trace_entries: Vec::new(alloc),
             input: 0,
-            by_input: 0,
+            left_of_input: 0,
         }
     }
 
@@ -50,10 +50,10 @@ impl<'a> Writer<'a> {
     ///
     /// # Errors
     /// `TooLarge` and `OutOfMemory`.
-    pub fn put_pieces(&mut self, pieces: &[GapPart]) -> Result<(), NotRecorded> {
+    pub fn put_comments(&mut self, pieces: &[TriviaPart]) -> Result<(), RecordError> {
         for piece in pieces {
-            if let GapPart::Comment(extent) = piece {
-                self.put_comment(*extent)?;
+            if let TriviaPart::Comment(text_span) = piece {
+                self.put_comment(*text_span)?;
             }
             self.end_line()?;
         }
@@ -64,10 +64,10 @@ impl<'a> Writer<'a> {
     ///
     /// # Errors
     /// `TooLarge` and `OutOfMemory`.
-    pub fn put_item(&mut self, layout: &Layout) -> Result<(), NotRecorded> {
-        self.put_pieces(&layout.lead)?;
-        put_extent(&mut self.line, self.source, layout.parts.event)?;
-        self.put_trail(&layout.trail)?;
+    pub fn put_item(&mut self, layout: &Layout) -> Result<(), RecordError> {
+        self.put_comments(&layout.leading)?;
+        put_text_span(&mut self.line, self.source, layout.parts.event)?;
+        self.put_trail(&layout.trailing)?;
         self.end_line()
     }
 
@@ -75,22 +75,26 @@ impl<'a> Writer<'a> {
     ///
     /// # Errors
     /// `TooLarge` and `OutOfMemory`.
-    pub fn put_nothing(&mut self, layout: &Layout) -> Result<(), NotRecorded> {
-        self.put_pieces(&layout.lead)?;
-        self.put_pieces(&layout.trail)
+    pub fn put_only_comments(&mut self, layout: &Layout) -> Result<(), RecordError> {
+        self.put_comments(&layout.leading)?;
+        self.put_comments(&layout.trailing)
     }
 
     /// Writes what is recorded in the place of an event.
     ///
     /// # Errors
     /// `TooLarge` and `OutOfMemory`.
-    pub fn put_own(&mut self, layout: &Layout, own: &Own) -> Result<(), NotRecorded> {
-        self.put_pieces(&layout.lead)?;
-        match own.reply {
-            None => self.put_moved(&own.recorded)?,
-            Some(reply) => self.put_call(layout, own.recorded.event.time, reply)?,
+    pub fn put_own_event(&mut self, layout: &Layout, own: &OwnEvent) -> Result<(), RecordError> {
+        self.put_comments(&layout.leading)?;
+        match own.recorded_answer {
+            None => self.put_packet_event(&own.recorded)?,
+            Some(recorded_answer) => self.put_call(
+                layout,
+                own.recorded.event.time,
+                recorded_answer,
+            )?,
         }
-        self.put_trail(&layout.trail)?;
+        self.put_trail(&layout.trailing)?;
         self.end_event(&own.recorded)
     }
 
@@ -98,8 +102,8 @@ impl<'a> Writer<'a> {
     ///
     /// # Errors
     /// `TooLarge` and `OutOfMemory`.
-    pub fn put_packet(&mut self, recorded: &Recorded) -> Result<(), NotRecorded> {
-        self.put_moved(recorded)?;
+    pub fn put_packet(&mut self, recorded: &RecordedEvent) -> Result<(), RecordError> {
+        self.put_packet_event(recorded)?;
         self.end_event(recorded)
     }
 
@@ -107,20 +111,24 @@ impl<'a> Writer<'a> {
     ///
     /// # Errors
     /// `TooLarge` where it has too many lines or octets.
-    pub fn finish(self, events: usize) -> Result<Recording, NotRecorded> {
-        let Writer { list, marks, .. } = self;
+    pub fn finish(self, events: usize) -> Result<Recording, RecordError> {
+        let Writer {
+            list,
+            trace_entries,
+            ..
+        } = self;
         match Lines::new(list) {
             Ok(lines) => Ok(Recording {
                 lines,
                 events,
-                marks,
+                trace_entries,
             }),
-            Err(_) => Err(NotRecorded::TooLarge),
+            Err(_) => Err(RecordError::TooLarge),
         }
     }
 
     /// Adds an event in which a packet arrives or leaves.
-    fn put_moved(&mut self, recorded: &Recorded) -> Result<(), NotRecorded> {
+    fn put_packet_event(&mut self, recorded: &RecordedEvent) -> Result<(), RecordError> {
         let time = recorded.event.time;
         match &recorded.event.action {
             Action::Inbound(packet) => put_event(&mut self.line, time, Direction::Inbound, packet)?,
@@ -137,39 +145,44 @@ impl<'a> Writer<'a> {
 
     /// Adds a call: its time, its octets up to `=`, what the sender answers, and its note if that is the written result. If not,
     /// the comments of the note come before the call.
-    fn put_call(&mut self, layout: &Layout, time: Time, reply: Reply) -> Result<(), NotRecorded> {
-        if !reply.is_written {
-            self.put_pieces(&layout.noted)?;
+    fn put_call(
+        &mut self,
+        layout: &Layout,
+        time: Time,
+        recorded_answer: RecordedAnswer,
+    ) -> Result<(), RecordError> {
+        if !recorded_answer.is_expected {
+            self.put_comments(&layout.in_note)?;
         }
         put_time(&mut self.line, time)?;
         self.line.extend_from_slice(b" ")?;
-        put_extent(&mut self.line, self.source, layout.parts.call)?;
+        put_text_span(&mut self.line, self.source, layout.parts.call)?;
         self.line.extend_from_slice(b" ")?;
-        put_answer(&mut self.line, reply.answer)?;
+        put_answer(&mut self.line, recorded_answer.answer)?;
         if let Some(note) = layout.parts.note {
-            if reply.is_written {
+            if recorded_answer.is_expected {
                 self.line.extend_from_slice(b" ")?;
-                put_extent(&mut self.line, self.source, note)?;
+                put_text_span(&mut self.line, self.source, note)?;
             }
         }
         Ok(())
     }
 
     /// Adds the comments that stay on the line of an event.
-    fn put_trail(&mut self, trail: &[GapPart]) -> Result<(), NotRecorded> {
-        for piece in trail {
-            if let GapPart::Comment(extent) = piece {
+    fn put_trail(&mut self, trailing: &[TriviaPart]) -> Result<(), RecordError> {
+        for piece in trailing {
+            if let TriviaPart::Comment(text_span) = piece {
                 self.line.extend_from_slice(b" ")?;
-                put_extent(&mut self.line, self.source, *extent)?;
+                put_text_span(&mut self.line, self.source, *text_span)?;
             }
         }
         Ok(())
     }
 
     /// Adds a comment that is alone; one that looks like a line of a trace keeps a blank before it.
-    fn put_comment(&mut self, extent: Extent) -> Result<(), NotRecorded> {
+    fn put_comment(&mut self, text_span: TextSpan) -> Result<(), RecordError> {
         let mut comment = Vec::new(self.alloc);
-        put_extent(&mut comment, self.source, extent)?;
+        put_text_span(&mut comment, self.source, text_span)?;
         if is_trace(&comment) {
             self.line.extend_from_slice(b" ")?;
         }
@@ -178,51 +191,51 @@ impl<'a> Writer<'a> {
     }
 
     /// Ends the line of an event.
-    fn end_event(&mut self, recorded: &Recorded) -> Result<(), NotRecorded> {
-        let traced = self.list.len().saturating_add(self.marks.len());
+    fn end_event(&mut self, recorded: &RecordedEvent) -> Result<(), RecordError> {
+        let traced = self.list.len().saturating_add(self.trace_entries.len());
         self.end_line()?;
-        self.mark(recorded, traced)?;
+        self.trace_event(recorded, traced)?;
         Ok(())
     }
 
     /// Marks the event whose line was ended, where a trace tells of it; the trace has so many lines before it.
-    fn mark(&mut self, recorded: &Recorded, traced: usize) -> Result<(), AllocError> {
-        let Some(standing) = self.standings.get(self.marks.len()) else {
+    fn trace_event(&mut self, recorded: &RecordedEvent, traced: usize) -> Result<(), AllocError> {
+        let Some(sender) = self.senders.get(self.trace_entries.len()) else {
             return Ok(());
         };
-        let sent_by = self.sent_by(&recorded.event.action, traced, standing.untaken);
-        self.marks.push(Mark {
+        let origin = self.origin(&recorded.event.action, traced, sender.unmatched);
+        self.trace_entries.push(TraceEntry {
             lines: self.list.len(),
             at: recorded.at,
-            standing: *standing,
-            sent_by,
+            sender: *sender,
+            origin,
         })?;
         Ok(())
     }
 
     /// What let a packet go. Before an input acts all packets that left are recorded, so those that are untaken after it are its
     /// own.
-    fn sent_by(&mut self, action: &Action, traced: usize, untaken: usize) -> Option<SentBy> {
+    fn origin(&mut self, action: &Action, traced: usize, unmatched: usize) -> Option<Origin> {
         match action {
-            Action::Outbound(_) if self.by_input == 0 => Some(SentBy::Timer),
+            Action::Outbound(_) if self.left_of_input == 0 => Some(Origin::Timer),
             Action::Outbound(_) => {
-                self.by_input -= 1;
-                Some(SentBy::Line(self.input))
+                self.left_of_input -= 1;
+                Some(Origin::Line(self.input))
             }
             Action::Inbound(_) | Action::Call(_) | Action::Command | Action::Code => {
                 self.input = traced.saturating_add(1);
-                self.by_input = untaken;
+                self.left_of_input = unmatched;
                 None
             }
         }
     }
 
     /// Ends a line.
-    fn end_line(&mut self) -> Result<(), NotRecorded> {
+    fn end_line(&mut self) -> Result<(), RecordError> {
         push_lines(&mut self.list, self.line.as_slice())?;
         self.line.clear();
         if self.list.octets() > MAX_OCTETS {
-            return Err(NotRecorded::TooLarge);
+            return Err(RecordError::TooLarge);
         }
         Ok(())
     }

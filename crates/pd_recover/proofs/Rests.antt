@@ -1,12 +1,12 @@
 -- An ACK with SACK that doesn't end recovery leaves the window, the threshold and what recovery goes by.
 use Rattle.std.proofs.Common.{◌≡◌, ◌&&◌, nat_lt, nat_le, Bool, true, false, if◌then◌else◌, Option, Some, None, refl, sym, ◌∙◌}
 use Rattle.std.specs.Prelude.{IsSome}
-use Rattle.pd_recover.specs.declared.feedback.Ack.{Ack}
-use Rattle.pd_recover.specs.declared.feedback.News.{News}
-use Rattle.pd_recover.specs.declared.responses.Then.{Then}
-use Rattle.pd_recover.specs.Acks.{renewed, told, told_by_sack, gone_on}
+use Rattle.pd_recover.specs.declared.ack.Ack.{Ack}
+use Rattle.pd_recover.specs.declared.ack.SackNews.{SackNews}
+use Rattle.pd_recover.specs.declared.ack_action.AckAction.{AckAction}
+use Rattle.pd_recover.specs.Acks.{renewed, acked_by, acked_with_sack, recovery_continued}
 use Rattle.pd_recover.specs.Cong.{CongView}
-use Rattle.pd_recover.specs.Laws.{IsUnmoved, RestsInRecovery}
+use Rattle.pd_recover.specs.Laws.{IsUnmoved, AcksKeepRecovery}
 use Rattle.pd_recover.proofs.Cases.{either, gone_cases}
 
 -- what holds of both branches holds of the choice
@@ -30,10 +30,10 @@ renewed_stays ack w =
     (record { unmoved = record { cwnd = refl; ssthresh = refl; recovery_point = refl; high_rxt = refl; rescue_rxt = refl }; recovering = refl })
 
 module _ (ack : Ack) (w : CongView) (goes : w.recovering ≡ true) where
-  abbrev Rests : CongView × Then → Type 0
+  abbrev Rests : CongView × AckAction → Type 0
   Rests step = step.0.recovering ≡ true → IsUnmoved w step.0
 
-  gone_rests : (v : CongView) → Stays w v → Rests (gone_on ack v)
+  gone_rests : (v : CongView) → Stays w v → Rests (recovery_continued ack v)
   gone_rests v h =
       gone_cases Rests ack v (λ r. h.unmoved)
       (λ r. record {
@@ -44,14 +44,14 @@ module _ (ack : Ack) (w : CongView) (goes : w.recovering ≡ true) where
         rescue_rxt = h.unmoved.rescue_rxt;
       })
 
-  sack_rests : (news : News) (v : CongView) → Stays w v → Rests (told_by_sack ack news v)
-  sack_rests news v h =
+  sack_rests : (sack_news : SackNews) (v : CongView) → Stays w v → Rests (acked_with_sack ack sack_news v)
+  sack_rests sack_news v h =
       chosen Rests (v.recovering && nat_le v.recovery_point ack.una) _ _ (λ _ r. absurd cc)
-      (λ _. chosen Rests v.recovering (gone_on ack v) _ (λ _. gone_rests v h) (λ off r. absurd (unlike v.recovering (h.recovering ∙ goes) off)))
+      (λ _. chosen Rests v.recovering (recovery_continued ack v) _ (λ _. gone_rests v h) (λ off r. absurd (unlike v.recovering (h.recovering ∙ goes) off)))
 
-  told_rests : (o : Option News) (v : CongView) → IsSome o → Stays w v → Rests (told ack o v)
-  told_rests (Some news) v some h = sack_rests news v h
+  told_rests : (o : Option SackNews) (v : CongView) → IsSome o → Stays w v → Rests (acked_by ack o v)
+  told_rests (Some sack_news) v some h = sack_rests sack_news v h
   told_rests None v some h = absurd cc
 
-pub rests_in_recovery : RestsInRecovery
+pub rests_in_recovery : AcksKeepRecovery
 rests_in_recovery ack w sack goes still = told_rests ack w goes ack.sack (renewed ack w) sack (renewed_stays ack w) still

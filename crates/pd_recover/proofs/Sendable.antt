@@ -2,13 +2,13 @@
 use Rattle.std.proofs.Common.{◌≡◌, ℕ, ◌+◌, ◌-◌, ◌<◌, ◌≤◌, ◌&&◌, min, nat_lt, Option, Some, None, Bool, true, false, not, refl, subst, arith}
 use Rattle.std.specs.Prelude.{unwrap_or, option_map}
 use Rattle.std.proofs.lemmas.Bool.Decides.{nat_tests}
-use Rattle.pd_board.specs.Choice.{run_at, next_lost, next_hole, rescue, segment_to, most_from}
-use Rattle.pd_board.specs.Loss.{is_free}
+use Rattle.pd_board.specs.Retransmit.{run_at, next_lost, next_hole, rescue, segment_to, most_from}
+use Rattle.pd_board.specs.Loss.{is_unsacked}
 use Rattle.pd_board.specs.Octets.{contains, least_where, greatest_where, after}
 use Rattle.pd_board.specs.Board.{BoardView, IsBoardView}
-use Rattle.pd_recover.specs.declared.segments.NextSegment.{NextSegment}
-use Rattle.pd_recover.specs.declared.segments.NextSegment.TheVariants.{Lost, New, Hole, Rescue}
-use Rattle.pd_recover.specs.Choice.{IsSendable, segment_of, lost_run, new_data, hole_run, rescue_run, next_send}
+use Rattle.pd_recover.specs.declared.next_segment.NextSegment.{NextSegment}
+use Rattle.pd_recover.specs.declared.next_segment.NextSegment.TheVariants.{Lost, New, Hole, Rescue}
+use Rattle.pd_recover.specs.NextSeg.{IsSendable, segment_of, lost_run, new_data, hole_run, rescue_run, next_send}
 use Rattle.pd_recover.specs.Cong.{CongView}
 use Rattle.pd_recover.proofs.Chosen.{AllOf, one_of, either_of, map_of, allowed_of}
 use Rattle.pd_recover.proofs.Found.{least, greatest}
@@ -25,7 +25,7 @@ first_of_two true b h = refl
 first_of_two false b h = h
 
 -- a segment that is sent again from an octet that isn't SACKed
-run_sendable : (s : BoardView) → IsBoardView s → (x : ℕ) → s.una ≤ x → x < s.top → is_free x s ≡ true → IsSendable s (run_at x s)
+run_sendable : (s : BoardView) → IsBoardView s → (x : ℕ) → s.una ≤ x → x < s.top → is_unsacked x s ≡ true → IsSendable s (run_at x s)
 run_sendable s known x from to free = record {
   from = from;
   some = above (least_where (contains s.sacked) x (most_from x s)) refl;
@@ -68,8 +68,8 @@ data_sendable rwnd s known =
 
 rescue_sendable : (s : BoardView) → IsBoardView s → AllOf (IsSendable s) (rescue s)
 rescue_sendable s known =
-    map_of (IsSendable s) (segment_to s) (greatest_where (λ x. is_free x s) s.una s.top) (λ e f.
-    let h = greatest (λ x. is_free x s) s.una s.top e f in
+    map_of (IsSendable s) (segment_to s) (greatest_where (λ x. is_unsacked x s) s.una s.top) (λ e f.
+    let h = greatest (λ x. is_unsacked x s) s.una s.top e f in
     record {
       from = omega arith;
       some = omega (arith, h.from, known.smss_low, before e (greatest_where (contains s.sacked) s.una e) refl);

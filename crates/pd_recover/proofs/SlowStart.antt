@@ -3,12 +3,12 @@ use Rattle.std.proofs.Common.{◌≡◌, ℕ, ◌*◌, ◌/◌, ◌<◌, ◌≤�
 use Rattle.std.specs.Prelude.{is_some}
 use Rattle.std.proofs.lemmas.Bool.Decides.{nat_tests}
 use Rattle.pd_settings.specs.declared.initial_window.InitialWindow.{InitialWindow}
-use Rattle.pd_recover.specs.declared.feedback.Ack.{Ack}
-use Rattle.pd_recover.specs.declared.feedback.News.{News}
-use Rattle.pd_recover.specs.declared.responses.Then.{Then}
-use Rattle.pd_recover.specs.Acks.{told, renewed, grown_by, counted, advanced}
+use Rattle.pd_recover.specs.declared.ack.Ack.{Ack}
+use Rattle.pd_recover.specs.declared.ack.SackNews.{SackNews}
+use Rattle.pd_recover.specs.declared.ack_action.AckAction.{AckAction}
+use Rattle.pd_recover.specs.Acks.{acked_by, renewed, grown_by, dup_ack_counted, new_octets_acked}
 use Rattle.pd_recover.specs.Cong.{CongView, window_by, limit_of, growth, restart_rule, restart_window}
-use Rattle.pd_recover.specs.Laws.{CountsOctets, slow_start_of, KeepsSlowStart, RestartsWhenIdle, IsAsBefore}
+use Rattle.pd_recover.specs.Laws.{CountsOctets, slow_start_of, KeepsSlowStart, RestartsWhenIdle, DefaultsAreRfc5681}
 use Rattle.pd_recover.proofs.Cases.{either, selective_cases, plain_cases, sack_cases, number_cases}
 
 -- Counting
@@ -43,7 +43,7 @@ module _ (v : CongView) (ack : Ack) where
   abbrev Kept : CongView → Type 0
   Kept w = slow_start_of w ≡ slow_start_of v
 
-  abbrev LeadsKept : CongView × Then → Type 0
+  abbrev LeadsKept : CongView × AckAction → Type 0
   LeadsKept step = Kept step.0
 
   renewed_kept : (w : CongView) → Kept w → Kept (renewed ack w)
@@ -52,16 +52,16 @@ module _ (v : CongView) (ack : Ack) where
   grown_kept : (w : CongView) → Kept w → Kept (grown_by ack w)
   grown_kept w h = either Kept (nat_lt 0 ack.acked) _ w h h
 
-  advanced_kept : (w : CongView) → Kept w → Kept (advanced ack w)
+  advanced_kept : (w : CongView) → Kept w → Kept (new_octets_acked ack w)
   advanced_kept w h = either Kept w.recovering _ _ h (grown_kept w h)
 
-  told_kept : (sack : Option News) (w : CongView) → Kept w → LeadsKept (told ack sack w)
-  told_kept (Some news) w h =
-      sack_cases LeadsKept ack news w h h h
-      (selective_cases LeadsKept ack news.lost (counted (grown_by ack w)) (grown_kept w h) (grown_kept w h) (grown_kept w h))
+  told_kept : (sack : Option SackNews) (w : CongView) → Kept w → LeadsKept (acked_by ack sack w)
+  told_kept (Some sack_news) w h =
+      sack_cases LeadsKept ack sack_news w h h h
+      (selective_cases LeadsKept ack sack_news.lost (dup_ack_counted (grown_by ack w)) (grown_kept w h) (grown_kept w h) (grown_kept w h))
       (grown_kept w h)
   told_kept None w h =
-      number_cases LeadsKept ack w (advanced_kept w h) (plain_cases LeadsKept ack (counted w) h (λ _ _. h) h h) h
+      number_cases LeadsKept ack w (advanced_kept w h) (plain_cases LeadsKept ack (dup_ack_counted w) h (λ _ _. h) h h) h
 
 pub keeps_slow_start : KeepsSlowStart
 keeps_slow_start ack w = told_kept w ack ack.sack (renewed ack w) (renewed_kept w ack w refl)
@@ -92,7 +92,7 @@ pub restarts_when_idle : RestartsWhenIdle
 restarts_when_idle = record {
   idle = λ smss rule w by. ap (λ (o : Option InitialWindow). restart_window o smss w.cwnd) by;
   no_wider = λ smss idle w.
-      either (λ (n : ℕ). n ≤ w.cwnd) idle (restart_window w.restarts_by smss w.cwnd) w.cwnd (no_wider w.restarts_by smss w.cwnd) (itself w.cwnd);
+      either (λ (n : ℕ). n ≤ w.cwnd) idle (restart_window w.restart_rule smss w.cwnd) w.cwnd (no_wider w.restart_rule smss w.cwnd) (itself w.cwnd);
   busy = λ smss w. refl;
   off = λ smss idle w none.
       with_start w _ _
@@ -102,13 +102,13 @@ restarts_when_idle = record {
 
 -- The defaults
 
-one_segment : (w : CongView) → w.byte_limit ≡ 1 → limit_of w ≡ 1
-one_segment w e = either (λ (n : ℕ). n ≡ 1) w.follows_expiry 1 w.byte_limit refl e
+one_segment : (w : CongView) → w.abc_limit ≡ 1 → limit_of w ≡ 1
+one_segment w e = either (λ (n : ℕ). n ≡ 1) w.follows_expiry 1 w.abc_limit refl e
 
-pub is_as_before : IsAsBefore
+pub is_as_before : DefaultsAreRfc5681
 is_as_before = record {
   counting = λ smss n w one slow.
       in_slow_start smss n w slow ∙ ap (λ (l : ℕ). min n (l * smss)) (one_segment w one) ∙ omega arith;
-  limit = λ settings smss resent one. one;
-  restart = λ settings smss resent off. ap (λ (on : Bool). restart_rule on settings.initial_window) off;
+  limit = λ settings smss syn_ack_resent one. one;
+  restart = λ settings smss syn_ack_resent off. ap (λ (on : Bool). restart_rule on settings.initial_window) off;
 }

@@ -1,13 +1,13 @@
 -- What is SACKed isn't sent again.
 use Rattle.std.proofs.Common.{◌≡◌, ℕ, ◌+◌, ◌-◌, ◌<◌, ◌≤◌, max, Option, Some, None, Bool, true, false, not, refl, arith}
 use Rattle.std.specs.Prelude.{unwrap_or, option_map}
-use Rattle.pd_board.specs.Choice.{run_at, next_lost, next_hole, rescue, segment_to, most_from}
-use Rattle.pd_board.specs.Loss.{is_free}
+use Rattle.pd_board.specs.Retransmit.{run_at, next_lost, next_hole, rescue, segment_to, most_from}
+use Rattle.pd_board.specs.Loss.{is_unsacked}
 use Rattle.pd_board.specs.Octets.{contains, least_where, greatest_where, after}
 use Rattle.pd_board.specs.Board.{BoardView, IsBoardView}
-use Rattle.pd_recover.specs.declared.segments.NextSegment.{NextSegment}
-use Rattle.pd_recover.specs.declared.segments.NextSegment.TheVariants.{Lost, New, Hole, Rescue}
-use Rattle.pd_recover.specs.Choice.{segment_of, lost_run, new_data, hole_run, rescue_run}
+use Rattle.pd_recover.specs.declared.next_segment.NextSegment.{NextSegment}
+use Rattle.pd_recover.specs.declared.next_segment.NextSegment.TheVariants.{Lost, New, Hole, Rescue}
+use Rattle.pd_recover.specs.NextSeg.{segment_of, lost_run, new_data, hole_run, rescue_run}
 use Rattle.pd_recover.specs.Laws.{IsSpared, SparesSacked}
 use Rattle.pd_recover.proofs.Chosen.{AllOf, one_of, either_of, map_of, allowed_of}
 use Rattle.pd_recover.proofs.Found.{least, no_least, greatest, no_greatest, split}
@@ -44,9 +44,9 @@ lies_after s e (Some g) f x l u = (greatest (contains s.sacked) s.una e g f).las
 
 rescue_spared : (s : BoardView) → AllOf (IsSpared s) (rescue s)
 rescue_spared s =
-    map_of (IsSpared s) (segment_to s) (greatest_where (λ x. is_free x s) s.una s.top) (λ e f x l u.
+    map_of (IsSpared s) (segment_to s) (greatest_where (λ x. is_unsacked x s) s.una s.top) (λ e f x l u.
     split (λ y. contains s.sacked y ≡ false) e x
-    (free _ (greatest (λ x. is_free x s) s.una s.top e f).passes)
+    (free _ (greatest (λ x. is_unsacked x s) s.una s.top e f).passes)
     (λ d. lies_after s e (greatest_where (contains s.sacked) s.una e) refl x l (omega (arith, u, d))))
 
 pub spares_sacked : SparesSacked

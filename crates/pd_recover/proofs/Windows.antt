@@ -1,13 +1,13 @@
 -- The window and the threshold stay within their bounds.
 use Rattle.std.proofs.Common.{◌≡◌, sym, ℕ, ◌+◌, ◌-◌, ◌*◌, ◌/◌, ◌^◌, ◌≤◌, ◌==◌, ◌&&◌, min, max, nat_lt, nat_le, Bool, true, false, if◌then◌else◌, Option, Some, None, refl, subst, ◌∙◌, arith}
-use Rattle.pd_recover.specs.declared.feedback.Ack.{Ack}
-use Rattle.pd_recover.specs.declared.feedback.News.{News}
-use Rattle.pd_recover.specs.declared.responses.Then.{Then}
+use Rattle.pd_recover.specs.declared.ack.Ack.{Ack}
+use Rattle.pd_recover.specs.declared.ack.SackNews.{SackNews}
+use Rattle.pd_recover.specs.declared.ack_action.AckAction.{AckAction}
 use Rattle.pd_settings.specs.declared.initial_window.InitialWindow.{InitialWindow}
 use Rattle.pd_settings.specs.declared.initial_window.InitialWindow.TheVariants.{Rfc5681, Rfc6928}
-use Rattle.pd_recover.specs.Acks.{acked, renewed, told, told_by_sack, told_by_number, selective_duplicate, plain_duplicate, counted, grown_by, advanced, entered, recovered, with_delivered, retransmitted, is_duplicate}
-use Rattle.pd_recover.specs.Cong.{CongView, is_reducing, window_by, first_window, widened, growth, restart_window, restarted, sndcnt, paced}
-use Rattle.pd_recover.specs.Prr.{is_proportional}
+use Rattle.pd_recover.specs.Acks.{acked, renewed, acked_by, acked_with_sack, acked_without_sack, selective_duplicate, plain_duplicate, dup_ack_counted, grown_by, new_octets_acked, entered, recovery_ended, with_delivered, retransmitted, is_duplicate}
+use Rattle.pd_recover.specs.Cong.{CongView, is_prr_recovering, window_by, first_window, widened, growth, restart_window, restarted, sndcnt, with_prr_cwnd}
+use Rattle.pd_recover.specs.Prr.{uses_prr}
 use Rattle.pd_recover.specs.Laws.{IsWithin, StaysWithin}
 use Rattle.pd_recover.proofs.Cases.{selective_cases, plain_cases}
 
@@ -50,7 +50,7 @@ in_range Rfc5681 smss small = first (nat_lt 2190 smss) (nat_lt 1095 smss)
     first false true = (omega arith, omega arith)
     first false false = (omega arith, omega arith)
 
-first_in_range : (rule : InitialWindow) (smss : ℕ) (resent : Bool) → smss ≤ 65495 → IsInRange smss (first_window rule smss resent)
+first_in_range : (rule : InitialWindow) (smss : ℕ) (syn_ack_resent : Bool) → smss ≤ 65495 → IsInRange smss (first_window rule smss syn_ack_resent)
 first_in_range rule smss true small = (omega arith, omega (arith, small))
 first_in_range rule smss false small = in_range rule smss small
 
@@ -68,15 +68,15 @@ module _ (initial : ℕ) (ack : Ack) (small : ack.smss ≤ 65495) (few : ack.top
   abbrev Within : CongView → Type 0
   Within w = IsWithin ack.smss initial w
 
-  abbrev LeadsWithin : CongView × Then → Type 0
+  abbrev LeadsWithin : CongView × AckAction → Type 0
   LeadsWithin step = IsWithin ack.smss initial step.0
 
-  fewer : (limited : ℕ) → ack.top - ack.una - limited ≤ 2 ^ 20 + 1
-  fewer limited = omega (arith, few)
+  fewer : (limited_octets : ℕ) → ack.top - ack.una - limited_octets ≤ 2 ^ 20 + 1
+  fewer limited_octets = omega (arith, few)
 
-  same : (v w : CongView) → v.cwnd ≡ w.cwnd → v.ssthresh ≡ w.ssthresh → v.recovering ≡ w.recovering → v.rate ≡ w.rate → Within v → Within w
+  same : (v w : CongView) → v.cwnd ≡ w.cwnd → v.ssthresh ≡ w.ssthresh → v.recovering ≡ w.recovering → v.recovery_algorithm ≡ w.recovery_algorithm → Within v → Within w
   same v w c s r q h = record {
-    cwnd_from = λ calm. subst (λ n. ack.smss ≤ n) c (h.cwnd_from ((λ i. is_reducing (r i) (q i)) ∙ calm));
+    cwnd_from = λ calm. subst (λ n. ack.smss ≤ n) c (h.cwnd_from ((λ i. is_prr_recovering (r i) (q i)) ∙ calm));
     cwnd_to = subst (λ n. n ≤ 2 ^ 30) c h.cwnd_to;
     ssthresh_from = subst (λ n. min (2 * ack.smss) initial ≤ n) s h.ssthresh_from;
     ssthresh_to = subst (λ n. n ≤ 2 ^ 30) s h.ssthresh_to;
@@ -91,11 +91,11 @@ module _ (initial : ℕ) (ack : Ack) (small : ack.smss ≤ 65495) (few : ack.top
   grown_by-within w h =
       chosen Within (nat_lt 0 ack.acked) _ w (λ _. widened-within initial ack.smss small (growth ack.smss ack.acked w) w h) (λ _. h)
 
-  recovered-within : (w : CongView) → w.recovering ≡ true → Within w → Within (recovered w)
-  recovered-within w r h = record {
-    cwnd_from = λ _. chosen (λ n. ack.smss ≤ n) (is_proportional w.rate) w.ssthresh w.cwnd (λ _. omega (arith, h.recovering r))
+  recovery_ended-within : (w : CongView) → w.recovering ≡ true → Within w → Within (recovery_ended w)
+  recovery_ended-within w r h = record {
+    cwnd_from = λ _. chosen (λ n. ack.smss ≤ n) (uses_prr w.recovery_algorithm) w.ssthresh w.cwnd (λ _. omega (arith, h.recovering r))
         (λ pipe. h.cwnd_from (λ i. is_reducing_by (r i) (pipe i)));
-    cwnd_to = chosen (λ n. n ≤ 2 ^ 30) (is_proportional w.rate) w.ssthresh w.cwnd (λ _. h.ssthresh_to) (λ _. h.cwnd_to);
+    cwnd_to = chosen (λ n. n ≤ 2 ^ 30) (uses_prr w.recovery_algorithm) w.ssthresh w.cwnd (λ _. h.ssthresh_to) (λ _. h.cwnd_to);
     ssthresh_from = h.ssthresh_from;
     ssthresh_to = h.ssthresh_to;
     recovering = λ e. cc;
@@ -103,8 +103,8 @@ module _ (initial : ℕ) (ack : Ack) (small : ack.smss ≤ 65495) (few : ack.top
 
   entered-within : (w : CongView) → Within (entered ack w)
   entered-within w =
-      let flight = ack.top - ack.una - w.limited in
-      let to = half_to flight ack.smss small (fewer w.limited) in
+      let flight = ack.top - ack.una - w.limited_octets in
+      let to = half_to flight ack.smss small (fewer w.limited_octets) in
       let from = half_from flight ack.smss in
       record {
         cwnd_from = λ _. omega (arith, from);
@@ -116,8 +116,8 @@ module _ (initial : ℕ) (ack : Ack) (small : ack.smss ≤ 65495) (few : ack.top
 
   retransmitted-within : (w : CongView) → Within (retransmitted ack w)
   retransmitted-within w =
-      let flight = ack.top - ack.una - w.limited in
-      let to = half_to flight ack.smss small (fewer w.limited) in
+      let flight = ack.top - ack.una - w.limited_octets in
+      let to = half_to flight ack.smss small (fewer w.limited_octets) in
       let from = half_from flight ack.smss in
       record {
         cwnd_from = λ _. omega (arith, from);
@@ -131,17 +131,17 @@ module _ (initial : ℕ) (ack : Ack) (small : ack.smss ≤ 65495) (few : ack.top
   selective_duplicate-within lost w h =
       selective_cases LeadsWithin ack lost w h (entered-within w) (same w _ refl refl refl refl h)
 
-  told_by_sack-within : (news : News) (w : CongView) → Within w → LeadsWithin (told_by_sack ack news w)
-  told_by_sack-within news w h =
-      chosen LeadsWithin (w.recovering && nat_le w.recovery_point ack.una) _ _ (λ both. recovered-within w (first_of_two w.recovering _ both) h)
+  acked_with_sack-within : (sack_news : SackNews) (w : CongView) → Within w → LeadsWithin (acked_with_sack ack sack_news w)
+  acked_with_sack-within sack_news w h =
+      chosen LeadsWithin (w.recovering && nat_le w.recovery_point ack.una) _ _ (λ both. recovery_ended-within w (first_of_two w.recovering _ both) h)
       (λ _. chosen LeadsWithin w.recovering _ _
-      (λ _. chosen LeadsWithin (is_proportional w.rate && ack.delivery.delivered_data == 0) _ _ (λ _. h) (λ _. same w (with_delivered ack w) refl refl refl refl h))
-      (λ _. chosen LeadsWithin news.fresh _ _
-      (λ _. selective_duplicate-within news.lost _ (same (grown_by ack w) _ refl refl refl refl (grown_by-within w h)))
+      (λ _. chosen LeadsWithin (uses_prr w.recovery_algorithm && ack.delivery.delivered_data == 0) _ _ (λ _. h) (λ _. same w (with_delivered ack w) refl refl refl refl h))
+      (λ _. chosen LeadsWithin sack_news.fresh _ _
+      (λ _. selective_duplicate-within sack_news.lost _ (same (grown_by ack w) _ refl refl refl refl (grown_by-within w h)))
       (λ _. grown_by-within w h)))
 
-  advanced-within : (w : CongView) → Within w → Within (advanced ack w)
-  advanced-within w h =
+  new_octets_acked-within : (w : CongView) → Within w → Within (new_octets_acked ack w)
+  new_octets_acked-within w h =
       chosen Within w.recovering _ _
       (λ recovering. record {
         cwnd_from = λ _. omega (arith, h.recovering recovering);
@@ -156,19 +156,19 @@ module _ (initial : ℕ) (ack : Ack) (small : ack.smss ≤ 65495) (few : ack.top
   plain_duplicate-within w h =
       plain_cases LeadsWithin ack w h (λ _ _. same w _ refl refl refl refl h) (retransmitted-within w) (widened-within initial ack.smss small ack.smss w h)
 
-  told_by_number-within : (w : CongView) → Within w → LeadsWithin (told_by_number ack w)
-  told_by_number-within w h =
-      chosen LeadsWithin (nat_lt 0 ack.acked) _ _ (λ _. advanced-within w h)
+  acked_without_sack-within : (w : CongView) → Within w → LeadsWithin (acked_without_sack ack w)
+  acked_without_sack-within w h =
+      chosen LeadsWithin (nat_lt 0 ack.acked) _ _ (λ _. new_octets_acked-within w h)
       (λ _. chosen LeadsWithin (is_duplicate ack && nat_le w.recovery_point ack.una) _ _
-      (λ _. plain_duplicate-within (counted w) (same w _ refl refl refl refl h))
+      (λ _. plain_duplicate-within (dup_ack_counted w) (same w _ refl refl refl refl h))
       (λ _. h))
 
-  told-within : (sack : Option News) (w : CongView) → Within w → LeadsWithin (told ack sack w)
-  told-within None w h = told_by_number-within w h
-  told-within (Some news) w h = told_by_sack-within news w h
+  acked_by-within : (sack : Option SackNews) (w : CongView) → Within w → LeadsWithin (acked_by ack sack w)
+  acked_by-within None w h = acked_without_sack-within w h
+  acked_by-within (Some sack_news) w h = acked_with_sack-within sack_news w h
 
   acked-within : (w : CongView) → Within w → LeadsWithin (acked ack w)
-  acked-within w h = told-within ack.sack (renewed ack w) (renewed-within w h)
+  acked-within w h = acked_by-within ack.sack (renewed ack w) (renewed-within w h)
 
 lesser : (smss a b : ℕ) → smss ≤ a → smss ≤ b → b ≤ 2 ^ 30 → IsInRange smss (min a b)
 lesser smss a b h k l = (omega (arith, h, k), omega (arith, l))
@@ -189,18 +189,18 @@ after_idle (Some rule) smss cwnd small h = lesser smss (window_by rule smss) cwn
 pub restarted-within : (initial smss : ℕ) (idle : Bool) (w : CongView) → smss ≤ 65495 → IsWithin smss initial w
     → IsWithin smss initial (restarted smss idle w)
 restarted-within initial smss idle w small h = record {
-  cwnd_from = λ calm. chosen (λ n. smss ≤ n) idle _ _ (λ _. (after_idle w.restarts_by smss w.cwnd small (h.cwnd_from calm, h.cwnd_to)).0) (λ _. h.cwnd_from calm);
-  cwnd_to = chosen (λ n. n ≤ 2 ^ 30) idle _ _ (λ _. no_wider w.restarts_by smss w.cwnd h.cwnd_to) (λ _. h.cwnd_to);
+  cwnd_from = λ calm. chosen (λ n. smss ≤ n) idle _ _ (λ _. (after_idle w.restart_rule smss w.cwnd small (h.cwnd_from calm, h.cwnd_to)).0) (λ _. h.cwnd_from calm);
+  cwnd_to = chosen (λ n. n ≤ 2 ^ 30) idle _ _ (λ _. no_wider w.restart_rule smss w.cwnd h.cwnd_to) (λ _. h.cwnd_to);
   ssthresh_from = h.ssthresh_from;
   ssthresh_to = h.ssthresh_to;
   recovering = h.recovering;
 }
 
 -- the window of an ACK in recovery by PRR
-pub paced-within : (initial smss pipe : ℕ) (w : CongView) → IsWithin smss initial w → IsWithin smss initial (paced smss pipe w)
-paced-within initial smss pipe w h = record {
+pub with_prr_cwnd-within : (initial smss pipe : ℕ) (w : CongView) → IsWithin smss initial w → IsWithin smss initial (with_prr_cwnd smss pipe w)
+with_prr_cwnd-within initial smss pipe w h = record {
   cwnd_from = λ calm. subst (λ (b : Bool). smss ≤ (if b then min (pipe + sndcnt smss pipe w) (2 ^ 30) else w.cwnd)) (sym calm) (h.cwnd_from calm);
-  cwnd_to = chosen (λ n. n ≤ 2 ^ 30) (is_reducing w.recovering w.rate) _ _ (λ _. omega arith) (λ _. h.cwnd_to);
+  cwnd_to = chosen (λ n. n ≤ 2 ^ 30) (is_prr_recovering w.recovering w.recovery_algorithm) _ _ (λ _. omega arith) (λ _. h.cwnd_to);
   ssthresh_from = h.ssthresh_from;
   ssthresh_to = h.ssthresh_to;
   recovering = h.recovering;
@@ -215,9 +215,9 @@ after_expiry initial smss flight w false small few h =
 
 pub stays_within : StaysWithin
 stays_within = record {
-  first = λ settings smss resent small. record {
-    cwnd_from = λ _. (first_in_range settings.initial_window smss resent small).0;
-    cwnd_to = (first_in_range settings.initial_window smss resent small).1;
+  first = λ settings smss syn_ack_resent small. record {
+    cwnd_from = λ _. (first_in_range settings.initial_window smss syn_ack_resent small).0;
+    cwnd_to = (first_in_range settings.initial_window smss syn_ack_resent small).1;
     ssthresh_from = omega arith;
     ssthresh_to = settings.initial_ssthresh_in_range.1;
     recovering = λ e. cc;
@@ -231,5 +231,5 @@ stays_within = record {
     recovering = λ e. cc;
   };
   restart = λ initial smss idle w small h. restarted-within initial smss idle w small h;
-  pace = λ initial smss pipe w h. paced-within initial smss pipe w h;
+  set_prr_cwnd = λ initial smss pipe w h. with_prr_cwnd-within initial smss pipe w h;
 }

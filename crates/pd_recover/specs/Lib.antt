@@ -1,6 +1,6 @@
 -- The definitions that the contracts cite.
 pub mod Acks
-pub mod Choice
+pub mod NextSeg
 pub mod Cong
 pub mod Laws
 pub mod Prr

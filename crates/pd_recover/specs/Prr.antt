@@ -2,58 +2,58 @@
 use Rattle.std.specs.Prelude.{ℕ, ◌+◌, ◌-◌, ◌*◌, ◌/◌, ◌^◌, ◌≤◌, ◌==◌, ◌&&◌, nat_lt, min, max, Bool, true, false, if◌then◌else◌}
 use Rattle.pd_settings.specs.declared.recovery_algorithm.RecoveryAlgorithm.{RecoveryAlgorithm}
 use Rattle.pd_settings.specs.declared.recovery_algorithm.RecoveryAlgorithm.TheVariants.{Rfc6675, Rfc9937}
-use Rattle.pd_recover.specs.declared.feedback.Delivery.{Delivery}
-use Rattle.pd_recover.specs.declared.reductions.Reduction.{Reduction}
+use Rattle.pd_recover.specs.declared.ack.Delivery.{Delivery}
+use Rattle.pd_recover.specs.declared.prr.PrrState.{PrrState}
 
 -- RecoverFS is never 0, and no connection has more than 2^31 octets
-pub record IsReduction (r : Reduction) : Type 0 where
+pub record IsPrrState (r : PrrState) : Type 0 where
   pub delivered_to : r.prr_delivered ≤ 2 ^ 31
   pub out_to : r.prr_out ≤ 2 ^ 31
   pub flight_from : 1 ≤ r.recover_fs
 
 -- whether recovery goes by PRR
-abbrev pub is_proportional : RecoveryAlgorithm → Bool
-is_proportional Rfc6675 = false
-is_proportional Rfc9937 = true
+abbrev pub uses_prr : RecoveryAlgorithm → Bool
+uses_prr Rfc6675 = false
+uses_prr Rfc9937 = true
 
 -- no recovery by PRR goes on
-abbrev pub no_reduction : Reduction
-no_reduction = record { prr_delivered = 0; prr_out = 0; recover_fs = 1; delivered_data = 0; safe_ack = false }
+abbrev pub no_prr : PrrState
+no_prr = record { prr_delivered = 0; prr_out = 0; recover_fs = 1; delivered_data = 0; safe_ack = false }
 
 -- the start of a recovery: prr_delivered = prr_out = 0, and RecoverFS, 1 at least
-abbrev pub begun_with : ℕ → Reduction
+abbrev pub begun_with : ℕ → PrrState
 begun_with recover_fs = record { prr_delivered = 0; prr_out = 0; recover_fs = max recover_fs 1; delivered_data = 0; safe_ack = false }
 
 -- an ACK in recovery: prr_delivered += DeliveredData
-abbrev pub told_of : Delivery → Reduction → Reduction
-told_of d r = record r {
+abbrev pub delivery_counted : Delivery → PrrState → PrrState
+delivery_counted d r = record r {
   prr_delivered = min (r.prr_delivered + d.delivered_data) (2 ^ 31);
   delivered_data = d.delivered_data;
   safe_ack = d.safe_ack;
 }
 
 -- data is sent, or sent again: prr_out += its octets
-abbrev pub sent_of : ℕ → Reduction → Reduction
-sent_of octets r = record r { prr_out = min (r.prr_out + octets) (2 ^ 31) }
+abbrev pub with_sent : ℕ → PrrState → PrrState
+with_sent octets r = record r { prr_out = min (r.prr_out + octets) (2 ^ 31) }
 
 -- CEIL(prr_delivered * ssthresh / RecoverFS)
-abbrev pub proportion : ℕ → Reduction → ℕ
+abbrev pub proportion : ℕ → PrrState → ℕ
 proportion ssthresh r = (r.prr_delivered * ssthresh + (r.recover_fs - 1)) / r.recover_fs
 
 -- the greater of prr_delivered - prr_out and DeliveredData, and SMSS more at a SafeACK
-abbrev pub limit : ℕ → Reduction → ℕ
+abbrev pub limit : ℕ → PrrState → ℕ
 limit smss r = max (r.prr_delivered - r.prr_out) r.delivered_data + (if r.safe_ack then smss else 0)
 
 -- sndcnt before a segment is forced: with the pipe above ssthresh, the part of ssthresh less prr_out, 0 where that is more
 -- (own); else the limit, up to ssthresh - pipe
-abbrev pub unforced : ℕ → ℕ → ℕ → Reduction → ℕ
-unforced smss pipe ssthresh r =
+abbrev pub unforced_sndcnt : ℕ → ℕ → ℕ → PrrState → ℕ
+unforced_sndcnt smss pipe ssthresh r =
     if nat_lt ssthresh pipe then proportion ssthresh r - r.prr_out else min (ssthresh - pipe) (limit smss r)
 
 -- a segment is forced where nothing was sent in this recovery and nothing would be
-abbrev pub is_forced : ℕ → ℕ → ℕ → Reduction → Bool
-is_forced smss pipe ssthresh r = r.prr_out == 0 && unforced smss pipe ssthresh r == 0
+abbrev pub is_forced : ℕ → ℕ → ℕ → PrrState → Bool
+is_forced smss pipe ssthresh r = r.prr_out == 0 && unforced_sndcnt smss pipe ssthresh r == 0
 
 -- sndcnt: how many octets an ACK lets out, SMSS where a segment is forced
-abbrev pub sndcnt_of : ℕ → ℕ → ℕ → Reduction → ℕ
-sndcnt_of smss pipe ssthresh r = if is_forced smss pipe ssthresh r then smss else unforced smss pipe ssthresh r
+abbrev pub sndcnt_of : ℕ → ℕ → ℕ → PrrState → ℕ
+sndcnt_of smss pipe ssthresh r = if is_forced smss pipe ssthresh r then smss else unforced_sndcnt smss pipe ssthresh r

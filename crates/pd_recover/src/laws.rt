@@ -1,19 +1,19 @@
 //! Laws of congestion control and loss recovery: a function without code, whose contract is the laws.
-ghost use Rattle.pd_recover.specs.Laws.{StaysWithin, BeginsByUses, CountsOctets, KeepsSlowStart, RestartsWhenIdle, IsAsBefore, LetsOutInProportion, CountsRecovery, IsByPipe, EndsInTime, RestsInRecovery, RescuesOnce, KeepsWindow, SparesSacked, ChoosesSendable};
+ghost use Rattle.pd_recover.specs.Laws.{StaysWithin, BeginsByUses, CountsOctets, KeepsSlowStart, RestartsWhenIdle, DefaultsAreRfc5681, SendsInProportion, CountsRecovery, Rfc6675IgnoresPrr, EndsInTime, AcksKeepRecovery, RescuesOnce, KeepsWindow, SparesSacked, ChoosesSendable};
 
 /// What holds of congestion control and loss recovery, whatever happens.
-pub fn recovery_is_lawful()
+pub fn law_recovery()
     ensures windows { StaysWithin }
-    ensures uses { BeginsByUses }
+    ensures consulted_settings { BeginsByUses }
     ensures counting { CountsOctets }
     ensures slow_start { KeepsSlowStart }
     ensures idle { RestartsWhenIdle }
-    ensures defaults { IsAsBefore }
-    ensures proportion { LetsOutInProportion }
+    ensures defaults { DefaultsAreRfc5681 }
+    ensures proportion { SendsInProportion }
     ensures counts { CountsRecovery }
-    ensures pipe { IsByPipe }
+    ensures pipe { Rfc6675IgnoresPrr }
     ensures ends { EndsInTime }
-    ensures rests { RestsInRecovery }
+    ensures rests { AcksKeepRecovery }
     ensures rescues { RescuesOnce }
     ensures step_c { KeepsWindow }
     ensures sacked { SparesSacked }

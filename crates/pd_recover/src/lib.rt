@@ -2,8 +2,8 @@
 //!
 //! A `Cong` has the congestion window, the slow start threshold, and what loss recovery keeps.
 //! `Cong::on_ack` takes an `Ack`, which says what a segment acknowledged and where the sender
-//! stands since, and answers what to send (`Then`). In recovery with SACK, `Cong::next_send`
-//! chooses each segment by NextSeg (`NextSegment`). A `Reduction` has the counts of Proportional
+//! stands since, and answers what to send (`AckAction`). In recovery with SACK, `Cong::next_send`
+//! chooses each segment by NextSeg (`NextSegment`). A `PrrState` has the counts of Proportional
 //! Rate Reduction (RFC 9937), if the setting `recovery_algorithm` asks for it.
 //!
 //! ```text
@@ -16,7 +16,7 @@
 //! ```
 //!
 //! Windows and counts are always in their ranges: `IsCongView` (specs/Cong.antt). The law
-//! `recovery_is_lawful` says what holds of all states that the rules reach.
+//! `law_recovery` says what holds of all states that the rules reach.
 //!
 //! Why it is so:
 //! - `on_ack` sends nothing. It is a function from a state and an ACK to the next state and what
@@ -32,16 +32,16 @@
 //!   `pd_board`.
 #![tactic(auto)]
 
-mod cong;
-mod feedback;
+mod ack;
+mod ack_action;
+mod congestion;
 mod laws;
-mod reductions;
-mod responses;
-mod segments;
+mod next_segment;
+mod prr;
 
-pub use cong::Cong;
-pub use feedback::{Ack, Delivery, News};
-pub use laws::recovery_is_lawful;
-pub use reductions::Reduction;
-pub use responses::Then;
-pub use segments::NextSegment;
+pub use ack::{Ack, Delivery, SackNews};
+pub use ack_action::AckAction;
+pub use congestion::Cong;
+pub use laws::law_recovery;
+pub use next_segment::NextSegment;
+pub use prr::PrrState;

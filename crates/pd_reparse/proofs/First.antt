@@ -6,7 +6,7 @@ use Rattle.std.proofs.lemmas.List.Recursion.{is_count_by}
 use Rattle.std.proofs.lemmas.List.Sums.{common_prefix_len-le}
 use Rattle.std.proofs.Math.Numerals.{one-add}
 use Rattle.std.proofs.lemmas.Slice.Eq.{bytes_eq-Decides}
-use Rattle.pd_text.specs.Text.{AreLines, front}
+use Rattle.pd_text.specs.Text.{AreLines, common_prefix}
 use Rattle.pd_lex.specs.declared.token.Place.{Place}
 use Rattle.pd_lex.specs.Places.{first_place}
 use Rattle.pd_lex.specs.Tokens.{Item, lexeme, ending, bad}
@@ -17,8 +17,8 @@ use Rattle.pd_script.specs.Items.{is_header, starts_event, next_is}
 use Rattle.pd_script.specs.Script.{header_of, header_end, header_in, after_header, script_of}
 use Rattle.pd_script.proofs.Apart.{is_lexeme}
 use Rattle.pd_script.proofs.GrammarLaws.{Reads-event}
-use Rattle.pd_reparse.specs.declared.decided.Decided.{Decided}
-use Rattle.pd_reparse.specs.Reading.{DecidedScript, decided_in, reading_in, reading_of, events_of, is_within, kept_of, IsReadingOfFirst}
+use Rattle.pd_reparse.specs.declared.parsed_event.ParsedEvent.{ParsedEvent}
+use Rattle.pd_reparse.specs.Reading.{ReadingView, parsed_events_in, reading_in, reading_of, events_of, is_within, kept_of, IsReadingOfFirst}
 use Rattle.pd_script.specs.Header.{place_after_item}
 use Rattle.pd_reparse.proofs.Scripts.{reading_is_script}
 use Rattle.pd_reparse.proofs.Common.{shared}
@@ -80,9 +80,9 @@ starts_after (t ∷ ts) h = starts_no_header t h
 
 pub record Again (k : ℕ) (xs ys : List Item) : Type 0 where
   pub header : header_in xs ≡ header_in ys
-  pub stay : Stay 4096 k (decided_in 4096 (after_header xs)).events (after_header ys)
+  pub stay : Stay 4096 k (parsed_events_in 4096 (after_header xs)).events (after_header ys)
 
-again : (same line last k : ℕ) (xs ys : List Item) → IsInOrder line last xs → AgreeTo same xs ys → suc k ≤ tally same (decided_in 4096 (after_header xs)).events → (m : ℕ) → IsInOrder m last (after_header xs) → Again (suc k) xs ys
+again : (same line last k : ℕ) (xs ys : List Item) → IsInOrder line last xs → AgreeTo same xs ys → suc k ≤ tally same (parsed_events_in 4096 (after_header xs)).events → (m : ℕ) → IsInOrder m last (after_header xs) → Again (suc k) xs ys
 again same line last k xs ys up agree le m up_after =
     let F = first_is same 4095 k m last (after_header xs) up_after le in
     let H = header_parts xs in
@@ -98,15 +98,15 @@ again same line last k xs ys up agree le m up_after =
     let after_ys : after_header ys ≡ S.more = ap after_header S.parts ∙ (same_items H.front S.more H.all other).1 in
     record {
       header = ap header_in H.parts ∙ same_header H.front (after_header xs) S.more H.all one other ∙ ap header_in (sym S.parts);
-      stay = subst (λ (l : List Item). Stay 4096 (suc k) (decided_in 4096 (after_header xs)).events l) (sym after_ys) (stays 4096 same m last (suc k) (after_header xs) S.more up_after agree_after le);
+      stay = subst (λ (l : List Item). Stay 4096 (suc k) (parsed_events_in 4096 (after_header xs)).events l) (sym after_ys) (stays 4096 same m last (suc k) (after_header xs) S.more up_after agree_after le);
     }
 
 -- ---- texts
 
-pub tally_is : (same : ℕ) (ds : List Decided) → tally same ds ≡ count_by (λ (d : Decided). is_within same d.reach) ds
-tally_is same ds = is_count_by (tally same) (λ (d : Decided). is_within same d.reach) refl (λ d ds. refl) ds
+pub tally_is : (same : ℕ) (ds : List ParsedEvent) → tally same ds ≡ count_by (λ (d : ParsedEvent). is_within same d.lookahead_line) ds
+tally_is same ds = is_count_by (tally same) (λ (d : ParsedEvent). is_within same d.lookahead_line) refl (λ d ds. refl) ds
 
-pub kept_is : (same : ℕ) (r : DecidedScript) → kept_of same r ≡ tally same r.events
+pub kept_is : (same : ℕ) (r : ReadingView) → kept_of same r ≡ tally same r.events
 unfolding kept_of
 kept_is same r = sym (tally_is same r.events)
 
@@ -125,9 +125,9 @@ again_in order first lines others same k plain plain_others within equal le =
     let B = in_order_after 1 (max 1 (length lines)) (items lines first_place) up in
     again same 1 (max 1 (length lines)) k (items lines first_place) (items others first_place) up agree (subst (λ (n : ℕ). suc k ≤ n) (kept_is same (reading_in (items lines first_place))) le) B.0 B.1
 
-pub tally_short : (same : ℕ) (ds : List Decided) → tally same ds ≤ length ds
+pub tally_short : (same : ℕ) (ds : List ParsedEvent) → tally same ds ≤ length ds
 tally_short same [] = omega arith
-tally_short same (d ∷ ds) = by_test (is_within same d.reach) (tally_short same ds)
+tally_short same (d ∷ ds) = by_test (is_within same d.lookahead_line) (tally_short same ds)
   where
     by_test : (b : Bool) → tally same ds ≤ length ds → cond b (1 + tally same ds) (tally same ds) ≤ suc (length ds)
     by_test true h = omega (arith, h)
@@ -139,35 +139,35 @@ take_again (suc k) [] zs h = absurd (omega (arith, h))
 take_again (suc k) (x ∷ xs) zs h = ap (λ l. x ∷ l) (take_again k xs zs (omega (arith, h)))
 
 -- the equal first lines are equal
-pub front_equal : (xs ys : List (List ℕ)) → take (front xs ys) xs ≡ take (front xs ys) ys
+pub front_equal : (xs ys : List (List ℕ)) → take (common_prefix xs ys) xs ≡ take (common_prefix xs ys) ys
 front_equal [] ys = refl
 front_equal (x ∷ xs) [] = refl
 front_equal (x ∷ xs) (y ∷ ys) = by_test (bytes_eq x y) refl (front_equal xs ys)
   where
-    by_test : (b : Bool) → bytes_eq x y ≡ b → take (front xs ys) xs ≡ take (front xs ys) ys → take (cond b (1 + front xs ys) 0) (x ∷ xs) ≡ take (cond b (1 + front xs ys) 0) (y ∷ ys)
+    by_test : (b : Bool) → bytes_eq x y ≡ b → take (common_prefix xs ys) xs ≡ take (common_prefix xs ys) ys → take (cond b (1 + common_prefix xs ys) 0) (x ∷ xs) ≡ take (cond b (1 + common_prefix xs ys) 0) (y ∷ ys)
     by_test true e h = let same : x ≡ y = (bytes_eq-Decides x y).0 e in rw (one-add, same) (ap (λ (l : List (List ℕ)). y ∷ l) h)
     by_test false e h = refl
 
-pub first_stay : ItemsAreInOrder → FirstLinesAgree → (lines others : List (List ℕ)) (count : ℕ) → AreLines lines → AreLines others → 0 < count → count ≤ kept_of (front lines others) (reading_of lines) → ((reading_of lines).header ≡ (reading_of others).header) × (take count (reading_of lines).events ≡ take count (reading_of others).events)
+pub first_stay : ItemsAreInOrder → FirstLinesAgree → (lines others : List (List ℕ)) (count : ℕ) → AreLines lines → AreLines others → 0 < count → count ≤ kept_of (common_prefix lines others) (reading_of lines) → ((reading_of lines).header ≡ (reading_of others).header) × (take count (reading_of lines).events ≡ take count (reading_of others).events)
 unfolding reading_of reading_in
 first_stay order first lines others zero plain plain_others some le = absurd (omega (arith, some))
 first_stay order first lines others (suc k) plain plain_others some le =
-    let A = again_in order first lines others (front lines others) k plain plain_others (common_prefix_len-le bytes_eq lines others).0 (front_equal lines others) le in
+    let A = again_in order first lines others (common_prefix lines others) k plain plain_others (common_prefix_len-le bytes_eq lines others).0 (front_equal lines others) le in
     let olds = (reading_of lines).events in
-    let short : suc k ≤ length olds = omega (arith, le, kept_is (front lines others) (reading_of lines), tally_short (front lines others) olds) in
+    let short : suc k ≤ length olds = omega (arith, le, kept_is (common_prefix lines others) (reading_of lines), tally_short (common_prefix lines others) olds) in
     (A.header, sym (rw A.stay.read (take_again (suc k) olds _ short)))
 
-pub first_of_scripts_stay : ItemsAreInOrder → FirstLinesAgree → (lines others : List (List ℕ)) (count : ℕ) → AreLines lines → AreLines others → 0 < count → count ≤ kept_of (front lines others) (reading_of lines) → ((script_of lines).header ≡ (script_of others).header) × (take count (script_of lines).events ≡ take count (script_of others).events)
+pub first_of_scripts_stay : ItemsAreInOrder → FirstLinesAgree → (lines others : List (List ℕ)) (count : ℕ) → AreLines lines → AreLines others → 0 < count → count ≤ kept_of (common_prefix lines others) (reading_of lines) → ((script_of lines).header ≡ (script_of others).header) × (take count (script_of lines).events ≡ take count (script_of others).events)
 first_of_scripts_stay order first lines others count plain plain_others some le =
     let S = first_stay order first lines others count plain plain_others some le in
     rw (← reading_is_script lines, ← reading_is_script others) (S.0, sym (taken count (reading_of lines).events) ∙ ap events_of S.1 ∙ taken count (reading_of others).events)
   where
-    taken : (k : ℕ) (ds : List Decided) → events_of (take k ds) ≡ take k (events_of ds)
+    taken : (k : ℕ) (ds : List ParsedEvent) → events_of (take k ds) ≡ take k (events_of ds)
     taken zero ds = refl
     taken (suc k) [] = refl
     taken (suc k) (d ∷ ds) = ap (λ (es : List Event). d.event ∷ es) (taken k ds)
 
 -- the reading of a text, for a text with which it has so many first lines in common
-pub reads_front : (text lines : List (List ℕ)) (r : DecidedScript) (same : ℕ) → AreLines text → r ≡ reading_of text → same ≡ front text lines → IsReadingOfFirst same lines r
+pub reads_front : (text lines : List (List ℕ)) (r : ReadingView) (same : ℕ) → AreLines text → r ≡ reading_of text → same ≡ common_prefix text lines → IsReadingOfFirst same lines r
 reads_front text lines r same plain read is =
     rw is (record { text = text; plain = plain; read = read; within = (common_prefix_len-le bytes_eq text lines).0; equal = front_equal text lines })

@@ -4,8 +4,8 @@ pub mod Common
 pub mod Stays
 pub mod First
 pub mod OnTheWay
-pub mod Taken
+pub mod TakeLemmas
 pub mod ReadOn
 pub mod Rising
 pub mod Chained
-pub mod Blocks
+pub mod SharedBlocks

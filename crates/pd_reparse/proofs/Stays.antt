@@ -19,9 +19,9 @@ use Rattle.pd_script.specs.Script.{followed, may_follow}
 use Rattle.pd_script.proofs.Apart.{is_lexeme, apart, num_kind, symbol_kind, or-elim, or-elim-no}
 use Rattle.pd_script.proofs.Laws.{ok, next-same}
 use Rattle.pd_script.proofs.GrammarLaws.{Reads-event}
-use Rattle.pd_reparse.specs.declared.decided.Decided.{Decided}
-use Rattle.pd_script.specs.Next.{reach_of}
-use Rattle.pd_reparse.specs.Reading.{decided, with_decided, none_decided, decided_in, is_within, last_place}
+use Rattle.pd_reparse.specs.declared.parsed_event.ParsedEvent.{ParsedEvent}
+use Rattle.pd_script.specs.Next.{lookahead_line_of}
+use Rattle.pd_reparse.specs.Reading.{parsed_event, with_parsed_event, no_parsed_event, parsed_events_in, is_within, last_place}
 use Rattle.pd_reparse.specs.Steps.{in_front}
 use Rattle.pd_reparse.proofs.Common.{shared}
 
@@ -69,9 +69,9 @@ starts_no_header t h =
 -- ---- lines of reaches rise
 
 -- the number of events that are decided, by recursion
-abbrev pub tally : ℕ → List Decided → ℕ
+abbrev pub tally : ℕ → List ParsedEvent → ℕ
 tally same [] = 0
-tally same (d ∷ ds) = cond (is_within same d.reach) (1 + tally same ds) (tally same ds)
+tally same (d ∷ ds) = cond (is_within same d.lookahead_line) (1 + tally same ds) (tally same ds)
 
 pub record After (line last : ℕ) (back : List Item) : Type 0 where
   pub from : ℕ
@@ -94,7 +94,7 @@ after_event line last xs e rest h up =
 above : (same n : ℕ) → same < n → nat_le n same ≡ false
 above same n h = grind (arith, nat_tests)
 
-not_within : (same line last : ℕ) (t : Item) (rest : List Item) → same < line → IsInOrder line last (t ∷ rest) → is_within same (reach_of (t ∷ rest)) ≡ false
+not_within : (same line last : ℕ) (t : Item) (rest : List Item) → same < line → IsInOrder line last (t ∷ rest) → is_within same (lookahead_line_of (t ∷ rest)) ≡ false
 not_within same line last (lexeme x) rest lt up = above same x.from.line (omega (arith, up.0))
 not_within same line last (ending n) rest lt up = refl
 not_within same line last (bad n) rest lt up = above same n (omega (arith, up.0))
@@ -104,24 +104,24 @@ not_one true n h e = absurd cc
 not_one false n h e = e
 
 -- events after the first lines aren't decided by them
-pub none_within : (n same line last : ℕ) (xs : List Item) → same < line → IsInOrder line last xs → tally same (decided_in n xs).events ≡ 0
-unfolding decided_in
+pub none_within : (n same line last : ℕ) (xs : List Item) → same < line → IsInOrder line last xs → tally same (parsed_events_in n xs).events ≡ 0
+unfolding parsed_events_in
 none_within zero same line last xs lt up = refl
 none_within (suc n) same line last xs lt up = by_test (next_is starts_event xs) (λ from ys g u. none_within n same from last ys g u)
   where
     Others : Type 0
-    Others = (from : ℕ) (ys : List Item) → same < from → IsInOrder from last ys → tally same (decided_in n ys).events ≡ 0
+    Others = (from : ℕ) (ys : List Item) → same < from → IsInOrder from last ys → tally same (parsed_events_in n ys).events ≡ 0
 
-    by_next : (b : Bool) (e : Event) (t : Item) (rest : List Item) → After line last (t ∷ rest) → ((from : ℕ) (ys : List Item) → same < from → IsInOrder from last ys → tally same (decided_in n ys).events ≡ 0) → tally same (with_decided (decided_in n) (cond b (Ok (e, t ∷ rest)) (Err (t ∷ rest)))).events ≡ 0
-    by_next true e t rest B ih = not_one (is_within same (reach_of (t ∷ rest))) (tally same (decided_in n (t ∷ rest)).events) (not_within same B.from last t rest (omega (arith, B.later)) B.rises) (ih B.from (t ∷ rest) (omega (arith, B.later)) B.rises)
+    by_next : (b : Bool) (e : Event) (t : Item) (rest : List Item) → After line last (t ∷ rest) → ((from : ℕ) (ys : List Item) → same < from → IsInOrder from last ys → tally same (parsed_events_in n ys).events ≡ 0) → tally same (with_parsed_event (parsed_events_in n) (cond b (Ok (e, t ∷ rest)) (Err (t ∷ rest)))).events ≡ 0
+    by_next true e t rest B ih = not_one (is_within same (lookahead_line_of (t ∷ rest))) (tally same (parsed_events_in n (t ∷ rest)).events) (not_within same B.from last t rest (omega (arith, B.later)) B.rises) (ih B.from (t ∷ rest) (omega (arith, B.later)) B.rises)
     by_next false e t rest B ih = refl
 
-    by_read : (r : Read Event) → event_at xs ≡ r → ((from : ℕ) (ys : List Item) → same < from → IsInOrder from last ys → tally same (decided_in n ys).events ≡ 0) → tally same (with_decided (decided_in n) (followed (may_follow n) r)).events ≡ 0
+    by_read : (r : Read Event) → event_at xs ≡ r → ((from : ℕ) (ys : List Item) → same < from → IsInOrder from last ys → tally same (parsed_events_in n ys).events ≡ 0) → tally same (with_parsed_event (parsed_events_in n) (followed (may_follow n) r)).events ≡ 0
     by_read (Err rest) h ih = refl
     by_read (Ok (e, [])) h ih = refl
     by_read (Ok (e, t ∷ rest)) h ih = by_next (may_follow n t) e t rest (after_event line last xs e (t ∷ rest) h up) ih
 
-    by_test : (b : Bool) → ((from : ℕ) (ys : List Item) → same < from → IsInOrder from last ys → tally same (decided_in n ys).events ≡ 0) → tally same (cond b (with_decided (decided_in n) (followed (may_follow n) (event_at xs))) (none_decided xs)).events ≡ 0
+    by_test : (b : Bool) → ((from : ℕ) (ys : List Item) → same < from → IsInOrder from last ys → tally same (parsed_events_in n ys).events ≡ 0) → tally same (cond b (with_parsed_event (parsed_events_in n) (followed (may_follow n) (event_at xs))) (no_parsed_event xs)).events ≡ 0
     by_test true ih = by_read (event_at xs) refl ih
     by_test false ih = refl
 
@@ -140,7 +140,7 @@ pub record First (same n k : ℕ) (xs : List Item) : Type 0 where
   pub x : Lexeme
   pub rest : List Item
   pub is : IsFirst same n xs e x rest
-  pub others : k ≤ tally same (decided_in n (lexeme x ∷ rest)).events
+  pub others : k ≤ tally same (parsed_events_in n (lexeme x ∷ rest)).events
 
 begins_event : (n : ℕ) (x : Lexeme) → may_follow n (lexeme x) ≡ true → starts_event (lexeme x) ≡ true
 begins_event zero x h = absurd cc
@@ -150,8 +150,8 @@ nothing_bad : (n line : ℕ) → may_follow n (bad line) ≡ true → ⊥
 nothing_bad zero line h = cc
 nothing_bad (suc n) line h = cc
 
-pub no_start : (n same : ℕ) (ts : List Item) → next_is starts_event ts ≡ false → tally same (decided_in n ts).events ≡ 0
-unfolding decided_in
+pub no_start : (n same : ℕ) (ts : List Item) → next_is starts_event ts ≡ false → tally same (parsed_events_in n ts).events ≡ 0
+unfolding parsed_events_in
 no_start zero same ts h = refl
 no_start (suc n) same ts h = rw h refl
 
@@ -166,34 +166,34 @@ pub is_more : (n same : ℕ) → nat_le n same ≡ false → same < n
 is_more n same h = grind (arith, nat_tests)
 
 module _ (same n k line last : ℕ) (xs : List Item) (up : IsInOrder line last xs) (start : next_is starts_event xs ≡ true) where
-  first_token : (e : Event) (t : Item) (rest : List Item) → event_at xs ≡ ok e (t ∷ rest) → may_follow n t ≡ true → After line last (t ∷ rest) → suc k ≤ tally same (decided e (t ∷ rest) ∷ (decided_in n (t ∷ rest)).events) → First same n k xs
+  first_token : (e : Event) (t : Item) (rest : List Item) → event_at xs ≡ ok e (t ∷ rest) → may_follow n t ≡ true → After line last (t ∷ rest) → suc k ≤ tally same (parsed_event e (t ∷ rest) ∷ (parsed_events_in n (t ∷ rest)).events) → First same n k xs
   first_token e (lexeme x) rest h f B le =
       let begins = begins_event n x f in
-      let W = must_be (nat_le x.from.line same) k (tally same (decided_in n (lexeme x ∷ rest)).events) le (λ no. none_within n same x.from.line last (lexeme x ∷ rest) (is_more x.from.line same no) (omega arith, B.rises.1, B.rises.2, B.rises.3, B.rises.4)) in
+      let W = must_be (nat_le x.from.line same) k (tally same (parsed_events_in n (lexeme x ∷ rest)).events) le (λ no. none_within n same x.from.line last (lexeme x ∷ rest) (is_more x.from.line same no) (omega arith, B.rises.1, B.rises.2, B.rises.3, B.rises.4)) in
       record { e = e; x = x; rest = rest; is = record { start = start; reads = h; follows = f; begins = begins; within = is_at_most x.from.line same W.0 }; others = W.1 }
   first_token e (ending m) rest h f B le = absurd (let z = no_start n same (ending m ∷ rest) refl in omega (arith, le, z))
   first_token e (bad m) rest h f B le = absurd (nothing_bad n m f)
 
-  first_next : (b : Bool) (e : Event) (t : Item) (rest : List Item) → event_at xs ≡ ok e (t ∷ rest) → may_follow n t ≡ b → suc k ≤ tally same (with_decided (decided_in n) (cond b (Ok (e, t ∷ rest)) (Err (t ∷ rest)))).events → First same n k xs
+  first_next : (b : Bool) (e : Event) (t : Item) (rest : List Item) → event_at xs ≡ ok e (t ∷ rest) → may_follow n t ≡ b → suc k ≤ tally same (with_parsed_event (parsed_events_in n) (cond b (Ok (e, t ∷ rest)) (Err (t ∷ rest)))).events → First same n k xs
   first_next true e t rest h f le = first_token e t rest h f (after_event line last xs e (t ∷ rest) h up) le
   first_next false e t rest h f le = absurd (omega (arith, le))
 
-  first_read : (r : Read Event) → event_at xs ≡ r → suc k ≤ tally same (with_decided (decided_in n) (followed (may_follow n) r)).events → First same n k xs
+  first_read : (r : Read Event) → event_at xs ≡ r → suc k ≤ tally same (with_parsed_event (parsed_events_in n) (followed (may_follow n) r)).events → First same n k xs
   first_read (Err rest) h le = absurd (omega (arith, le))
   first_read (Ok (e, [])) h le = absurd (omega (arith, le))
   first_read (Ok (e, t ∷ rest)) h le = first_next (may_follow n t) e t rest h refl le
 
-first_by : (same n k line last : ℕ) (xs : List Item) (b : Bool) → next_is starts_event xs ≡ b → IsInOrder line last xs → suc k ≤ tally same (cond b (with_decided (decided_in n) (followed (may_follow n) (event_at xs))) (none_decided xs)).events → First same n k xs
+first_by : (same n k line last : ℕ) (xs : List Item) (b : Bool) → next_is starts_event xs ≡ b → IsInOrder line last xs → suc k ≤ tally same (cond b (with_parsed_event (parsed_events_in n) (followed (may_follow n) (event_at xs))) (no_parsed_event xs)).events → First same n k xs
 first_by same n k line last xs true start up le = first_read same n k line last xs up start (event_at xs) refl le
 first_by same n k line last xs false start up le = absurd (omega (arith, le))
 
-pub first_is : (same n k line last : ℕ) (xs : List Item) → IsInOrder line last xs → suc k ≤ tally same (decided_in (suc n) xs).events → First same n k xs
-unfolding decided_in
+pub first_is : (same n k line last : ℕ) (xs : List Item) → IsInOrder line last xs → suc k ≤ tally same (parsed_events_in (suc n) xs).events → First same n k xs
+unfolding parsed_events_in
 first_is same n k line last xs up le = first_by same n k line last xs (next_is starts_event xs) refl up le
 
 -- what a first event leaves
-first_leaves : (same n : ℕ) (xs : List Item) (e : Event) (x : Lexeme) (rest : List Item) → IsFirst same n xs e x rest → decided_in (suc n) xs ≡ with_decided (decided_in n) (ok e (lexeme x ∷ rest))
-unfolding decided_in
+first_leaves : (same n : ℕ) (xs : List Item) (e : Event) (x : Lexeme) (rest : List Item) → IsFirst same n xs e x rest → parsed_events_in (suc n) xs ≡ with_parsed_event (parsed_events_in n) (ok e (lexeme x ∷ rest))
+unfolding parsed_events_in
 first_leaves same n xs e x rest F = rw (F.start, F.reads, F.follows) refl
 
 -- the other text has it too
@@ -234,26 +234,26 @@ both same n line last xs ys e x rest up agree F =
 -- ---- all events that are decided so
 
 -- where reading goes on after these events, the first of the others
-pub record IsAt (ys : List Item) (ds : List Decided) (front rest : List Item) : Type 0 where
+pub record IsAt (ys : List Item) (ds : List ParsedEvent) (front rest : List Item) : Type 0 where
   pub parts : ys ≡ front ++ rest
   pub place : (ds ≡ [] → rest ≡ ys) × ((ds ≡ [] → ⊥) → (x : Lexeme) × (more : List Item) × (rest ≡ lexeme x ∷ more) × (starts_event (lexeme x) ≡ true) × ((p : Place) → last_place p ds ≡ x.from))
 
-pub record Stay (n k : ℕ) (old : List Decided) (ys : List Item) : Type 0 where
+pub record Stay (n k : ℕ) (old : List ParsedEvent) (ys : List Item) : Type 0 where
   pub front : List Item
   pub rest : List Item
   pub at : IsAt ys (take k old) front rest
-  pub read : decided_in n ys ≡ in_front (take k old) (decided_in (n - k) rest)
+  pub read : parsed_events_in n ys ≡ in_front (take k old) (parsed_events_in (n - k) rest)
 
-stay_none : (n : ℕ) (old : List Decided) (ys : List Item) → Stay n zero old ys
+stay_none : (n : ℕ) (old : List ParsedEvent) (ys : List Item) → Stay n zero old ys
 stay_none n old ys = record { front = []; rest = ys; at = record { parts = refl; place = (λ e. refl, λ some. absurd (some refl)) }; read = rw sub-zero refl }
 
-none_left : (same k : ℕ) (xs : List Item) → suc k ≤ tally same (decided_in zero xs).events → ⊥
-unfolding decided_in
+none_left : (same k : ℕ) (xs : List Item) → suc k ≤ tally same (parsed_events_in zero xs).events → ⊥
+unfolding parsed_events_in
 none_left same k xs h = omega (arith, h)
 
-stay_more : (n k : ℕ) (e : Event) (x : Lexeme) (rest more ys front : List Item) (old : List Decided) → starts_event (lexeme x) ≡ true → ys ≡ front ++ lexeme x ∷ more → decided_in (suc n) ys ≡ with_decided (decided_in n) (ok e (lexeme x ∷ more)) → Stay n k old (lexeme x ∷ more) → Stay (suc n) (suc k) (decided e (lexeme x ∷ rest) ∷ old) ys
+stay_more : (n k : ℕ) (e : Event) (x : Lexeme) (rest more ys front : List Item) (old : List ParsedEvent) → starts_event (lexeme x) ≡ true → ys ≡ front ++ lexeme x ∷ more → parsed_events_in (suc n) ys ≡ with_parsed_event (parsed_events_in n) (ok e (lexeme x ∷ more)) → Stay n k old (lexeme x ∷ more) → Stay (suc n) (suc k) (parsed_event e (lexeme x ∷ rest) ∷ old) ys
 stay_more n k e x rest more ys front old begins parts new S =
-    let d : Decided = decided e (lexeme x ∷ rest) in
+    let d : ParsedEvent = parsed_event e (lexeme x ∷ rest) in
     let less : suc n - suc k ≡ n - k = omega arith in
     record {
       front = front ++ S.front;
@@ -265,43 +265,43 @@ stay_more n k e x rest more ys front old begins parts new S =
       read = rw (new, less, S.read) refl;
     }
   where
-    by_rest : (ds : List Decided) → ((ds ≡ [] → S.rest ≡ lexeme x ∷ more) × ((ds ≡ [] → ⊥) → (y : Lexeme) × (others : List Item) × (S.rest ≡ lexeme y ∷ others) × (starts_event (lexeme y) ≡ true) × ((p : Place) → last_place p ds ≡ y.from))) → (y : Lexeme) × (others : List Item) × (S.rest ≡ lexeme y ∷ others) × (starts_event (lexeme y) ≡ true) × ((p : Place) → last_place x.from ds ≡ y.from)
+    by_rest : (ds : List ParsedEvent) → ((ds ≡ [] → S.rest ≡ lexeme x ∷ more) × ((ds ≡ [] → ⊥) → (y : Lexeme) × (others : List Item) × (S.rest ≡ lexeme y ∷ others) × (starts_event (lexeme y) ≡ true) × ((p : Place) → last_place p ds ≡ y.from))) → (y : Lexeme) × (others : List Item) × (S.rest ≡ lexeme y ∷ others) × (starts_event (lexeme y) ≡ true) × ((p : Place) → last_place x.from ds ≡ y.from)
     by_rest [] h = (x, more, h.0 refl, begins, λ p. refl)
     by_rest (d ∷ ds) h = let g = h.1 (λ e. absurd cc) in (g.0, g.1, g.2, g.3, λ p. g.4 x.from)
 
-pub stays : (n same line last k : ℕ) (xs ys : List Item) → IsInOrder line last xs → AgreeTo same xs ys → k ≤ tally same (decided_in n xs).events → Stay n k (decided_in n xs).events ys
-stays n same line last zero xs ys up agree le = stay_none n (decided_in n xs).events ys
+pub stays : (n same line last k : ℕ) (xs ys : List Item) → IsInOrder line last xs → AgreeTo same xs ys → k ≤ tally same (parsed_events_in n xs).events → Stay n k (parsed_events_in n xs).events ys
+stays n same line last zero xs ys up agree le = stay_none n (parsed_events_in n xs).events ys
 stays zero same line last (suc k) xs ys up agree le = absurd (none_left same k xs le)
 stays (suc n) same line last (suc k) xs ys up agree le =
     let F = first_is same n k line last xs up le in
     let B = both same n line last xs ys F.e F.x F.rest up agree F.is in
     let T = Reads-event.laws.took ys F.e (lexeme F.x ∷ B.more) B.is.reads in
     let S = stays n same F.x.from.line last k (lexeme F.x ∷ F.rest) (lexeme F.x ∷ B.more) B.rises B.agree F.others in
-    rw (first_leaves same n xs F.e F.x F.rest F.is) (stay_more n k F.e F.x F.rest B.more ys T.front (decided_in n (lexeme F.x ∷ F.rest)).events F.is.begins T.parts (first_leaves same n ys F.e F.x B.more B.is) S)
+    rw (first_leaves same n xs F.e F.x F.rest F.is) (stay_more n k F.e F.x F.rest B.more ys T.front (parsed_events_in n (lexeme F.x ∷ F.rest)).events F.is.begins T.parts (first_leaves same n ys F.e F.x B.more B.is) S)
 
 -- ---- the last event that a script may have isn't decided by a token
 
-below : (same n : ℕ) (r : Read Event) → ((ts : List Item) → tally same (decided_in n ts).events ≤ n - 1) → ((ts : List Item) → n ≡ 0 → tally same (decided_in n ts).events ≡ 0) → tally same (with_decided (decided_in n) (followed (may_follow n) r)).events ≤ n
+below : (same n : ℕ) (r : Read Event) → ((ts : List Item) → tally same (parsed_events_in n ts).events ≤ n - 1) → ((ts : List Item) → n ≡ 0 → tally same (parsed_events_in n ts).events ≡ 0) → tally same (with_parsed_event (parsed_events_in n) (followed (may_follow n) r)).events ≤ n
 below same n (Err rest) ih none = omega arith
 below same n (Ok x) ih none = by_test n (next_is (may_follow n) x.1) refl (ih x.1) (none x.1)
   where
-    last_within : (ts : List Item) → next_is is_end ts ≡ true → is_within same (reach_of ts) ≡ false
+    last_within : (ts : List Item) → next_is is_end ts ≡ true → is_within same (lookahead_line_of ts) ≡ false
     last_within ts e = rw e refl
 
     one : (w : Bool) (t m : ℕ) → t ≤ m → cond w (1 + t) t ≤ suc m
     one true t m h = omega (arith, h)
     one false t m h = omega (arith, h)
 
-    by_test : (m : ℕ) (b : Bool) → next_is (may_follow m) x.1 ≡ b → tally same (decided_in m x.1).events ≤ m - 1 → (m ≡ 0 → tally same (decided_in m x.1).events ≡ 0) → tally same (with_decided (decided_in m) (cond b (Ok x) (Err x.1))).events ≤ m
+    by_test : (m : ℕ) (b : Bool) → next_is (may_follow m) x.1 ≡ b → tally same (parsed_events_in m x.1).events ≤ m - 1 → (m ≡ 0 → tally same (parsed_events_in m x.1).events ≡ 0) → tally same (with_parsed_event (parsed_events_in m) (cond b (Ok x) (Err x.1))).events ≤ m
     by_test m false f t z = omega arith
     by_test zero true f t z = rw (last_within x.1 f) (omega (arith, z refl))
-    by_test (suc m) true f t z = one (is_within same (reach_of x.1)) (tally same (decided_in (suc m) x.1).events) m (let less : suc m - 1 ≡ m = omega arith in rw less at t)
+    by_test (suc m) true f t z = one (is_within same (lookahead_line_of x.1)) (tally same (parsed_events_in (suc m) x.1).events) m (let less : suc m - 1 ≡ m = omega arith in rw less at t)
 
-pub tally_below : (same n : ℕ) (ts : List Item) → tally same (decided_in n ts).events ≤ n - 1
-unfolding decided_in
+pub tally_below : (same n : ℕ) (ts : List Item) → tally same (parsed_events_in n ts).events ≤ n - 1
+unfolding parsed_events_in
 tally_below same zero ts = omega arith
 tally_below same (suc n) ts = by_test (next_is starts_event ts) (below same n (event_at ts) (tally_below same n) (λ us e. let h = tally_below same n us in omega (arith, h, e)))
   where
-    by_test : (b : Bool) → tally same (with_decided (decided_in n) (followed (may_follow n) (event_at ts))).events ≤ n → tally same (cond b (with_decided (decided_in n) (followed (may_follow n) (event_at ts))) (none_decided ts)).events ≤ suc n - 1
+    by_test : (b : Bool) → tally same (with_parsed_event (parsed_events_in n) (followed (may_follow n) (event_at ts))).events ≤ n → tally same (cond b (with_parsed_event (parsed_events_in n) (followed (may_follow n) (event_at ts))) (no_parsed_event ts)).events ≤ suc n - 1
     by_test true h = omega (arith, h)
     by_test false h = omega arith

@@ -2,4 +2,4 @@
 pub mod Reading
 pub mod Steps
 pub mod Laws
-pub mod Blocks
+pub mod SharedBlocks

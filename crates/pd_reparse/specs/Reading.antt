@@ -9,61 +9,61 @@ use Rattle.pd_script.specs.Items.{starts_event, next_is}
 use Rattle.pd_script.specs.Reader.{Read}
 use Rattle.pd_script.specs.EventReading.{next_line, event_at}
 use Rattle.pd_script.specs.Script.{followed, may_follow, at_end, header_in, after_header}
-use Rattle.pd_script.specs.Header.{Heading}
-use Rattle.pd_script.specs.Next.{next_place, reach_of}
+use Rattle.pd_script.specs.Header.{HeaderView}
+use Rattle.pd_script.specs.Next.{next_place, lookahead_line_of}
 use Rattle.pd_script.specs.declared.script_events.Event.{Event}
-use Rattle.pd_script.specs.declared.parsing.Parsed.{Parsed}
-use Rattle.pd_reparse.specs.declared.decided.Decided.{Decided}
+use Rattle.pd_script.specs.declared.parsed.Parsed.{Parsed}
+use Rattle.pd_reparse.specs.declared.parsed_event.ParsedEvent.{ParsedEvent}
 
 -- a header, events with what decided them, and the line of the fault
-pub record DecidedScript : Type 0 where
-  pub header : Heading
-  pub events : List Decided
+pub record ReadingView : Type 0 where
+  pub header : HeaderView
+  pub events : List ParsedEvent
   pub fault : Option ℕ
 
 -- the events among them, and the line of the fault
-pub record DecidedEvents : Type 0 where
-  pub events : List Decided
+pub record ParsedEventsAndFault : Type 0 where
+  pub events : List ParsedEvent
   pub fault : Option ℕ
 
 -- an event that these items follow: the line of the first decided it, and there reading goes on
-abbrev pub decided : Event → List Item → Decided
-decided event rest = record { event = event; reach = reach_of rest; after = next_place rest }
+abbrev pub parsed_event : Event → List Item → ParsedEvent
+parsed_event event rest = record { event = event; lookahead_line = lookahead_line_of rest; after = next_place rest }
 
 -- an event that was read and what decided it, in front of those that are found further on; or the line of the fault
-abbrev pub with_decided : (List Item → DecidedEvents) → Read Event → DecidedEvents
-with_decided others (Ok x) = record { events = decided x.0 x.1 ∷ (others x.1).events; fault = (others x.1).fault }
-with_decided others (Err rest) = record { events = []; fault = Some (next_line rest) }
+abbrev pub with_parsed_event : (List Item → ParsedEventsAndFault) → Read Event → ParsedEventsAndFault
+with_parsed_event others (Ok x) = record { events = parsed_event x.0 x.1 ∷ (others x.1).events; fault = (others x.1).fault }
+with_parsed_event others (Err rest) = record { events = []; fault = Some (next_line rest) }
 
 -- no event: a fault where the text doesn't end there
-abbrev pub none_decided : List Item → DecidedEvents
-none_decided ts = record { events = []; fault = (at_end ts).fault }
+abbrev pub no_parsed_event : List Item → ParsedEventsAndFault
+no_parsed_event ts = record { events = []; fault = (at_end ts).fault }
 
 -- the events of the items, at most so many, each kept where what follows it may, with what decided it
-unfoldable pub decided_in : ℕ → List Item → DecidedEvents
-decided_in zero ts = none_decided ts
-decided_in (suc n) ts = if next_is starts_event ts then with_decided (decided_in n) (followed (may_follow n) (event_at ts)) else none_decided ts
+unfoldable pub parsed_events_in : ℕ → List Item → ParsedEventsAndFault
+parsed_events_in zero ts = no_parsed_event ts
+parsed_events_in (suc n) ts = if next_is starts_event ts then with_parsed_event (parsed_events_in n) (followed (may_follow n) (event_at ts)) else no_parsed_event ts
 
 -- what the items of a text are read as: a header, and at most 4,096 events
-unfoldable pub reading_in : List Item → DecidedScript
+unfoldable pub reading_in : List Item → ReadingView
 reading_in ts =
-    let found = decided_in 4096 (after_header ts) in
+    let found = parsed_events_in 4096 (after_header ts) in
     record { header = header_in ts; events = found.events; fault = found.fault }
 
 -- what a text is read as
-unfoldable pub reading_of : List (List ℕ) → DecidedScript
+unfoldable pub reading_of : List (List ℕ) → ReadingView
 reading_of lines = reading_in (items lines first_place)
 
 -- the events alone
-abbrev pub events_of : List Decided → List Event
-events_of ds = map (λ (d : Decided). d.event) ds
+abbrev pub events_of : List ParsedEvent → List Event
+events_of ds = map (λ (d : ParsedEvent). d.event) ds
 
 -- a reading without what decided its events
-abbrev pub script_part : DecidedScript → Parsed
+abbrev pub script_part : ReadingView → Parsed
 script_part r = record { header = r.header; events = events_of r.events; fault = r.fault }
 
 -- the place after some events that begin at a place
-abbrev pub last_place : Place → List Decided → Place
+abbrev pub last_place : Place → List ParsedEvent → Place
 last_place place [] = place
 last_place place (d ∷ ds) = last_place d.after ds
 
@@ -73,16 +73,16 @@ is_within same None = false
 is_within same (Some line) = nat_le line same
 
 -- where an event isn't decided by some first lines, none after it is
-abbrev pub ReachesRise : List Decided → Type 0
+abbrev pub ReachesRise : List ParsedEvent → Type 0
 ReachesRise [] = Unit {0}
-ReachesRise (d ∷ ds) = ((same : ℕ) → is_within same d.reach ≡ false → count_by (λ (e : Decided). is_within same e.reach) ds ≡ 0) × ReachesRise ds
+ReachesRise (d ∷ ds) = ((same : ℕ) → is_within same d.lookahead_line ≡ false → count_by (λ (e : ParsedEvent). is_within same e.lookahead_line) ds ≡ 0) × ReachesRise ds
 
 -- how many events the first lines of a text decide
-unfoldable pub kept_of : ℕ → DecidedScript → ℕ
-kept_of same r = count_by (λ (d : Decided). is_within same d.reach) r.events
+unfoldable pub kept_of : ℕ → ReadingView → ℕ
+kept_of same r = count_by (λ (d : ParsedEvent). is_within same d.lookahead_line) r.events
 
 -- the reading is that of some text whose first lines are those of this one
-pub record IsReadingOfFirst (same : ℕ) (lines : List (List ℕ)) (r : DecidedScript) : Type 0 where
+pub record IsReadingOfFirst (same : ℕ) (lines : List (List ℕ)) (r : ReadingView) : Type 0 where
   pub text : List (List ℕ)
   pub plain : AreLines text
   pub read : r ≡ reading_of text

@@ -1,7 +1,7 @@
 //! Reading an edited script again from the first event that the edit can have changed.
 //!
 //! `read` reads a whole text and gives a `Reading`: its header and events, each with what decided
-//! it (`Decided`). That is its reach, the line of the token after it, and the place of this token.
+//! it (`ParsedEvent`). That is its reach, the line of the token after it, and the place of this token.
 //! `reread` takes the reading of an earlier text, and how many first lines are the same. It keeps
 //! the events that these lines decide, and reads on from the place after the last of them.
 //!
@@ -14,7 +14,7 @@
 //!
 //! What `reread` gives is the reading of the whole new text, and it keeps exactly `kept_of` events
 //! (specs/Reading.antt). Without what decided its events, a reading is what `pd_script` parses: the
-//! law `readings`. If the first lines don't decide an event, they decide none after it:
+//! law `law_readings`. If the first lines don't decide an event, they decide none after it:
 //! `ReachesRise`.
 //!
 //! Why it is so:
@@ -29,17 +29,17 @@
 //!   its checkpoints in such a list, too.
 #![tactic(auto)]
 
-mod decided;
-mod kept;
 mod laws;
+mod parsed_event;
+mod read_step;
 mod reading;
-mod rereading;
+mod reparse;
+mod reread_result;
 mod shared_list;
-mod steps;
 
-pub use decided::Decided;
-pub use kept::Reread;
-pub use laws::{events_are_chained, first_events, readings};
+pub use laws::{law_events_are_chained, law_first_events, law_readings};
+pub use parsed_event::ParsedEvent;
 pub use reading::Reading;
-pub use rereading::{read, reread};
-pub use shared_list::{Block, Copied, SharedList};
+pub use reparse::{read, reread};
+pub use reread_result::Reread;
+pub use shared_list::{SharedBlock, SharedList, TryClone};

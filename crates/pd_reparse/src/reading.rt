@@ -3,7 +3,7 @@ ghost use Rattle.std.specs.Prelude.{◌≡◌, ◌≤◌, ◌<◌, length, take,
 ghost use Rattle.pd_lex.specs.declared.token.Place.{Place};
 ghost use Rattle.pd_reparse.specs.Reading.{last_place};
 
-use crate::decided::Decided;
+use crate::parsed_event::ParsedEvent;
 use crate::shared_list::SharedList;
 use pd_lex::Place;
 use pd_script::Header;
@@ -17,16 +17,16 @@ pub struct Reading {
     /// What is before the events.
     header: Header,
     /// The events in order, each with what decided it; at most 4,096.
-    events: SharedList<Decided>,
+    events: SharedList<ParsedEvent>,
     /// The line at which no script goes on, if the text is refused.
     fault: Option<usize>,
 }
 
 impl Model for Reading {
     ghost use Rattle.std.specs.Prelude.{◌≤◌, length};
-    ghost use Rattle.pd_reparse.specs.Reading.{DecidedScript};
+    ghost use Rattle.pd_reparse.specs.Reading.{ReadingView};
 
-    ghost Value = { DecidedScript };
+    ghost Value = { ReadingView };
 
     ghost view = { λ r. record { header = r.header; events = r.events; fault = r.fault } };
 
@@ -40,14 +40,14 @@ impl Reading {
     /// `AllocError` where a growth is refused.
     pub fn new(
         header: Header,
-        events: SharedList<Decided>,
+        events: SharedList<ParsedEvent>,
         fault: Option<usize>,
     ) -> Result<Reading, AllocError>
         requires { length events ≤ 4096 }
         ensures { IfOk result (λ reading. reading ≡ record { header = header; events = events; fault = fault }) }
     {
         let mut events = events;
-        events.seal()?;
+        events.freeze()?;
         Ok(Reading {
             header,
             events,
@@ -63,7 +63,7 @@ impl Reading {
     }
 
     /// Its events, at most 4,096.
-    pub fn events(&self) -> &SharedList<Decided>
+    pub fn events(&self) -> &SharedList<ParsedEvent>
         ensures value { result.now ≡ self.now.events }
         ensures few { length result.now ≤ 4096 }
     {
@@ -84,7 +84,7 @@ impl Reading {
     ///
     /// # Errors
     /// `AllocError` where memory for what isn't shared is refused.
-    pub fn first_events(&self, count: usize) -> Result<SharedList<Decided>, AllocError>
+    pub fn first_events(&self, count: usize) -> Result<SharedList<ParsedEvent>, AllocError>
         requires { count ≤ length self.now.events }
         ensures { IfOk result (λ events. events ≡ take count self.now.events) }
     {

@@ -4,28 +4,28 @@
 //! little however many they are.
 ghost use Rattle.std.specs.Prelude.{◌≡◌, ◌≤◌, ◌<◌, ◌++◌, ◌∷◌, ◌+◌, [], length, take, get_or, slice_get, IfOk, OnOk, OnErr};
 ghost use Rattle.std.specs.Option.{option_copied};
-ghost use Rattle.pd_reparse.specs.Blocks.{items_in};
+ghost use Rattle.pd_reparse.specs.SharedBlocks.{items_in};
 
 mod block;
-mod copied;
+mod try_clone;
 
-pub use self::block::Block;
-pub use self::copied::Copied;
+pub use self::block::SharedBlock;
+pub use self::try_clone::TryClone;
 use std::alloc::{AllocError, Global};
 use std::marker::Model;
 use std::mem;
 
 /// How many items are in a block at most.
-const BLOCK: usize = 64;
+const BLOCK_LEN: usize = 64;
 
 /// For how many items the first makes room where none was made.
-const ROOM: usize = 16;
+const FIRST_CAPACITY: usize = 16;
 
 /// Items in order: in blocks that other lists may keep too, and after them fewer than a block, which no other keeps.
 #[derive(Drop)]
 pub struct SharedList<T> {
     /// The blocks in order.
-    blocks: Vec<Block<T>>,
+    blocks: Vec<SharedBlock<T>>,
     /// The items after the blocks, which no other list keeps.
     rest: Vec<T>,
     /// How many items there are in all.
@@ -34,7 +34,7 @@ pub struct SharedList<T> {
 
 impl<T> Model for SharedList<T> {
     ghost use Rattle.std.specs.Prelude.{List, ◌≡◌, ◌++◌, length};
-    ghost use Rattle.pd_reparse.specs.Blocks.{items_in};
+    ghost use Rattle.pd_reparse.specs.SharedBlocks.{items_in};
 
     ghost Value = { List T };
 
@@ -67,7 +67,7 @@ impl<T: Drop> SharedList<T> {
         requires { index < length self.now }
         ensures { result.now ≡ get_or self.now index result.now }
     {
-        let (block, at) = place(self.blocks.as_slice(), index);
+        let (block, at) = locate(self.blocks.as_slice(), index);
         if block < self.blocks.len() {
             &self.blocks[block].as_slice()[at]
         } else {
@@ -87,14 +87,14 @@ impl<T: Drop> SharedList<T> {
     }
 
     /// The blocks, and the items after them.
-    pub fn parts(&self) -> (&[Block<T>], &[T])
+    pub fn parts(&self) -> (&[SharedBlock<T>], &[T])
         ensures { items_in result.0.now ++ result.1.now ≡ self.now }
     {
         (self.blocks.as_slice(), self.rest.as_slice())
     }
 }
 
-impl<T: Copied + Drop> SharedList<T> {
+impl<T: TryClone + Drop> SharedList<T> {
     /// Puts an item after the others.
     ///
     /// # Errors
@@ -107,8 +107,8 @@ impl<T: Copied + Drop> SharedList<T> {
         }
         append(&mut self.rest, item)?;
         self.count += 1;
-        if self.rest.len() == BLOCK {
-            self.seal()?;
+        if self.rest.len() == BLOCK_LEN {
+            self.freeze()?;
         }
         Ok(())
     }
@@ -120,7 +120,7 @@ impl<T: Copied + Drop> SharedList<T> {
     pub fn reserve(&mut self, more: usize) -> Result<(), AllocError>
         ensures { self.new ≡ self.old }
     {
-        let room = more.min(BLOCK.saturating_sub(self.rest.len()));
+        let room = more.min(BLOCK_LEN.saturating_sub(self.rest.len()));
         self.rest.reserve_exact(room)
     }
 
@@ -130,7 +130,7 @@ impl<T: Copied + Drop> SharedList<T> {
     ///
     /// # Errors
     /// As for `push`.
-    pub fn seal(&mut self) -> Result<(), AllocError>
+    pub fn freeze(&mut self) -> Result<(), AllocError>
         ensures { OnOk result (self.new ≡ self.old) }
     {
         if self.rest.is_empty() {
@@ -144,7 +144,7 @@ impl<T: Copied + Drop> SharedList<T> {
         } = mem::replace(self, SharedList::new(alloc));
         let mut items = gather(alloc, &mut blocks, rest)?;
         items.shrink_to_fit();
-        blocks.push(Block::new(alloc, items)?)?;
+        blocks.push(SharedBlock::new(alloc, items)?)?;
         *self = SharedList {
             blocks,
             rest: Vec::new(alloc),
@@ -165,12 +165,12 @@ impl<T: Copied + Drop> SharedList<T> {
         if count == 0 {
             return Ok(SharedList::new(alloc));
         }
-        let (whole, last) = place(self.blocks.as_slice(), count - 1);
-        let mut blocks = shared(alloc, self.blocks.as_slice(), whole)?;
+        let (whole, last) = locate(self.blocks.as_slice(), count - 1);
+        let mut blocks = shared_front(alloc, self.blocks.as_slice(), whole)?;
         let rest = if whole < self.blocks.len() {
-            share(alloc, &mut blocks, &self.blocks[whole], last + 1)?
+            share_or_clone(alloc, &mut blocks, &self.blocks[whole], last + 1)?
         } else {
-            copies(alloc, self.rest.as_slice(), last + 1)?
+            cloned_front(alloc, self.rest.as_slice(), last + 1)?
         };
         Ok(SharedList {
             blocks,
@@ -181,7 +181,7 @@ impl<T: Copied + Drop> SharedList<T> {
 }
 
 /// In which block the item at an index stands, and where in it; after the blocks where it is in none.
-fn place<T: Drop>(blocks: &[Block<T>], index: usize) -> (usize, usize)
+fn locate<T: Drop>(blocks: &[SharedBlock<T>], index: usize) -> (usize, usize)
     ensures within { result.0 ≤ length blocks.now }
     ensures before { length (items_in (take result.0 blocks.now)) + result.1 ≡ index }
     ensures inside { result.0 < length blocks.now → result.1 < length (get_or blocks.now result.0 []) }
@@ -198,44 +198,44 @@ fn place<T: Drop>(blocks: &[Block<T>], index: usize) -> (usize, usize)
 }
 
 /// The first blocks, shared, with room for two more: one that is shared in part, and one of what is put after it.
-fn shared<T: Drop>(
+fn shared_front<T: Drop>(
     alloc: Global,
-    blocks: &[Block<T>],
+    blocks: &[SharedBlock<T>],
     count: usize,
-) -> Result<Vec<Block<T>>, AllocError>
+) -> Result<Vec<SharedBlock<T>>, AllocError>
     requires { count ≤ length blocks.now }
-    ensures { IfOk result (λ shared. shared.items ≡ take count blocks.now) }
+    ensures { IfOk result (λ shared_front. shared_front.items ≡ take count blocks.now) }
 {
-    let mut shared = Vec::with_capacity(alloc, count + 2)?;
+    let mut shared_front = Vec::with_capacity(alloc, count + 2)?;
     for i in 0..count {
         let block = &blocks[i];
-        shared.push(block.first(block.len())?)?;
+        shared_front.push(block.first(block.len())?)?;
     }
-    Ok(shared)
+    Ok(shared_front)
 }
 
 /// Puts the first items of a block after these blocks where that pays, else gives copies of them.
-fn share<T: Copied + Drop>(
+fn share_or_clone<T: TryClone + Drop>(
     alloc: Global,
-    blocks: &mut Vec<Block<T>>,
-    block: &Block<T>,
+    blocks: &mut Vec<SharedBlock<T>>,
+    block: &SharedBlock<T>,
     count: usize,
 ) -> Result<Vec<T>, AllocError>
     requires { count ≤ length block.now }
     ensures { IfOk result (λ rest. items_in blocks.new.items ++ rest.items ≡ items_in blocks.old.items ++ take count block.now) }
 {
-    if block.is_worth_sharing(count) {
+    if block.should_share(count) {
         blocks.push(block.first(count)?)?;
         return Ok(Vec::new(alloc));
     }
-    copies(alloc, block.as_slice(), count)
+    cloned_front(alloc, block.as_slice(), count)
 }
 
 /// Takes away the last blocks that become one with the items after them, and gives all these items. Each has no more items
 /// than are after it, and room for them.
-fn gather<T: Copied + Drop>(
+fn gather<T: TryClone + Drop>(
     alloc: Global,
-    blocks: &mut Vec<Block<T>>,
+    blocks: &mut Vec<SharedBlock<T>>,
     rest: Vec<T>,
 ) -> Result<Vec<T>, AllocError>
     ensures { IfOk result (λ items. items_in blocks.new.items ++ items.items ≡ items_in blocks.old.items ++ rest.items) }
@@ -243,11 +243,11 @@ fn gather<T: Copied + Drop>(
     let mut items = rest;
     for i in (0..blocks.len()).rev() {
         let block = &blocks[i];
-        let most = items.len().min(BLOCK.saturating_sub(items.len()));
+        let most = items.len().min(BLOCK_LEN.saturating_sub(items.len()));
         if most < block.len() {
             break;
         }
-        let mut more = copies(alloc, block.as_slice(), block.len())?;
+        let mut more = cloned_front(alloc, block.as_slice(), block.len())?;
         more.append(&mut items)?;
         items = more;
         blocks.truncate(i);
@@ -256,15 +256,19 @@ fn gather<T: Copied + Drop>(
 }
 
 /// Copies of the first items.
-fn copies<T: Copied + Drop>(alloc: Global, items: &[T], count: usize) -> Result<Vec<T>, AllocError>
+fn cloned_front<T: TryClone + Drop>(
+    alloc: Global,
+    items: &[T],
+    count: usize,
+) -> Result<Vec<T>, AllocError>
     requires { count ≤ length items.now }
-    ensures { IfOk result (λ copies. copies.items ≡ take count items.now) }
+    ensures { IfOk result (λ cloned_front. cloned_front.items ≡ take count items.now) }
 {
-    let mut copies = Vec::with_capacity(alloc, count)?;
+    let mut cloned_front = Vec::with_capacity(alloc, count)?;
     for i in 0..count {
-        copies.push(items[i].copied()?)?;
+        cloned_front.push(items[i].try_clone()?)?;
     }
-    Ok(copies)
+    Ok(cloned_front)
 }
 
 /// Puts an item after these, the first with room for some more where none was made.
@@ -272,7 +276,11 @@ fn append<T: Drop>(items: &mut Vec<T>, item: T) -> Result<(), AllocError>
     ensures ok { OnOk result (items.new.items ≡ items.old.items ++ item ∷ []) }
     ensures err { OnErr result (items.new.items ≡ items.old.items) }
 {
-    items.reserve(if items.capacity() == 0 { ROOM } else { 1 })?;
+    items.reserve(if items.capacity() == 0 {
+        FIRST_CAPACITY
+    } else {
+        1
+    })?;
     items.push_reserved(item);
     Ok(())
 }

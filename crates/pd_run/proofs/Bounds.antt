@@ -9,42 +9,42 @@ use Rattle.pd_script.specs.declared.script_events.Action.TheVariants.{Inbound, O
 use Rattle.pd_script.specs.declared.script_events.Event.{Event}
 use Rattle.pd_script.specs.declared.timing.Time.{Time}
 use Rattle.pd_script.specs.declared.timing.Time.TheVariants.{Any, Absolute, Relative, AbsoluteRange, RelativeRange}
-use Rattle.pd_seg.specs.declared.answers.Answer.{Answer}
+use Rattle.pd_seg.specs.declared.call_results.Answer.{Answer}
 use Rattle.pd_seg.specs.declared.segments.Segment.{Segment}
 use Rattle.pd_seg.specs.declared.segments.Sent.{Sent}
 use Rattle.pd_host.specs.Arrivals.{arrived}
 use Rattle.pd_host.specs.Calls.{called}
 use Rattle.pd_host.specs.Laws.{AreInOrder}
-use Rattle.pd_host.specs.Outcome.{Goes, GoesFrom, Answers, AnswersFrom}
+use Rattle.pd_host.specs.InputResults.{Goes, GoesFrom, Answers, AnswersFrom}
 use Rattle.pd_host.specs.Expiries.{advanced, deadline_of}
 use Rattle.pd_host.specs.Host.{HostView, then_on, without_oldest}
 use Rattle.pd_host.specs.declared.halts.Halt.{Halt}
-use Rattle.pd_host.specs.declared.endpoint.State.{State}
+use Rattle.pd_host.specs.declared.endpoint.SenderState.{SenderState}
 use Rattle.pd_match.specs.Calls.{result_mismatch}
 use Rattle.pd_match.specs.Packets.{mismatch}
 use Rattle.pd_match.specs.declared.kinds.Kind.{Kind}
-use Rattle.pd_run.specs.Bars.{bar_of}
-use Rattle.pd_run.specs.Inbound.{segment_in}
-use Rattle.pd_run.specs.Limits.{is_long, written_times, written_until, is_action_over, is_over_limit}
-use Rattle.pd_run.specs.Step.{RunStateView, tolerance_of, noted, on_step, judged, with_state, acts_at, acted, arrives, on_arrival, answers, on_answer, on_expiry, expires, awaited, packet_taken, performed, unless_barred, outcome, at_line, step}
-use Rattle.pd_run.specs.Times.{is_single, moment_of, moments_of, is_in_reach, base_after}
-use Rattle.pd_run.specs.declared.bars.Bar.{Bar}
-use Rattle.pd_run.specs.declared.bars.Bar.TheVariants.{OverLimit}
-use Rattle.pd_run.specs.declared.whys.Why.{Why}
-use Rattle.pd_run.specs.declared.whys.Why.TheVariants.{Missing}
+use Rattle.pd_run.specs.Prechecks.{failed_precheck}
+use Rattle.pd_run.specs.InboundSegment.{segment_in}
+use Rattle.pd_run.specs.Limits.{is_long, written_times, written_blocking_end, is_action_over, is_over_limit}
+use Rattle.pd_run.specs.Step.{RunStateView, tolerance_of, comparison_noted, on_step, judged, with_state, action_time, acted, arrives, on_arrival, answers, on_answer, on_expiry, expires, awaited, packet_taken, performed, unless_failed_precheck, outcome, at_line, step}
+use Rattle.pd_run.specs.Times.{is_single, time_of, time_range_of, may_be_in_time, base_after}
+use Rattle.pd_run.specs.declared.prechecks.Precheck.{Precheck}
+use Rattle.pd_run.specs.declared.prechecks.Precheck.TheVariants.{OverLimit}
+use Rattle.pd_run.specs.declared.stop_reason.StopReason.{StopReason}
+use Rattle.pd_run.specs.declared.stop_reason.StopReason.TheVariants.{Missing}
 
 -- what is known of the sender's state at the clock is kept by all that a step does: the packets are in order by it, and the
 -- next expiry lies at most an hour ahead
-pub record IsKept (K : ℕ → State → Type 0) : Type 0 where
-  pub advances : (now until : ℕ) (s t : State) → now ≤ until → K now s → advanced until s ≡ Ok t → K until t
-  pub arrivals : (segment : Segment) (now : ℕ) (s t : State) → K now s → arrived segment now s ≡ Ok t → K now t
-  pub calls : (call : Call) (now : ℕ) (s t : State) (answer : Answer) → K now s → called call now s ≡ Ok (t, answer) → K now t
+pub record IsKept (K : ℕ → SenderState → Type 0) : Type 0 where
+  pub advances : (now until : ℕ) (s t : SenderState) → now ≤ until → K now s → advanced until s ≡ Ok t → K until t
+  pub arrivals : (segment : Segment) (now : ℕ) (s t : SenderState) → K now s → arrived segment now s ≡ Ok t → K now t
+  pub calls : (call : Call) (now : ℕ) (s t : SenderState) (answer : Answer) → K now s → called call now s ≡ Ok (t, answer) → K now t
   pub taking : (now : ℕ) (sender : HostView) → K now sender.state → K now (without_oldest sender).state
-  pub ordered : (now : ℕ) (s : State) → K now s → AreInOrder now s.endpoint.outbox
-  pub soon : (now at : ℕ) (s : State) → K now s → deadline_of s ≡ Some at → (now < at) × (at ≤ now + 3600000000)
+  pub ordered : (now : ℕ) (s : SenderState) → K now s → AreInOrder now s.endpoint.outbox
+  pub soon : (now at : ℕ) (s : SenderState) → K now s → deadline_of s ≡ Some at → (now < at) × (at ≤ now + 3600000000)
 
 -- the clock and the base of a run that goes on lie at or before a moment, and that is known of its sender
-pub record IsWithin (K : ℕ → State → Type 0) (n : ℕ) (r : RunStateView) : Type 0 where
+pub record IsWithin (K : ℕ → SenderState → Type 0) (n : ℕ) (r : RunStateView) : Type 0 where
   pub live : r.host.ended ≡ None
   pub clock : r.clock ≤ n
   pub base : r.base ≤ n
@@ -60,10 +60,10 @@ or_false_last false b h = h
 
 -- where no number of an event is over its limit, none of its action is
 pub action_within : (e : Event) → is_over_limit e ≡ false → is_action_over e.action ≡ false
-action_within e h = or_false_last (list_any is_long (written_times e.time) || list_any is_long (written_until e.until)) (is_action_over e.action) h
+action_within e h = or_false_last (list_any is_long (written_times e.time) || list_any is_long (written_blocking_end e.blocking_end)) (is_action_over e.action) h
 
 -- a time within its limit lies at most 3,600 seconds after the base, or after the start
-moment_within : (base : ℕ) (time : Time) → list_any is_long (written_times time) ≡ false → moment_of base time ≤ base + 3600000000
+moment_within : (base : ℕ) (time : Time) → list_any is_long (written_times time) ≡ false → time_of base time ≤ base + 3600000000
 moment_within base Any h = omega arith
 moment_within base (Absolute t) h = grind (arith, nat_tests)
 moment_within base (Relative t) h = grind (arith, nat_tests)
@@ -81,7 +81,7 @@ ok r = Ok r
 pub given : {S : Type 0} (r s : RunStateView) → ok {S = S} r ≡ ok s → r ≡ s
 given r s h = cc
 
-pub agreed : (r s : RunStateView) (reason : Kind → Why) (kind : Option Kind) → judged r reason kind ≡ Ok s → r ≡ s
+pub agreed : (r s : RunStateView) (reason : Kind → StopReason) (kind : Option Kind) → judged r reason kind ≡ Ok s → r ≡ s
 agreed r s reason None h = given r s h
 agreed r s reason (Some kind) h = absurd cc
 
@@ -91,65 +91,65 @@ both next (Ok s) t h = (s, refl, h)
 both next (Err halt) t h = absurd cc
 
 -- of a host that hasn't ended an input tells
-goes_on : (old new : HostView) (rule : State → Result State Halt) (u : Unit {0}) → old.ended ≡ None → Goes old rule (Ok u) new → rule old.state ≡ Ok new.state
+goes_on : (old new : HostView) (rule : SenderState → Result SenderState Halt) (u : Unit {0}) → old.ended ≡ None → Goes old rule (Ok u) new → rule old.state ≡ Ok new.state
 goes_on old new rule u live h = let told : GoesFrom None old rule (Ok u) new = subst (λ o. GoesFrom o old rule (Ok u) new) live h in told.0
 
-answers_on : (old new : HostView) (rule : State → Result (State × Answer) Halt) (a : Answer) → old.ended ≡ None → Answers old rule (Ok a) new → rule old.state ≡ Ok (new.state, a)
+answers_on : (old new : HostView) (rule : SenderState → Result (SenderState × Answer) Halt) (a : Answer) → old.ended ≡ None → Answers old rule (Ok a) new → rule old.state ≡ Ok (new.state, a)
 answers_on old new rule a live h = let told : AnswersFrom None old rule (Ok a) new = subst (λ o. AnswersFrom o old rule (Ok a) new) live h in told.0
 
 -- an event acts at the clock or later
-pub acts_later : (r : RunStateView) (e : Event) (clock moment : ℕ) → clock ≡ r.clock → moment ≡ acts_at r e → clock ≤ moment
+pub acts_later : (r : RunStateView) (e : Event) (clock moment : ℕ) → clock ≡ r.clock → moment ≡ action_time r e → clock ≤ moment
 acts_later r e clock moment same is = omega (arith, same, is)
 
 oldest : (n : ℕ) (packets : List Sent) (p : Sent) → AreInOrder n packets → slice_get packets 0 ≡ Some p → p.at ≤ n
 oldest n [] p h is = absurd cc
 oldest n (q ∷ packets) p h is = let same : q ≡ p = cc in subst (λ (x : Sent). x.at ≤ n) same h.0
 
-pub in_reach : (b : Bool) (x : Result RunStateView Why) (s : RunStateView) → (if b then x else Err Missing) ≡ Ok s → x ≡ Ok s
+pub in_reach : (b : Bool) (x : Result RunStateView StopReason) (s : RunStateView) → (if b then x else Err Missing) ≡ Ok s → x ≡ Ok s
 in_reach true x s h = h
 in_reach false x s h = absurd cc
 
 -- an event that goes on came to this
-pub goes : (line : ℕ) (came : Result RunStateView Why) (s : RunStateView) → at_line line came ≡ Ok s → came ≡ Ok s
-goes line (Ok r) s h = ap (λ (q : RunStateView). ok {S = Why} q) (given r s h)
+pub goes : (line : ℕ) (came : Result RunStateView StopReason) (s : RunStateView) → at_line line came ≡ Ok s → came ≡ Ok s
+goes line (Ok r) s h = ap (λ (q : RunStateView). ok {S = StopReason} q) (given r s h)
 goes line (Err reason) s h = absurd cc
 
 -- no check barred it, and its action was performed
-pub unbarred : (came : Result RunStateView Why) (bar : Option Bar) (s : RunStateView) → unless_barred came bar ≡ Ok s → (bar ≡ None) × (came ≡ Ok s)
+pub unbarred : (came : Result RunStateView StopReason) (bar : Option Precheck) (s : RunStateView) → unless_failed_precheck came bar ≡ Ok s → (bar ≡ None) × (came ≡ Ok s)
 unbarred came None s h = (refl, h)
 unbarred came (Some bar) s h = absurd cc
 
 pub step_performs : (r s : RunStateView) (e : Event) → step r e ≡ Ok s → performed r e e.action ≡ Ok s
-step_performs r s e h = (unbarred (performed r e e.action) (bar_of r.base e) s (goes e.line (outcome r e) s h)).1
+step_performs r s e h = (unbarred (performed r e e.action) (failed_precheck r.base e) s (goes e.line (outcome r e) s h)).1
 
 -- its numbers are within their limits
-pub within_limits : (base : ℕ) (e : Event) → bar_of base e ≡ None → is_over_limit e ≡ false
+pub within_limits : (base : ℕ) (e : Event) → failed_precheck base e ≡ None → is_over_limit e ≡ false
 within_limits base e h = go (is_over_limit e) _ h
   where
-    go : (b : Bool) (rest : Option Bar) → (if b then Some OverLimit else rest) ≡ None → b ≡ false
+    go : (b : Bool) (rest : Option Precheck) → (if b then Some OverLimit else rest) ≡ None → b ≡ false
     go true rest h = absurd cc
     go false rest h = refl
 
 pub step_unlimited : (r s : RunStateView) (e : Event) → step r e ≡ Ok s → is_over_limit e ≡ false
 step_unlimited r s e h =
-    within_limits r.base e (unbarred (performed r e e.action) (bar_of r.base e) s (goes e.line (outcome r e) s h)).0
+    within_limits r.base e (unbarred (performed r e e.action) (failed_precheck r.base e) s (goes e.line (outcome r e) s h)).0
 
 step_short : (r s : RunStateView) (e : Event) → step r e ≡ Ok s → list_any is_long (written_times e.time) ≡ false
 step_short r s e h = or_false _ _ (or_false _ _ (step_unlimited r s e h))
 
-module _ (K : ℕ → State → Type 0) (laws : IsKept K) where
+module _ (K : ℕ → SenderState → Type 0) (laws : IsKept K) where
   -- of a sender that hasn't ended it is known at a moment
   abbrev Knows : HostView → ℕ → Type 0
   Knows host clock = host.ended ≡ None → K clock host.state
 
   -- a packet that arrives, and a call, after all expiries up to a later moment
-  pub arrival_keeps_up : (segment : Segment) (clock moment : ℕ) (s t : State) → clock ≤ moment → K clock s
+  pub arrival_keeps_up : (segment : Segment) (clock moment : ℕ) (s t : SenderState) → clock ≤ moment → K clock s
       → then_on (arrived segment moment) (advanced moment s) ≡ Ok t → K moment t
   arrival_keeps_up segment clock moment s t le up h =
       let came = both (arrived segment moment) (advanced moment s) t h in
       laws.arrivals segment moment came.0 t (laws.advances clock moment s came.0 le up came.1) came.2
 
-  pub call_keeps_up : (call : Call) (clock moment : ℕ) (s t : State) (answer : Answer) → clock ≤ moment → K clock s
+  pub call_keeps_up : (call : Call) (clock moment : ℕ) (s t : SenderState) (answer : Answer) → clock ≤ moment → K clock s
       → then_on (called call moment) (advanced moment s) ≡ Ok (t, answer) → K moment t
   call_keeps_up call clock moment s t answer le up h =
       let came = both (called call moment) (advanced moment s) (t, answer) h in
@@ -180,43 +180,43 @@ module _ (K : ℕ → State → Type 0) (laws : IsKept K) where
       λ _. laws.advances clock at old.state new.state (omega (arith, reach.0)) (up live) (goes_on old new (advanced at) u live h)
 
   -- after an event that acted
-  acted_within : (n : ℕ) (r : RunStateView) (e : Event) (t : State)
-      → IsWithin K n r → moment_of r.base e.time ≤ n + 3600000000 → K (acts_at r e) t
+  acted_within : (n : ℕ) (r : RunStateView) (e : Event) (t : SenderState)
+      → IsWithin K n r → time_of r.base e.time ≤ n + 3600000000 → K (action_time r e) t
       → IsWithin K (n + 3600000000) (acted r e t)
   acted_within n r e t within moment up =
       let clock : r.clock ≤ n = within.clock in
       record { live = within.live; clock = omega arith; base = moment; up_to = up }
 
-  arrival_within : (n : ℕ) (r s : RunStateView) (e : Event) (p : Packet) (came : Result State Halt) → arrives r e p ≡ came
-      → IsWithin K n r → moment_of r.base e.time ≤ n + 3600000000
+  arrival_within : (n : ℕ) (r s : RunStateView) (e : Event) (p : Packet) (came : Result SenderState Halt) → arrives r e p ≡ came
+      → IsWithin K n r → time_of r.base e.time ≤ n + 3600000000
       → on_arrival r e came ≡ Ok s → IsWithin K (n + 3600000000) s
   arrival_within n r s e p (Ok t) is within moment h =
       subst (IsWithin K (n + 3600000000)) (given (acted r e t) s h)
-      (acted_within n r e t within moment (arrival_keeps_up (segment_in p) r.clock (acts_at r e) r.host.state t (omega arith) within.up_to is))
+      (acted_within n r e t within moment (arrival_keeps_up (segment_in p) r.clock (action_time r e) r.host.state t (omega arith) within.up_to is))
   arrival_within n r s e p (Err halt) is within moment h = absurd cc
 
-  answer_within : (n : ℕ) (r s : RunStateView) (e : Event) (call : Call) (came : Result (State × Answer) Halt) → answers r e call ≡ came
-      → IsWithin K n r → moment_of r.base e.time ≤ n + 3600000000
+  answer_within : (n : ℕ) (r s : RunStateView) (e : Event) (call : Call) (came : Result (SenderState × Answer) Halt) → answers r e call ≡ came
+      → IsWithin K n r → time_of r.base e.time ≤ n + 3600000000
       → on_answer r e call came ≡ Ok s → IsWithin K (n + 3600000000) s
   answer_within n r s e call (Ok (t, a)) is within moment h =
       subst (IsWithin K (n + 3600000000)) (agreed (acted r e t) s _ (result_mismatch call.result a) h)
-      (acted_within n r e t within moment (call_keeps_up call r.clock (acts_at r e) r.host.state t a (omega arith) within.up_to is))
+      (acted_within n r e t within moment (call_keeps_up call r.clock (action_time r e) r.host.state t a (omega arith) within.up_to is))
   answer_within n r s e call (Err halt) is within moment h = absurd cc
 
   -- after a packet that was taken
   taken_within : (n : ℕ) (r s : RunStateView) (e : Event) (p : Packet) (first : Option Sent) → slice_get r.host.state.endpoint.outbox 0 ≡ first
-      → IsWithin K n r → moment_of r.base e.time ≤ n
+      → IsWithin K n r → time_of r.base e.time ≤ n
       → packet_taken e p r first ≡ Ok s → IsWithin K n s
   taken_within n r s e p None is within moment h = absurd cc
   taken_within n r s e p (Some sent) is within moment h =
       let next : RunStateView = record r { host = without_oldest r.host; base = base_after r.base e.time sent.at } in
-      let same : next ≡ s = agreed next s _ (mismatch p (moments_of r.base e.time) sent (tolerance_of r)) h in
+      let same : next ≡ s = agreed next s _ (mismatch p (time_range_of r.base e.time) sent (tolerance_of r)) h in
       let clock : r.clock ≤ n = within.clock in
       let left : sent.at ≤ r.clock = oldest r.clock r.host.state.endpoint.outbox sent (laws.ordered r.clock r.host.state within.up_to) is in
       subst (IsWithin K n) same (record {
         live = within.live;
         clock = within.clock;
-        base = base_within (is_single e.time) (moment_of r.base e.time) r.base sent.at n moment within.base (omega arith);
+        base = base_within (is_single e.time) (time_of r.base e.time) r.base sent.at n moment within.base (omega arith);
         up_to = laws.taking r.clock r.host within.up_to;
       })
 
@@ -224,7 +224,7 @@ module _ (K : ℕ → State → Type 0) (laws : IsKept K) where
   abbrev Waited : ℕ → RunStateView → RunStateView → Type 0
   Waited n r s = IsWithin K (n + 3600000000) s × (s.base ≡ r.base)
 
-  expired : (n at : ℕ) (r s : RunStateView) (came : Result State Halt) → advanced at r.host.state ≡ came
+  expired : (n at : ℕ) (r s : RunStateView) (came : Result SenderState Halt) → advanced at r.host.state ≡ came
       → deadline_of r.host.state ≡ Some at → IsWithin K n r → on_expiry r at came ≡ Ok s → Waited n r s
   expired n at r s (Ok t) is is_due within h =
       let clock : r.clock ≤ n = within.clock in
@@ -246,7 +246,7 @@ module _ (K : ℕ → State → Type 0) (laws : IsKept K) where
   expires_within n r s e None is_due within h = absurd cc
   expires_within n r s e (Some at) is_due within h =
       expired n at r s (advanced at r.host.state) refl is_due within
-      (in_reach (is_in_reach (moments_of r.base e.time) (tolerance_of r) at) (on_expiry r at (advanced at r.host.state)) s h)
+      (in_reach (may_be_in_time (time_range_of r.base e.time) (tolerance_of r) at) (on_expiry r at (advanced at r.host.state)) s h)
 
   later : (n : ℕ) (r : RunStateView) → IsWithin K n r → IsWithin K (n + 3600000000) r
   later n r within =
@@ -259,21 +259,21 @@ module _ (K : ℕ → State → Type 0) (laws : IsKept K) where
   awaited_within n r s e true within h = expires_within n r s e (deadline_of r.host.state) refl within h
   awaited_within n r s e false within h = subst (Waited n r) (given r s h) (later n r within, refl)
 
-  leaves_within : (n : ℕ) (r s : RunStateView) (e : Event) (p : Packet) (came : Result RunStateView Why) → awaited r e ≡ came
-      → IsWithin K n r → moment_of r.base e.time ≤ n + 3600000000
+  leaves_within : (n : ℕ) (r s : RunStateView) (e : Event) (p : Packet) (came : Result RunStateView StopReason) → awaited r e ≡ came
+      → IsWithin K n r → time_of r.base e.time ≤ n + 3600000000
       → on_step (λ q. packet_taken e p q (slice_get q.host.state.endpoint.outbox 0)) (λ reason. Err reason) came ≡ Ok s
       → IsWithin K (n + 3600000000) s
   leaves_within n r s e p (Ok t) is within moment h =
       let waited : Waited n r t = awaited_within n r t e (length r.host.state.endpoint.outbox == 0) within is in
       taken_within (n + 3600000000) t s e p (slice_get t.host.state.endpoint.outbox 0) refl waited.0
-      (subst (λ (b : ℕ). moment_of b e.time ≤ n + 3600000000) (sym waited.1) moment) h
+      (subst (λ (b : ℕ). time_of b e.time ≤ n + 3600000000) (sym waited.1) moment) h
   leaves_within n r s e p (Err v) is within moment h = absurd cc
 
   performed_within : (n : ℕ) (r s : RunStateView) (e : Event) (action : Action)
-      → IsWithin K n r → moment_of r.base e.time ≤ n + 3600000000 → performed r e action ≡ Ok s → IsWithin K (n + 3600000000) s
+      → IsWithin K n r → time_of r.base e.time ≤ n + 3600000000 → performed r e action ≡ Ok s → IsWithin K (n + 3600000000) s
   performed_within n r s e (Inbound p) within moment h = arrival_within n r s e p (arrives r e p) refl within moment h
   performed_within n r s e (Outbound p) within moment h =
-      leaves_within n (noted r) s e p (awaited (noted r) e) refl
+      leaves_within n (comparison_noted r) s e p (awaited (comparison_noted r) e) refl
       (record { live = within.live; clock = within.clock; base = within.base; up_to = within.up_to }) moment h
   performed_within n r s e (Calls call) within moment h = answer_within n r s e call (answers r e call) refl within moment h
   performed_within n r s e Command within moment h = absurd cc
@@ -282,5 +282,5 @@ module _ (K : ℕ → State → Type 0) (laws : IsKept K) where
   pub step_within : (n : ℕ) (r s : RunStateView) (e : Event) → IsWithin K n r → step r e ≡ Ok s → IsWithin K (n + 3600000000) s
   step_within n r s e within h =
       let base : r.base ≤ n = within.base in
-      let moment : moment_of r.base e.time ≤ r.base + 3600000000 = moment_within r.base e.time (step_short r s e h) in
+      let moment : time_of r.base e.time ≤ r.base + 3600000000 = moment_within r.base e.time (step_short r s e h) in
       performed_within n r s e e.action within (omega arith) (step_performs r s e h)

@@ -15,8 +15,8 @@ last_written t items = last_or t (filter_map tolerance_in items)
 passed_over : (item : HeaderItem) (rest : List HeaderItem) (m : ℕ) → tolerance_in item ≡ Some m → first_refused (item ∷ rest) ≡ first_refused rest
 passed_over item rest m is = rw is refl
 
-written : (item : HeaderItem) (rest : List HeaderItem) (t : Option ℕ) (m : ℕ) → tolerance_in item ≡ Some m → last_written t (item ∷ rest) ≡ last_written (Some m) rest
-written item rest t m is = ap (λ (o : Option ℕ). last_or t (cons_option o (filter_map tolerance_in rest))) is
+header_tolerance : (item : HeaderItem) (rest : List HeaderItem) (t : Option ℕ) (m : ℕ) → tolerance_in item ≡ Some m → last_written t (item ∷ rest) ≡ last_written (Some m) rest
+header_tolerance item rest t m is = ap (λ (o : Option ℕ). last_or t (cons_option o (filter_map tolerance_in rest))) is
 
 pub one_more_item : (items : List HeaderItem) (i m : ℕ) (t whole : Option ℕ) (d : HeaderItem) (first : Option HeaderItem)
     → i < length items → (get_or items i d).kind ≡ Tolerance m
@@ -26,5 +26,5 @@ one_more_item items i m t whole d first within kind refused last =
     let split : drop i items ≡ get_or items i d ∷ drop (i + 1) items = drop_more items i d within in
     let is : tolerance_in (get_or items i d) ≡ Some m = ap tolerance_written kind in
     let over : first_refused (get_or items i d ∷ drop (i + 1) items) ≡ first_refused (drop (i + 1) items) = passed_over (get_or items i d) (drop (i + 1) items) m is in
-    let next : last_written t (get_or items i d ∷ drop (i + 1) items) ≡ last_written (Some m) (drop (i + 1) items) = written (get_or items i d) (drop (i + 1) items) t m is in
+    let next : last_written t (get_or items i d ∷ drop (i + 1) items) ≡ last_written (Some m) (drop (i + 1) items) = header_tolerance (get_or items i d) (drop (i + 1) items) t m is in
     (sym over ∙ (sym (ap first_refused split) ∙ refused), sym next ∙ (sym (ap (last_written t) split) ∙ last))

@@ -1,10 +1,10 @@
 -- A run goes on where one under other settings had come to.
 use Rattle.std.proofs.Common.{◌≡◌, ℕ, zero, suc, List, [], ◌∷◌, take, slice_get, option_map, None, Some, Ok, refl, sym, ap, ◌∙◌, arith}
 use Rattle.std.proofs.lemmas.Option.{slice_get-map}
-use Rattle.pd_settings.specs.declared.fields.Settings.{Settings}
+use Rattle.pd_settings.specs.declared.settings.Settings.{Settings}
 use Rattle.pd_script.specs.Script.{script_of}
-use Rattle.pd_script.specs.declared.parsing.Parsed.{Parsed}
-use Rattle.pd_run.specs.Consulted.{rebound_run, PassesBy, RunsGoOnUnder}
+use Rattle.pd_script.specs.declared.parsed.Parsed.{Parsed}
+use Rattle.pd_run.specs.Consulted.{run_with_settings, PassesBy, RunsGoOnUnder}
 use Rattle.pd_run.specs.Inner.{InputsOnlyUse}
 use Rattle.pd_run.specs.Run.{start_of, verdict_in, stepped_in, states_of, verdict_from, stepped_from, states_from}
 use Rattle.pd_run.specs.RunStates.{RunStateView}
@@ -42,9 +42,9 @@ passes_by text settings n s at =
 
 pub runs_go_on_under : InputsOnlyUse → RunsGoOnUnder
 runs_go_on_under laws text a b n s at agree =
-    let there : slice_get (states_of text b) n ≡ Some (rebound_run b s) =
+    let there : slice_get (states_of text b) n ≡ Some (run_with_settings b s) =
     sym (slice_get-take n (states_of text b))
     ∙ (ap (λ (l : List RunStateView). slice_get l n) (runs_only_use laws text a b n s at agree)
-    ∙ (slice_get-map (rebound_run b) (take (suc n) (states_of text a)) n
-    ∙ ap (option_map (rebound_run b)) (slice_get-take n (states_of text a) ∙ at))) in
-    passes_by text b n (rebound_run b s) there
+    ∙ (slice_get-map (run_with_settings b) (take (suc n) (states_of text a)) n
+    ∙ ap (option_map (run_with_settings b)) (slice_get-take n (states_of text a) ∙ at))) in
+    passes_by text b n (run_with_settings b s) there

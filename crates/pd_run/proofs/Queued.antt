@@ -11,28 +11,28 @@ use Rattle.pd_script.specs.declared.packets.Packet.{Packet}
 use Rattle.pd_script.specs.declared.script_events.Action.{Action}
 use Rattle.pd_script.specs.declared.script_events.Action.TheVariants.{Inbound, Outbound, Call as Calls, Command, Code}
 use Rattle.pd_script.specs.declared.script_events.Event.{Event}
-use Rattle.pd_seg.specs.declared.answers.Answer.{Answer}
+use Rattle.pd_seg.specs.declared.call_results.Answer.{Answer}
 use Rattle.pd_seg.specs.declared.segments.Sent.{Sent}
 use Rattle.pd_host.specs.Arrivals.{arrived}
 use Rattle.pd_host.specs.Calls.{called}
 use Rattle.pd_host.specs.Expiries.{advanced, deadline_of}
 use Rattle.pd_host.specs.Growth.{asked_by, HasRoomFor, ExpiriesQueueNothing, CallsAskFew}
-use Rattle.pd_host.specs.Requests.{is_tcp, is_tcp_level, no_delay, socket_request, option_request, flags_request, address_request, listen_request, write_request, close_request, request_in, request_of}
+use Rattle.pd_host.specs.Syscalls.{is_tcp, is_tcp_level, no_delay, socket_syscall, option_syscall, flags_syscall, address_syscall, listen_syscall, write_syscall, close_syscall, syscall_in, syscall_of}
 use Rattle.pd_host.specs.Host.{HostView, IsShort, queued_to, without_oldest}
-use Rattle.pd_host.specs.Outcome.{GoesFrom, Goes}
-use Rattle.pd_host.specs.declared.halts.Ending.{Ending}
+use Rattle.pd_host.specs.InputResults.{GoesFrom, Goes}
+use Rattle.pd_host.specs.declared.halts.HostEnd.{HostEnd}
 use Rattle.pd_host.specs.declared.halts.Halt.{Halt}
-use Rattle.pd_host.specs.declared.requests.Operation.TheVariants.{Bind, Accept, NoDelay}
-use Rattle.pd_host.specs.declared.requests.Request.TheVariants.{Socket, On}
-use Rattle.pd_host.specs.declared.endpoint.State.{State}
+use Rattle.pd_host.specs.declared.syscall.SocketOperation.TheVariants.{Bind, Accept, NoDelay}
+use Rattle.pd_host.specs.declared.syscall.Syscall.TheVariants.{Socket, On}
+use Rattle.pd_host.specs.declared.endpoint.SenderState.{SenderState}
 use Rattle.pd_match.specs.Calls.{result_mismatch}
 use Rattle.pd_match.specs.Packets.{mismatch}
-use Rattle.pd_run.specs.Inbound.{segment_in}
+use Rattle.pd_run.specs.InboundSegment.{segment_in}
 use Rattle.pd_run.specs.Inner.{SenderIsLawful}
 use Rattle.pd_run.specs.Limits.{is_write, is_count_over, is_action_over}
-use Rattle.pd_run.specs.Step.{RunStateView, tolerance_of, noted, on_step, with_state, acts_at, acted, arrives, on_arrival, answers, on_answer, on_expiry, expires, awaited, packet_taken, performed, step}
-use Rattle.pd_run.specs.Times.{moments_of, base_after, is_in_reach}
-use Rattle.pd_run.specs.declared.whys.Why.{Why}
+use Rattle.pd_run.specs.Step.{RunStateView, tolerance_of, comparison_noted, on_step, with_state, action_time, acted, arrives, on_arrival, answers, on_answer, on_expiry, expires, awaited, packet_taken, performed, step}
+use Rattle.pd_run.specs.Times.{time_range_of, base_after, may_be_in_time}
+use Rattle.pd_run.specs.declared.stop_reason.StopReason.{StopReason}
 use Rattle.pd_run.proofs.Bounds.{given, agreed, both, action_within, in_reach, step_performs, step_unlimited}
 
 -- What a call asks for
@@ -47,7 +47,7 @@ nothing = omega arith
 one : IsSmall 1
 one = omega arith
 
-socket_asks : (sndbuf : ℕ) (arguments : List Argument) → IsSmall (asked_by sndbuf (socket_request arguments))
+socket_asks : (sndbuf : ℕ) (arguments : List Argument) → IsSmall (asked_by sndbuf (socket_syscall arguments))
 socket_asks sndbuf (_ ∷ Word SockStream ∷ protocol ∷ []) = by_protocol (is_tcp protocol)
   where
     by_protocol : (b : Bool) → IsSmall (asked_by sndbuf (if b then Some Socket else None))
@@ -63,7 +63,7 @@ no_delay_asks sndbuf fd n = by_value (n == 1) (n == 0)
     by_value false true = nothing
     by_value false false = nothing
 
-option_asks : (sndbuf : ℕ) (arguments : List Argument) → IsSmall (asked_by sndbuf (option_request arguments))
+option_asks : (sndbuf : ℕ) (arguments : List Argument) → IsSmall (asked_by sndbuf (option_syscall arguments))
 option_asks sndbuf (Int fd ∷ Word SolSocket ∷ Word SoReuseaddr ∷ _ ∷ _ ∷ []) = nothing
 option_asks sndbuf (Int fd ∷ Word level ∷ Word TcpNodelay ∷ Element n ∷ _ ∷ []) = by_level (is_tcp_level level)
   where
@@ -72,31 +72,31 @@ option_asks sndbuf (Int fd ∷ Word level ∷ Word TcpNodelay ∷ Element n ∷ 
     by_level false = nothing
 option_asks sndbuf _ = nothing
 
-flags_ask : (sndbuf : ℕ) (arguments : List Argument) → IsSmall (asked_by sndbuf (flags_request arguments))
+flags_ask : (sndbuf : ℕ) (arguments : List Argument) → IsSmall (asked_by sndbuf (flags_syscall arguments))
 flags_ask sndbuf (Int fd ∷ Word FSetfl ∷ _ ∷ []) = nothing
 flags_ask sndbuf _ = nothing
 
-bind_asks : (sndbuf : ℕ) (arguments : List Argument) → IsSmall (asked_by sndbuf (address_request Bind arguments))
+bind_asks : (sndbuf : ℕ) (arguments : List Argument) → IsSmall (asked_by sndbuf (address_syscall Bind arguments))
 bind_asks sndbuf (Int fd ∷ _ ∷ _ ∷ []) = nothing
 bind_asks sndbuf _ = nothing
 
-accept_asks : (sndbuf : ℕ) (arguments : List Argument) → IsSmall (asked_by sndbuf (address_request Accept arguments))
+accept_asks : (sndbuf : ℕ) (arguments : List Argument) → IsSmall (asked_by sndbuf (address_syscall Accept arguments))
 accept_asks sndbuf (Int fd ∷ _ ∷ _ ∷ []) = nothing
 accept_asks sndbuf _ = nothing
 
-listen_asks : (sndbuf : ℕ) (arguments : List Argument) → IsSmall (asked_by sndbuf (listen_request arguments))
+listen_asks : (sndbuf : ℕ) (arguments : List Argument) → IsSmall (asked_by sndbuf (listen_syscall arguments))
 listen_asks sndbuf (Int fd ∷ _ ∷ []) = nothing
 listen_asks sndbuf _ = nothing
 
-close_asks : (sndbuf : ℕ) (arguments : List Argument) → IsSmall (asked_by sndbuf (close_request arguments))
+close_asks : (sndbuf : ℕ) (arguments : List Argument) → IsSmall (asked_by sndbuf (close_syscall arguments))
 close_asks sndbuf (Int fd ∷ []) = one
 close_asks sndbuf _ = nothing
 
-write_asks : (sndbuf : ℕ) (arguments : List Argument) → is_count_over (slice_get arguments 2) ≡ false → IsSmall (asked_by sndbuf (write_request arguments))
+write_asks : (sndbuf : ℕ) (arguments : List Argument) → is_count_over (slice_get arguments 2) ≡ false → IsSmall (asked_by sndbuf (write_syscall arguments))
 write_asks sndbuf (Int fd ∷ _ ∷ Int n ∷ []) h = grind (arith, nat_tests)
 write_asks sndbuf _ h = nothing
 
-asks : (sndbuf : ℕ) (f : Function) (arguments : List Argument) → (is_write f && is_count_over (slice_get arguments 2)) ≡ false → IsSmall (asked_by sndbuf (request_in f arguments))
+asks : (sndbuf : ℕ) (f : Function) (arguments : List Argument) → (is_write f && is_count_over (slice_get arguments 2)) ≡ false → IsSmall (asked_by sndbuf (syscall_in f arguments))
 asks sndbuf SocketCall arguments h = socket_asks sndbuf arguments
 asks sndbuf BindCall arguments h = bind_asks sndbuf arguments
 asks sndbuf ListenCall arguments h = listen_asks sndbuf arguments
@@ -111,10 +111,10 @@ asks sndbuf UnknownCall arguments h = nothing
 
 -- after the expiries up to a moment there is room for what a call asks for
 pub room_for : ExpiriesQueueNothing → CallsAskFew → (until : ℕ) (call : Call) (old new : HostView) (u : Unit {0}) → Goes old (advanced until) (Ok u) new
-    → IsShort old.state → HasRoomFor (asked_by new.state.settings.sndbuf (request_of call)) new.state
+    → IsShort old.state → HasRoomFor (asked_by new.state.settings.sndbuf (syscall_of call)) new.state
 room_for still few until call old new u h short = go old.ended h
   where
-    go : (o : Option Ending) → GoesFrom o old (advanced until) (Ok u) new → HasRoomFor (asked_by new.state.settings.sndbuf (request_of call)) new.state
+    go : (o : Option HostEnd) → GoesFrom o old (advanced until) (Ok u) new → HasRoomFor (asked_by new.state.settings.sndbuf (syscall_of call)) new.state
     go None told = omega (arith, short, still until old.state new.state told.0, few new.state.settings call)
     go (Some ending) told = absurd cc
 
@@ -122,27 +122,27 @@ room_for still few until call old new u h short = go old.ended h
 abbrev pub end_of : RunStateView → ℕ
 end_of r = queued_to r.host.state.endpoint.connection
 
-abbrev state_end : State → ℕ
+abbrev state_end : SenderState → ℕ
 state_end s = queued_to s.endpoint.connection
 
-after_arrival : SenderIsLawful → (r s : RunStateView) (e : Event) (p : Packet) (came : Result State Halt) → arrives r e p ≡ came
+after_arrival : SenderIsLawful → (r s : RunStateView) (e : Event) (p : Packet) (came : Result SenderState Halt) → arrives r e p ≡ came
     → on_arrival r e came ≡ Ok s → end_of s ≤ end_of r + 262144
 after_arrival laws r s e p (Ok t) is h =
-    let came = both (arrived (segment_in p) (acts_at r e)) (advanced (acts_at r e) r.host.state) t is in
+    let came = both (arrived (segment_in p) (action_time r e)) (advanced (action_time r e) r.host.state) t is in
     let same : end_of s ≡ state_end t = ap end_of (sym (given (acted r e t) s h)) in
-    let before : state_end came.0 ≡ end_of r = laws.queued_by_expiries (acts_at r e) r.host.state came.0 came.1 in
-    let more : state_end t ≤ state_end came.0 + 1 = laws.queued_by_arrivals (segment_in p) (acts_at r e) came.0 t came.2 in
+    let before : state_end came.0 ≡ end_of r = laws.queued_by_expiries (action_time r e) r.host.state came.0 came.1 in
+    let more : state_end t ≤ state_end came.0 + 1 = laws.queued_by_arrivals (segment_in p) (action_time r e) came.0 t came.2 in
     omega (arith, same, before, more)
 after_arrival laws r s e p (Err halt) is h = absurd cc
 
-after_call : SenderIsLawful → (r s : RunStateView) (e : Event) (call : Call) (came : Result (State × Answer) Halt) → answers r e call ≡ came
+after_call : SenderIsLawful → (r s : RunStateView) (e : Event) (call : Call) (came : Result (SenderState × Answer) Halt) → answers r e call ≡ came
     → is_action_over (Calls call) ≡ false → on_answer r e call came ≡ Ok s → end_of s ≤ end_of r + 262144
 after_call laws r s e call (Ok (t, a)) is within h =
-    let came = both (called call (acts_at r e)) (advanced (acts_at r e) r.host.state) (t, a) is in
+    let came = both (called call (action_time r e)) (advanced (action_time r e) r.host.state) (t, a) is in
     let same : end_of s ≡ state_end t = ap end_of (sym (agreed (acted r e t) s _ (result_mismatch call.result a) h)) in
-    let before : state_end came.0 ≡ end_of r = laws.queued_by_expiries (acts_at r e) r.host.state came.0 came.1 in
-    let more : state_end t ≤ state_end came.0 + asked_by came.0.settings.sndbuf (request_of call) = laws.queued_by_calls call (acts_at r e) came.0 t a came.2 in
-    let few : asked_by came.0.settings.sndbuf (request_of call) ≤ 262144 = asks came.0.settings.sndbuf call.function call.arguments within in
+    let before : state_end came.0 ≡ end_of r = laws.queued_by_expiries (action_time r e) r.host.state came.0 came.1 in
+    let more : state_end t ≤ state_end came.0 + asked_by came.0.settings.sndbuf (syscall_of call) = laws.queued_by_calls call (action_time r e) came.0 t a came.2 in
+    let few : asked_by came.0.settings.sndbuf (syscall_of call) ≤ 262144 = asks came.0.settings.sndbuf call.function call.arguments within in
     omega (arith, same, before, more, few)
 after_call laws r s e call (Err halt) is within h = absurd cc
 
@@ -150,9 +150,9 @@ after_taking : (r s : RunStateView) (e : Event) (p : Packet) (first : Option Sen
 after_taking r s e p None h = absurd cc
 after_taking r s e p (Some sent) h =
     let next : RunStateView = record r { host = without_oldest r.host; base = base_after r.base e.time sent.at } in
-    ap end_of (sym (agreed next s _ (mismatch p (moments_of r.base e.time) sent (tolerance_of r)) h))
+    ap end_of (sym (agreed next s _ (mismatch p (time_range_of r.base e.time) sent (tolerance_of r)) h))
 
-after_expiry : SenderIsLawful → (r s : RunStateView) (at : ℕ) (came : Result State Halt) → advanced at r.host.state ≡ came
+after_expiry : SenderIsLawful → (r s : RunStateView) (at : ℕ) (came : Result SenderState Halt) → advanced at r.host.state ≡ came
     → on_expiry r at came ≡ Ok s → end_of s ≡ end_of r
 after_expiry laws r s at (Ok t) is h =
     ap end_of (sym (given (record (with_state r t) { clock = at }) s h)) ∙ laws.queued_by_expiries at r.host.state t is
@@ -162,14 +162,14 @@ after_due : SenderIsLawful → (r s : RunStateView) (e : Event) (o : Option ℕ)
 after_due laws r s e None h = absurd cc
 after_due laws r s e (Some at) h =
     after_expiry laws r s at (advanced at r.host.state) refl
-    (in_reach (is_in_reach (moments_of r.base e.time) (tolerance_of r) at) (on_expiry r at (advanced at r.host.state)) s h)
+    (in_reach (may_be_in_time (time_range_of r.base e.time) (tolerance_of r) at) (on_expiry r at (advanced at r.host.state)) s h)
 
 after_wait : SenderIsLawful → (r s : RunStateView) (e : Event) (empty : Bool) → (if empty then expires r e (deadline_of r.host.state) else Ok r) ≡ Ok s
     → end_of s ≡ end_of r
 after_wait laws r s e true h = after_due laws r s e (deadline_of r.host.state) h
 after_wait laws r s e false h = ap end_of (sym (given r s h))
 
-after_leaving : SenderIsLawful → (r s : RunStateView) (e : Event) (p : Packet) (came : Result RunStateView Why) → awaited r e ≡ came
+after_leaving : SenderIsLawful → (r s : RunStateView) (e : Event) (p : Packet) (came : Result RunStateView StopReason) → awaited r e ≡ came
     → on_step (λ q. packet_taken e p q (slice_get q.host.state.endpoint.outbox 0)) (λ reason. Err reason) came ≡ Ok s
     → end_of s ≤ end_of r + 262144
 after_leaving laws r s e p (Ok t) is h =
@@ -181,7 +181,7 @@ after_leaving laws r s e p (Err reason) is h = absurd cc
 after_action : SenderIsLawful → (r s : RunStateView) (e : Event) (action : Action) → is_action_over action ≡ false → performed r e action ≡ Ok s
     → end_of s ≤ end_of r + 262144
 after_action laws r s e (Inbound p) within h = after_arrival laws r s e p (arrives r e p) refl h
-after_action laws r s e (Outbound p) within h = after_leaving laws (noted r) s e p (awaited (noted r) e) refl h
+after_action laws r s e (Outbound p) within h = after_leaving laws (comparison_noted r) s e p (awaited (comparison_noted r) e) refl h
 after_action laws r s e (Calls call) within h = after_call laws r s e call (answers r e call) refl within h
 after_action laws r s e Command within h = absurd cc
 after_action laws r s e Code within h = absurd cc

@@ -4,7 +4,7 @@ use Rattle.pd_script.specs.declared.script_events.Event.{Event}
 use Rattle.pd_run.specs.Laws.{IsUnderway, StepsGoOn}
 use Rattle.pd_run.specs.Run.{verdict_from, stepped_from, states_from}
 use Rattle.pd_run.specs.Step.{RunStateView, on_step, step}
-use Rattle.pd_run.specs.declared.verdicts.Verdict.{Verdict}
+use Rattle.pd_run.specs.declared.verdict.Verdict.{Verdict}
 
 -- the run of the events after the first m + 1, from the state after these, gives what the whole run gives
 pub record Onward (es : List Event) (m : ℕ) (r s : RunStateView) : Type 0 where

@@ -2,12 +2,12 @@
 use Rattle.std.proofs.Common.{◌≡◌, ℕ, ◌+◌, None, List, ◌∷◌, Result, Ok, ap, subst, ◌∙◌}
 use Rattle.pd_script.specs.declared.script_events.Event.{Event}
 use Rattle.pd_run.specs.Run.{verdict_from, stepped_from}
-use Rattle.pd_run.specs.Step.{RunStateView, on_step, step, Tells, StepsFrom, Steps}
-use Rattle.pd_run.specs.declared.stepping.StepEnd.{StepEnd}
-use Rattle.pd_run.specs.declared.verdicts.Verdict.{Verdict}
+use Rattle.pd_run.specs.Step.{RunStateView, on_step, step, IsStepEnd, StepsFrom, Steps}
+use Rattle.pd_run.specs.declared.stepper.StepEnd.{StepEnd}
+use Rattle.pd_run.specs.declared.verdict.Verdict.{Verdict}
 
 -- of a run whose host hasn't ended a step tells
-pub tells : (old new : RunStateView) (e : Event) (end : StepEnd) → old.host.ended ≡ None → Steps old e end new → Tells (step old e) end new
+pub tells : (old new : RunStateView) (e : Event) (end : StepEnd) → old.host.ended ≡ None → Steps old e end new → IsStepEnd (step old e) end new
 tells old new e end live h = subst (λ o. StepsFrom o old e end new) live h
 
 -- after a step that goes on, the verdict is that of the events left

@@ -2,7 +2,7 @@
 use Rattle.std.proofs.Common.{◌≡◌, ◌+◌, ◌*◌, ◌≤◌, Option, Some, None, is_none, find, refl, subst, arith}
 use Rattle.pd_script.specs.declared.script_header.HeaderItem.{HeaderItem}
 use Rattle.pd_run.specs.Inner.{InputsOnlyUse, SenderIsLawful}
-use Rattle.pd_run.specs.Laws.{IsUnderway, StartsUnderway, StepsGoOn, RebindingGoesOn, IsHeldUnder, StartsHeld, StepsStayHeld}
+use Rattle.pd_run.specs.Laws.{IsUnderway, StartsUnderway, StepsGoOn, OtherSettingsGoOn, IsHeldUnder, StartsHeld, StepsStayHeld}
 use Rattle.pd_run.specs.Run.{tolerance_in}
 use Rattle.pd_run.specs.RunStates.{KeepsTime}
 use Rattle.pd_run.proofs.Bounds.{IsWithin, given, step_within}
@@ -35,7 +35,7 @@ steps_go_on laws n r s e underway h =
       queued = omega (arith, more, underway.queued);
     }
 
-pub rebinding_goes_on : SenderIsLawful → RebindingGoesOn
+pub rebinding_goes_on : SenderIsLawful → OtherSettingsGoOn
 rebinding_goes_on laws n r settings underway = record {
   live = underway.live;
   clock = underway.clock;
@@ -57,7 +57,7 @@ starts_held laws header settings r h = go (find (λ (item : HeaderItem). is_none
     go (Some item) is = absurd (let refused = rw is at h in cc)
 
 pub steps_stay_held : SenderIsLawful → InputsOnlyUse → StepsStayHeld
-steps_stay_held laws uses n r s e underway held h =
+steps_stay_held laws consulted_settings n r s e underway held h =
     let within : IsWithin IsHeld (3600000000 * n) r = record { live = underway.live; clock = underway.clock; base = underway.base; up_to = held } in
-    let next : IsWithin IsHeld (3600000000 * n + 3600000000) s = step_within IsHeld (stays_held laws uses) (3600000000 * n) r s e within h in
+    let next : IsWithin IsHeld (3600000000 * n + 3600000000) s = step_within IsHeld (stays_held laws consulted_settings) (3600000000 * n) r s e within h in
     next.up_to

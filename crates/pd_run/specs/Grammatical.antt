@@ -1,10 +1,10 @@
 -- Verdicts in the words of the grammar.
 use Rattle.std.specs.Prelude.{◌≡◌, ℕ, List}
-use Rattle.pd_settings.specs.declared.fields.Settings.{Settings}
+use Rattle.pd_settings.specs.declared.settings.Settings.{Settings}
 use Rattle.pd_script.specs.Faults.{IsScriptOf}
-use Rattle.pd_script.specs.declared.parsing.Parsed.{Parsed}
+use Rattle.pd_script.specs.declared.parsed.Parsed.{Parsed}
 use Rattle.pd_run.specs.Run.{verdict_in, verdict_of}
-use Rattle.pd_run.specs.declared.verdicts.Verdict.{Verdict}
+use Rattle.pd_run.specs.declared.verdict.Verdict.{Verdict}
 
 -- the verdict of a text under settings: there is a script that the grammar gives for the text, and this is what it comes to,
 -- run from its first event on a fresh host

@@ -4,9 +4,9 @@ pub use Rattle.pd_script.specs.Script
 pub use Rattle.pd_host.specs.Host
 pub mod Limits
 pub mod Times
-pub mod Inbound
-pub mod Shapes
-pub mod Bars
+pub mod InboundSegment
+pub mod Supported
+pub mod Prechecks
 pub mod RunStates
 pub mod Verdicts
 pub mod Step
@@ -14,6 +14,6 @@ pub mod Run
 pub mod Grammatical
 pub mod Laws
 pub mod Consulted
-pub mod Why
-pub mod Stops
+pub mod StopReason
+pub mod StopPoints
 pub mod Inner

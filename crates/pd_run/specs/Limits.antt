@@ -5,7 +5,7 @@ use Rattle.pd_script.specs.declared.calls.Argument.{Argument}
 use Rattle.pd_script.specs.declared.calls.Argument.TheVariants.{Int}
 use Rattle.pd_script.specs.declared.calls.Function.{Function}
 use Rattle.pd_script.specs.declared.calls.Function.TheVariants.{Write}
-use Rattle.pd_script.specs.declared.packets.Block.{Block}
+use Rattle.pd_script.specs.declared.packets.SackBlock.{SackBlock}
 use Rattle.pd_script.specs.declared.packets.Options.{Options}
 use Rattle.pd_script.specs.declared.packets.Options.TheVariants.{Listed}
 use Rattle.pd_script.specs.declared.packets.Packet.{Packet}
@@ -16,8 +16,8 @@ use Rattle.pd_script.specs.declared.script_events.Action.TheVariants.{Inbound, O
 use Rattle.pd_script.specs.declared.script_events.Event.{Event}
 use Rattle.pd_script.specs.declared.timing.Time.{Time}
 use Rattle.pd_script.specs.declared.timing.Time.TheVariants.{Any, Absolute, Relative, AbsoluteRange, RelativeRange}
-use Rattle.pd_script.specs.declared.timing.Until.{Until}
-use Rattle.pd_script.specs.declared.timing.Until.TheVariants.{Absolute as AtLast, Relative as AfterLast}
+use Rattle.pd_script.specs.declared.timing.BlockingEnd.{BlockingEnd}
+use Rattle.pd_script.specs.declared.timing.BlockingEnd.TheVariants.{Absolute as AtLast, Relative as AfterLast}
 
 -- the written times of an event, in microseconds
 abbrev pub written_times : Time → List ℕ
@@ -28,10 +28,10 @@ written_times (AbsoluteRange first last) = first ∷ last ∷ []
 written_times (RelativeRange first last) = first ∷ last ∷ []
 
 -- the written end of a blocking time
-abbrev pub written_until : Option Until → List ℕ
-written_until None = []
-written_until (Some (AtLast t)) = t ∷ []
-written_until (Some (AfterLast t)) = t ∷ []
+abbrev pub written_blocking_end : Option BlockingEnd → List ℕ
+written_blocking_end None = []
+written_blocking_end (Some (AtLast t)) = t ∷ []
+written_blocking_end (Some (AfterLast t)) = t ∷ []
 
 -- a written time is over its limit: above 3,600 seconds
 abbrev pub is_long : ℕ → Bool
@@ -47,7 +47,7 @@ is_some_over most None = false
 is_some_over most (Some n) = nat_lt most n
 
 -- an edge of a block is over its limit
-abbrev pub is_block_over : Block → Bool
+abbrev pub is_block_over : SackBlock → Bool
 is_block_over b = is_high b.left || is_high b.right
 
 -- an option's value, or the number of its blocks, is over its limit
@@ -86,4 +86,4 @@ is_action_over _ = false
 
 -- some number of the event is over its limit
 abbrev pub is_over_limit : Event → Bool
-is_over_limit e = list_any is_long (written_times e.time) || list_any is_long (written_until e.until) || is_action_over e.action
+is_over_limit e = list_any is_long (written_times e.time) || list_any is_long (written_blocking_end e.blocking_end) || is_action_over e.action

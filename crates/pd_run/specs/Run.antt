@@ -1,17 +1,17 @@
 -- A run of a script, its verdict, and the states on its way.
 use Rattle.std.specs.Prelude.{◌≡◌, ℕ, ◌+◌, false, Option, Some, None, is_none, List, [], ◌∷◌, find, Result, Ok, Err}
 use Rattle.std.specs.List.{filter_map, last_or}
-use Rattle.pd_settings.specs.declared.fields.Settings.{Settings}
+use Rattle.pd_settings.specs.declared.settings.Settings.{Settings}
 use Rattle.pd_script.specs.Script.{script_of}
-use Rattle.pd_script.specs.declared.parsing.Parsed.{Parsed}
+use Rattle.pd_script.specs.declared.parsed.Parsed.{Parsed}
 use Rattle.pd_script.specs.declared.script_events.Event.{Event}
 use Rattle.pd_script.specs.declared.script_header.HeaderItem.{HeaderItem}
 use Rattle.pd_script.specs.declared.script_header.HeaderKind.{HeaderKind}
 use Rattle.pd_script.specs.declared.script_header.HeaderKind.TheVariants.{Tolerance}
 use Rattle.pd_host.specs.Host.{fresh_host}
 use Rattle.pd_run.specs.Step.{RunStateView, on_step, step}
-use Rattle.pd_run.specs.declared.verdicts.Verdict.{Verdict}
-use Rattle.pd_run.specs.declared.verdicts.Verdict.TheVariants.{Pass, Syntax, Unsupported}
+use Rattle.pd_run.specs.declared.verdict.Verdict.{Verdict}
+use Rattle.pd_run.specs.declared.verdict.Verdict.TheVariants.{Pass, Syntax, Unsupported}
 
 -- the microseconds of a valid `--tolerance_usecs`
 abbrev pub tolerance_written : HeaderKind → Option ℕ
@@ -33,17 +33,17 @@ start_of header settings = started (find (λ item. is_none (tolerance_in item)) 
       host = fresh_host settings;
       clock = 0;
       base = 0;
-      written = last_or None (filter_map tolerance_in header);
-      compared = false;
+      header_tolerance = last_or None (filter_map tolerance_in header);
+      used_tolerance = false;
     })
 
 -- a fresh host at the beginning of a run whose header sets this tolerance
-abbrev pub begun : Option ℕ → Settings → RunStateView
-begun written settings = record { host = fresh_host settings; clock = 0; base = 0; written = written; compared = false }
+abbrev pub fresh_run : Option ℕ → Settings → RunStateView
+fresh_run header_tolerance settings = record { host = fresh_host settings; clock = 0; base = 0; header_tolerance = header_tolerance; used_tolerance = false }
 
 -- what a header is to its run under any settings: the tolerance that it sets, or the verdict of the item that isn't run
 abbrev pub LetsBegin : List HeaderItem → Result (Option ℕ) Verdict → Type 0
-LetsBegin header (Ok written) = (settings : Settings) → start_of header settings ≡ Ok (begun written settings)
+LetsBegin header (Ok header_tolerance) = (settings : Settings) → start_of header settings ≡ Ok (fresh_run header_tolerance settings)
 LetsBegin header (Err verdict) = (settings : Settings) → start_of header settings ≡ Err verdict
 
 -- the states after one, two, .. events, up to the stop

@@ -6,39 +6,39 @@ use Rattle.pd_script.specs.declared.packets.Packet.{Packet}
 use Rattle.pd_script.specs.declared.script_events.Action.{Action}
 use Rattle.pd_script.specs.declared.script_events.Action.TheVariants.{Inbound, Outbound, Call as Calls}
 use Rattle.pd_script.specs.declared.script_events.Event.{Event}
-use Rattle.pd_seg.specs.declared.answers.Answer.{Answer}
+use Rattle.pd_seg.specs.declared.call_results.Answer.{Answer}
 use Rattle.pd_seg.specs.declared.segments.Sent.{Sent}
 use Rattle.pd_host.specs.Arrivals.{arrived}
 use Rattle.pd_host.specs.Calls.{called}
 use Rattle.pd_host.specs.Expiries.{advanced, deadline_of}
 use Rattle.pd_host.specs.Host.{then_on, without_oldest}
 use Rattle.pd_host.specs.declared.halts.Halt.{Halt}
-use Rattle.pd_host.specs.declared.halts.Ending.{Ending}
-use Rattle.pd_host.specs.declared.halts.Ending.TheVariants as ending
-use Rattle.pd_host.specs.declared.endpoint.State.{State}
+use Rattle.pd_host.specs.declared.halts.HostEnd.{HostEnd}
+use Rattle.pd_host.specs.declared.halts.HostEnd.TheVariants as ending
+use Rattle.pd_host.specs.declared.endpoint.SenderState.{SenderState}
 use Rattle.pd_match.specs.Calls.{result_mismatch}
 use Rattle.pd_match.specs.Packets.{mismatch}
 use Rattle.pd_match.specs.declared.kinds.Kind.{Kind}
-use Rattle.pd_run.specs.Bars.{bar_of}
-use Rattle.pd_run.specs.Inbound.{segment_in}
+use Rattle.pd_run.specs.Prechecks.{failed_precheck}
+use Rattle.pd_run.specs.InboundSegment.{segment_in}
 pub use Rattle.pd_run.specs.RunStates.{RunStateView}
-use Rattle.pd_run.specs.Times.{moment_of, moments_of, is_in_reach, base_after}
+use Rattle.pd_run.specs.Times.{time_of, time_range_of, may_be_in_time, base_after}
 use Rattle.pd_run.specs.Verdicts.{verdict_at}
-use Rattle.pd_run.specs.declared.bars.Bar.{Bar}
-use Rattle.pd_run.specs.declared.bars.Bar.TheVariants.{NotRun}
-use Rattle.pd_run.specs.declared.stepping.StepEnd.{StepEnd}
-use Rattle.pd_run.specs.declared.stepping.StepEnd.TheVariants.{Go, Stop}
-use Rattle.pd_run.specs.declared.verdicts.Verdict.{Verdict}
-use Rattle.pd_run.specs.declared.whys.Why.{Why}
-use Rattle.pd_run.specs.declared.whys.Why.TheVariants.{Barred, Halted, Missing, Differs, Answered}
+use Rattle.pd_run.specs.declared.prechecks.Precheck.{Precheck}
+use Rattle.pd_run.specs.declared.prechecks.Precheck.TheVariants.{NotRun}
+use Rattle.pd_run.specs.declared.stepper.StepEnd.{StepEnd}
+use Rattle.pd_run.specs.declared.stepper.StepEnd.TheVariants.{Go, Stop}
+use Rattle.pd_run.specs.declared.verdict.Verdict.{Verdict}
+use Rattle.pd_run.specs.declared.stop_reason.StopReason.{StopReason}
+use Rattle.pd_run.specs.declared.stop_reason.StopReason.TheVariants.{FailedPrecheck, Halted, Missing, Differs, Answered}
 
 -- the tolerance in microseconds: the header's, else the setting's
 abbrev pub tolerance_of : RunStateView → ℕ
-tolerance_of r = unwrap_or r.written r.host.state.settings.tolerance_us
+tolerance_of r = unwrap_or r.header_tolerance r.host.state.settings.tolerance_us
 
 -- a packet is expected: without a header's tolerance that consults the setting's
-abbrev pub noted : RunStateView → RunStateView
-noted r = record r { compared = r.compared || is_none r.written }
+abbrev pub comparison_noted : RunStateView → RunStateView
+comparison_noted r = record r { used_tolerance = r.used_tolerance || is_none r.header_tolerance }
 
 -- what follows an event: goes on from the state after it, or from what stopped the run
 abbrev pub on_step : {A S : Type 0} → (RunStateView → A) → (S → A) → Result RunStateView S → A
@@ -46,85 +46,85 @@ on_step go stop (Ok r) = go r
 on_step go stop (Err s) = stop s
 
 -- what was compared agrees, or what differs first gives the reason to stop
-abbrev pub judged : RunStateView → (Kind → Why) → Option Kind → Result RunStateView Why
+abbrev pub judged : RunStateView → (Kind → StopReason) → Option Kind → Result RunStateView StopReason
 judged r reason None = Ok r
 judged r reason (Some kind) = Err (reason kind)
 
 -- the run with its sender in another state
-abbrev pub with_state : RunStateView → State → RunStateView
+abbrev pub with_state : RunStateView → SenderState → RunStateView
 with_state r s = record r { host = record r.host { state = s } }
 
 -- a packet that arrives, and a call, act at the later of the event's time and the clock
-abbrev pub acts_at : RunStateView → Event → ℕ
-acts_at r e = max (moment_of r.base e.time) r.clock
+abbrev pub action_time : RunStateView → Event → ℕ
+action_time r e = max (time_of r.base e.time) r.clock
 
 -- the run after that: the clock is that moment, the base is the event's time
-abbrev pub acted : RunStateView → Event → State → RunStateView
-acted r e s = record (with_state r s) { clock = acts_at r e; base = moment_of r.base e.time }
+abbrev pub acted : RunStateView → Event → SenderState → RunStateView
+acted r e s = record (with_state r s) { clock = action_time r e; base = time_of r.base e.time }
 
 -- a packet arrives, after all expiries up to its moment
-abbrev pub arrives : RunStateView → Event → Packet → Result State Halt
-arrives r e p = then_on (arrived (segment_in p) (acts_at r e)) (advanced (acts_at r e) r.host.state)
+abbrev pub arrives : RunStateView → Event → Packet → Result SenderState Halt
+arrives r e p = then_on (arrived (segment_in p) (action_time r e)) (advanced (action_time r e) r.host.state)
 
 -- what comes of the arrival: the run goes on, or the sender halts
-abbrev pub on_arrival : RunStateView → Event → Result State Halt → Result RunStateView Why
+abbrev pub on_arrival : RunStateView → Event → Result SenderState Halt → Result RunStateView StopReason
 on_arrival r e (Ok s) = Ok (acted r e s)
 on_arrival r e (Err halt) = Err (Halted halt)
 
 -- a call is made, after all expiries up to its moment
-abbrev pub answers : RunStateView → Event → Call → Result (State × Answer) Halt
-answers r e call = then_on (called call (acts_at r e)) (advanced (acts_at r e) r.host.state)
+abbrev pub answers : RunStateView → Event → Call → Result (SenderState × Answer) Halt
+answers r e call = then_on (called call (action_time r e)) (advanced (action_time r e) r.host.state)
 
 -- what comes of the call: its answer is compared with the written result, in the run after it, or the sender halts
-abbrev pub on_answer : RunStateView → Event → Call → Result (State × Answer) Halt → Result RunStateView Why
+abbrev pub on_answer : RunStateView → Event → Call → Result (SenderState × Answer) Halt → Result RunStateView StopReason
 on_answer r e call (Ok (s, answer)) = judged (acted r e s) (λ kind. Answered answer (acted r e s)) (result_mismatch call.result answer)
 on_answer r e call (Err halt) = Err (Halted halt)
 
 -- the next expiry is performed, and the clock becomes its moment; or the sender halts
-abbrev pub on_expiry : RunStateView → ℕ → Result State Halt → Result RunStateView Why
+abbrev pub on_expiry : RunStateView → ℕ → Result SenderState Halt → Result RunStateView StopReason
 on_expiry r at (Ok s) = Ok (record (with_state r s) { clock = at })
 on_expiry r at (Err halt) = Err (Halted halt)
 
 -- the next expiry, provided that a packet which it sends may still be the one expected; without such an expiry the packet
 -- is missing
-abbrev pub expires : RunStateView → Event → Option ℕ → Result RunStateView Why
+abbrev pub expires : RunStateView → Event → Option ℕ → Result RunStateView StopReason
 expires r e None = Err Missing
 expires r e (Some at) =
-    if is_in_reach (moments_of r.base e.time) (tolerance_of r) at then on_expiry r at (advanced at r.host.state) else Err Missing
+    if may_be_in_time (time_range_of r.base e.time) (tolerance_of r) at then on_expiry r at (advanced at r.host.state) else Err Missing
 
 -- where no packet is untaken, the next expiry is awaited
-abbrev pub awaited : RunStateView → Event → Result RunStateView Why
+abbrev pub awaited : RunStateView → Event → Result RunStateView StopReason
 awaited r e = if length r.host.state.endpoint.outbox == 0 then expires r e (deadline_of r.host.state) else Ok r
 
 -- the oldest packet that nobody has taken is compared, and taken where it agrees
-abbrev pub packet_taken : Event → Packet → RunStateView → Option Sent → Result RunStateView Why
+abbrev pub packet_taken : Event → Packet → RunStateView → Option Sent → Result RunStateView StopReason
 packet_taken e p r None = Err Missing
 packet_taken e p r (Some sent) =
     judged (record r { host = without_oldest r.host; base = base_after r.base e.time sent.at }) (λ kind. Differs kind sent r)
-    (mismatch p (moments_of r.base e.time) sent (tolerance_of r))
+    (mismatch p (time_range_of r.base e.time) sent (tolerance_of r))
 
 -- a packet is expected to have left
-abbrev pub leaves : RunStateView → Event → Packet → Result RunStateView Why
+abbrev pub leaves : RunStateView → Event → Packet → Result RunStateView StopReason
 leaves r e p = on_step (λ s. packet_taken e p s (slice_get s.host.state.endpoint.outbox 0)) (λ reason. Err reason) (awaited r e)
 
 -- what an action of a shape that is run does
-abbrev pub performed : RunStateView → Event → Action → Result RunStateView Why
+abbrev pub performed : RunStateView → Event → Action → Result RunStateView StopReason
 performed r e (Inbound p) = on_arrival r e (arrives r e p)
-performed r e (Outbound p) = leaves (noted r) e p
+performed r e (Outbound p) = leaves (comparison_noted r) e p
 performed r e (Calls call) = on_answer r e call (answers r e call)
-performed r e _ = Err (Barred NotRun)
+performed r e _ = Err (FailedPrecheck NotRun)
 
 -- nothing happens where a check bars the event
-abbrev pub unless_barred : Result RunStateView Why → Option Bar → Result RunStateView Why
-unless_barred came None = came
-unless_barred came (Some bar) = Err (Barred bar)
+abbrev pub unless_failed_precheck : Result RunStateView StopReason → Option Precheck → Result RunStateView StopReason
+unless_failed_precheck came None = came
+unless_failed_precheck came (Some bar) = Err (FailedPrecheck bar)
 
 -- how an event ends: the run goes on in the next state, or stops for a reason
-abbrev pub outcome : RunStateView → Event → Result RunStateView Why
-outcome r e = unless_barred (performed r e e.action) (bar_of r.base e)
+abbrev pub outcome : RunStateView → Event → Result RunStateView StopReason
+outcome r e = unless_failed_precheck (performed r e e.action) (failed_precheck r.base e)
 
 -- the same with the reason's verdict at a line
-abbrev pub at_line : ℕ → Result RunStateView Why → Result RunStateView Verdict
+abbrev pub at_line : ℕ → Result RunStateView StopReason → Result RunStateView Verdict
 at_line line (Ok r) = Ok r
 at_line line (Err reason) = Err (verdict_at line reason)
 
@@ -133,18 +133,18 @@ abbrev pub step : RunStateView → Event → Result RunStateView Verdict
 step r e = at_line e.line (outcome r e)
 
 -- why a run stops at an event; nothing where it goes on
-abbrev pub why : RunStateView → Event → Option Why
-why r e = result_err (outcome r e)
+abbrev pub stop_reason : RunStateView → Event → Option StopReason
+stop_reason r e = result_err (outcome r e)
 
 -- what a step answered, and the state it left where the run goes on
-abbrev pub Tells : Result RunStateView Verdict → StepEnd → RunStateView → Type 0
-Tells came Go new = came ≡ Ok new
-Tells came (Stop v) new = came ≡ Err v
+abbrev pub IsStepEnd : Result RunStateView Verdict → StepEnd → RunStateView → Type 0
+IsStepEnd came Go new = came ≡ Ok new
+IsStepEnd came (Stop v) new = came ≡ Err v
 
 -- a step by whether the sender has ended: of a run that was stopped by a halt nothing is claimed, and one that has found no
 -- memory takes no further step
-abbrev pub StepsFrom : Option Ending → RunStateView → Event → StepEnd → RunStateView → Type 0
-StepsFrom None old e end new = Tells (step old e) end new
+abbrev pub StepsFrom : Option HostEnd → RunStateView → Event → StepEnd → RunStateView → Type 0
+StepsFrom None old e end new = IsStepEnd (step old e) end new
 StepsFrom (Some (ending.Halted h)) old e end new = Unit {0}
 StepsFrom (Some ending.OutOfMemory) old e end new = ⊥
 

@@ -2,8 +2,8 @@
 //!
 //! `run_all` gives the `Verdict` of a text. A `RunState` is what a run holds between two events:
 //! the host, the clock, the base of relative times, and the header's tolerance. A `Stepper` takes a
-//! run through one event at a time, and counts. `find_stop` and `RunState::why` look at an event
-//! that stops a run once more, and give the reason (`Why`) with the packet or the answer that
+//! run through one event at a time, and counts. `find_stop` and `RunState::stop_reason` look at an event
+//! that stops a run once more, and give the reason (`StopReason`) with the packet or the answer that
 //! differs.
 //!
 //! ```text
@@ -26,43 +26,43 @@
 //!   waits, so a run takes the time of its steps, whatever times its script has, and has the same
 //!   verdict on any machine.
 //! - The verdict and its reason come from one function, `RunState::outcome`: `step` makes the
-//!   verdict of what it gives, and `why` calls it on a copy. So an explanation can't be of another
-//!   stop (the law `verdicts_have_reasons`).
+//!   verdict of what it gives, and `stop_reason` calls it on a copy. So an explanation can't be of another
+//!   stop (the law `law_verdicts_have_reasons`).
 //! - A step has conditions on its clock, its base and the queued octets; a run has none. Each event
 //!   moves clock and base, and queues octets, by no more than a limit, so a script's events can't
-//!   reach the bounds: the law `runs_are_bounded`.
+//!   reach the bounds: the law `law_runs_are_bounded`.
 //! - A run that is out of memory answers so to each further step. Nothing is promised of a run that
 //!   a verdict has stopped, so a step may leave it half done.
 //! - A `Stepper` is a trait with a count, so that contracts can say how many steps a call takes.
 //!   `pd_track` spares steps, and says exactly how many.
 #![tactic(auto)]
 
-mod acting;
-mod bars;
-mod inbound;
+mod host_input;
+mod inbound_segment;
 mod laws;
 mod limits;
+mod prechecks;
 mod run_state;
-mod running;
-mod shapes;
-mod stepping;
-mod stops;
+mod stepper;
+mod stop_point;
+mod stop_reason;
+mod supported;
 mod times;
-mod verdicts;
-mod whys;
+mod verdict;
+mod whole_run;
 
-pub use acting::ruling_of;
-pub use bars::{Bar, bar_of};
+pub use host_input::failed_check_of;
 pub use laws::{
-    runs_are_bounded, runs_only_use, steps_are_lawful, verdicts_are_grammatical,
-    verdicts_have_reasons,
+    law_runs_are_bounded, law_runs_only_use, law_steps, law_verdicts_are_grammatical,
+    law_verdicts_have_reasons,
 };
 pub use pd_host::ConnState;
 pub use pd_match::Kind;
+pub use prechecks::{Precheck, failed_precheck};
 pub use run_state::RunState;
-pub use running::{run_all, run_with};
-pub use stepping::{Plain, StepEnd, Stepper};
-pub use stops::{Stopped, find_stop, reason_on};
-pub use times::{base_after, is_in_reach, moment_of, moments_of};
-pub use verdicts::Verdict;
-pub use whys::Why;
+pub use stepper::{Plain, StepEnd, Stepper};
+pub use stop_point::{StopPoint, find_stop, stop_reason_on};
+pub use stop_reason::StopReason;
+pub use times::{base_after, may_be_in_time, time_of, time_range_of};
+pub use verdict::Verdict;
+pub use whole_run::{run_all, run_with};

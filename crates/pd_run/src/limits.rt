@@ -1,10 +1,11 @@
 //! The limits of an event's numbers.
 ghost use Rattle.std.specs.Prelude.{◌≡◌};
 ghost use Rattle.std.specs.List.{list_any};
-ghost use Rattle.pd_run.specs.Limits.{is_long, written_times, written_until, is_some_over, is_block_over, is_option_over, are_options_over, is_packet_over, is_write, is_count_over, is_action_over, is_over_limit};
+ghost use Rattle.pd_run.specs.Limits.{is_long, written_times, written_blocking_end, is_some_over, is_block_over, is_option_over, are_options_over, is_packet_over, is_write, is_count_over, is_action_over, is_over_limit};
 
 use pd_script::{
-    Action, Argument, Block, Call, Event, Function, Options, Packet, PacketOption, Time, Until,
+    Action, Argument, BlockingEnd, Call, Event, Function, Options, Packet, PacketOption, SackBlock,
+    Time,
 };
 
 /// The greatest written time, in microseconds.
@@ -36,7 +37,9 @@ const MAX_WRITE: u64 = 262_144;
 pub fn is_over_limit(event: &Event) -> bool
     ensures { result ≡ is_over_limit event.now }
 {
-    is_time_over(event.time) || is_until_over(event.until) || is_action_over(&event.action)
+    is_time_over(event.time)
+        || is_blocking_end_over(event.blocking_end)
+        || is_action_over(&event.action)
 }
 
 fn is_time_over(time: Time) -> bool
@@ -51,13 +54,13 @@ fn is_time_over(time: Time) -> bool
     }
 }
 
-fn is_until_over(until: Option<Until>) -> bool
-    ensures { result ≡ list_any is_long (written_until until) }
+fn is_blocking_end_over(blocking_end: Option<BlockingEnd>) -> bool
+    ensures { result ≡ list_any is_long (written_blocking_end blocking_end) }
 {
-    match until {
+    match blocking_end {
         None => false,
-        Some(Until::Absolute(t)) => t > MAX_TIME_US,
-        Some(Until::Relative(t)) => t > MAX_TIME_US,
+        Some(BlockingEnd::Absolute(t)) => t > MAX_TIME_US,
+        Some(BlockingEnd::Relative(t)) => t > MAX_TIME_US,
     }
 }
 
@@ -128,7 +131,7 @@ fn is_option_over(option: &PacketOption) -> bool
     }
 }
 
-fn is_edge_high(blocks: &[Block]) -> bool
+fn is_edge_high(blocks: &[SackBlock]) -> bool
     ensures { result ≡ list_any is_block_over blocks.now }
 {
     let highest = u64::from(MAX_NUMBER);

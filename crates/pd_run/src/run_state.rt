@@ -2,21 +2,21 @@
 ghost use Rattle.std.specs.Prelude.{◌≡◌, ◌<◌, ◌^◌, false, Some, IfOk, IsErr};
 ghost use Rattle.std.specs.List.{list_any};
 ghost use Rattle.pd_host.specs.ConnStates.{conn_state};
-ghost use Rattle.pd_host.specs.declared.halts.Ending.TheVariants.{OutOfMemory};
+ghost use Rattle.pd_host.specs.declared.halts.HostEnd.TheVariants.{OutOfMemory};
 ghost use Rattle.pd_run.specs.Limits.{is_long, written_times};
-ghost use Rattle.pd_run.specs.Times.{moment_of};
-ghost use Rattle.pd_run.specs.Run.{start_of, begun, LetsBegin};
-ghost use Rattle.pd_run.specs.Consulted.{uses_of, rebound_run};
-ghost use Rattle.pd_run.specs.Step.{tolerance_of, noted, acts_at};
+ghost use Rattle.pd_run.specs.Times.{time_of};
+ghost use Rattle.pd_run.specs.Run.{start_of, fresh_run, LetsBegin};
+ghost use Rattle.pd_run.specs.Consulted.{consulted_settings_of, run_with_settings};
+ghost use Rattle.pd_run.specs.Step.{tolerance_of, comparison_noted, action_time};
 
 mod events;
 
-use crate::laws::sender_is_lawful;
-use crate::times::moment_of;
-use crate::verdicts::Verdict;
+use crate::laws::law_sender;
+use crate::times::time_of;
+use crate::verdict::Verdict;
 use pd_host::{ConnState, Host};
 use pd_script::{Event, Header, HeaderKind};
-use pd_settings::{Settings, UseSet};
+use pd_settings::{SettingSet, Settings};
 use std::alloc::{AllocError, Global};
 use std::marker::Model;
 
@@ -33,9 +33,9 @@ pub struct RunState {
     /// The moment from which relative times are counted, in microseconds since the start of the run.
     base: u64,
     /// The header's tolerance, in microseconds, if it sets one.
-    written: Option<u64>,
+    header_tolerance: Option<u64>,
     /// Whether a packet was expected without a header's tolerance, so that the setting `tolerance_us` was consulted.
-    compared: bool,
+    used_tolerance: bool,
 }
 
 impl Model for RunState {
@@ -43,7 +43,7 @@ impl Model for RunState {
 
     ghost Value = { RunStateView };
 
-    ghost view = { λ r. record { host = r.host; clock = r.clock; base = r.base; written = r.written; compared = r.compared } };
+    ghost view = { λ r. record { host = r.host; clock = r.clock; base = r.base; header_tolerance = r.header_tolerance; used_tolerance = r.used_tolerance } };
 
     ghost invariant = { λ r. IsUpToDate r.host r.clock };
 }
@@ -56,8 +56,8 @@ impl RunState {
     pub fn new(alloc: Global, header: &Header, settings: &Settings) -> Result<RunState, Verdict>
         ensures { result ≡ start_of header.now.items settings.now }
     {
-        match RunState::tolerance_set(header) {
-            Ok(written) => Ok(RunState::begun(alloc, written, settings)),
+        match RunState::header_tolerance_of(header) {
+            Ok(header_tolerance) => Ok(RunState::fresh_run(alloc, header_tolerance, settings)),
             Err(verdict) => Err(verdict),
         }
     }
@@ -66,29 +66,29 @@ impl RunState {
     ///
     /// # Errors
     /// As for `new`.
-    pub fn tolerance_set(header: &Header) -> Result<Option<u64>, Verdict>
+    pub fn header_tolerance_of(header: &Header) -> Result<Option<u64>, Verdict>
         ensures { LetsBegin header.now.items result }
     {
-        let mut written = None;
+        let mut header_tolerance = None;
         for item in header.as_slice() {
             match item.kind {
-                HeaderKind::Tolerance(microseconds) => written = Some(microseconds),
+                HeaderKind::Tolerance(microseconds) => header_tolerance = Some(microseconds),
                 _ => return Err(Verdict::Unsupported(item.line)),
             }
         }
-        Ok(written)
+        Ok(header_tolerance)
     }
 
     /// The state before the first event of a run whose header sets this tolerance, in microseconds, if it sets one.
-    pub fn begun(alloc: Global, written: Option<u64>, settings: &Settings) -> RunState
-        ensures { result ≡ begun written settings.now }
+    pub fn fresh_run(alloc: Global, header_tolerance: Option<u64>, settings: &Settings) -> RunState
+        ensures { result ≡ fresh_run header_tolerance settings.now }
     {
         RunState {
             host: Host::new(alloc, settings),
             clock: 0,
             base: 0,
-            written,
-            compared: false,
+            header_tolerance,
+            used_tolerance: false,
         }
     }
 
@@ -101,21 +101,21 @@ impl RunState {
         ensures ok { IfOk result (λ copy. copy ≡ self.now) }
         ensures again { self.now.host.ended ≡ Some OutOfMemory → IsErr result }
     {
-        let copies = self.host.copies()?;
+        let cloned_parts = self.host.cloned_parts()?;
         Ok(RunState {
-            host: self.host.with_copies(copies),
+            host: self.host.with_cloned_parts(cloned_parts),
             ..*self
         })
     }
 
     /// Which of the settings were consulted so far.
-    pub fn uses(&self) -> UseSet
-        ensures { result ≡ uses_of self.now }
+    pub fn consulted_settings(&self) -> SettingSet
+        ensures { result ≡ consulted_settings_of self.now }
     {
-        let uses = self.host.uses();
-        UseSet {
-            tolerance_us: uses.tolerance_us || self.compared,
-            ..uses
+        let consulted_settings = self.host.consulted_settings();
+        SettingSet {
+            tolerance_us: consulted_settings.tolerance_us || self.used_tolerance,
+            ..consulted_settings
         }
     }
 
@@ -124,11 +124,11 @@ impl RunState {
     /// the beginning.
     ///
     /// Takes no memory.
-    pub fn rebind(&mut self, settings: &Settings)
-        ensures { self.new ≡ rebound_run settings.now self.old }
+    pub fn set_settings(&mut self, settings: &Settings)
+        ensures { self.new ≡ run_with_settings settings.now self.old }
     {
-        sender_is_lawful();
-        self.host.rebind(settings);
+        law_sender();
+        self.host.set_settings(settings);
     }
 
     /// The state of the run's sender.
@@ -163,31 +163,32 @@ impl RunState {
     pub fn tolerance(&self) -> u64
         ensures { result ≡ tolerance_of self.now }
     {
-        self.written.unwrap_or(self.host.settings().tolerance_us)
+        self.header_tolerance
+            .unwrap_or(self.host.settings().tolerance_us)
     }
 
     /// A packet is expected.
-    fn note(&mut self)
-        ensures { self.new ≡ noted self.old }
+    fn note_comparison(&mut self)
+        ensures { self.new ≡ comparison_noted self.old }
     {
-        self.compared = self.compared || self.written.is_none();
+        self.used_tolerance = self.used_tolerance || self.header_tolerance.is_none();
     }
 
     /// The moment at which a packet arrives or a call is made.
-    fn acts_at(&self, event: &Event) -> u64
+    fn action_time(&self, event: &Event) -> u64
         requires base { self.now.base < 2 ^ 61 }
         requires short { list_any is_long (written_times event.now.time) ≡ false }
-        ensures { result ≡ acts_at self.now event.now }
+        ensures { result ≡ action_time self.now event.now }
     {
-        moment_of(self.base, event.time).max(self.clock)
+        time_of(self.base, event.time).max(self.clock)
     }
 
     /// The base becomes the time of an event that acted.
-    fn rebase(&mut self, event: &Event)
+    fn set_base(&mut self, event: &Event)
         requires base { self.old.base < 2 ^ 61 }
         requires short { list_any is_long (written_times event.now.time) ≡ false }
-        ensures { self.new ≡ record self.old { base = moment_of self.old.base event.now.time } }
+        ensures { self.new ≡ record self.old { base = time_of self.old.base event.now.time } }
     {
-        self.base = moment_of(self.base, event.time);
+        self.base = time_of(self.base, event.time);
     }
 }

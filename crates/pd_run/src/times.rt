@@ -2,7 +2,7 @@
 ghost use Rattle.std.specs.Prelude.{◌≡◌, ◌<◌, ◌^◌, false};
 ghost use Rattle.std.specs.List.{list_any};
 ghost use Rattle.pd_run.specs.Limits.{is_long, written_times};
-ghost use Rattle.pd_run.specs.Times.{is_single, moment_of, moments_of, is_backwards, is_in_reach, base_after};
+ghost use Rattle.pd_run.specs.Times.{is_single, time_of, time_range_of, is_backwards, may_be_in_time, base_after};
 
 use pd_script::Time;
 
@@ -14,10 +14,10 @@ pub fn is_single(time: Time) -> bool
 }
 
 /// The moment of a time that is one, from a base, both in microseconds since the start of the run; the base for any other.
-pub fn moment_of(base: u64, time: Time) -> u64
+pub fn time_of(base: u64, time: Time) -> u64
     requires base { base < 2 ^ 61 }
     requires short { list_any is_long (written_times time) ≡ false }
-    ensures { result ≡ moment_of base time }
+    ensures { result ≡ time_of base time }
 {
     match time {
         Time::Absolute(t) => t,
@@ -28,8 +28,8 @@ pub fn moment_of(base: u64, time: Time) -> u64
 
 /// The first and the last moment of a time, from a base, in microseconds since the start of the run; `None` for `*`. A moment
 /// beyond the greatest `u64` counts as that.
-pub fn moments_of(base: u64, time: Time) -> Option<(u64, u64)>
-    ensures { base < 2 ^ 61 → list_any is_long (written_times time) ≡ false → result ≡ moments_of base time }
+pub fn time_range_of(base: u64, time: Time) -> Option<(u64, u64)>
+    ensures { base < 2 ^ 61 → list_any is_long (written_times time) ≡ false → result ≡ time_range_of base time }
 {
     match time {
         Time::Any => None,
@@ -55,10 +55,10 @@ pub fn is_backwards(base: u64, time: Time) -> bool
 
 /// Whether a packet that leaves at a moment may still come in time: no later than the last moment and the tolerance, in
 /// microseconds. `None` is any time.
-pub fn is_in_reach(moments: Option<(u64, u64)>, tolerance: u64, at: u64) -> bool
-    ensures { result ≡ is_in_reach moments tolerance at }
+pub fn may_be_in_time(time_range: Option<(u64, u64)>, tolerance: u64, at: u64) -> bool
+    ensures { result ≡ may_be_in_time time_range tolerance at }
 {
-    match moments {
+    match time_range {
         None => true,
         Some((_, last)) => at <= last.saturating_add(tolerance),
     }
@@ -72,7 +72,7 @@ pub fn base_after(base: u64, time: Time, at: u64) -> u64
     ensures { result ≡ base_after base time at }
 {
     if is_single(time) {
-        moment_of(base, time)
+        time_of(base, time)
     } else {
         base.max(at)
     }

@@ -10,17 +10,17 @@ use Rattle.pd_script.specs.Items.{is_symbol, is_any_int, is_word}
 use Rattle.pd_script.specs.Reader.{onto, machine_at, done, one}
 use Rattle.pd_script.specs.TokenReading.{symbol_at}
 use Rattle.pd_script.specs.EventReading.{arguments_at, no_arguments_at}
-use Rattle.pd_script.specs.declared.drafts.Inside.{Inside}
+use Rattle.pd_script.specs.declared.argument_builder.BracketContext.{BracketContext}
 use Rattle.pd_script.proofs.Plain.{is_plain}
 use Rattle.pd_script.specs.declared.calls.Argument.{Argument}
 use Rattle.pd_script.specs.declared.brackets.Bracket.{Bracket}
 use Rattle.pd_script.specs.declared.brackets.Bracket.TheVariants as brackets
-use Rattle.pd_script.specs.declared.drafts.Draft.{Draft}
-use Rattle.pd_script.specs.declared.drafts.Draft.TheVariants as drafts
+use Rattle.pd_script.specs.declared.argument_builder.ArgumentBuilder.{ArgumentBuilder}
+use Rattle.pd_script.specs.declared.argument_builder.ArgumentBuilder.TheVariants as argument_builder
 use Rattle.pd_script.proofs.Laws.{Laws, Laws-one, Laws-done, Laws-bind, Laws-when, Full, Stops, any, ok}
 use Rattle.pd_script.proofs.Machines.{Laws-machine}
 use Rattle.pd_script.proofs.Apart.{not-true, not-false}
-use Rattle.pd_script.specs.Drafts.{at_start, argument_move, longer_draft, drafted, is_empty}
+use Rattle.pd_script.specs.ArgumentReading.{at_start, argument_move, extended_builder, built_argument, is_empty}
 
 abbrev pub a_token : TokenKind → List ℕ → Item
 a_token kind text = lexeme (record { kind = kind; text = text; from = first_place })
@@ -39,31 +39,31 @@ closing [] = closer brackets.Round ∷ []
 closing (b ∷ pairs) = closer b ∷ closing pairs
 
 -- what the argument is then
-at_close : List Bracket → Draft → Draft
+at_close : List Bracket → ArgumentBuilder → ArgumentBuilder
 at_close [] d = d
-at_close (b ∷ pairs) d = at_close pairs (longer_draft d (closer b))
+at_close (b ∷ pairs) d = at_close pairs (extended_builder d (closer b))
 
-one_of : (b : Bool) (x y : Draft) → is_empty x ≡ false → is_empty y ≡ false → is_empty (cond b x y) ≡ false
+one_of : (b : Bool) (x y : ArgumentBuilder) → is_empty x ≡ false → is_empty y ≡ false → is_empty (cond b x y) ≡ false
 one_of true x y h g = h
 one_of false x y h g = g
 
-pub is_empty-longer_draft : (d : Draft) (t : Item) → is_empty (longer_draft d t) ≡ false
-is_empty-longer_draft drafts.Empty t = one_of (is_any_int t) _ _ refl (one_of (is_word t) _ _ refl (one_of (is_symbol 91 t) _ _ refl refl))
-is_empty-longer_draft (drafts.Single a) t = refl
-is_empty-longer_draft drafts.Opened t = one_of (is_any_int t) _ _ refl refl
-is_empty-longer_draft (drafts.Numbered n) t = one_of (is_symbol 93 t) _ _ refl refl
-is_empty-longer_draft (drafts.Element n) t = refl
-is_empty-longer_draft drafts.Mixed t = refl
+pub is_empty-extended_builder : (d : ArgumentBuilder) (t : Item) → is_empty (extended_builder d t) ≡ false
+is_empty-extended_builder argument_builder.Empty t = one_of (is_any_int t) _ _ refl (one_of (is_word t) _ _ refl (one_of (is_symbol 91 t) _ _ refl refl))
+is_empty-extended_builder (argument_builder.Single a) t = refl
+is_empty-extended_builder argument_builder.Opened t = one_of (is_any_int t) _ _ refl refl
+is_empty-extended_builder (argument_builder.Numbered n) t = one_of (is_symbol 93 t) _ _ refl refl
+is_empty-extended_builder (argument_builder.Element n) t = refl
+is_empty-extended_builder argument_builder.Mixed t = refl
 
-abbrev state : List Bracket → Draft → Inside
-state pairs d = record { pairs = pairs; draft = d }
+abbrev state : List Bracket → ArgumentBuilder → BracketContext
+state pairs d = record { pairs = pairs; builder = d }
 
-closes : (pairs : List Bracket) (d : Draft) (tail : List Item) → is_empty d ≡ false → machine_at argument_move (state pairs d) (closing pairs ++ tail) ≡ ok (drafted (at_close pairs d) ∷ []) tail
+closes : (pairs : List Bracket) (d : ArgumentBuilder) (tail : List Item) → is_empty d ≡ false → machine_at argument_move (state pairs d) (closing pairs ++ tail) ≡ ok (built_argument (at_close pairs d) ∷ []) tail
 unfolding machine_at closing at_close
 closes [] d tail h = rw h refl
-closes (brackets.Round ∷ pairs) d tail h = rw (closes pairs (longer_draft d (closer brackets.Round)) tail (is_empty-longer_draft d (closer brackets.Round))) refl
-closes (brackets.Square ∷ pairs) d tail h = rw (closes pairs (longer_draft d (closer brackets.Square)) tail (is_empty-longer_draft d (closer brackets.Square))) refl
-closes (brackets.Curly ∷ pairs) d tail h = rw (closes pairs (longer_draft d (closer brackets.Curly)) tail (is_empty-longer_draft d (closer brackets.Curly))) refl
+closes (brackets.Round ∷ pairs) d tail h = rw (closes pairs (extended_builder d (closer brackets.Round)) tail (is_empty-extended_builder d (closer brackets.Round))) refl
+closes (brackets.Square ∷ pairs) d tail h = rw (closes pairs (extended_builder d (closer brackets.Square)) tail (is_empty-extended_builder d (closer brackets.Square))) refl
+closes (brackets.Curly ∷ pairs) d tail h = rw (closes pairs (extended_builder d (closer brackets.Curly)) tail (is_empty-extended_builder d (closer brackets.Curly))) refl
 
 pub plain_closing : (pairs : List Bracket) → list_all is_plain (closing pairs) ≡ true
 unfolding closing
@@ -72,19 +72,19 @@ plain_closing (brackets.Round ∷ pairs) = plain_closing pairs
 plain_closing (brackets.Square ∷ pairs) = plain_closing pairs
 plain_closing (brackets.Curly ∷ pairs) = plain_closing pairs
 
-goes_on_by_word : (pairs : List Bracket) (d : Draft) (ts : List Item) → machine_at argument_move (state pairs d) (a_word ∷ ts) ≡ onto [] (machine_at argument_move (state pairs (longer_draft d a_word)) ts)
+goes_on_by_word : (pairs : List Bracket) (d : ArgumentBuilder) (ts : List Item) → machine_at argument_move (state pairs d) (a_word ∷ ts) ≡ onto [] (machine_at argument_move (state pairs (extended_builder d a_word)) ts)
 unfolding machine_at
 goes_on_by_word [] d ts = refl
 goes_on_by_word (b ∷ pairs) d ts = refl
 
-full_within : (s : Inside) → Full (machine_at argument_move s) any []
+full_within : (s : BracketContext) → Full (machine_at argument_move s) any []
 full_within s =
-    let d = longer_draft s.draft a_word in
+    let d = extended_builder s.builder a_word in
     record {
       more = a_word ∷ closing s.pairs;
-      value = drafted (at_close s.pairs d) ∷ [];
+      value = built_argument (at_close s.pairs d) ∷ [];
       spelled = plain_closing s.pairs;
-      reads = λ tail h. goes_on_by_word s.pairs s.draft (closing s.pairs ++ tail) ∙ rw (closes s.pairs d tail (is_empty-longer_draft s.draft a_word)) refl;
+      reads = λ tail h. goes_on_by_word s.pairs s.builder (closing s.pairs ++ tail) ∙ rw (closes s.pairs d tail (is_empty-extended_builder s.builder a_word)) refl;
     }
 
 -- arguments don't begin with the bracket that ends them

@@ -5,20 +5,20 @@ use Rattle.std.proofs.lemmas.Bool.Decides.{nat_tests}
 use Rattle.pd_lex.specs.declared.token.TokenKind.{TokenKind}
 use Rattle.pd_lex.specs.declared.token.TokenKind.TheVariants as kinds
 use Rattle.pd_lex.specs.Tokens.{Item, lexeme, ending, bad, line_of}
-use Rattle.pd_script.specs.Items.{is_int, is_hex, is_num, is_num_from, is_dots, is_command, is_code, is_word, is_symbol, is_int_kind, is_hex_kind, is_num_kind, is_dots_kind, is_command_kind, is_code_kind, is_word_kind, is_symbol_kind, is_end, starts_event, goes_on, text_of}
+use Rattle.pd_script.specs.Items.{is_int, is_hex, is_num, is_num_from, is_dots, is_command, is_code, is_word, is_symbol, is_int_kind, is_hex_kind, is_num_kind, is_dots_kind, is_command_kind, is_code_kind, is_word_kind, is_symbol_kind, is_end, starts_event, starts_event_or_end, text_of}
 use Rattle.pd_script.specs.Values.{hex_number, microseconds, error_named, function_named}
 use Rattle.pd_script.specs.Reader.{done, one, when, machine_at}
-use Rattle.pd_script.specs.Drafts.{note_move}
+use Rattle.pd_script.specs.ArgumentReading.{note_move}
 use Rattle.pd_script.specs.TokenReading.{symbol_at, int_at, dots_at}
-use Rattle.pd_script.specs.EventReading.{hex_at, num_at, num_from_at, function_at, error_at, absolute_range_at, absolute_at, plus_num_from_at, relative_range_at, relative_at, any_time_at, time_at, relative_until_at, absolute_until_at, until_at, maybe_until_at, whole_at, hexadecimal_at, named_error_at, negative_at, outcome_at, arguments_at, note_at, maybe_note_at, call_at, call_action_at, command_at, code_at, inbound_at, outbound_at, action_at, event_at}
+use Rattle.pd_script.specs.EventReading.{hex_at, num_at, num_from_at, function_at, error_at, absolute_range_at, absolute_at, plus_num_from_at, relative_range_at, relative_at, any_time_at, time_at, relative_blocking_end_at, absolute_blocking_end_at, blocking_end_at, maybe_blocking_end_at, whole_at, hexadecimal_at, named_error_at, negative_at, expected_result_at, arguments_at, note_at, maybe_note_at, call_at, call_action_at, command_at, code_at, inbound_at, outbound_at, action_at, event_at}
 use Rattle.pd_script.specs.PacketReading.{packet_at}
 use Rattle.pd_script.specs.PacketGrammar.{IsPacket}
 use Rattle.pd_script.specs.Spelling.{Spelling, token, made, in_turn, either, IsSymbol, IsInt, IsDots}
-use Rattle.pd_script.specs.Grammar.{IsHex, IsNum, IsNumFrom, IsFunction, IsErrorName, IsAbsoluteRange, IsAbsolute, IsPlusNumFrom, IsRelativeRange, IsRelative, IsAnyTime, IsTime, IsRelativeUntil, IsAbsoluteUntil, IsUntil, IsMaybeUntil, IsWhole, IsHexadecimal, IsNegative, IsOutcome, IsCall, IsCallAction, IsCommand, IsCode, IsInbound, IsOutbound, IsAction, IsEvent}
+use Rattle.pd_script.specs.Grammar.{IsHex, IsNum, IsNumFrom, IsFunction, IsErrorName, IsAbsoluteRange, IsAbsolute, IsPlusNumFrom, IsRelativeRange, IsRelative, IsAnyTime, IsTime, IsRelativeBlockingEnd, IsAbsoluteBlockingEnd, IsBlockingEnd, IsMaybeBlockingEnd, IsWhole, IsHexadecimal, IsNegative, IsExpectedResult, IsCall, IsCallAction, IsCommand, IsCode, IsInbound, IsOutbound, IsAction, IsEvent}
 use Rattle.pd_script.specs.Arguments.{IsArguments, IsNote}
 use Rattle.pd_script.specs.declared.timing.Time.TheVariants as times
-use Rattle.pd_script.specs.declared.timing.Until.TheVariants as untils
-use Rattle.pd_script.specs.declared.calls.Outcome.TheVariants as outcomes
+use Rattle.pd_script.specs.declared.timing.BlockingEnd.TheVariants as blocking_ends
+use Rattle.pd_script.specs.declared.calls.ExpectedResult.TheVariants as expected_results
 use Rattle.pd_script.specs.declared.script_events.Action.TheVariants as actions
 use Rattle.pd_script.proofs.Laws.{any}
 use Rattle.pd_script.proofs.Matches.{Reads, Reads-one, Reads-bind, Reads-bind_if, Reads-done, Reads-when, Reads-optional}
@@ -157,7 +157,7 @@ word_no_start = record {
   end_is = λ t h. end_no_token (λ kind text. is_word_kind kind) t h;
 }
 
-pub goes_on_no_word : (t : Item) → goes_on t ≡ true → but is_word t ≡ true
+pub goes_on_no_word : (t : Item) → starts_event_or_end t ≡ true → but is_word t ≡ true
 goes_on_no_word t h = not-false (is_word t) (goes_on_not is_word word_no_start t h)
 
 -- ---- results
@@ -171,29 +171,29 @@ minus_no_int = apart is_symbol_kind is_int_kind (is_symbol 45) is_int refl (symb
 minus_no_hex : (t : Item) → is_symbol 45 t ≡ true → is_hex t ≡ false
 minus_no_hex = apart is_symbol_kind is_hex_kind (is_symbol 45) is_hex refl (symbol_kind 45) hex_kind
 
-abbrev pub starts_other_outcome : Item → Bool
-starts_other_outcome t = is_hex t || is_symbol 45 t
+abbrev pub starts_other_expected_result : Item → Bool
+starts_other_expected_result t = is_hex t || is_symbol 45 t
 
-abbrev pub starts_outcome : Item → Bool
-starts_outcome t = is_int t || starts_other_outcome t
+abbrev pub starts_expected_result : Item → Bool
+starts_expected_result t = is_int t || starts_other_expected_result t
 
 Reads-negative : Reads negative_at IsNegative (is_symbol 45) (but is_word)
 Reads-negative =
     Reads-bind (symbol_at 45) _ (IsSymbol "-") _ (is_symbol 45) any is_int (but is_word) (symbol 45 refl refl)
     (λ line. Reads-bind int_at _ IsInt _ is_int any any (but is_word) int
-    (λ n. tail is_word (named_error_at n) (in_turn IsErrorName (λ name. made (outcomes.Negative n (Some name)))) (outcomes.Negative n None)
-    (last error_at (λ name. outcomes.Negative n (Some name)) IsErrorName is_word (but is_word) error_name)
+    (λ n. tail is_word (named_error_at n) (in_turn IsErrorName (λ name. made (expected_results.Negative n (Some name)))) (expected_results.Negative n None)
+    (last error_at (λ name. expected_results.Negative n (Some name)) IsErrorName is_word (but is_word) error_name)
     (λ w rest e. absurd cc))
     (all any))
     (all is_int)
 
-pub Reads-outcome : Reads outcome_at IsOutcome starts_outcome (but is_word)
-unfolding outcome_at IsOutcome
-Reads-outcome =
-    Reads-when is_int whole_at (when is_hex hexadecimal_at negative_at) IsWhole (either IsHexadecimal IsNegative) is_int starts_other_outcome starts_outcome (but is_word)
-    (last int_at (λ n. outcomes.Int n) IsInt is_int (but is_word) int)
-    (Reads-when is_hex hexadecimal_at negative_at IsHexadecimal IsNegative is_hex (is_symbol 45) starts_other_outcome (but is_word)
-    (last hex_at (λ n. outcomes.Hex n) IsHex is_hex (but is_word) hex)
+pub Reads-expected_result : Reads expected_result_at IsExpectedResult starts_expected_result (but is_word)
+unfolding expected_result_at IsExpectedResult
+Reads-expected_result =
+    Reads-when is_int whole_at (when is_hex hexadecimal_at negative_at) IsWhole (either IsHexadecimal IsNegative) is_int starts_other_expected_result starts_expected_result (but is_word)
+    (last int_at (λ n. expected_results.Int n) IsInt is_int (but is_word) int)
+    (Reads-when is_hex hexadecimal_at negative_at IsHexadecimal IsNegative is_hex (is_symbol 45) starts_other_expected_result (but is_word)
+    (last hex_at (λ n. expected_results.Hex n) IsHex is_hex (but is_word) hex)
     Reads-negative
     (λ t h. h)
     minus_no_hex
@@ -203,8 +203,8 @@ Reads-outcome =
     (λ t h. h)
     (λ t h. or-elim-no (is_hex t) (is_symbol 45 t) (is_int t) (hex_no_int t) (minus_no_int t) h)
     (λ w rest e. absurd cc)
-    (λ t h. or-left (is_int t) (starts_other_outcome t) h)
-    (λ t h. or-right (is_int t) (starts_other_outcome t) h)
+    (λ t h. or-left (is_int t) (starts_other_expected_result t) h)
+    (λ t h. or-right (is_int t) (starts_other_expected_result t) h)
 
 -- ---- calls
 
@@ -214,11 +214,11 @@ Reads-arguments = record { laws = Laws-arguments; sound = arguments_sound; compl
 abbrev IsBracketed : Spelling ⊤
 IsBracketed = in_turn (IsSymbol "(") (λ opening. in_turn IsInNote (λ skipped. made tt))
 
-Reads-bracketed_note : Reads note_at IsBracketed (is_symbol 40) goes_on
+Reads-bracketed_note : Reads note_at IsBracketed (is_symbol 40) starts_event_or_end
 unfolding note_at
 Reads-bracketed_note =
-    Reads-bind (symbol_at 40) _ (IsSymbol "(") _ (is_symbol 40) any any goes_on (symbol 40 refl refl)
-    (λ line. last (machine_at note_move []) (λ skipped. tt) IsInNote any goes_on Reads-in_note)
+    Reads-bind (symbol_at 40) _ (IsSymbol "(") _ (is_symbol 40) any any starts_event_or_end (symbol 40 refl refl)
+    (λ line. last (machine_at note_move []) (λ skipped. tt) IsInNote any starts_event_or_end Reads-in_note)
     (all any)
 
 note_is : (v : ⊤) (ts rest : List Item) → IsBracketed v ts rest → IsNote v ts rest
@@ -242,7 +242,7 @@ bracketed_is v ts rest h =
     let none : List ℕ = [] in
     (line_of h.opening, middle, (h.opening, middle, (h.spelled, h.opens), (refl, refl)), (none, rest, record { inside = h.inside; closing = h.closing; spelled = refl; balanced = h.balanced; ends = h.ends; value = refl }, (refl, refl)))
 
-Reads-note : Reads note_at IsNote (is_symbol 40) goes_on
+Reads-note : Reads note_at IsNote (is_symbol 40) starts_event_or_end
 Reads-note =
     let R = Reads-bracketed_note in
     record {
@@ -256,51 +256,51 @@ note_nothing : (w : ⊤) (rest : List Item) → note_at [] ≡ Ok (w, rest) → 
 unfolding note_at
 note_nothing w rest e = absurd cc
 
-abbrev pub follows_outcome : Item → Bool
-follows_outcome t = is_symbol 40 t || goes_on t
+abbrev pub follows_expected_result : Item → Bool
+follows_expected_result t = is_symbol 40 t || starts_event_or_end t
 
-Reads-maybe_note : Reads maybe_note_at (either IsNote (made tt)) follows_outcome goes_on
-Reads-maybe_note = Reads-optional (is_symbol 40) goes_on note_at IsNote tt Reads-note (goes_on_not (is_symbol 40) (symbol_no_start 40 refl refl)) note_nothing
+Reads-maybe_note : Reads maybe_note_at (either IsNote (made tt)) follows_expected_result starts_event_or_end
+Reads-maybe_note = Reads-optional (is_symbol 40) starts_event_or_end note_at IsNote tt Reads-note (goes_on_not (is_symbol 40) (symbol_no_start 40 refl refl)) note_nothing
 
-follows_no_word : (t : Item) → follows_outcome t ≡ true → but is_word t ≡ true
-follows_no_word t h = or-elim (is_symbol 40 t) (goes_on t) (but is_word t) (λ g. not-false (is_word t) (symbol_no_word 40 t g)) (goes_on_no_word t) h
+follows_no_word : (t : Item) → follows_expected_result t ≡ true → but is_word t ≡ true
+follows_no_word t h = or-elim (is_symbol 40 t) (starts_event_or_end t) (but is_word t) (λ g. not-false (is_word t) (symbol_no_word 40 t g)) (goes_on_no_word t) h
 
-pub Reads-call : Reads call_at IsCall is_word goes_on
+pub Reads-call : Reads call_at IsCall is_word starts_event_or_end
 unfolding call_at IsCall
 Reads-call =
-    Reads-bind function_at _ IsFunction _ is_word any (is_symbol 40) goes_on function
-    (λ name. Reads-bind (symbol_at 40) _ (IsSymbol "(") _ (is_symbol 40) any any goes_on (symbol 40 refl refl)
-    (λ o. Reads-bind arguments_at _ IsArguments _ any any (is_symbol 61) goes_on Reads-arguments
-    (λ arguments. Reads-bind (symbol_at 61) _ (IsSymbol "=") _ (is_symbol 61) any starts_outcome goes_on (symbol 61 refl refl)
-    (λ q. Reads-bind outcome_at _ IsOutcome _ starts_outcome (but is_word) follows_outcome goes_on Reads-outcome
-    (λ outcome. Reads-bind maybe_note_at (λ note. done _) (either IsNote (made tt)) (λ note. made _) follows_outcome goes_on goes_on goes_on Reads-maybe_note (λ note. Reads-done _ goes_on) (λ t h. h))
+    Reads-bind function_at _ IsFunction _ is_word any (is_symbol 40) starts_event_or_end function
+    (λ name. Reads-bind (symbol_at 40) _ (IsSymbol "(") _ (is_symbol 40) any any starts_event_or_end (symbol 40 refl refl)
+    (λ o. Reads-bind arguments_at _ IsArguments _ any any (is_symbol 61) starts_event_or_end Reads-arguments
+    (λ arguments. Reads-bind (symbol_at 61) _ (IsSymbol "=") _ (is_symbol 61) any starts_expected_result starts_event_or_end (symbol 61 refl refl)
+    (λ q. Reads-bind expected_result_at _ IsExpectedResult _ starts_expected_result (but is_word) follows_expected_result starts_event_or_end Reads-expected_result
+    (λ expected_result. Reads-bind maybe_note_at (λ note. done _) (either IsNote (made tt)) (λ note. made _) follows_expected_result starts_event_or_end starts_event_or_end starts_event_or_end Reads-maybe_note (λ note. Reads-done _ starts_event_or_end) (λ t h. h))
     follows_no_word)
-    (all starts_outcome))
+    (all starts_expected_result))
     (all (is_symbol 61)))
     (all any))
     (all (is_symbol 40))
 
 -- ---- actions
 
-command : Reads command_at IsCommand is_command goes_on
-command = last (one is_command) (λ t. actions.Command) (token is_command) is_command goes_on (Reads-one is_command_kind is_command (a_token kinds.Cmd (96 ∷ 96 ∷ [])) command_kind refl refl)
+command : Reads command_at IsCommand is_command starts_event_or_end
+command = last (one is_command) (λ t. actions.Command) (token is_command) is_command starts_event_or_end (Reads-one is_command_kind is_command (a_token kinds.Cmd (96 ∷ 96 ∷ [])) command_kind refl refl)
 
-code : Reads code_at IsCode is_code goes_on
-code = last (one is_code) (λ t. actions.Code) (token is_code) is_code goes_on (Reads-one is_code_kind is_code (a_token kinds.Code (37 ∷ 123 ∷ 125 ∷ 37 ∷ [])) code_kind refl refl)
+code : Reads code_at IsCode is_code starts_event_or_end
+code = last (one is_code) (λ t. actions.Code) (token is_code) is_code starts_event_or_end (Reads-one is_code_kind is_code (a_token kinds.Code (37 ∷ 123 ∷ 125 ∷ 37 ∷ [])) code_kind refl refl)
 
-call_action : Reads call_action_at IsCallAction is_word goes_on
-call_action = Reads-bind call_at (λ call. done (actions.Call call)) IsCall (λ call. made (actions.Call call)) is_word goes_on goes_on goes_on Reads-call (λ call. Reads-done (actions.Call call) goes_on) (λ t h. h)
+call_action : Reads call_action_at IsCallAction is_word starts_event_or_end
+call_action = Reads-bind call_at (λ call. done (actions.Call call)) IsCall (λ call. made (actions.Call call)) is_word starts_event_or_end starts_event_or_end starts_event_or_end Reads-call (λ call. Reads-done (actions.Call call) starts_event_or_end) (λ t h. h)
 
-inbound : Reads inbound_at IsInbound (is_symbol 60) goes_on
+inbound : Reads inbound_at IsInbound (is_symbol 60) starts_event_or_end
 inbound =
-    Reads-bind (symbol_at 60) _ (IsSymbol "<") _ (is_symbol 60) any any goes_on (symbol 60 refl refl)
-    (λ line. Reads-bind (packet_at true) (λ p. done (actions.Inbound p)) (IsPacket true) (λ p. made (actions.Inbound p)) any goes_on goes_on goes_on (Reads-packet true) (λ p. Reads-done (actions.Inbound p) goes_on) (λ t h. h))
+    Reads-bind (symbol_at 60) _ (IsSymbol "<") _ (is_symbol 60) any any starts_event_or_end (symbol 60 refl refl)
+    (λ line. Reads-bind (packet_at true) (λ p. done (actions.Inbound p)) (IsPacket true) (λ p. made (actions.Inbound p)) any starts_event_or_end starts_event_or_end starts_event_or_end (Reads-packet true) (λ p. Reads-done (actions.Inbound p) starts_event_or_end) (λ t h. h))
     (all any)
 
-outbound : Reads outbound_at IsOutbound (is_symbol 62) goes_on
+outbound : Reads outbound_at IsOutbound (is_symbol 62) starts_event_or_end
 outbound =
-    Reads-bind (symbol_at 62) _ (IsSymbol ">") _ (is_symbol 62) any any goes_on (symbol 62 refl refl)
-    (λ line. Reads-bind (packet_at false) (λ p. done (actions.Outbound p)) (IsPacket false) (λ p. made (actions.Outbound p)) any goes_on goes_on goes_on (Reads-packet false) (λ p. Reads-done (actions.Outbound p) goes_on) (λ t h. h))
+    Reads-bind (symbol_at 62) _ (IsSymbol ">") _ (is_symbol 62) any any starts_event_or_end (symbol 62 refl refl)
+    (λ line. Reads-bind (packet_at false) (λ p. done (actions.Outbound p)) (IsPacket false) (λ p. made (actions.Outbound p)) any starts_event_or_end starts_event_or_end starts_event_or_end (Reads-packet false) (λ p. Reads-done (actions.Outbound p) starts_event_or_end) (λ t h. h))
     (all any)
 
 abbrev pub starts_outbound_or_call : Item → Bool
@@ -326,9 +326,9 @@ no_kinds f g p q none fp gq t h = not-false (q t) (apart f g p q none fp gq t h)
 word_no_angle : (octet : ℕ) (t : Item) → is_word t ≡ true → is_symbol octet t ≡ false
 word_no_angle octet t h = apart is_word_kind is_symbol_kind is_word (is_symbol octet) refl word_kind (symbol_kind octet) t h
 
-Reads-outbound_or_call : Reads (when (is_symbol 62) outbound_at call_action_at) (either IsOutbound IsCallAction) starts_outbound_or_call goes_on
+Reads-outbound_or_call : Reads (when (is_symbol 62) outbound_at call_action_at) (either IsOutbound IsCallAction) starts_outbound_or_call starts_event_or_end
 Reads-outbound_or_call =
-    Reads-when (is_symbol 62) outbound_at call_action_at IsOutbound IsCallAction (is_symbol 62) is_word starts_outbound_or_call goes_on
+    Reads-when (is_symbol 62) outbound_at call_action_at IsOutbound IsCallAction (is_symbol 62) is_word starts_outbound_or_call starts_event_or_end
     outbound
     call_action
     (λ t h. h)
@@ -337,9 +337,9 @@ Reads-outbound_or_call =
     (λ t h. or-left (is_symbol 62 t) (is_word t) h)
     (λ t h. or-right (is_symbol 62 t) (is_word t) h)
 
-Reads-packet_or_call : Reads (when (is_symbol 60) inbound_at (when (is_symbol 62) outbound_at call_action_at)) (either IsInbound (either IsOutbound IsCallAction)) starts_packet_or_call goes_on
+Reads-packet_or_call : Reads (when (is_symbol 60) inbound_at (when (is_symbol 62) outbound_at call_action_at)) (either IsInbound (either IsOutbound IsCallAction)) starts_packet_or_call starts_event_or_end
 Reads-packet_or_call =
-    Reads-when (is_symbol 60) inbound_at (when (is_symbol 62) outbound_at call_action_at) IsInbound (either IsOutbound IsCallAction) (is_symbol 60) starts_outbound_or_call starts_packet_or_call goes_on
+    Reads-when (is_symbol 60) inbound_at (when (is_symbol 62) outbound_at call_action_at) IsInbound (either IsOutbound IsCallAction) (is_symbol 60) starts_outbound_or_call starts_packet_or_call starts_event_or_end
     inbound
     Reads-outbound_or_call
     (λ t h. h)
@@ -363,9 +363,9 @@ word_no_command = apart is_word_kind is_command_kind is_word is_command refl wor
 code_no_command : (t : Item) → is_code t ≡ true → is_command t ≡ false
 code_no_command = apart is_code_kind is_command_kind is_code is_command refl code_kind command_kind
 
-Reads-code_or_other : Reads (when is_code code_at (when (is_symbol 60) inbound_at (when (is_symbol 62) outbound_at call_action_at))) (either IsCode (either IsInbound (either IsOutbound IsCallAction))) starts_code_or_other goes_on
+Reads-code_or_other : Reads (when is_code code_at (when (is_symbol 60) inbound_at (when (is_symbol 62) outbound_at call_action_at))) (either IsCode (either IsInbound (either IsOutbound IsCallAction))) starts_code_or_other starts_event_or_end
 Reads-code_or_other =
-    Reads-when is_code code_at (when (is_symbol 60) inbound_at (when (is_symbol 62) outbound_at call_action_at)) IsCode (either IsInbound (either IsOutbound IsCallAction)) is_code starts_packet_or_call starts_code_or_other goes_on
+    Reads-when is_code code_at (when (is_symbol 60) inbound_at (when (is_symbol 62) outbound_at call_action_at)) IsCode (either IsInbound (either IsOutbound IsCallAction)) is_code starts_packet_or_call starts_code_or_other starts_event_or_end
     code
     Reads-packet_or_call
     (λ t h. h)
@@ -374,10 +374,10 @@ Reads-code_or_other =
     (λ t h. or-left (is_code t) (starts_packet_or_call t) h)
     (λ t h. or-right (is_code t) (starts_packet_or_call t) h)
 
-pub Reads-action : Reads action_at IsAction starts_action goes_on
+pub Reads-action : Reads action_at IsAction starts_action starts_event_or_end
 unfolding action_at IsAction
 Reads-action =
-    Reads-when is_command command_at (when is_code code_at (when (is_symbol 60) inbound_at (when (is_symbol 62) outbound_at call_action_at))) IsCommand (either IsCode (either IsInbound (either IsOutbound IsCallAction))) is_command starts_code_or_other starts_action goes_on
+    Reads-when is_command command_at (when is_code code_at (when (is_symbol 60) inbound_at (when (is_symbol 62) outbound_at call_action_at))) IsCommand (either IsCode (either IsInbound (either IsOutbound IsCallAction))) is_command starts_code_or_other starts_action starts_event_or_end
     command
     Reads-code_or_other
     (λ t h. h)
@@ -388,23 +388,23 @@ Reads-action =
 
 -- ---- events
 
-Reads-until_number : Reads (when (is_symbol 43) relative_until_at absolute_until_at) (either IsRelativeUntil IsAbsoluteUntil) any any
-Reads-until_number =
-    Reads-when (is_symbol 43) relative_until_at absolute_until_at IsRelativeUntil IsAbsoluteUntil (is_symbol 43) is_num any any
+Reads-blocking_end_number : Reads (when (is_symbol 43) relative_blocking_end_at absolute_blocking_end_at) (either IsRelativeBlockingEnd IsAbsoluteBlockingEnd) any any
+Reads-blocking_end_number =
+    Reads-when (is_symbol 43) relative_blocking_end_at absolute_blocking_end_at IsRelativeBlockingEnd IsAbsoluteBlockingEnd (is_symbol 43) is_num any any
     (Reads-bind (symbol_at 43) _ (IsSymbol "+") _ (is_symbol 43) any is_num any (symbol 43 refl refl)
-    (λ plus. last num_at (λ n. untils.Relative n.1) IsNum is_num any num)
+    (λ plus. last num_at (λ n. blocking_ends.Relative n.1) IsNum is_num any num)
     (all is_num))
-    (last num_at (λ n. untils.Absolute n.1) IsNum is_num any num)
+    (last num_at (λ n. blocking_ends.Absolute n.1) IsNum is_num any num)
     (λ t h. h)
     num_no_plus
     (λ w rest e. absurd cc)
     (all (is_symbol 43))
     (all is_num)
 
-Reads-until : Reads until_at IsUntil is_dots starts_action
-Reads-until =
+Reads-blocking_end : Reads blocking_end_at IsBlockingEnd is_dots starts_action
+Reads-blocking_end =
     Reads-bind dots_at _ IsDots _ is_dots any any starts_action dots
-    (λ line. last (when (is_symbol 43) relative_until_at absolute_until_at) (λ u. Some u) (either IsRelativeUntil IsAbsoluteUntil) any starts_action Reads-until_number)
+    (λ line. last (when (is_symbol 43) relative_blocking_end_at absolute_blocking_end_at) (λ u. Some u) (either IsRelativeBlockingEnd IsAbsoluteBlockingEnd) any starts_action Reads-blocking_end_number)
     (all any)
 
 action_no_dots : (t : Item) → starts_action t ≡ true → is_dots t ≡ false
@@ -420,9 +420,9 @@ action_no_dots t h =
 abbrev follows_time : Item → Bool
 follows_time t = is_dots t || starts_action t
 
-pub Reads-maybe_until : Reads maybe_until_at IsMaybeUntil follows_time starts_action
-unfolding maybe_until_at IsMaybeUntil
-Reads-maybe_until = Reads-optional is_dots starts_action until_at IsUntil None Reads-until action_no_dots (λ w rest e. absurd cc)
+pub Reads-maybe_blocking_end : Reads maybe_blocking_end_at IsMaybeBlockingEnd follows_time starts_action
+unfolding maybe_blocking_end_at IsMaybeBlockingEnd
+Reads-maybe_blocking_end = Reads-optional is_dots starts_action blocking_end_at IsBlockingEnd None Reads-blocking_end action_no_dots (λ w rest e. absurd cc)
 
 time_then : (t : Item) → follows_time t ≡ true → but_tilde t ≡ true
 time_then t h =
@@ -436,12 +436,12 @@ time_then t h =
     (no_kinds is_word_kind is_symbol_kind is_word (is_symbol 126) refl word_kind (symbol_kind 126) t))
     h
 
-pub Reads-event : Reads event_at IsEvent starts_event goes_on
+pub Reads-event : Reads event_at IsEvent starts_event starts_event_or_end
 unfolding event_at IsEvent
 Reads-event =
-    Reads-bind time_at _ IsTime _ starts_event but_tilde follows_time goes_on Reads-time
-    (λ start. Reads-bind maybe_until_at _ IsMaybeUntil _ follows_time starts_action starts_action goes_on Reads-maybe_until
-    (λ until. Reads-bind action_at (λ action. done _) IsAction (λ action. made _) starts_action goes_on goes_on goes_on Reads-action (λ action. Reads-done _ goes_on) (λ t h. h))
+    Reads-bind time_at _ IsTime _ starts_event but_tilde follows_time starts_event_or_end Reads-time
+    (λ start. Reads-bind maybe_blocking_end_at _ IsMaybeBlockingEnd _ follows_time starts_action starts_action starts_event_or_end Reads-maybe_blocking_end
+    (λ blocking_end. Reads-bind action_at (λ action. done _) IsAction (λ action. made _) starts_action starts_event_or_end starts_event_or_end starts_event_or_end Reads-action (λ action. Reads-done _ starts_event_or_end) (λ t h. h))
     (λ t h. h))
     time_then
 

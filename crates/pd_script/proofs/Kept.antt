@@ -10,14 +10,14 @@ use Rattle.pd_script.specs.declared.script_header.HeaderItem.{HeaderItem}
 use Rattle.pd_script.specs.declared.script_events.Event.{Event}
 use Rattle.pd_script.specs.declared.timing.Time.{Time}
 use Rattle.pd_script.specs.declared.timing.Time.TheVariants as times
-use Rattle.pd_script.specs.declared.timing.Until.{Until}
-use Rattle.pd_script.specs.declared.parsing.Found.{Found}
+use Rattle.pd_script.specs.declared.timing.BlockingEnd.{BlockingEnd}
+use Rattle.pd_script.specs.declared.parsed.EventsAndFault.{EventsAndFault}
 use Rattle.pd_script.specs.Values.{microseconds}
-use Rattle.pd_script.specs.Items.{is_header, is_num, is_symbol, is_end, starts_event, goes_on, text_of, next_is}
+use Rattle.pd_script.specs.Items.{is_header, is_num, is_symbol, is_end, starts_event, starts_event_or_end, text_of, next_is}
 use Rattle.pd_script.proofs.Plain.{is_plain}
 use Rattle.pd_script.specs.Reader.{Read, then_read}
 use Rattle.pd_script.specs.EventReading.{next_line, event_at, end_at, events_at}
-use Rattle.pd_script.specs.Grammar.{IsTime, IsMaybeUntil, IsEvent}
+use Rattle.pd_script.specs.Grammar.{IsTime, IsMaybeBlockingEnd, IsEvent}
 use Rattle.pd_script.specs.Script.{found_in, followed, may_follow, with_event, at_end, in_front, script_in, header_of, after_header}
 use Rattle.pd_script.specs.Faults.{IsHeader, AreEvents, IsScript, IsKept, IsRead, IsReadTo}
 use Rattle.pd_script.proofs.HeaderLaws.{header_has_end}
@@ -30,7 +30,7 @@ use Rattle.pd_script.proofs.ScriptLaws.{header_at, header_took, header_sound, La
 
 -- ---- the fault that is found is the one that reading meets
 
-abbrev IsFound : Found → Read (List Event) → Type 0
+abbrev IsFound : EventsAndFault → Read (List Event) → Type 0
 IsFound f (Ok x) = (f.fault ≡ None) × (f.events ≡ x.0)
 IsFound f (Err rest) = f.fault ≡ Some (next_line rest)
 
@@ -57,7 +57,7 @@ then_one_is : (e : Event) (x : Read (List Event)) → then_read x (λ es rest. O
 then_one_is e (Ok x) = refl
 then_one_is e (Err x) = refl
 
-add_found : (e : Event) (f : Found) (x : Read (List Event)) → IsFound f x → IsFound (in_front (e ∷ []) f) (then_one e x)
+add_found : (e : Event) (f : EventsAndFault) (x : Read (List Event)) → IsFound f x → IsFound (in_front (e ∷ []) f) (then_one e x)
 add_found e f (Ok x) h = (h.0, ap (λ (es : List Event). e ∷ es) h.1)
 add_found e f (Err x) h = h
 
@@ -104,27 +104,27 @@ abbrev number_of : Item → ℕ × ℕ
 number_of t = (line_of t, microseconds (text_of t))
 
 -- a spelling of a time, and an action after it
-after_time : (t : Item) (more : List Item) (time : ℕ × Time) → ((xs : List Item) → IsTime time (t ∷ (more ++ xs)) xs) → list_all is_plain more ≡ true → Full event_at goes_on (t ∷ [])
-unfolding IsEvent IsMaybeUntil
+after_time : (t : Item) (more : List Item) (time : ℕ × Time) → ((xs : List Item) → IsTime time (t ∷ (more ++ xs)) xs) → list_all is_plain more ≡ true → Full event_at starts_event_or_end (t ∷ [])
+unfolding IsEvent IsMaybeBlockingEnd
 after_time t more time h plain =
     let A = Reads-action.laws.full in
-    let e : Event = record { line = time.0; time = time.1; until = None; action = A.value } in
+    let e : Event = record { line = time.0; time = time.1; blocking_end = None; action = A.value } in
     record {
       more = more ++ A.more;
       value = e;
       spelled = rw (list_all-append is_plain more A.more, plain, A.spelled) refl;
       reads = λ tail st. (let xs : List Item = A.more ++ tail in
           let action = Reads-action.sound xs A.value tail (A.reads tail st) in
-          let none : Option Until = None in
+          let none : Option BlockingEnd = None in
           let it : IsEvent e (t ∷ (more ++ xs)) tail = (time, xs, h xs, (none, xs, inr (refl, refl), (A.value, tail, action, (refl, refl)))) in
           rw append_assoc (Reads-event.complete (t ∷ (more ++ xs)) e tail it st));
     }
 
-begins_event : (t : Item) → starts_event t ≡ true → Full event_at goes_on (t ∷ [])
+begins_event : (t : Item) → starts_event t ≡ true → Full event_at starts_event_or_end (t ∷ [])
 unfolding IsTime
 begins_event t h = by_test (is_symbol 42 t) (is_symbol 43 t) refl refl
   where
-    by_test : (a b : Bool) → is_symbol 42 t ≡ a → is_symbol 43 t ≡ b → Full event_at goes_on (t ∷ [])
+    by_test : (a b : Bool) → is_symbol 42 t ≡ a → is_symbol 43 t ≡ b → Full event_at starts_event_or_end (t ∷ [])
     by_test true b star plus = after_time t [] (line_of t, times.Any) (λ xs. inl (line_of t, xs, (t, xs, (refl, star), (refl, refl)), (refl, refl))) refl
     by_test false true star plus =
         after_time t (a_num ∷ []) (line_of t, times.Relative (number_of a_num).1) (λ xs. inr (inl (line_of t, a_num ∷ xs, (t, a_num ∷ xs, (refl, plus), (refl, refl)), (number_of a_num, xs, (a_num, xs, (refl, num_spelled), (refl, refl)), inr (refl, refl))))) num_plain
@@ -161,10 +161,10 @@ not_at_once (suc n) t rest f e = by_test (starts_event t) refl
 record Kept (es : List Event) (front : List Item) : Type 0 where
   others : List Item
   goes : AreEvents es front others
-  reached : (es ≡ []) ⊎ (next_is goes_on others ≡ true)
-  last : (e : Event) (next : Item) (more : List Item) → IsEvent e others (next ∷ more) → goes_on next ≡ true → ⊥
+  reached : (es ≡ []) ⊎ (next_is starts_event_or_end others ≡ true)
+  last : (e : Event) (next : Item) (more : List Item) → IsEvent e others (next ∷ more) → starts_event_or_end next ≡ true → ⊥
 
-kept_nothing : (front : List Item) → ((e : Event) (next : Item) (more : List Item) → IsEvent e front (next ∷ more) → goes_on next ≡ true → ⊥) → Kept [] front
+kept_nothing : (front : List Item) → ((e : Event) (next : Item) (more : List Item) → IsEvent e front (next ∷ more) → starts_event_or_end next ≡ true → ⊥) → Kept [] front
 kept_nothing front none = record { others = front; goes = refl; reached = inl refl; last = none }
 
 no_event : (e : Event) (next : Item) (more : List Item) → IsEvent e [] (next ∷ more) → ⊥
@@ -179,7 +179,7 @@ kept_at_once front t rest e =
     subst (λ (x : List Item). Kept [] x) empty (kept_nothing none (λ f next more h g. no_event f next more h))
 
 -- an event that is spelled before a fault, and followed by what may follow one, is read
-read_before : (e : Event) (front : List Item) (next : Item) (more : List Item) (t : Item) (rest : List Item) → IsEvent e front (next ∷ more) → goes_on next ≡ true → event_at (front ++ t ∷ rest) ≡ ok e (next ∷ (more ++ t ∷ rest))
+read_before : (e : Event) (front : List Item) (next : Item) (more : List Item) (t : Item) (rest : List Item) → IsEvent e front (next ∷ more) → starts_event_or_end next ≡ true → event_at (front ++ t ∷ rest) ≡ ok e (next ∷ (more ++ t ∷ rest))
 read_before e front next more t rest h g =
     let first : event_at front ≡ ok e (next ∷ more) = Reads-event.complete front e (next ∷ more) h g in
     let P = Reads-event.laws.took front e (next ∷ more) first in
@@ -208,17 +208,17 @@ event_before us front e m (u ∷ middle) t rest parts h left some =
     subst (λ (x : List Item). IsEvent e x (u ∷ middle)) same (Reads-event.sound (P.front ++ u ∷ middle) e (u ∷ middle) (P.same u (middle ++ t ∷ rest) middle left))
 
 -- what may follow an event and is before the fault goes on
-goes_on_before : (n : ℕ) (m middle : List Item) (t : Item) (rest : List Item) → next_is (may_follow n) m ≡ true → m ≡ middle ++ t ∷ rest → (middle ≡ [] → ⊥) → next_is goes_on middle ≡ true
+goes_on_before : (n : ℕ) (m middle : List Item) (t : Item) (rest : List Item) → next_is (may_follow n) m ≡ true → m ≡ middle ++ t ∷ rest → (middle ≡ [] → ⊥) → next_is starts_event_or_end middle ≡ true
 goes_on_before n m [] t rest f left some = absurd (some refl)
 goes_on_before zero m (u ∷ middle) t rest f left some = or-right (starts_event u) (is_end u) (subst (λ (x : List Item). next_is (may_follow zero) x ≡ true) left f)
 goes_on_before (suc n) m (u ∷ middle) t rest f left some = subst (λ (x : List Item). next_is (may_follow (suc n)) x ≡ true) left f
 
-still_reached : (es : List Event) (middle others : List Item) → AreEvents es middle others → next_is goes_on middle ≡ true → (es ≡ []) ⊎ (next_is goes_on others ≡ true) → next_is goes_on others ≡ true
+still_reached : (es : List Event) (middle others : List Item) → AreEvents es middle others → next_is starts_event_or_end middle ≡ true → (es ≡ []) ⊎ (next_is starts_event_or_end others ≡ true) → next_is starts_event_or_end others ≡ true
 still_reached es middle others goes on (inr h) = h
 still_reached [] middle others goes on (inl h) = rw (← goes) on
 still_reached (e ∷ es) middle others goes on (inl h) = absurd cc
 
-kept_more : (us front : List Item) (e : Event) (es : List Event) (m middle : List Item) (t : Item) (rest : List Item) → us ≡ front ++ t ∷ rest → event_at us ≡ ok e m → m ≡ middle ++ t ∷ rest → (middle ≡ [] → ⊥) → next_is goes_on middle ≡ true → Kept es middle → Kept (e ∷ es) front
+kept_more : (us front : List Item) (e : Event) (es : List Event) (m middle : List Item) (t : Item) (rest : List Item) → us ≡ front ++ t ∷ rest → event_at us ≡ ok e m → m ≡ middle ++ t ∷ rest → (middle ≡ [] → ⊥) → next_is starts_event_or_end middle ≡ true → Kept es middle → Kept (e ∷ es) front
 kept_more us front e es m middle t rest parts h left some on K =
     record { others = K.others; goes = (middle, event_before us front e m middle t rest parts h left some, K.goes); reached = inr (still_reached es middle K.others K.goes on K.reached); last = K.last }
 
@@ -275,7 +275,7 @@ never : (b : Bool) → (b ≡ true → ⊥) → b ≡ false
 never true h = absurd (h refl)
 never false h = refl
 
-next_refused : (front others : List Item) (e : Event) (left : List Item) → ((d : Event) (next : Item) (more : List Item) → IsEvent d others (next ∷ more) → goes_on next ≡ true → ⊥) → IsEvent e others left → next_is goes_on left ≡ true → ⊥
+next_refused : (front others : List Item) (e : Event) (left : List Item) → ((d : Event) (next : Item) (more : List Item) → IsEvent d others (next ∷ more) → starts_event_or_end next ≡ true → ⊥) → IsEvent e others left → next_is starts_event_or_end left ≡ true → ⊥
 next_refused front others e [] last h g = absurd cc
 next_refused front others e (t ∷ left) last h g = last e t left h g
 
@@ -297,7 +297,7 @@ kept_with_header ts front t rest parts fault =
       whole = no_header_next E.front stops;
       goes = K.goes;
       reached = K.reached;
-      last = λ e left h. never (next_is goes_on left) (λ g. next_refused E.front K.others e left K.last h g);
+      last = λ e left h. never (next_is starts_event_or_end left) (λ g. next_refused E.front K.others e left K.last h g);
     }
 
 -- ---- what the items of a text are read as

@@ -18,7 +18,7 @@ use Rattle.pd_script.proofs.Apart.{and-left, and-right, is_lexeme, lexical, symb
 use Rattle.pd_script.proofs.ArgumentLaws.{closing, plain_closing}
 use Rattle.pd_script.proofs.ArgumentSteps.{onto-nil}
 use Rattle.pd_script.proofs.ArgumentSound.{balanced_lexemes}
-use Rattle.pd_script.specs.Drafts.{note_move, note_led, note_part_at, note_part_by, is_last, after_token}
+use Rattle.pd_script.specs.ArgumentReading.{note_move, note_extended_to, note_part_at, note_part_by, is_last, after_token}
 
 -- any tokens with balanced brackets, and the bracket that ends a note, whose own pair counts among the 16
 pub record IsInNote (nothing : List ℕ) (ts rest : List Item) : Type 0 where
@@ -55,13 +55,13 @@ record Run (pairs : List Bracket) (v : List ℕ) (ts rest : List Item) : Type 0 
   last : is_symbol 41 closing_item ≡ true
   value : v ≡ []
 
-led_run : (pairs : List Bracket) (t : Item) (ts : List Item) (v : List ℕ) (rest : List Item) (o : Option (List Bracket)) → pairs_after 15 pairs t ≡ o → moved (λ p. within p ts) t ts (note_led o) ≡ ok v rest → ((p : List Bracket) → within p ts ≡ ok v rest → Run p v ts rest) → Run pairs v (t ∷ ts) rest
+led_run : (pairs : List Bracket) (t : Item) (ts : List Item) (v : List ℕ) (rest : List Item) (o : Option (List Bracket)) → pairs_after 15 pairs t ≡ o → moved (λ p. within p ts) t ts (note_extended_to o) ≡ ok v rest → ((p : List Bracket) → within p ts ≡ ok v rest → Run p v ts rest) → Run pairs v (t ∷ ts) rest
 led_run pairs t ts v rest None is e ih = absurd cc
 led_run pairs t ts v rest (Some next) is e ih =
     let R = ih next (sym (onto-nil (within next ts)) ∙ e) in
     record { inside = t ∷ R.inside; closing_item = R.closing_item; spelled = ap (λ (x : List Item). t ∷ x) R.spelled; balanced = (refl, next, is, R.balanced); last = R.last; value = R.value }
 
-outside_run : (t : Item) (ts : List Item) (v : List ℕ) (rest : List Item) (b : Bool) → is_symbol 41 t ≡ b → moved (λ p. within p ts) t ts (cond b (ends []) (note_led (pairs_after 15 [] t))) ≡ ok v rest → ((p : List Bracket) → within p ts ≡ ok v rest → Run p v ts rest) → Run [] v (t ∷ ts) rest
+outside_run : (t : Item) (ts : List Item) (v : List ℕ) (rest : List Item) (b : Bool) → is_symbol 41 t ≡ b → moved (λ p. within p ts) t ts (cond b (ends []) (note_extended_to (pairs_after 15 [] t))) ≡ ok v rest → ((p : List Bracket) → within p ts ≡ ok v rest → Run p v ts rest) → Run [] v (t ∷ ts) rest
 outside_run t ts v rest true h e ih =
     let none : List ℕ = [] in
     record { inside = []; closing_item = t; spelled = ap (λ (x : List Item). t ∷ x) (rest_is none v ts rest e); balanced = refl; last = h; value = sym (value_is none v ts rest e) }
@@ -109,17 +109,17 @@ Reads-in_note = record { laws = Laws-machine note_move full_within []; sound = i
 
 -- ---- one step over the tokens of a note
 
-led_goes : (t : Item) (ts : List Item) (o : Option (List Bracket)) (next : List Bracket) (ys : List Item) → note_part_by t ts o ≡ Ok (next, ys) → (moved (λ p. within p ts) t ts (note_led o) ≡ within next ys) × (ts ≡ ys)
+led_goes : (t : Item) (ts : List Item) (o : Option (List Bracket)) (next : List Bracket) (ys : List Item) → note_part_by t ts o ≡ Ok (next, ys) → (moved (λ p. within p ts) t ts (note_extended_to o) ≡ within next ys) × (ts ≡ ys)
 led_goes t ts None next ys h = absurd cc
 led_goes t ts (Some pairs) next ys h =
     let same : (pairs, ts) ≡ (next, ys) = cc in
     (onto-nil (within pairs ts) ∙ ap (λ (x : List Bracket × List Item). within x.0 x.1) same, ap (λ (x : List Bracket × List Item). x.1) same)
 
-led_stuck : (t : Item) (ts : List Item) (o : Option (List Bracket)) (rest : List Item) → note_part_by t ts o ≡ Err rest → moved (λ p. within p ts) t ts (note_led o) ≡ Err rest
+led_stuck : (t : Item) (ts : List Item) (o : Option (List Bracket)) (rest : List Item) → note_part_by t ts o ≡ Err rest → moved (λ p. within p ts) t ts (note_extended_to o) ≡ Err rest
 led_stuck t ts None rest h = cc
 led_stuck t ts (Some pairs) rest h = absurd cc
 
-not_last : (pairs : List Bracket) (t : Item) (ts : List Item) → is_last pairs (t ∷ ts) ≡ false → note_move pairs t ≡ note_led (pairs_after 15 pairs t)
+not_last : (pairs : List Bracket) (t : Item) (ts : List Item) → is_last pairs (t ∷ ts) ≡ false → note_move pairs t ≡ note_extended_to (pairs_after 15 pairs t)
 not_last [] t ts h = rw h refl
 not_last (b ∷ pairs) t ts h = refl
 

@@ -9,9 +9,9 @@ use Rattle.pd_lex.specs.Lexing.{items}
 use Rattle.pd_lex.specs.Laws.{ItemsAreLongest, NoOthersAreLongest}
 use Rattle.pd_script.specs.declared.script_header.HeaderItem.{HeaderItem}
 use Rattle.pd_script.specs.declared.script_events.Event.{Event}
-use Rattle.pd_script.specs.declared.parsing.Parsed.{Parsed}
-use Rattle.pd_script.specs.Items.{is_header, is_end, starts_event, goes_on, next_is}
-use Rattle.pd_script.specs.Header.{Heading, place_after_items, HasEnd}
+use Rattle.pd_script.specs.declared.parsed.Parsed.{Parsed}
+use Rattle.pd_script.specs.Items.{is_header, is_end, starts_event, starts_event_or_end, next_is}
+use Rattle.pd_script.specs.Header.{HeaderView, place_after_items, HasEnd}
 use Rattle.pd_script.specs.Grammar.{IsEvent}
 use Rattle.pd_script.specs.EventReading.{event_at}
 use Rattle.pd_script.specs.Script.{script_of}
@@ -62,32 +62,32 @@ one_fault front other t u rest after e one two = by_length (cases_lt (length fro
 
 -- ---- one way to keep what is before it
 
-pub Stops-next : (ts : List Item) → next_is goes_on ts ≡ true → Stops goes_on ts
+pub Stops-next : (ts : List Item) → next_is starts_event_or_end ts ≡ true → Stops starts_event_or_end ts
 Stops-next [] h = absurd cc
 Stops-next (t ∷ ts) h = h
 
 -- an event before what goes on is read
-pub read_on : (e : Event) (ts rest : List Item) → IsEvent e ts rest → next_is goes_on rest ≡ true → event_at ts ≡ ok e rest
+pub read_on : (e : Event) (ts rest : List Item) → IsEvent e ts rest → next_is starts_event_or_end rest ≡ true → event_at ts ≡ ok e rest
 read_on e ts rest h g = Reads-event.complete ts e rest h (Stops-next rest g)
 
-starts_on : (ts : List Item) → next_is starts_event ts ≡ true → next_is goes_on ts ≡ true
+starts_on : (ts : List Item) → next_is starts_event ts ≡ true → next_is starts_event_or_end ts ≡ true
 starts_on [] h = absurd cc
 starts_on (t ∷ ts) h = or-left (starts_event t) (is_end t) h
 
 -- events before what goes on begin with what does
-begin_on : (es : List Event) (ts rest : List Item) → AreEvents es ts rest → next_is goes_on rest ≡ true → next_is goes_on ts ≡ true
+begin_on : (es : List Event) (ts rest : List Item) → AreEvents es ts rest → next_is starts_event_or_end rest ≡ true → next_is starts_event_or_end ts ≡ true
 begin_on [] ts rest h g = rw h g
 begin_on (e ∷ es) ts rest h g =
     let on = begin_on es h.0 rest h.2 g in
     starts_on ts (event_starts ts e h.0 (read_on e ts h.0 h.1 on) (Stops-next h.0 on))
 
 abbrev Reaches : List Event → List Item → Type 0
-Reaches es others = (es ≡ []) ⊎ (next_is goes_on others ≡ true)
+Reaches es others = (es ≡ []) ⊎ (next_is starts_event_or_end others ≡ true)
 
 abbrev IsLast : List Item → Type 0
-IsLast others = (e : Event) (rest : List Item) → IsEvent e others rest → next_is goes_on rest ≡ false
+IsLast others = (e : Event) (rest : List Item) → IsEvent e others rest → next_is starts_event_or_end rest ≡ false
 
-reached : (e : Event) (es : List Event) (others : List Item) → Reaches (e ∷ es) others → next_is goes_on others ≡ true
+reached : (e : Event) (es : List Event) (others : List Item) → Reaches (e ∷ es) others → next_is starts_event_or_end others ≡ true
 reached e es others (inl h) = absurd cc
 reached e es others (inr h) = h
 
@@ -145,17 +145,17 @@ not_both h es ts front t rest script parts fault =
 
 parsed_is : (p q : Parsed) → p.header ≡ q.header → p.events ≡ q.events → p.fault ≡ q.fault → p ≡ q
 parsed_is p q header events fault =
-    let one : ◌≡◌ {A = Parsed} (record { header = p.header; events = p.events; fault = p.fault }) (record { header = q.header; events = p.events; fault = p.fault }) = ap (λ (x : Heading). record { header = x; events = p.events; fault = p.fault }) header in
+    let one : ◌≡◌ {A = Parsed} (record { header = p.header; events = p.events; fault = p.fault }) (record { header = q.header; events = p.events; fault = p.fault }) = ap (λ (x : HeaderView). record { header = x; events = p.events; fault = p.fault }) header in
     let two : ◌≡◌ {A = Parsed} (record { header = q.header; events = p.events; fault = p.fault }) (record { header = q.header; events = q.events; fault = p.fault }) = ap (λ (x : List Event). record { header = q.header; events = x; fault = p.fault }) events in
     let three : ◌≡◌ {A = Parsed} (record { header = q.header; events = q.events; fault = p.fault }) (record { header = q.header; events = q.events; fault = q.fault }) = ap (λ (x : Option ℕ). record { header = q.header; events = q.events; fault = x }) fault in
     one ∙ two ∙ three
 
 -- headers with the same items end at the same place
-one_end : (ts : List Item) (h g : Heading) → HasEnd ts h → HasEnd ts g → h.items ≡ g.items → h ≡ g
+one_end : (ts : List Item) (h g : HeaderView) → HasEnd ts h → HasEnd ts g → h.items ≡ g.items → h ≡ g
 one_end ts h g one two same =
     let ends : h.end ≡ g.end = one ∙ ap (λ (x : List HeaderItem). place_after_items (take (length x) ts)) same ∙ sym two in
-    let first : ◌≡◌ {A = Heading} (record { items = h.items; end = h.end }) (record { items = g.items; end = h.end }) = ap (λ (x : List HeaderItem). record { items = x; end = h.end }) same in
-    let second : ◌≡◌ {A = Heading} (record { items = g.items; end = h.end }) (record { items = g.items; end = g.end }) = ap (λ (x : Place). record { items = g.items; end = x }) ends in
+    let first : ◌≡◌ {A = HeaderView} (record { items = h.items; end = h.end }) (record { items = g.items; end = h.end }) = ap (λ (x : List HeaderItem). record { items = x; end = h.end }) same in
+    let second : ◌≡◌ {A = HeaderView} (record { items = g.items; end = h.end }) (record { items = g.items; end = g.end }) = ap (λ (x : Place). record { items = g.items; end = x }) ends in
     first ∙ second
 
 read_once : (ts : List Item) (p q : Parsed) (f g : Option ℕ) → p.fault ≡ f → q.fault ≡ g → IsRead ts p f → IsRead ts q g → p ≡ q

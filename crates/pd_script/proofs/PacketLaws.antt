@@ -12,7 +12,7 @@ use Rattle.std.proofs.lemmas.Bool.Decides.{nat_tests}
 use Rattle.pd_lex.specs.declared.token.TokenKind.TheVariants as kinds
 use Rattle.pd_lex.specs.Octets.{is_digit}
 use Rattle.pd_lex.specs.Tokens.{Item, lexeme, ending, bad}
-use Rattle.pd_script.specs.Items.{is_token, is_int, is_int_from, is_int_of, is_named, is_flags, is_option, is_num, is_dots, is_symbol, is_int_kind, is_num_kind, is_dots_kind, is_word_kind, is_symbol_kind, is_digits, is_small, goes_on, text_of}
+use Rattle.pd_script.specs.Items.{is_token, is_int, is_int_from, is_int_of, is_named, is_flags, is_option, is_num, is_dots, is_symbol, is_int_kind, is_num_kind, is_dots_kind, is_word_kind, is_symbol_kind, is_digits, is_small, starts_event_or_end, text_of}
 use Rattle.pd_script.specs.Values.{number, flags_of, with_ack, option_named}
 use Rattle.pd_script.specs.Reader.{Reader, done, one, when, onto}
 use Rattle.pd_script.specs.TokenReading.{symbol_at, int_at, dots_at}
@@ -21,8 +21,8 @@ use Rattle.pd_script.specs.Spelling.{Spelling, token, made, either, IsSymbol, Is
 use Rattle.pd_script.specs.PacketGrammar.{IsIntFrom, IsIntOf, IsNamed, IsLetters, IsOptionName, IsNoFlags, IsPoint, IsLettered, IsFlags, IsOctets, IsNumbered, IsAck, IsWin, IsBlock, AreBlocks, IsTimestamp, IsOptionRest, IsOption, IsNextOption, AreOptions, IsListed, IsUnlisted, IsAnyOptions, IsList, IsInsideOptions, IsBracketedOptions, IsOptions, IsPacket}
 use Rattle.pd_script.specs.declared.names.OptionName.{OptionName}
 use Rattle.pd_script.specs.declared.names.OptionName.TheVariants as names
-use Rattle.pd_script.specs.declared.packets.Flags.{Flags}
-use Rattle.pd_script.specs.declared.packets.Block.{Block}
+use Rattle.pd_script.specs.declared.packets.PacketFlags.{PacketFlags}
+use Rattle.pd_script.specs.declared.packets.SackBlock.{SackBlock}
 use Rattle.pd_script.specs.declared.packets.PacketOption.{PacketOption}
 use Rattle.pd_script.specs.declared.packets.PacketOption.TheVariants as options
 use Rattle.pd_script.specs.declared.packets.Options.TheVariants as lists
@@ -123,7 +123,7 @@ int_from_small least ts v rest h = subst (λ (x : ℕ). x ≤ 4294967295) h.3.0 
 abbrev but_point : Item → Bool
 but_point = but (is_symbol 46)
 
-Reads-point : (f : Flags) → Reads (point_at f) (IsPoint f) (is_symbol 46) but_point
+Reads-point : (f : PacketFlags) → Reads (point_at f) (IsPoint f) (is_symbol 46) but_point
 Reads-point f = last (symbol_at 46) (λ line. with_ack f) (IsSymbol ".") (is_symbol 46) but_point (symbol 46 refl refl)
 
 Reads-lettered : Reads lettered_at IsLettered is_flags but_point
@@ -195,7 +195,7 @@ win_name = codes "win"
 
 -- what may follow the window
 abbrev follows_win : Item → Bool
-follows_win t = is_symbol 60 t || goes_on t
+follows_win t = is_symbol 60 t || starts_event_or_end t
 
 -- what may follow the acknowledgment number
 abbrev follows_ack : Bool → Item → Bool
@@ -212,7 +212,7 @@ named_no_start name = record {
 
 win_follows_not : (name : List ℕ) (t : Item) → follows_win t ≡ true → is_named name t ≡ false
 win_follows_not name t h =
-    or-elim-no (is_symbol 60 t) (goes_on t) (is_named name t)
+    or-elim-no (is_symbol 60 t) (starts_event_or_end t) (is_named name t)
     (apart is_symbol_kind is_word_kind (is_symbol 60) (is_named name) refl (symbol_kind 60) (named_kind name) t)
     (goes_on_not (is_named name) (named_no_start name) t) h
 
@@ -263,7 +263,7 @@ Reads-block =
     (all is_int))
     (all (is_symbol 58))
 
-pub block_less : (ts : List Item) (v : Block) (rest : List Item) → block_at ts ≡ ok v rest → length rest < length ts
+pub block_less : (ts : List Item) (v : SackBlock) (rest : List Item) → block_at ts ≡ ok v rest → length rest < length ts
 block_less ts v rest e =
     let h = Reads-block.sound ts v rest e in
     let first = int_less h.0 ts h.1 h.2 in
@@ -386,20 +386,20 @@ Reads-inside_options false =
 Reads-bracketed : (inbound : Bool) → Reads (bracketed_options_at inbound) (IsBracketedOptions inbound) (is_symbol 60) any
 Reads-bracketed inbound = Reads-bind (symbol_at 60) (λ opening. inside_options_at inbound) (IsSymbol "<") (λ opening. IsInsideOptions inbound) (is_symbol 60) any any any (symbol 60 refl refl) (λ opening. Reads-inside_options inbound) (all any)
 
-Reads-options : (inbound : Bool) → Reads (options_at inbound) (IsOptions inbound) follows_win goes_on
+Reads-options : (inbound : Bool) → Reads (options_at inbound) (IsOptions inbound) follows_win starts_event_or_end
 unfolding options_at IsOptions
-Reads-options inbound = Reads-optional (is_symbol 60) goes_on (bracketed_options_at inbound) (IsBracketedOptions inbound) lists.Absent (Reads-narrow any goes_on (Reads-bracketed inbound) (all goes_on)) (goes_on_not (is_symbol 60) (symbol_no_start 60 refl refl)) (λ w rest e. absurd cc)
+Reads-options inbound = Reads-optional (is_symbol 60) starts_event_or_end (bracketed_options_at inbound) (IsBracketedOptions inbound) lists.Absent (Reads-narrow any starts_event_or_end (Reads-bracketed inbound) (all starts_event_or_end)) (goes_on_not (is_symbol 60) (symbol_no_start 60 refl refl)) (λ w rest e. absurd cc)
 
 -- ---- packets
 
-pub Reads-packet : (inbound : Bool) → Reads (packet_at inbound) (IsPacket inbound) any goes_on
+pub Reads-packet : (inbound : Bool) → Reads (packet_at inbound) (IsPacket inbound) any starts_event_or_end
 unfolding packet_at IsPacket
 Reads-packet inbound =
-    Reads-bind flags_at _ IsFlags _ any but_point is_int goes_on Reads-flags
-    (λ flags. Reads-bind octets_at _ IsOctets _ is_int any (starts_ack inbound) goes_on Reads-octets
-    (λ octets. Reads-bind ack_at _ IsAck _ (starts_ack inbound) (follows_ack inbound) (follows_ack inbound) goes_on (Reads-ack inbound)
-    (λ ack. Reads-bind (win_at inbound) _ (IsWin inbound) _ (follows_ack inbound) follows_win follows_win goes_on (Reads-win inbound)
-    (λ win. Reads-bind (options_at inbound) (λ os. done _) (IsOptions inbound) (λ os. made _) follows_win goes_on goes_on goes_on (Reads-options inbound) (λ os. Reads-done _ goes_on) (λ t h. h))
+    Reads-bind flags_at _ IsFlags _ any but_point is_int starts_event_or_end Reads-flags
+    (λ flags. Reads-bind octets_at _ IsOctets _ is_int any (starts_ack inbound) starts_event_or_end Reads-octets
+    (λ octets. Reads-bind ack_at _ IsAck _ (starts_ack inbound) (follows_ack inbound) (follows_ack inbound) starts_event_or_end (Reads-ack inbound)
+    (λ ack. Reads-bind (win_at inbound) _ (IsWin inbound) _ (follows_ack inbound) follows_win follows_win starts_event_or_end (Reads-win inbound)
+    (λ win. Reads-bind (options_at inbound) (λ os. done _) (IsOptions inbound) (λ os. made _) follows_win starts_event_or_end starts_event_or_end starts_event_or_end (Reads-options inbound) (λ os. Reads-done _ starts_event_or_end) (λ t h. h))
     (λ t h. h))
     (λ t h. h))
     (all (starts_ack inbound)))
@@ -411,7 +411,7 @@ pub blocks_err : (xs rest : List Item) → block_at xs ≡ Err rest → blocks_a
 unfolding blocks_at
 blocks_err xs rest e = rw e refl
 
-pub blocks_begin : (xs ys : List Item) (b : Block) → block_at xs ≡ Ok (b, ys) → onto (b ∷ []) (repeated_at is_int block_at ys) ≡ blocks_at xs
+pub blocks_begin : (xs ys : List Item) (b : SackBlock) → block_at xs ≡ Ok (b, ys) → onto (b ∷ []) (repeated_at is_int block_at ys) ≡ blocks_at xs
 unfolding blocks_at
 blocks_begin xs ys b e = rw e (sym (cons_is b (repeated_at is_int block_at ys)))
 

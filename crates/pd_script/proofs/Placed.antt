@@ -5,7 +5,7 @@ use Rattle.std.proofs.lemmas.List.{nil_from_length}
 use Rattle.pd_text.specs.Text.{is_line}
 use Rattle.pd_lex.specs.declared.token.Place.{Place}
 use Rattle.pd_lex.specs.declared.token.Token.{Token}
-use Rattle.pd_lex.specs.Places.{standing, octets_from, place_after, before, between, IsPlace}
+use Rattle.pd_lex.specs.Places.{clamped_place, octets_from, place_after, before, between, IsPlace}
 use Rattle.pd_lex.specs.Pieces.{Front, nothing, gap, token, stray, front}
 use Rattle.pd_lex.specs.Tokens.{Item, lexeme, ending, bad}
 use Rattle.pd_lex.specs.Lexing.{items}
@@ -14,7 +14,7 @@ use Rattle.pd_lex.proofs.Fronts.{IsRest-shorter}
 use Rattle.pd_lex.proofs.Items.{items_from, items_past, items_at_end, items_at_stray}
 use Rattle.pd_lex.proofs.Order.{by_line, left_after, gap_rest, items_after_gap, items_after_token, nothing_left}
 use Rattle.pd_lex.proofs.Rests.{advance, same_place}
-use Rattle.pd_lex.proofs.Texts.{standing_is_place}
+use Rattle.pd_lex.proofs.Texts.{clamped_is_place}
 use Rattle.pd_script.specs.Next.{place_of}
 
 -- the place that the lexer answers after a token is the one after its octets
@@ -71,5 +71,5 @@ module _ (lines : List (List ℕ)) (plain : list_all is_line lines ≡ true) whe
 
       within : p.line ≤ length lines → StandThere lines (items lines p)
       within le =
-          let h = standing_is_place lines p le in
-          rw (items_from lines p (standing lines p) h refl) (stand_within (length (octets_from lines (standing lines p))) (standing lines p) h (omega arith))
+          let h = clamped_is_place lines p le in
+          rw (items_from lines p (clamped_place lines p) h refl) (stand_within (length (octets_from lines (clamped_place lines p))) (clamped_place lines p) h (omega arith))

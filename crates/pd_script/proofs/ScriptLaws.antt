@@ -6,7 +6,7 @@ use Rattle.std.proofs.lemmas.List.Folds.{list_all-append}
 use Rattle.pd_lex.specs.Tokens.{Item, lexeme, ending, bad}
 use Rattle.pd_script.specs.declared.script_header.HeaderItem.{HeaderItem}
 use Rattle.pd_script.specs.declared.script_events.Event.{Event}
-use Rattle.pd_script.specs.Items.{is_header, is_header_kind, is_num, is_symbol, is_num_kind, is_symbol_kind, is_end, starts_event, goes_on, next_is}
+use Rattle.pd_script.specs.Items.{is_header, is_header_kind, is_num, is_symbol, is_num_kind, is_symbol_kind, is_end, starts_event, starts_event_or_end, next_is}
 use Rattle.pd_script.specs.Script.{header_of, after_header}
 use Rattle.pd_script.specs.Reader.{Reader, ◌>>=◌, done, one}
 use Rattle.pd_script.specs.EventReading.{time_at, event_at, end_at, events_at}
@@ -89,13 +89,13 @@ event_nothing v rest e = absurd cc
 abbrev event_and : ℕ → Reader (List Event)
 event_and n = event_at >>= (λ e. events_at n >>= (λ es. done (e ∷ es)))
 
-pub Laws-events : (n : ℕ) → Laws (events_at n) goes_on any
+pub Laws-events : (n : ℕ) → Laws (events_at n) starts_event_or_end any
 unfolding events_at
-Laws-events zero = widen is_end goes_on Laws-end (λ t h. or-right (starts_event t) (is_end t) h)
+Laws-events zero = widen is_end starts_event_or_end Laws-end (λ t h. or-right (starts_event t) (is_end t) h)
 Laws-events (suc n) =
-    Laws-when starts_event (event_and n) end_at starts_event is_end goes_on any
-    (Laws-bind event_at _ starts_event goes_on goes_on any Reads-event.laws
-    (λ e. Laws-bind (events_at n) (λ es. done (e ∷ es)) goes_on any any any (Laws-events n) (λ es. Laws-done (e ∷ es) any) (λ t h. refl))
+    Laws-when starts_event (event_and n) end_at starts_event is_end starts_event_or_end any
+    (Laws-bind event_at _ starts_event starts_event_or_end starts_event_or_end any Reads-event.laws
+    (λ e. Laws-bind (events_at n) (λ es. done (e ∷ es)) starts_event_or_end any any any (Laws-events n) (λ es. Laws-done (e ∷ es) any) (λ t h. refl))
     (λ t h. h))
     Laws-end
     (λ t h. h)
@@ -144,7 +144,7 @@ events_sound (suc n) ts es rest e = by_test (next_is starts_event ts) e (λ us f
     by_test true h ih = and_sound n ts es rest h ih
     by_test false h ih = let S = end_sound ts es rest h in (S.0, omega (arith, S.1))
 
-pub event_starts : (ts : List Item) (e : Event) (rest : List Item) → event_at ts ≡ ok e rest → Stops goes_on rest → next_is starts_event ts ≡ true
+pub event_starts : (ts : List Item) (e : Event) (rest : List Item) → event_at ts ≡ ok e rest → Stops starts_event_or_end rest → next_is starts_event ts ≡ true
 event_starts ts e rest h stops = next-yes starts_event starts_event ts (λ t g. g) (λ none. event_nothing e rest (subst (λ (x : List Item). event_at x ≡ ok e rest) none h)) (Reads-event.laws.begins ts e rest h stops)
 
 pub events_complete : (n : ℕ) (es : List Event) (ts rest : List Item) → Ends es ts rest → length es ≤ n → events_at n ts ≡ ok es rest
@@ -179,13 +179,13 @@ header_no_start = record {
   end_is = λ t h. end_no_token (λ kind text. is_header_kind kind) t h;
 }
 
-goes_on_no_header : (t : Item) → goes_on t ≡ true → but is_header t ≡ true
+goes_on_no_header : (t : Item) → starts_event_or_end t ≡ true → but is_header t ≡ true
 goes_on_no_header t h = not-false (is_header t) (goes_on_not is_header header_no_start t h)
 
 Laws-script : (n : ℕ) → Laws (script_at n) any any
 Laws-script n =
-    Laws-bind header_at _ any (but is_header) goes_on any Laws-header
-    (λ h. Laws-bind (events_at n) (λ es. done (h, es)) goes_on any any any (Laws-events n) (λ es. Laws-done (h, es) any) (λ t g. refl))
+    Laws-bind header_at _ any (but is_header) starts_event_or_end any Laws-header
+    (λ h. Laws-bind (events_at n) (λ es. done (h, es)) starts_event_or_end any any any (Laws-events n) (λ es. Laws-done (h, es) any) (λ t g. refl))
     goes_on_no_header
 
 -- the parts of a script that was read
@@ -206,7 +206,7 @@ script_sound h es ts e =
     let S = events_sound 4096 (after_header ts) es [] P.events in
     record { after = after_header ts; end = S.0.last; begins = subst (λ (x : List HeaderItem). IsHeader x ts (after_header ts)) (sym P.header) (header_sound ts); goes = S.0.goes; ends = S.0.ends; limit = S.1 }
 
-Stops-header : (ts : List Item) → Stops goes_on ts → Stops (but is_header) ts
+Stops-header : (ts : List Item) → Stops starts_event_or_end ts → Stops (but is_header) ts
 Stops-header [] h = tt
 Stops-header (t ∷ ts) h = goes_on_no_header t h
 

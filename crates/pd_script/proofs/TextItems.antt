@@ -5,7 +5,7 @@ use Rattle.std.specs.List.{list_all}
 use Rattle.std.proofs.lemmas.List.Elements.{All-nil, All-cons}
 use Rattle.pd_text.specs.Text.{is_line}
 use Rattle.pd_lex.specs.declared.token.Place.{Place}
-use Rattle.pd_lex.specs.Places.{first_place, standing, octets_from, place_after, before}
+use Rattle.pd_lex.specs.Places.{first_place, clamped_place, octets_from, place_after, before}
 use Rattle.pd_lex.specs.Pieces.{Front, nothing, gap, token, stray, front}
 use Rattle.pd_lex.specs.Tokens.{Item, lexeme, ending, bad, line_of}
 use Rattle.pd_lex.specs.Lexing.{followed, items_within, items}
@@ -20,7 +20,7 @@ use Rattle.pd_script.specs.Spelling.{made, either}
 use Rattle.pd_script.specs.Grammar.{IsAbsoluteRange, IsRelativeRange, IsTime, IsEvent}
 use Rattle.pd_script.specs.Script.{found_in, followed as followed_by, may_follow, with_event, at_end, script_in, script_of, after_header}
 use Rattle.pd_script.specs.declared.script_header.HeaderItem.{HeaderItem}
-use Rattle.pd_script.specs.declared.parsing.Parsed.{Parsed}
+use Rattle.pd_script.specs.declared.parsed.Parsed.{Parsed}
 use Rattle.pd_script.specs.Faults.{IsHeader, AreEvents, IsRead, IsReadTo}
 use Rattle.pd_script.specs.Range.{IsLineOf, HasLines}
 use Rattle.pd_script.proofs.GrammarLaws.{Reads-event}
@@ -44,7 +44,7 @@ module _ (last : ℕ) where
 
 pub items_closed : (lines : List (List ℕ)) (p : Place) → IsClosed (items lines p)
 unfolding items
-items_closed lines p = within_closed (max 1 (length lines)) (length (octets_from lines p)) (standing lines p) (octets_from lines p)
+items_closed lines p = within_closed (max 1 (length lines)) (length (octets_from lines p)) (clamped_place lines p) (octets_from lines p)
 
 -- ---- lines
 

@@ -4,7 +4,7 @@ use Rattle.std.specs.Prelude.{not, ◌&&◌, ◌||◌}
 use Rattle.std.specs.Str.{bytes_eq}
 use Rattle.pd_lex.specs.declared.token.TokenKind.TheVariants as kinds
 use Rattle.pd_lex.specs.Tokens.{Item, line_of}
-use Rattle.pd_script.specs.Items.{is_int, is_num, is_dots, is_symbol, is_int_kind, is_num_kind, is_dots_kind, is_symbol_kind, is_end, starts_event, goes_on, text_of}
+use Rattle.pd_script.specs.Items.{is_int, is_num, is_dots, is_symbol, is_int_kind, is_num_kind, is_dots_kind, is_symbol_kind, is_end, starts_event, starts_event_or_end, text_of}
 use Rattle.pd_script.specs.Values.{number}
 use Rattle.pd_script.specs.Reader.{Reader, ◌>>=◌, done, one, when}
 use Rattle.pd_script.specs.TokenReading.{symbol_at, int_at, dots_at}
@@ -51,7 +51,7 @@ pub record NoStart (test : Item → Bool) : Type 0 where
   pub star_is : (t : Item) → is_symbol 42 t ≡ true → test t ≡ false
   pub end_is : (t : Item) → is_end t ≡ true → test t ≡ false
 
-pub goes_on_not : (test : Item → Bool) → NoStart test → (t : Item) → goes_on t ≡ true → test t ≡ false
+pub goes_on_not : (test : Item → Bool) → NoStart test → (t : Item) → starts_event_or_end t ≡ true → test t ≡ false
 goes_on_not test n t h = or-elim-no (starts_event t) (is_end t) (test t) (λ g. or-elim-no (starts_number_is t) (is_symbol 42 t) (test t) (λ k. or-elim-no (is_num t) (is_symbol 43 t) (test t) (n.num_is t) (n.plus_is t) k) (n.star_is t) g) (n.end_is t) h
   where
     starts_number_is : Item → Bool

@@ -6,8 +6,8 @@ use Rattle.pd_lex.specs.declared.token.Lexed.TheVariants as lexed
 use Rattle.pd_lex.specs.Tokens.{Item, lexeme, ending, bad}
 use Rattle.pd_lex.specs.Lexing.{items, lexeme_of}
 use Rattle.pd_lex.specs.Next.{HasText}
-use Rattle.pd_script.specs.declared.stops.Stop.{Stop}
-use Rattle.pd_script.specs.declared.stops.Stop.TheVariants as stops
+use Rattle.pd_script.specs.declared.parse_error.ParseError.{ParseError}
+use Rattle.pd_script.specs.declared.parse_error.ParseError.TheVariants as parse_error
 use Rattle.pd_script.specs.Reader.{Read}
 use Rattle.pd_lex.specs.declared.token.Place.{Place}
 use Rattle.pd_script.specs.Items.{is_header}
@@ -29,22 +29,22 @@ abbrev pub shown : Token → Item
 shown t = lexeme (record { kind = t.kind; text = t.text.now; from = t.from })
 
 -- what a method of a cursor answered, and what it left, are what was read; at a fault it is there
-abbrev pub Leaves : {X : Type 0} → Result X Stop → List Item → Read X → Type 0
+abbrev pub Leaves : {X : Type 0} → Result X ParseError → List Item → Read X → Type 0
 Leaves (Ok x) rest read = read ≡ Ok (x, rest)
-Leaves (Err stops.Syntax) rest read = read ≡ Err rest
-Leaves (Err stops.OutOfMemory) rest read = Unit {0}
+Leaves (Err parse_error.Syntax) rest read = read ≡ Err rest
+Leaves (Err parse_error.OutOfMemory) rest read = Unit {0}
 
 -- the same of a method that leaves what it read in a state
-abbrev pub Moves : {S : Type 0} → Result ⊤ Stop → S → List Item → Read S → Type 0
+abbrev pub Moves : {S : Type 0} → Result ⊤ ParseError → S → List Item → Read S → Type 0
 Moves (Ok x) state rest read = read ≡ Ok (state, rest)
-Moves (Err stops.Syntax) state rest read = read ≡ Err rest
-Moves (Err stops.OutOfMemory) state rest read = Unit {0}
+Moves (Err parse_error.Syntax) state rest read = read ≡ Err rest
+Moves (Err parse_error.OutOfMemory) state rest read = Unit {0}
 
 -- the same of a note, of which nothing is kept
-abbrev pub SkipsNote : {X : Type 0} → Result X Stop → List Item → Read (List ℕ) → Type 0
+abbrev pub SkipsNote : {X : Type 0} → Result X ParseError → List Item → Read (List ℕ) → Type 0
 SkipsNote (Ok x) rest read = read ≡ Ok ([], rest)
-SkipsNote (Err stops.Syntax) rest read = read ≡ Err rest
-SkipsNote (Err stops.OutOfMemory) rest read = Unit {0}
+SkipsNote (Err parse_error.Syntax) rest read = read ≡ Err rest
+SkipsNote (Err parse_error.OutOfMemory) rest read = Unit {0}
 
 -- at a place of a text a header item stands, with this place after it
 pub record IsItemAt (lines : List (List ℕ)) (place : Place) (item : HeaderItem) (after : Place) : Type 0 where

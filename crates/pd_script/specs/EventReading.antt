@@ -6,17 +6,17 @@ use Rattle.pd_script.specs.Values.{sign, hex_number, microseconds, function_name
 use Rattle.pd_script.specs.Reader.{Reader, ◌>>=◌, done, one, when, machine_at}
 use Rattle.pd_script.specs.TokenReading.{symbol_at, int_at, dots_at}
 use Rattle.pd_script.specs.PacketReading.{packet_at}
-use Rattle.pd_script.specs.Drafts.{at_start, argument_move, note_move}
+use Rattle.pd_script.specs.ArgumentReading.{at_start, argument_move, note_move}
 use Rattle.pd_script.specs.declared.timing.Time.{Time}
 use Rattle.pd_script.specs.declared.timing.Time.TheVariants as times
-use Rattle.pd_script.specs.declared.timing.Until.{Until}
-use Rattle.pd_script.specs.declared.timing.Until.TheVariants as untils
+use Rattle.pd_script.specs.declared.timing.BlockingEnd.{BlockingEnd}
+use Rattle.pd_script.specs.declared.timing.BlockingEnd.TheVariants as blocking_ends
 use Rattle.pd_script.specs.declared.calls.Argument.{Argument}
 use Rattle.pd_script.specs.declared.calls.Call.{Call}
 use Rattle.pd_script.specs.declared.calls.Function.{Function}
 use Rattle.pd_script.specs.declared.calls.ErrorName.{ErrorName}
-use Rattle.pd_script.specs.declared.calls.Outcome.{Outcome}
-use Rattle.pd_script.specs.declared.calls.Outcome.TheVariants as outcomes
+use Rattle.pd_script.specs.declared.calls.ExpectedResult.{ExpectedResult}
+use Rattle.pd_script.specs.declared.calls.ExpectedResult.TheVariants as expected_results
 use Rattle.pd_script.specs.declared.script_events.Action.{Action}
 use Rattle.pd_script.specs.declared.script_events.Action.TheVariants as actions
 use Rattle.pd_script.specs.declared.script_events.Event.{Event}
@@ -100,57 +100,57 @@ unfoldable pub time_at : Reader (ℕ × Time)
 time_at = when (is_symbol (sign "*")) any_time_at (when (is_symbol (sign "+")) relative_at absolute_at)
 
 -- `+` and a number: a relative end of a blocking call
-abbrev pub relative_until_at : Reader Until
-relative_until_at = do
+abbrev pub relative_blocking_end_at : Reader BlockingEnd
+relative_blocking_end_at = do
   plus ← symbol_at (sign "+")
   n ← num_at
-  done (untils.Relative n.1)
+  done (blocking_ends.Relative n.1)
 
 -- a number: an absolute end of a blocking call
-abbrev pub absolute_until_at : Reader Until
-absolute_until_at = do
+abbrev pub absolute_blocking_end_at : Reader BlockingEnd
+absolute_blocking_end_at = do
   n ← num_at
-  done (untils.Absolute n.1)
+  done (blocking_ends.Absolute n.1)
 
 -- `...` and the end of a blocking call
-abbrev pub until_at : Reader (Option Until)
-until_at = do
+abbrev pub blocking_end_at : Reader (Option BlockingEnd)
+blocking_end_at = do
   dots ← dots_at
-  until ← when (is_symbol (sign "+")) relative_until_at absolute_until_at
-  done (Some until)
+  blocking_end ← when (is_symbol (sign "+")) relative_blocking_end_at absolute_blocking_end_at
+  done (Some blocking_end)
 
 -- the end of a blocking call, which may be left out
-unfoldable pub maybe_until_at : Reader (Option Until)
-maybe_until_at = when is_dots until_at (done None)
+unfoldable pub maybe_blocking_end_at : Reader (Option BlockingEnd)
+maybe_blocking_end_at = when is_dots blocking_end_at (done None)
 
 -- a whole number, as a result
-abbrev pub whole_at : Reader Outcome
+abbrev pub whole_at : Reader ExpectedResult
 whole_at = do
   n ← int_at
-  done (outcomes.Int n)
+  done (expected_results.Int n)
 
 -- a hexadecimal number, as a result
-abbrev pub hexadecimal_at : Reader Outcome
+abbrev pub hexadecimal_at : Reader ExpectedResult
 hexadecimal_at = do
   n ← hex_at
-  done (outcomes.Hex n)
+  done (expected_results.Hex n)
 
 -- the name of the error, after the number of a negative result
-abbrev pub named_error_at : ℕ → Reader Outcome
+abbrev pub named_error_at : ℕ → Reader ExpectedResult
 named_error_at n = do
   name ← error_at
-  done (outcomes.Negative n (Some name))
+  done (expected_results.Negative n (Some name))
 
 -- a negative result, with or without the name of an error
-abbrev pub negative_at : Reader Outcome
+abbrev pub negative_at : Reader ExpectedResult
 negative_at = do
   line ← symbol_at (sign "-")
   n ← int_at
-  when is_word (named_error_at n) (done (outcomes.Negative n None))
+  when is_word (named_error_at n) (done (expected_results.Negative n None))
 
 -- the result of a call
-unfoldable pub outcome_at : Reader Outcome
-outcome_at = when is_int whole_at (when is_hex hexadecimal_at negative_at)
+unfoldable pub expected_result_at : Reader ExpectedResult
+expected_result_at = when is_int whole_at (when is_hex hexadecimal_at negative_at)
 
 -- the bracket that ends a call's arguments, where there are none
 abbrev pub no_arguments_at : Reader (List Argument)
@@ -180,9 +180,9 @@ call_at = do
   opening ← symbol_at (sign "(")
   arguments ← arguments_at
   equals ← symbol_at (sign "=")
-  outcome ← outcome_at
+  expected_result ← expected_result_at
   note ← maybe_note_at
-  done (record { function = function; arguments = arguments; result = outcome })
+  done (record { function = function; arguments = arguments; result = expected_result })
 
 -- a call, as an action
 abbrev pub call_action_at : Reader Action
@@ -224,9 +224,9 @@ action_at = when is_command command_at (when is_code code_at (when (is_symbol (s
 unfoldable pub event_at : Reader Event
 event_at = do
   start ← time_at
-  until ← maybe_until_at
+  blocking_end ← maybe_blocking_end_at
   action ← action_at
-  done (record { line = start.0; time = start.1; until = until; action = action })
+  done (record { line = start.0; time = start.1; blocking_end = blocking_end; action = action })
 
 -- the end of the text: no more events
 abbrev pub end_at : Reader (List Event)

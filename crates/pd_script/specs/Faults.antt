@@ -1,12 +1,12 @@
 -- Scripts, and where a text that is none goes wrong.
 use Rattle.std.specs.Prelude.{◌≡◌, ℕ, ◌≤◌, true, false, List, [], ◌∷◌, ◌++◌, length, Option, Some, None, ◌⊎◌, All}
 use Rattle.pd_lex.specs.Tokens.{Item, line_of, AreItemsOf}
-use Rattle.pd_script.specs.Items.{is_header, is_end, goes_on, next_is, IsPlain}
+use Rattle.pd_script.specs.Items.{is_header, is_end, starts_event_or_end, next_is, IsPlain}
 use Rattle.pd_script.specs.Header.{header_item, HasEnd}
 use Rattle.pd_script.specs.Grammar.{IsEvent}
 use Rattle.pd_script.specs.declared.script_header.HeaderItem.{HeaderItem}
 use Rattle.pd_script.specs.declared.script_events.Event.{Event}
-use Rattle.pd_script.specs.declared.parsing.Parsed.{Parsed}
+use Rattle.pd_script.specs.declared.parsed.Parsed.{Parsed}
 
 -- options and commands, one after the other, and what is left
 abbrev pub IsHeader : List HeaderItem → List Item → List Item → Type 0
@@ -48,8 +48,8 @@ pub record IsKept (header : List HeaderItem) (events : List Event) (front : List
   pub begins : IsHeader header front after
   pub whole : next_is is_header after ≡ false
   pub goes : AreEvents events after others
-  pub reached : (events ≡ []) ⊎ (next_is goes_on others ≡ true)
-  pub last : (e : Event) (rest : List Item) → IsEvent e others rest → next_is goes_on rest ≡ false
+  pub reached : (events ≡ []) ⊎ (next_is starts_event_or_end others ≡ true)
+  pub last : (e : Event) (rest : List Item) → IsEvent e others rest → next_is starts_event_or_end rest ≡ false
 
 -- the items are a script that was read, or they were read up to their fault
 abbrev pub IsReadTo : List Item → Parsed → Option ℕ → Type 0

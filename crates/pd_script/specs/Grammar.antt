@@ -8,13 +8,13 @@ use Rattle.pd_script.specs.PacketGrammar.{IsPacket}
 use Rattle.pd_script.specs.Arguments.{IsArguments, IsNote}
 use Rattle.pd_script.specs.declared.timing.Time.{Time}
 use Rattle.pd_script.specs.declared.timing.Time.TheVariants as times
-use Rattle.pd_script.specs.declared.timing.Until.{Until}
-use Rattle.pd_script.specs.declared.timing.Until.TheVariants as untils
+use Rattle.pd_script.specs.declared.timing.BlockingEnd.{BlockingEnd}
+use Rattle.pd_script.specs.declared.timing.BlockingEnd.TheVariants as blocking_ends
 use Rattle.pd_script.specs.declared.calls.Call.{Call}
 use Rattle.pd_script.specs.declared.calls.ErrorName.{ErrorName}
 use Rattle.pd_script.specs.declared.calls.Function.{Function}
-use Rattle.pd_script.specs.declared.calls.Outcome.{Outcome}
-use Rattle.pd_script.specs.declared.calls.Outcome.TheVariants as outcomes
+use Rattle.pd_script.specs.declared.calls.ExpectedResult.{ExpectedResult}
+use Rattle.pd_script.specs.declared.calls.ExpectedResult.TheVariants as expected_results
 use Rattle.pd_script.specs.declared.script_events.Action.{Action}
 use Rattle.pd_script.specs.declared.script_events.Action.TheVariants as actions
 use Rattle.pd_script.specs.declared.script_events.Event.{Event}
@@ -85,57 +85,57 @@ unfoldable pub IsTime : Spelling (ℕ × Time)
 IsTime = either IsAnyTime (either IsRelative IsAbsolute)
 
 -- `+` and seconds: a relative end of a blocking call
-abbrev pub IsRelativeUntil : Spelling Until
-IsRelativeUntil = do
+abbrev pub IsRelativeBlockingEnd : Spelling BlockingEnd
+IsRelativeBlockingEnd = do
   plus ← IsSymbol "+"
   n ← IsNum
-  made (untils.Relative n.1)
+  made (blocking_ends.Relative n.1)
 
 -- seconds: an absolute end of a blocking call
-abbrev pub IsAbsoluteUntil : Spelling Until
-IsAbsoluteUntil = do
+abbrev pub IsAbsoluteBlockingEnd : Spelling BlockingEnd
+IsAbsoluteBlockingEnd = do
   n ← IsNum
-  made (untils.Absolute n.1)
+  made (blocking_ends.Absolute n.1)
 
 -- `...` and the end of a blocking call
-abbrev pub IsUntil : Spelling (Option Until)
-IsUntil = do
+abbrev pub IsBlockingEnd : Spelling (Option BlockingEnd)
+IsBlockingEnd = do
   dots ← IsDots
-  until ← either IsRelativeUntil IsAbsoluteUntil
-  made (Some until)
+  blocking_end ← either IsRelativeBlockingEnd IsAbsoluteBlockingEnd
+  made (Some blocking_end)
 
 -- the end of a blocking call, which may be left out
-unfoldable pub IsMaybeUntil : Spelling (Option Until)
-IsMaybeUntil = either IsUntil (made None)
+unfoldable pub IsMaybeBlockingEnd : Spelling (Option BlockingEnd)
+IsMaybeBlockingEnd = either IsBlockingEnd (made None)
 
 -- ---- calls
 
 -- a whole number, as a result
-abbrev pub IsWhole : Spelling Outcome
+abbrev pub IsWhole : Spelling ExpectedResult
 IsWhole = do
   n ← IsInt
-  made (outcomes.Int n)
+  made (expected_results.Int n)
 
 -- a hexadecimal number, as a result
-abbrev pub IsHexadecimal : Spelling Outcome
+abbrev pub IsHexadecimal : Spelling ExpectedResult
 IsHexadecimal = do
   n ← IsHex
-  made (outcomes.Hex n)
+  made (expected_results.Hex n)
 
 -- `-`, a whole number and the name of an error, which may be left out
-abbrev pub IsNegative : Spelling Outcome
+abbrev pub IsNegative : Spelling ExpectedResult
 IsNegative = do
   minus ← IsSymbol "-"
   n ← IsInt
   either
       (do
         name ← IsErrorName
-        made (outcomes.Negative n (Some name)))
-      (made (outcomes.Negative n None))
+        made (expected_results.Negative n (Some name)))
+      (made (expected_results.Negative n None))
 
 -- the result of a call: a whole, a hexadecimal or a negative number
-unfoldable pub IsOutcome : Spelling Outcome
-IsOutcome = either IsWhole (either IsHexadecimal IsNegative)
+unfoldable pub IsExpectedResult : Spelling ExpectedResult
+IsExpectedResult = either IsWhole (either IsHexadecimal IsNegative)
 
 -- a call: its name, its arguments, `=`, its result, and a note, which may be left out
 unfoldable pub IsCall : Spelling Call
@@ -144,9 +144,9 @@ IsCall = do
   opening ← IsSymbol "("
   arguments ← IsArguments
   equals ← IsSymbol "="
-  outcome ← IsOutcome
+  expected_result ← IsExpectedResult
   note ← either IsNote (made tt)
-  made (record { function = function; arguments = arguments; result = outcome })
+  made (record { function = function; arguments = arguments; result = expected_result })
 
 -- ---- events
 
@@ -186,6 +186,6 @@ IsAction = either IsCommand (either IsCode (either IsInbound (either IsOutbound 
 unfoldable pub IsEvent : Spelling Event
 IsEvent = do
   start ← IsTime
-  until ← IsMaybeUntil
+  blocking_end ← IsMaybeBlockingEnd
   action ← IsAction
-  made (record { line = start.0; time = start.1; until = until; action = action })
+  made (record { line = start.0; time = start.1; blocking_end = blocking_end; action = action })

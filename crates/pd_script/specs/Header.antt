@@ -36,7 +36,7 @@ abbrev pub header_item : Item → HeaderItem
 header_item t = record { line = line_of t; kind = header_kind t }
 
 -- a header: its items in order, and its end
-pub record Heading : Type 0 where
+pub record HeaderView : Type 0 where
   pub items : List HeaderItem
   pub end : Place
 
@@ -51,5 +51,5 @@ abbrev pub place_after_items : List Item → Place
 place_after_items ts = fold place_after_item first_place ts
 
 -- a header ends after the last of its items; one without items at the text's first place
-abbrev pub HasEnd : List Item → Heading → Type 0
+abbrev pub HasEnd : List Item → HeaderView → Type 0
 HasEnd ts header = header.end ≡ place_after_items (take (length header.items) ts)

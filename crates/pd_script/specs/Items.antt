@@ -147,8 +147,8 @@ abbrev pub starts_event : Item → Bool
 starts_event t = is_num t || is_symbol (sign "+") t || is_symbol (sign "*") t
 
 -- what an event or the end begins with
-abbrev pub goes_on : Item → Bool
-goes_on t = starts_event t || is_end t
+abbrev pub starts_event_or_end : Item → Bool
+starts_event_or_end t = starts_event t || is_end t
 
 -- the octets are digits, one or more
 abbrev pub is_digits : List ℕ → Bool

@@ -17,7 +17,7 @@ pub mod Range
 -- how one is read from left to right
 pub mod Reader
 pub mod TokenReading
-pub mod Drafts
+pub mod ArgumentReading
 pub mod PacketReading
 pub mod EventReading
 pub mod Script

@@ -5,8 +5,8 @@ use Rattle.pd_script.specs.Values.{number, flags_of, with_ack, option_named}
 use Rattle.pd_script.specs.Spelling.{Spelling, one_of, made, in_turn, ◌>>=◌, either, IsSymbol, IsInt, IsDots, Repeats}
 use Rattle.pd_script.specs.declared.names.OptionName.{OptionName}
 use Rattle.pd_script.specs.declared.names.OptionName.TheVariants as names
-use Rattle.pd_script.specs.declared.packets.Flags.{Flags}
-use Rattle.pd_script.specs.declared.packets.Block.{Block}
+use Rattle.pd_script.specs.declared.packets.PacketFlags.{PacketFlags}
+use Rattle.pd_script.specs.declared.packets.SackBlock.{SackBlock}
 use Rattle.pd_script.specs.declared.packets.PacketOption.{PacketOption}
 use Rattle.pd_script.specs.declared.packets.PacketOption.TheVariants as options
 use Rattle.pd_script.specs.declared.packets.Options.{Options}
@@ -28,7 +28,7 @@ abbrev pub IsNamed : List ℕ → Spelling ⊤
 IsNamed name = one_of (is_named name) (λ t. tt)
 
 -- a word of the letters F, S, R, P, U, E, W and C
-abbrev pub IsLetters : Spelling Flags
+abbrev pub IsLetters : Spelling PacketFlags
 IsLetters = one_of is_flags (λ t. flags_of (text_of t))
 
 -- a word that names a TCP option
@@ -38,25 +38,25 @@ IsOptionName = one_of is_option (λ t. unwrap_or (option_named (text_of t)) name
 -- ---- flags
 
 -- `-`
-abbrev pub IsNoFlags : Spelling Flags
+abbrev pub IsNoFlags : Spelling PacketFlags
 IsNoFlags = do
   minus ← IsSymbol "-"
   made (flags_of [])
 
 -- the point, which is the ACK flag
-abbrev pub IsPoint : Flags → Spelling Flags
+abbrev pub IsPoint : PacketFlags → Spelling PacketFlags
 IsPoint f = do
   point ← IsSymbol "."
   made (with_ack f)
 
 -- letters of flags, and a point after them if there is one
-abbrev pub IsLettered : Spelling Flags
+abbrev pub IsLettered : Spelling PacketFlags
 IsLettered = do
   f ← IsLetters
   either (IsPoint f) (made f)
 
 -- the flags of a packet: `-` for none, the point alone, or letters with or without it
-unfoldable pub IsFlags : Spelling Flags
+unfoldable pub IsFlags : Spelling PacketFlags
 IsFlags = either IsNoFlags (either (IsPoint (flags_of [])) IsLettered)
 
 -- ---- numbers
@@ -91,7 +91,7 @@ IsWin false = either (IsNumbered (codes "win")) (made None)
 -- ---- options
 
 -- a SACK block: its left edge, `:` and its right edge (RFC 2018, section 3)
-abbrev pub IsBlock : Spelling Block
+abbrev pub IsBlock : Spelling SackBlock
 IsBlock = do
   left ← IsInt
   colon ← IsSymbol ":"
@@ -99,7 +99,7 @@ IsBlock = do
   made (record { left = left; right = right })
 
 -- one block or more
-unfoldable pub AreBlocks : Spelling (List Block)
+unfoldable pub AreBlocks : Spelling (List SackBlock)
 AreBlocks = do
   b ← IsBlock
   bs ← Repeats IsBlock

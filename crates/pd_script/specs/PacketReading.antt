@@ -7,8 +7,8 @@ use Rattle.pd_script.specs.Reader.{Reader, ◌>>=◌, done, one, when}
 use Rattle.pd_script.specs.TokenReading.{symbol_at, int_at, dots_at}
 use Rattle.pd_script.specs.declared.names.OptionName.{OptionName}
 use Rattle.pd_script.specs.declared.names.OptionName.TheVariants as names
-use Rattle.pd_script.specs.declared.packets.Flags.{Flags}
-use Rattle.pd_script.specs.declared.packets.Block.{Block}
+use Rattle.pd_script.specs.declared.packets.PacketFlags.{PacketFlags}
+use Rattle.pd_script.specs.declared.packets.SackBlock.{SackBlock}
 use Rattle.pd_script.specs.declared.packets.PacketOption.{PacketOption}
 use Rattle.pd_script.specs.declared.packets.PacketOption.TheVariants as options
 use Rattle.pd_script.specs.declared.packets.Options.{Options}
@@ -36,7 +36,7 @@ named_at name = do
   done tt
 
 -- a word of flags' letters
-abbrev pub letters_at : Reader Flags
+abbrev pub letters_at : Reader PacketFlags
 letters_at = do
   t ← one is_flags
   done (flags_of (text_of t))
@@ -66,25 +66,25 @@ repeated_at test p ts = repeated_within (length ts) test p ts
 -- ---- flags
 
 -- `-`: no flags
-abbrev pub no_flags_at : Reader Flags
+abbrev pub no_flags_at : Reader PacketFlags
 no_flags_at = do
   line ← symbol_at (sign "-")
   done (flags_of [])
 
 -- the point, which is the ACK flag, beside other flags
-abbrev pub point_at : Flags → Reader Flags
+abbrev pub point_at : PacketFlags → Reader PacketFlags
 point_at f = do
   line ← symbol_at (sign ".")
   done (with_ack f)
 
 -- letters of flags, and a point after them if there is one
-abbrev pub lettered_at : Reader Flags
+abbrev pub lettered_at : Reader PacketFlags
 lettered_at = do
   f ← letters_at
   when (is_symbol (sign ".")) (point_at f) (done f)
 
 -- the flags of a packet
-unfoldable pub flags_at : Reader Flags
+unfoldable pub flags_at : Reader PacketFlags
 flags_at = when (is_symbol (sign "-")) no_flags_at (when (is_symbol (sign ".")) (point_at (flags_of [])) lettered_at)
 
 -- ---- numbers
@@ -119,7 +119,7 @@ win_at false = when (is_named (codes "win")) (numbered_at (codes "win")) (done N
 -- ---- options
 
 -- a SACK block: its left edge, `:` and its right edge
-abbrev pub block_at : Reader Block
+abbrev pub block_at : Reader SackBlock
 block_at = do
   left ← int_at
   colon ← symbol_at (sign ":")
@@ -127,7 +127,7 @@ block_at = do
   done (record { left = left; right = right })
 
 -- one block or more
-unfoldable pub blocks_at : Reader (List Block)
+unfoldable pub blocks_at : Reader (List SackBlock)
 blocks_at = do
   b ← block_at
   bs ← repeated_at is_int block_at

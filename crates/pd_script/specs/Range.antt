@@ -1,7 +1,7 @@
 -- Lines of a text.
 use Rattle.std.specs.Prelude.{ℕ, ◌≤◌, List, length, max, All, IfSome}
 use Rattle.pd_script.specs.declared.script_events.Event.{Event}
-use Rattle.pd_script.specs.declared.parsing.Parsed.{Parsed}
+use Rattle.pd_script.specs.declared.parsed.Parsed.{Parsed}
 
 -- a line from the first to the last; a text without lines counts as one
 abbrev pub IsLineOf : List (List ℕ) → ℕ → Type 0

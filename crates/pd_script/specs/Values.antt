@@ -12,7 +12,7 @@ use Rattle.pd_script.specs.declared.calls.ErrorName.{ErrorName}
 use Rattle.pd_script.specs.declared.calls.ErrorName.TheVariants as errors
 use Rattle.pd_script.specs.declared.names.OptionName.{OptionName}
 use Rattle.pd_script.specs.declared.names.OptionName.TheVariants as options
-use Rattle.pd_script.specs.declared.packets.Flags.{Flags}
+use Rattle.pd_script.specs.declared.packets.PacketFlags.{PacketFlags}
 
 -- the octet of a character of ASCII
 abbrev pub sign : String → ℕ
@@ -120,7 +120,7 @@ abbrev pub is_flag : ℕ → Bool
 is_flag octet = (octet == sign "F") || (octet == sign "S") || (octet == sign "R") || (octet == sign "P") || (octet == sign "U") || (octet == sign "E") || (octet == sign "W") || (octet == sign "C")
 
 -- the flags that letters name, without the point
-unfoldable pub flags_of : List ℕ → Flags
+unfoldable pub flags_of : List ℕ → PacketFlags
 flags_of text = record {
   syn = list_any (λ octet. octet == sign "S") text;
   fin = list_any (λ octet. octet == sign "F") text;
@@ -131,5 +131,5 @@ flags_of text = record {
 }
 
 -- with the point
-abbrev pub with_ack : Flags → Flags
+abbrev pub with_ack : PacketFlags → PacketFlags
 with_ack f = record f { ack = true }

@@ -3,8 +3,8 @@ ghost use Rattle.std.specs.Prelude.{◌≡◌, ◌<◌, ◌≤◌, [], ◌∷◌
 ghost use Rattle.pd_script.specs.Brackets.{opened_by, is_closing, closing_octet, pairs_after};
 ghost use Rattle.pd_script.specs.Cursor.{shown};
 
-use crate::stops::Stop;
-use crate::tokens::is_symbol;
+use crate::parse_error::ParseError;
+use crate::token_tests::is_symbol;
 use arrayvec::ArrayVec;
 use pd_lex::Token;
 use std::marker::Model;
@@ -114,23 +114,23 @@ impl OpenPairs {
     /// # Errors
     /// `Syntax` where the token opens a pair while so many are open, or closes another than the innermost, or none is open.
     #[inline(always)]
-    pub fn pass(&mut self, token: &Token, most: usize) -> Result<(), Stop>
+    pub fn update(&mut self, token: &Token, most: usize) -> Result<(), ParseError>
         requires { most ≤ 16 }
         ensures ok { OnOk result (pairs_after most self.old (shown token.now) ≡ Some self.new) }
         ensures err { OnErr result (pairs_after most self.old (shown token.now) ≡ None) }
-        ensures syntax { OnErr result (result ≡ Err Stop.Syntax) }
+        ensures syntax { OnErr result (result ≡ Err ParseError.Syntax) }
     {
         if let Some(bracket) = opened_by(token) {
             if self.len() >= most {
-                return Err(Stop::Syntax);
+                return Err(ParseError::Syntax);
             }
             self.push(bracket);
         } else if is_closing(token) {
             let Some(bracket) = self.pop() else {
-                return Err(Stop::Syntax);
+                return Err(ParseError::Syntax);
             };
             if !is_symbol(token, bracket.closing_octet()) {
-                return Err(Stop::Syntax);
+                return Err(ParseError::Syntax);
             }
         }
         Ok(())

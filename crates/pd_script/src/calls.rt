@@ -11,7 +11,7 @@ pub struct Call {
     /// The name of the call.
     pub function: Function,
     /// The result that the script expects.
-    pub result: Outcome,
+    pub result: ExpectedResult,
     /// What it is called with.
     pub arguments: Arguments,
 }
@@ -77,7 +77,7 @@ pub enum Constant {
 
 /// The result that a script expects of a call, its number at most 4,294,967,295.
 #[derive(Clone, Copy)]
-pub enum Outcome {
+pub enum ExpectedResult {
     Int(u32),
     Hex(u32),
     /// `-` and a number, with the name of an error if one is written.

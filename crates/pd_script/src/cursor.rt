@@ -1,15 +1,15 @@
 //! A cursor over the tokens of a text.
 ghost use Rattle.std.specs.Prelude.{◌≡◌};
 ghost use Rattle.pd_lex.specs.Lexing.{items};
-ghost use Rattle.pd_script.specs.Drafts.{part_at, note_part_at, after_token};
+ghost use Rattle.pd_script.specs.ArgumentReading.{part_at, note_part_at, after_token};
 ghost use Rattle.pd_script.specs.EventReading.{next_line};
 ghost use Rattle.pd_script.specs.Next.{next_place};
 ghost use Rattle.pd_script.specs.Cursor.{IsPeeked, Leaves, Moves};
 
+use crate::argument_builder::BracketContext;
 use crate::brackets::{MAX_DEPTH, OpenPairs};
-use crate::drafts::Inside;
-use crate::stops::Stop;
-use pd_lex::{Ahead, Lexed, Place, look_ahead, read_along};
+use crate::parse_error::ParseError;
+use pd_lex::{Lexed, Lookahead, Place, look_ahead, read_on_line};
 use pd_text::Lines;
 use std::marker::Model;
 
@@ -19,7 +19,7 @@ pub struct Cursor<'a> {
     /// The text.
     lines: &'a Lines,
     /// What comes next in it.
-    ahead: Ahead<'a>,
+    lookahead: Lookahead<'a>,
 }
 
 impl<'a> Model for Cursor<'a> {
@@ -30,9 +30,9 @@ impl<'a> Model for Cursor<'a> {
 
     ghost Value = { List Item };
 
-    ghost view = { λ c. left c.lines.now c.ahead.next };
+    ghost view = { λ c. left c.lines.now c.lookahead.next };
 
-    ghost invariant = { λ c. HasText c.lines.now c.ahead.next × HasLineAfter c.lines.now c.ahead.next c.ahead.line.now };
+    ghost invariant = { λ c. HasText c.lines.now c.lookahead.next × HasLineAfter c.lines.now c.lookahead.next c.lookahead.line.now };
 }
 
 impl<'a> Cursor<'a> {
@@ -42,7 +42,7 @@ impl<'a> Cursor<'a> {
     {
         Cursor {
             lines,
-            ahead: look_ahead(lines, place),
+            lookahead: look_ahead(lines, place),
         }
     }
 
@@ -51,7 +51,7 @@ impl<'a> Cursor<'a> {
     pub fn line(&self) -> usize
         ensures { result ≡ next_line self.now }
     {
-        match self.ahead.next {
+        match self.lookahead.next {
             Lexed::Token(token) => token.from.line,
             Lexed::End => self.lines.len().max(1),
             Lexed::Bad(line) => line,
@@ -63,7 +63,7 @@ impl<'a> Cursor<'a> {
     pub fn next_place(&self) -> Place
         ensures { result ≡ next_place self.now }
     {
-        match self.ahead.next {
+        match self.lookahead.next {
             Lexed::Token(token) => token.from,
             Lexed::End => Place {
                 line: self.lines.len().max(1) + 1,
@@ -75,19 +75,19 @@ impl<'a> Cursor<'a> {
 
     /// Goes over the next token; at the end and at a bad place it stays.
     #[inline(never)]
-    pub fn take(&mut self)
+    pub fn advance(&mut self)
         ensures { self.new ≡ after_token self.old }
     {
-        self.take_here();
+        self.advance_inline();
     }
 
     /// The same, put in place: for the loop over the tokens of arguments.
     #[inline(always)]
-    fn take_here(&mut self)
+    fn advance_inline(&mut self)
         ensures { self.new ≡ after_token self.old }
     {
-        if let Lexed::Token(token) = self.ahead.next {
-            read_along(self.lines, token.to, &mut self.ahead);
+        if let Lexed::Token(token) = self.lookahead.next {
+            read_on_line(self.lines, token.to, &mut self.lookahead);
         }
     }
 
@@ -96,7 +96,7 @@ impl<'a> Cursor<'a> {
     pub fn peek(&self) -> &Lexed<'a>
         ensures { IsPeeked result.now self.now }
     {
-        &self.ahead.next
+        &self.lookahead.next
     }
 }
 
@@ -106,16 +106,16 @@ impl<'a> Cursor<'a> {
     ///
     /// # Errors
     /// `Syntax` where no token comes next, or its bracket doesn't go with the open pairs; the cursor stays there.
-    pub fn note_part(&mut self, pairs: OpenPairs) -> Result<OpenPairs, Stop>
+    pub fn note_part(&mut self, pairs: OpenPairs) -> Result<OpenPairs, ParseError>
         ensures { Leaves result self.new (note_part_at pairs self.old) }
     {
-        let Lexed::Token(token) = self.ahead.next else {
-            return Err(Stop::Syntax);
+        let Lexed::Token(token) = self.lookahead.next else {
+            return Err(ParseError::Syntax);
         };
         let mut pairs = pairs;
         // The note's own brackets are a pair, too.
-        pairs.pass(&token, MAX_DEPTH - 1)?;
-        self.take();
+        pairs.update(&token, MAX_DEPTH - 1)?;
+        self.advance();
         Ok(pairs)
     }
 
@@ -124,15 +124,15 @@ impl<'a> Cursor<'a> {
     /// # Errors
     /// `Syntax` where no token comes next, or its bracket doesn't go with the open pairs; the cursor stays there.
     #[inline(always)]
-    pub fn part(&mut self, inside: &mut Inside) -> Result<(), Stop>
+    pub fn part(&mut self, inside: &mut BracketContext) -> Result<(), ParseError>
         ensures { Moves result inside.new self.new (part_at inside.old self.old) }
     {
-        let Lexed::Token(token) = &self.ahead.next else {
-            return Err(Stop::Syntax);
+        let Lexed::Token(token) = &self.lookahead.next else {
+            return Err(ParseError::Syntax);
         };
-        inside.pairs.pass(token, MAX_DEPTH)?;
-        inside.draft.add(token);
-        self.take_here();
+        inside.pairs.update(token, MAX_DEPTH)?;
+        inside.builder.add(token);
+        self.advance_inline();
         Ok(())
     }
 }

@@ -2,11 +2,11 @@
 //!
 //! `parse` reads a whole text. A `Parsed` has the `Header`, the events, and the line of the fault
 //! if the text is no script. An `Event` has a `Time`, the end of a blocking call if one is written
-//! (`Until`), and an `Action`: a `Packet` that arrives or is expected to leave, a `Call`, a shell
+//! (`BlockingEnd`), and an `Action`: a `Packet` that arrives or is expected to leave, a `Call`, a shell
 //! command, or code. An `EventReader` reads one event after the other from any place of a text.
 //!
 //! A text is read as what the grammar gives for it, and the grammar gives one reading: `IsScriptOf`
-//! (specs/Faults.antt), the law `scripts_are_grammatical`. The fault is the first token at which no
+//! (specs/Faults.antt), the law `law_scripts_are_grammatical`. The fault is the first token at which no
 //! script goes on: `IsFault`.
 //!
 //! Why it is so:
@@ -25,17 +25,19 @@
 //!   call are kept in a `smallvec` of three, since most calls have no more.
 #![tactic(auto)]
 
+mod argument_builder;
 mod brackets;
 mod calls;
 mod cursor;
-mod deciding;
-mod drafts;
-mod heading;
+mod event_reader;
+mod expect;
+mod header_reader;
 mod lookahead;
 mod names;
 mod numbers;
 mod packets;
-mod parsing;
+mod parse_error;
+mod parsed;
 mod read_arguments;
 mod read_events;
 mod read_packets;
@@ -43,18 +45,18 @@ mod read_script;
 mod script_events;
 mod script_header;
 mod script_laws;
-mod stops;
-mod taken;
 mod timing;
-mod tokens;
+mod token_tests;
 
-pub use calls::{Argument, Arguments, Call, Constant, ErrorName, Function, Outcome};
-pub use deciding::{EventReader, NextEvent, NextPlace, next_event};
-pub use heading::read_header;
-pub use packets::{Block, Blocks, Flags, OptionList, Options, Packet, PacketOption};
-pub use parsing::Parsed;
+pub use calls::{Argument, Arguments, Call, Constant, ErrorName, ExpectedResult, Function};
+pub use event_reader::{EventReader, NextEvent, NextEventStatus, next_event};
+pub use header_reader::read_header;
+pub use packets::{
+    OptionList, Options, Packet, PacketFlags, PacketOption, SackBlock, SackBlockList,
+};
+pub use parsed::Parsed;
 pub use read_script::{MAX_EVENTS, parse};
 pub use script_events::{Action, Event, Events};
 pub use script_header::{Header, HeaderItem, HeaderKind};
-pub use script_laws::{items_stand_there, scripts_are_grammatical};
-pub use timing::{Time, Until};
+pub use script_laws::{law_items_stand_there, law_scripts_are_grammatical};
+pub use timing::{BlockingEnd, Time};

@@ -12,7 +12,7 @@ pub struct Packet {
     /// The TCP options as written.
     pub options: Options,
     /// The flags as written.
-    pub flags: Flags,
+    pub flags: PacketFlags,
     /// The number of the first octet of data.
     pub start: u32,
     /// The number after the last octet of data, at least `start`; SYN and FIN don't count.
@@ -47,7 +47,7 @@ impl Packet {
 
 /// The flags of a packet.
 #[derive(Clone, Copy)]
-pub struct Flags {
+pub struct PacketFlags {
     /// `S`.
     pub syn: bool,
     /// `F`.
@@ -76,15 +76,15 @@ fn has_other(letters: &[u8]) -> bool
     letters.iter().any(|octet| *octet == b'U' || *octet == b'E' || *octet == b'W' || *octet == b'C')
 }
 
-impl Flags {
+impl PacketFlags {
     ghost use Rattle.pd_script.specs.Values.{flags_of, with_ack};
 
     /// The flags that letters name, without ACK.
     #[tactic(auto, unfolding(crate::specs::Values::flags_of))]
-    pub fn of_letters(letters: &[u8]) -> Flags
+    pub fn of_letters(letters: &[u8]) -> PacketFlags
         ensures { result ≡ flags_of letters.now }
     {
-        Flags {
+        PacketFlags {
             syn: has(letters, b'S'),
             fin: has(letters, b'F'),
             rst: has(letters, b'R'),
@@ -95,10 +95,10 @@ impl Flags {
     }
 
     /// The same flags with ACK.
-    pub fn with_ack(self) -> Flags
+    pub fn with_ack(self) -> PacketFlags
         ensures { result ≡ with_ack self }
     {
-        Flags { ack: true, ..self }
+        PacketFlags { ack: true, ..self }
     }
 }
 
@@ -158,28 +158,28 @@ pub enum PacketOption {
     /// `TS val .. ecr ..`.
     Timestamp(u64, u64),
     /// `sack` with one or more blocks.
-    Sack(Blocks),
+    Sack(SackBlockList),
 }
 
 /// The blocks of a `sack` option, in order.
 #[derive(Drop)]
-pub struct Blocks {
+pub struct SackBlockList {
     /// The blocks in order.
-    blocks: Vec<Block>,
+    blocks: Vec<SackBlock>,
 }
 
-impl Model for Blocks {
+impl Model for SackBlockList {
     ghost use Rattle.std.specs.Prelude.{List};
-    ghost use Rattle.pd_script.specs.declared.packets.Block.{Block};
+    ghost use Rattle.pd_script.specs.declared.packets.SackBlock.{SackBlock};
 
-    ghost Value = { List Block };
+    ghost Value = { List SackBlock };
 
     ghost view = { λ l. l.blocks.items };
 }
 
 /// A run of octets: the number of its first, and the number after its last.
 #[derive(Clone, Copy)]
-pub struct Block {
+pub struct SackBlock {
     /// The number of the first octet, as written.
     pub left: u64,
     /// The number after the last octet, as written.
@@ -272,12 +272,12 @@ impl OptionList {
     }
 }
 
-impl Blocks {
+impl SackBlockList {
     /// No blocks.
-    pub fn new(alloc: Global) -> Blocks
+    pub fn new(alloc: Global) -> SackBlockList
         ensures { result ≡ [] }
     {
-        Blocks {
+        SackBlockList {
             blocks: Vec::new(alloc),
         }
     }
@@ -286,7 +286,7 @@ impl Blocks {
     ///
     /// # Errors
     /// `AllocError` where a growth is refused.
-    pub fn push(&mut self, block: Block) -> Result<(), AllocError>
+    pub fn push(&mut self, block: SackBlock) -> Result<(), AllocError>
         ensures { OnOk result (self.new ≡ self.old ++ block ∷ []) }
     {
         self.blocks.push(block)?;
@@ -301,7 +301,7 @@ impl Blocks {
     }
 
     /// The blocks in order.
-    pub fn as_slice(&self) -> &[Block]
+    pub fn as_slice(&self) -> &[SackBlock]
         ensures { result.now ≡ self.now }
     {
         self.blocks.as_slice()
@@ -310,10 +310,10 @@ impl Blocks {
     ///
     /// # Errors
     /// `AllocError` where a growth is refused.
-    pub fn copy(&self) -> Result<Blocks, AllocError>
+    pub fn copy(&self) -> Result<SackBlockList, AllocError>
         ensures { IfOk result (λ copy. copy ≡ self.now) }
     {
-        Ok(Blocks {
+        Ok(SackBlockList {
             blocks: self.blocks.clone()?,
         })
     }

@@ -1,20 +1,20 @@
 //! Reading the arguments of a call.
 ghost use Rattle.std.specs.Prelude.{◌≡◌, []};
 ghost use Rattle.pd_script.specs.EventReading.{arguments_at};
-ghost use Rattle.pd_script.specs.Drafts.{is_between, is_last, note_move};
+ghost use Rattle.pd_script.specs.ArgumentReading.{is_between, is_last, note_move};
 ghost use Rattle.pd_script.specs.Reader.{machine_at};
 ghost use Rattle.pd_script.specs.Cursor.{Leaves, SkipsNote};
 
+use crate::argument_builder::{ArgumentBuilder, BracketContext};
 use crate::brackets::OpenPairs;
 use crate::calls::Arguments;
 use crate::cursor::Cursor;
-use crate::drafts::{Draft, Inside};
-use crate::stops::Stop;
+use crate::parse_error::ParseError;
 use std::alloc::Global;
 
 impl<'a> Cursor<'a> {
     /// Whether it is between two arguments or after the last.
-    fn is_between(&self, inside: &Inside) -> bool
+    fn is_between(&self, inside: &BracketContext) -> bool
         ensures { result ≡ is_between inside.now self.now }
     {
         inside.pairs.is_empty() && (self.is_symbol(b')') || self.is_symbol(b','))
@@ -26,31 +26,31 @@ impl<'a> Cursor<'a> {
     /// `Syntax` where an argument is empty or none goes on, and the cursor is there; `OutOfMemory` where a growth is
     /// refused.
     #[inline(always)]
-    pub fn arguments(&mut self, alloc: Global) -> Result<Arguments, Stop>
+    pub fn arguments(&mut self, alloc: Global) -> Result<Arguments, ParseError>
         ensures { Leaves result self.new (arguments_at self.old) }
     {
         let mut arguments = Arguments::new(alloc);
         if self.is_symbol(b')') {
-            self.take();
+            self.advance();
             return Ok(arguments);
         }
-        let mut inside = Inside::at_start();
+        let mut inside = BracketContext::at_start();
         'tokens: loop {
             if !self.is_between(&inside) {
                 self.part(&mut inside)?;
                 continue;
             }
-            if inside.draft.is_empty() {
-                return Err(Stop::Syntax);
+            if inside.builder.is_empty() {
+                return Err(ParseError::Syntax);
             }
-            arguments.push(inside.draft.argument())?;
+            arguments.push(inside.builder.argument())?;
             if self.is_symbol(b')') {
-                self.take();
+                self.advance();
                 return Ok(arguments);
             }
-            self.take();
+            self.advance();
             // Between two arguments no pair is open.
-            inside.draft = Draft::Empty;
+            inside.builder = ArgumentBuilder::Empty;
         }
     }
 
@@ -65,13 +65,13 @@ impl<'a> Cursor<'a> {
     ///
     /// # Errors
     /// `Syntax` where no note goes on; the cursor is there.
-    pub fn note_inside(&mut self) -> Result<(), Stop>
+    pub fn note_inside(&mut self) -> Result<(), ParseError>
         ensures { SkipsNote result self.new (machine_at note_move [] self.old) }
     {
         let mut pairs = OpenPairs::new();
         'tokens: loop {
             if self.is_last(&pairs) {
-                self.take();
+                self.advance();
                 return Ok(());
             }
             pairs = self.note_part(pairs)?;

@@ -5,14 +5,16 @@ ghost use Rattle.pd_script.specs.Cursor.{Leaves};
 
 use crate::cursor::Cursor;
 use crate::names::OptionName;
-use crate::packets::{Block, Blocks, Flags, OptionList, Options, Packet, PacketOption};
-use crate::stops::Stop;
+use crate::packets::{
+    OptionList, Options, Packet, PacketFlags, PacketOption, SackBlock, SackBlockList,
+};
+use crate::parse_error::ParseError;
 use pd_lex::{Lexed, Token, TokenKind};
 use std::alloc::Global;
 
 impl<'a> Cursor<'a> {
     #[tactic(auto, using(crate::proofs::Symbols::one_octet), unfolding(crate::specs::PacketReading::flags_at, pd_lex::specs::Lexing::lexeme_of))]
-    fn flags(&mut self) -> Result<Flags, Stop>
+    fn flags(&mut self) -> Result<PacketFlags, ParseError>
         ensures { Leaves result self.new (flags_at self.old) }
     {
         match self.peek() {
@@ -24,7 +26,7 @@ impl<'a> Cursor<'a> {
                 },
             ) => {
                 self.symbol(b'-')?;
-                Ok(Flags::of_letters(&[]))
+                Ok(PacketFlags::of_letters(&[]))
             }
             Lexed::Token(
                 Token {
@@ -34,14 +36,14 @@ impl<'a> Cursor<'a> {
                 },
             ) => {
                 self.symbol(b'.')?;
-                Ok(Flags::of_letters(&[]).with_ack())
+                Ok(PacketFlags::of_letters(&[]).with_ack())
             }
             _ => self.lettered_flags(),
         }
     }
 
     /// Takes flags that are written in letters.
-    fn lettered_flags(&mut self) -> Result<Flags, Stop>
+    fn lettered_flags(&mut self) -> Result<PacketFlags, ParseError>
         ensures { Leaves result self.new (lettered_at self.old) }
     {
         let flags = self.letters()?;
@@ -54,7 +56,7 @@ impl<'a> Cursor<'a> {
 
     /// Takes the start, the end and the length.
     #[tactic(auto, unfolding(crate::specs::PacketReading::octets_at))]
-    fn octets(&mut self) -> Result<(u32, u32, u32), Stop>
+    fn octets(&mut self) -> Result<(u32, u32, u32), ParseError>
         ensures { Leaves result self.new (octets_at self.old) }
     {
         let start = self.int()?;
@@ -67,7 +69,7 @@ impl<'a> Cursor<'a> {
     }
 
     #[tactic(auto, unfolding(crate::specs::PacketReading::ack_at))]
-    fn ack(&mut self) -> Result<Option<u32>, Stop>
+    fn ack(&mut self) -> Result<Option<u32>, ParseError>
         ensures { Leaves result self.new (ack_at self.old) }
     {
         if !self.is_named(b"ack") {
@@ -79,7 +81,7 @@ impl<'a> Cursor<'a> {
 
     /// Takes the window, which an inbound packet has.
     #[tactic(auto, unfolding(crate::specs::PacketReading::win_at))]
-    fn win(&mut self, inbound: bool) -> Result<Option<u32>, Stop>
+    fn win(&mut self, inbound: bool) -> Result<Option<u32>, ParseError>
         ensures { Leaves result self.new (win_at inbound self.old) }
     {
         if !inbound && !self.is_named(b"win") {
@@ -89,23 +91,23 @@ impl<'a> Cursor<'a> {
         Ok(Some(self.int()?))
     }
 
-    fn block(&mut self) -> Result<Block, Stop>
+    fn block(&mut self) -> Result<SackBlock, ParseError>
         ensures { Leaves result self.new (block_at self.old) }
     {
         let left = self.int()?;
         self.symbol(b':')?;
         let right = self.int()?;
-        Ok(Block {
+        Ok(SackBlock {
             left: u64::from(left),
             right: u64::from(right),
         })
     }
 
     /// Takes one block or more.
-    fn blocks(&mut self, alloc: Global) -> Result<Blocks, Stop>
+    fn blocks(&mut self, alloc: Global) -> Result<SackBlockList, ParseError>
         ensures { Leaves result self.new (blocks_at self.old) }
     {
-        let mut blocks = Blocks::new(alloc);
+        let mut blocks = SackBlockList::new(alloc);
         blocks.push(self.block()?)?;
         'more: while self.is_int() {
             let block = self.block()?;
@@ -114,7 +116,7 @@ impl<'a> Cursor<'a> {
         Ok(blocks)
     }
 
-    fn timestamp(&mut self) -> Result<PacketOption, Stop>
+    fn timestamp(&mut self) -> Result<PacketOption, ParseError>
         ensures { Leaves result self.new (timestamp_at self.old) }
     {
         self.named(b"val")?;
@@ -126,7 +128,7 @@ impl<'a> Cursor<'a> {
 
     /// Takes what follows the name of an option.
     #[tactic(auto, unfolding(crate::specs::PacketReading::option_rest_at))]
-    fn option_rest(&mut self, alloc: Global, name: OptionName) -> Result<PacketOption, Stop>
+    fn option_rest(&mut self, alloc: Global, name: OptionName) -> Result<PacketOption, ParseError>
         ensures { Leaves result self.new (option_rest_at name self.old) }
     {
         match name {
@@ -141,14 +143,14 @@ impl<'a> Cursor<'a> {
     }
 
     #[tactic(auto, unfolding(crate::specs::PacketReading::option_at))]
-    fn option(&mut self, alloc: Global) -> Result<PacketOption, Stop>
+    fn option(&mut self, alloc: Global) -> Result<PacketOption, ParseError>
         ensures { Leaves result self.new (option_at self.old) }
     {
         let name = self.option_name()?;
         self.option_rest(alloc, name)
     }
 
-    fn next_option(&mut self, alloc: Global) -> Result<PacketOption, Stop>
+    fn next_option(&mut self, alloc: Global) -> Result<PacketOption, ParseError>
         ensures { Leaves result self.new (next_option_at self.old) }
     {
         self.symbol(b',')?;
@@ -156,7 +158,7 @@ impl<'a> Cursor<'a> {
     }
 
     /// Takes one option or more.
-    fn some_options(&mut self, alloc: Global) -> Result<OptionList, Stop>
+    fn some_options(&mut self, alloc: Global) -> Result<OptionList, ParseError>
         ensures { Leaves result self.new (some_options_at self.old) }
     {
         let mut options = OptionList::new(alloc);
@@ -169,7 +171,7 @@ impl<'a> Cursor<'a> {
     }
 
     /// Takes options up to the bracket that ends them.
-    fn list(&mut self, alloc: Global) -> Result<Options, Stop>
+    fn list(&mut self, alloc: Global) -> Result<Options, ParseError>
         ensures { Leaves result self.new (list_at self.old) }
     {
         if self.is_symbol(b'>') {
@@ -183,7 +185,7 @@ impl<'a> Cursor<'a> {
 
     /// Takes the options, if any are written.
     #[tactic(auto, unfolding(crate::specs::PacketReading::options_at))]
-    fn options(&mut self, alloc: Global, inbound: bool) -> Result<Options, Stop>
+    fn options(&mut self, alloc: Global, inbound: bool) -> Result<Options, ParseError>
         ensures { Leaves result self.new (options_at inbound self.old) }
     {
         if !self.is_symbol(b'<') {
@@ -203,7 +205,7 @@ impl<'a> Cursor<'a> {
     /// # Errors
     /// `Syntax` where no packet goes on, and the cursor is there; `OutOfMemory` where a growth is refused.
     #[tactic(auto, unfolding(crate::specs::PacketReading::packet_at))]
-    pub fn packet(&mut self, alloc: Global, inbound: bool) -> Result<Packet, Stop>
+    pub fn packet(&mut self, alloc: Global, inbound: bool) -> Result<Packet, ParseError>
         ensures { Leaves result self.new (packet_at inbound self.old) }
     {
         let flags = self.flags()?;

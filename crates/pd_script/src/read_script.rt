@@ -8,11 +8,11 @@ ghost use Rattle.pd_script.specs.Range.{HasLines};
 ghost use Rattle.pd_script.specs.Script.{found_in, script_of};
 
 use crate::cursor::Cursor;
-use crate::deciding::NextPlace;
-use crate::heading::read_header;
-use crate::parsing::{Found, Parsed};
+use crate::event_reader::NextEventStatus;
+use crate::header_reader::read_header;
+use crate::parsed::{EventsAndFault, Parsed};
 use crate::script_events::{Event, Events};
-use pd_lex::{first_lines, longest_pieces};
+use pd_lex::{law_first_lines, law_longest_pieces};
 use pd_text::Lines;
 use std::alloc::{AllocError, Global};
 
@@ -22,34 +22,34 @@ pub const MAX_EVENTS: usize = 4_096;
 impl<'a> Cursor<'a> {
     /// Takes all events. After the last that a script may have, another one is the fault, and what
     /// it follows isn't kept.
-    fn events(&mut self, alloc: Global) -> Result<Found, AllocError>
+    fn events(&mut self, alloc: Global) -> Result<EventsAndFault, AllocError>
         ensures { IfOk result (λ found. found ≡ found_in 4096 self.old) }
     {
         let mut events = Events::new(alloc);
         'events: for i in 0..MAX_EVENTS {
-            let mut event = Event::blank();
+            let mut event = Event::placeholder();
             match self.read_event(alloc, &mut event)? {
-                NextPlace::After(_, reach) => {
-                    if i + 1 == MAX_EVENTS && reach.is_some() {
-                        return Ok(Found {
+                NextEventStatus::After(_, lookahead_line) => {
+                    if i + 1 == MAX_EVENTS && lookahead_line.is_some() {
+                        return Ok(EventsAndFault {
                             events,
-                            fault: reach,
+                            fault: lookahead_line,
                         });
                     }
                     events.push(event)?;
                 }
-                NextPlace::End => return Ok(Found {
+                NextEventStatus::End => return Ok(EventsAndFault {
                     events,
                     fault: None,
                 }),
-                NextPlace::Fault(line) => {
+                NextEventStatus::Fault(line) => {
                     let fault = Some(line);
-                    return Ok(Found { events, fault });
+                    return Ok(EventsAndFault { events, fault });
                 }
             }
         }
-        let fault = self.reach();
-        Ok(Found { events, fault })
+        let fault = self.lookahead_line();
+        Ok(EventsAndFault { events, fault })
     }
 }
 
@@ -73,10 +73,10 @@ pub fn parse(alloc: Global, lines: &Lines) -> Result<Parsed, AllocError>
     ensures end { IfOk result (λ parsed. HasEnd (items lines.now first_place) parsed.header) }
 {
     // The laws of tokens do no work: what is said of the items and their lines rests on them.
-    longest_pieces();
-    first_lines();
+    law_longest_pieces();
+    law_first_lines();
     let parsed = read(alloc, lines)?;
-    lines.facts();
+    lines.law_invariant();
     Ok(parsed)
 }
 
@@ -85,7 +85,7 @@ fn read(alloc: Global, lines: &Lines) -> Result<Parsed, AllocError>
     ensures { IfOk result (λ parsed. parsed ≡ script_of lines.now) }
 {
     let header = read_header(alloc, lines)?;
-    let Found { events, fault } = Cursor::at(lines, header.end()).events(alloc)?;
+    let EventsAndFault { events, fault } = Cursor::at(lines, header.end()).events(alloc)?;
     Ok(Parsed {
         header,
         events,

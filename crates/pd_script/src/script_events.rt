@@ -3,7 +3,7 @@ ghost use Rattle.std.specs.Prelude.{◌≡◌, [], ◌∷◌, ◌++◌, length, 
 
 use crate::calls::Call;
 use crate::packets::Packet;
-use crate::timing::{Time, Until};
+use crate::timing::{BlockingEnd, Time};
 use std::alloc::{AllocError, Global};
 use std::marker::Model;
 
@@ -15,7 +15,7 @@ pub struct Event {
     /// When it happens.
     pub time: Time,
     /// The end of a blocking call, if one is written.
-    pub until: Option<Until>,
+    pub blocking_end: Option<BlockingEnd>,
     /// What happens.
     pub action: Action,
 }
@@ -44,11 +44,11 @@ pub struct Events {
 
 impl Event {
     /// An event in whose place others are read.
-    pub fn blank() -> Event {
+    pub fn placeholder() -> Event {
         Event {
             line: 0,
             time: Time::Any,
-            until: None,
+            blocking_end: None,
             action: Action::Command,
         }
     }
@@ -63,7 +63,7 @@ impl Event {
         Ok(Event {
             line: self.line,
             time: self.time,
-            until: self.until,
+            blocking_end: self.blocking_end,
             action: self.action.copy()?,
         })
     }

@@ -37,9 +37,9 @@ pub struct Header {
 }
 
 impl Model for Header {
-    ghost use Rattle.pd_script.specs.Header.{Heading};
+    ghost use Rattle.pd_script.specs.Header.{HeaderView};
 
-    ghost Value = { Heading };
+    ghost Value = { HeaderView };
 
     ghost view = { λ h. record { items = h.items.items; end = h.end } };
 }

@@ -17,7 +17,7 @@ pub enum Time {
 
 /// When a blocking call comes back, in microseconds, as written after `...`.
 #[derive(Clone, Copy)]
-pub enum Until {
+pub enum BlockingEnd {
     /// Since the start of the run.
     Absolute(u64),
     /// `+`: since the event before.

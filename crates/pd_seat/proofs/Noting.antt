@@ -5,9 +5,9 @@ use Rattle.std.proofs.lemmas.List.{length-reverse}
 use Rattle.pd_book.specs.declared.act.Act.{Act}
 use Rattle.pd_book.specs.Acts.{jobs, job, without}
 use Rattle.pd_book.specs.Legal.{Legal}
-use Rattle.pd_book.specs.Story.{Story, BookView, told}
+use Rattle.pd_book.specs.History.{History, BookView, after_act}
 use Rattle.pd_seat.specs.Seats.{unended}
-use Rattle.pd_seat.specs.Kept.{IsNoted, IsSeat}
+use Rattle.pd_seat.specs.SeatInvariants.{IsNoted, IsSeat}
 use Rattle.pd_seat.proofs.Jobs.{fewer_tasks}
 
 -- a list that is one longer from its end
@@ -16,28 +16,28 @@ one_longer new old x e = omega (arith, ap length e, length-reverse new, length-r
 
 -- after an act that starts and ends no job
 pub more_noted : (book book' : BookView) (notes notes' : List ℕ) (cap cap' : ℕ) (act : Act) (n : ℕ)
-    → IsNoted book notes cap → book'.story ≡ told book.story act → Legal book'.story.opening book'.story.past
-    → jobs book.story.opening (act ∷ book.story.past) ≡ jobs book.story.opening book.story.past
-    → reverse notes' ≡ n ∷ reverse notes → length notes + 1 + length (jobs book.story.opening book.story.past) ≤ cap' → IsNoted book' notes' cap'
+    → IsNoted book notes cap → book'.history ≡ after_act book.history act → Legal book'.history.opening book'.history.past
+    → jobs book.history.opening (act ∷ book.history.past) ≡ jobs book.history.opening book.history.past
+    → reverse notes' ≡ n ∷ reverse notes → length notes + 1 + length (jobs book.history.opening book.history.past) ≤ cap' → IsNoted book' notes' cap'
 more_noted book book' notes notes' cap cap' act n k now legal same more room =
     let longer = one_longer notes' notes n more in record {
       legal = legal;
-      noted = omega (arith, longer, k.noted, ap (λ (s : Story). length s.past) now);
-      room = omega (arith, longer, room, ap length same, ap (λ (s : Story). length (jobs s.opening s.past)) now);
+      noted = omega (arith, longer, k.noted, ap (λ (s : History). length s.past) now);
+      room = omega (arith, longer, room, ap length same, ap (λ (s : History). length (jobs s.opening s.past)) now);
     }
 
 -- after the end of an outstanding job
 pub ended_noted : (book book' : BookView) (notes notes' : List ℕ) (cap cap' : ℕ) (act : Act) (n j : ℕ)
-    → IsNoted book notes cap → book'.story ≡ told book.story act → Legal book'.story.opening book'.story.past
-    → IsSome (job book.story.opening book.story.past j)
-    → jobs book.story.opening (act ∷ book.story.past) ≡ without j (jobs book.story.opening book.story.past)
+    → IsNoted book notes cap → book'.history ≡ after_act book.history act → Legal book'.history.opening book'.history.past
+    → IsSome (job book.history.opening book.history.past j)
+    → jobs book.history.opening (act ∷ book.history.past) ≡ without j (jobs book.history.opening book.history.past)
     → reverse notes' ≡ n ∷ reverse notes → cap' ≡ cap → IsNoted book' notes' cap'
 ended_noted book book' notes notes' cap cap' act n j k now legal found less more same =
     let longer = one_longer notes' notes n more in
-    let fewer = fewer_tasks j (jobs book.story.opening book.story.past) found in record {
+    let fewer = fewer_tasks j (jobs book.history.opening book.history.past) found in record {
       legal = legal;
-      noted = omega (arith, longer, k.noted, ap (λ (s : Story). length s.past) now);
-      room = omega (arith, longer, k.room, fewer, same, ap length less, ap (λ (s : Story). length (jobs s.opening s.past)) now);
+      noted = omega (arith, longer, k.noted, ap (λ (s : History). length s.past) now);
+      room = omega (arith, longer, k.room, fewer, same, ap length less, ap (λ (s : History). length (jobs s.opening s.past)) now);
     }
 
 -- a seat after an act that starts and ends no job

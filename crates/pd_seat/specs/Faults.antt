@@ -2,8 +2,8 @@
 use Rattle.std.specs.Prelude.{ℕ, List, codes}
 use Rattle.pd_seat.specs.declared.faults.ShowFault.{ShowFault}
 use Rattle.pd_seat.specs.declared.faults.ShowFault.TheVariants.{Differs, OutOfMemory}
-use Rattle.pd_seat.specs.declared.closing.CloseFault.{CloseFault}
-use Rattle.pd_seat.specs.declared.closing.CloseFault.TheVariants as closing
+use Rattle.pd_seat.specs.declared.close.CloseFault.{CloseFault}
+use Rattle.pd_seat.specs.declared.close.CloseFault.TheVariants as closing
 
 -- the number and the name of a fault
 abbrev pub show_fault_text : ShowFault → List ℕ

@@ -14,8 +14,8 @@
 //! ```
 //!
 //! Each act of the book has one note, and there is room for a note of the end of each outstanding
-//! job: `IsNoted` (specs/Kept.antt). A seat has room for the ends of its own jobs: `IsSeat`.
-//! `Records` (specs/Seats.antt) says what an accepted call leaves, and `Agrees` when a report is
+//! job: `IsNoted` (specs/SeatInvariants.antt). A seat has room for the ends of its own jobs: `IsSeat`.
+//! `RecordsAct` (specs/Seats.antt) says what an accepted call leaves, and `Agrees` when a report is
 //! shown.
 //!
 //! Why it is so:
@@ -29,15 +29,15 @@
 //! - History and seat share the name, the text and the edit of an act, so that each is held once.
 #![tactic(auto)]
 
-mod closing;
-mod comparing;
+mod act_equality;
+mod close;
 mod faults;
-mod held;
-mod recording;
-mod same_act;
 mod seat;
+mod seat_lists;
+mod shared_book;
+mod verify;
 
-pub use closing::CloseFault;
+pub use close::CloseFault;
 pub use faults::ShowFault;
-pub use held::Held;
 pub use seat::Seat;
+pub use shared_book::Held;

@@ -17,17 +17,17 @@ pub struct Seat {
     /// The numbers of the jobs that its acts start and don't end.
     pub(crate) open_jobs: Vec<u64>,
     /// How many acts the longest history had of which it was shown a report.
-    pub(crate) longest: usize,
+    pub(crate) longest_shown: usize,
 }
 
 impl Model for Seat {
     ghost use Rattle.std.specs.Prelude.{reverse, vec_capacity};
     ghost use Rattle.pd_seat.specs.Seats.{SeatView};
-    ghost use Rattle.pd_seat.specs.Kept.{IsSeat};
+    ghost use Rattle.pd_seat.specs.SeatInvariants.{IsSeat};
 
     ghost Value = { SeatView };
 
-    ghost view = { λ s. record { number = s.number; own = reverse s.own.items; longest = s.longest } };
+    ghost view = { λ s. record { number = s.number; own = reverse s.own.items; longest_shown = s.longest_shown } };
 
     ghost invariant = { λ s. IsSeat s.own.items s.open_jobs.items (vec_capacity s.own) };
 }
@@ -41,7 +41,7 @@ impl Seat {
             number,
             own: Vec::new(alloc),
             open_jobs: Vec::new(alloc),
-            longest: 0,
+            longest_shown: 0,
         }
     }
 

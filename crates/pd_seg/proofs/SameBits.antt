@@ -1,7 +1,7 @@
 -- Control bits are equal one by one exactly where they are equal.
 use Rattle.std.proofs.Common.{◌≡◌, Bool, true, false, ◌&&◌, subst, refl}
 use mathlib.Core.Bool.{beq}
-use Rattle.pd_seg.specs.declared.control_bits.Flags.{Flags}
+use Rattle.pd_seg.specs.declared.flags.Flags.{Flags}
 
 -- the bits one by one
 abbrev pub same_bits : Flags → Flags → Bool

@@ -1,7 +1,7 @@
 //! TCP segments as the sender takes them and puts them out, and what its calls answer.
 //!
 //! A `Segment` has control bits (`Flags`), the numbers of its data, an ack number, the window field
-//! as it stands there, and its options (`SegOptions`), with the blocks of SACK (`SackBlocks`) among
+//! as it stands there, and its options (`SegOptions`), with the blocks of SACK (`SackSpans`) among
 //! them. A `Sent` is a segment with the time at which it was put out. An `Answer` is what a call
 //! answers.
 //!
@@ -18,14 +18,14 @@
 //!   write that any options will do; a segment has all of it. `pd_match` compares the two.
 #![tactic(auto)]
 
-mod answers;
-mod control_bits;
+mod call_results;
+mod flags;
 mod option_list;
-mod sack_blocks;
+mod sack_spans;
 mod segments;
 
-pub use answers::{Answer, Errno};
-pub use control_bits::Flags;
+pub use call_results::{Answer, Errno};
+pub use flags::Flags;
 pub use option_list::{SegOption, SegOptions};
-pub use sack_blocks::{SackBlocks, Span};
+pub use sack_spans::{SackSpans, Span};
 pub use segments::{Segment, Sent};

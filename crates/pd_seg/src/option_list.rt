@@ -1,7 +1,7 @@
 //! The TCP options of a segment.
 ghost use Rattle.std.specs.Prelude.{◌≡◌, ◌↔◌, [], ◌∷◌, ◌++◌, length, IsTrue, IfOk, OnOk, OnErr};
 
-use crate::sack_blocks::SackBlocks;
+use crate::sack_spans::SackSpans;
 use std::alloc::{AllocError, Global};
 use std::marker::Model;
 
@@ -21,7 +21,7 @@ pub enum SegOption {
     /// TSval and TSecr (RFC 7323, section 3).
     Timestamp(u32, u32),
     /// SACK (RFC 2018, section 3).
-    Sack(SackBlocks),
+    Sack(SackSpans),
 }
 
 impl SegOption {

@@ -1,7 +1,7 @@
 //! TCP segments.
 ghost use Rattle.std.specs.Prelude.{◌≡◌, ◌-◌, ◌↔◌, IsTrue, IfOk};
 
-use crate::control_bits::Flags;
+use crate::flags::Flags;
 use crate::option_list::SegOptions;
 use std::alloc::AllocError;
 

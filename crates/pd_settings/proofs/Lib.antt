@@ -2,7 +2,7 @@
 pub mod Changes
 pub mod Names
 pub mod Overlays
-pub mod Taken
+pub mod Allowed
 pub mod ByName
 pub mod Agreements
 pub mod SameValues

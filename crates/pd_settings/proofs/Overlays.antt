@@ -7,10 +7,10 @@ use Rattle.std.proofs.lemmas.Slice.Eq.{bytes_eq-Decides}
 use Rattle.toml.specs.Data.{Data, Members, no_members, member}
 use Rattle.pd_settings.specs.declared.faults.SettingsFault.{SettingsFault}
 use Rattle.pd_settings.specs.declared.faults.SettingsFault.TheVariants.{BadValue}
-use Rattle.pd_settings.specs.declared.fields.Settings.{Settings}
+use Rattle.pd_settings.specs.declared.settings.Settings.{Settings}
 use Rattle.pd_settings.specs.declared.keys.Key.{Key}
 use Rattle.pd_settings.specs.declared.values.Value.{Value}
-use Rattle.pd_settings.specs.Keys.{Takes, domain_of, key_named, name_of}
+use Rattle.pd_settings.specs.Keys.{Allows, allowed_values_of, key_named, name_of}
 use Rattle.pd_settings.specs.Settings.{ChangesOnly, changed, replaced, value_at}
 use Rattle.pd_settings.specs.Table.{value_of, unless_refused, overlaid, written, IsOverlay, AreAccepted, IsFirstFault}
 use Rattle.pd_settings.proofs.Changes.{replaced_accepted, replaced_changes}
@@ -42,27 +42,27 @@ after_entry s t name v k named changes rest u overlay key =
 
 -- the first entry is accepted, and the others answer
 accepted_first : (s t : Settings) (name : List ℕ) (entry : Data) (rest : Members) (k : Key) → key_named name ≡ Some k
-    → Takes (domain_of k) (value_of entry) → ChangesOnly s k (value_of entry) t → (r : Result Settings SettingsFault) → Says t rest r
+    → Allows (allowed_values_of k) (value_of entry) → ChangesOnly s k (value_of entry) t → (r : Result Settings SettingsFault) → Says t rest r
     → Says s (member name entry rest) r
 accepted_first s t name entry rest k named takes changes (Ok u) says = (
-  (subst (λ (o : Option Key). IsSomeAnd o (λ key. Takes (domain_of key) (value_of entry))) (sym named) takes, says.0),
+  (subst (λ (o : Option Key). IsSomeAnd o (λ key. Allows (allowed_values_of key) (value_of entry))) (sym named) takes, says.0),
   after_entry s t name (value_of entry) k named changes rest u says.1,
 )
 accepted_first s t name entry rest k named takes changes (Err fault) first =
-    inr (subst (λ (o : Option Key). IsSomeAnd o (λ key. Takes (domain_of key) (value_of entry))) (sym named) takes, first)
+    inr (subst (λ (o : Option Key). IsSomeAnd o (λ key. Allows (allowed_values_of key) (value_of entry))) (sym named) takes, first)
 
 pub overlaid_answers : (s : Settings) (entries : Members) → Says s entries (overlaid s entries)
 overlaid_answers s no_members = (tt, λ key. refl)
 overlaid_answers s (member name entry rest) = go (key_named name) refl (λ t. overlaid_answers t rest)
   where
-    by_key : (k : Key) → key_named name ≡ Some k → (o : Option Settings) → (IsSome o → Takes (domain_of k) (value_of entry))
-        → (Takes (domain_of k) (value_of entry) → IsSome o) → IfSome o (ChangesOnly s k (value_of entry))
+    by_key : (k : Key) → key_named name ≡ Some k → (o : Option Settings) → (IsSome o → Allows (allowed_values_of k) (value_of entry))
+        → (Allows (allowed_values_of k) (value_of entry) → IsSome o) → IfSome o (ChangesOnly s k (value_of entry))
         → ((t : Settings) → Says t rest (overlaid t rest))
         → Says s (member name entry rest) (unless_refused (ok_or o BadValue) (λ t. overlaid t rest))
     by_key k named (Some t) takes needs changes later =
         accepted_first s t name entry rest k named (takes refl) changes (overlaid t rest) (later t)
     by_key k named None takes needs changes later =
-        inl (subst (λ (o : Option Key). IsSomeAnd o (λ key. ¬ Takes (domain_of key) (value_of entry))) (sym named) (λ h. let e = needs h in absurd cc))
+        inl (subst (λ (o : Option Key). IsSomeAnd o (λ key. ¬ Allows (allowed_values_of key) (value_of entry))) (sym named) (λ h. let e = needs h in absurd cc))
 
     go : (o : Option Key) → key_named name ≡ o → ((t : Settings) → Says t rest (overlaid t rest))
         → Says s (member name entry rest) (unless_refused (changed s o (value_of entry)) (λ t. overlaid t rest))

@@ -4,11 +4,11 @@ use native.Mathlib.Decide.{dec_le}
 use mathlib.Core.Logic.{dite}
 use mathlib.Core.Logic.Dec.{and as both}
 use Rattle.std.specs.Str.{bytes_eq}
-use Rattle.pd_settings.specs.declared.domains.Domain.{Domain}
-use Rattle.pd_settings.specs.declared.domains.Domain.TheVariants.{Numbers, Truths, Windows, Rates}
+use Rattle.pd_settings.specs.declared.allowed_values.AllowedValues.{AllowedValues}
+use Rattle.pd_settings.specs.declared.allowed_values.AllowedValues.TheVariants.{Numbers, Booleans, WindowRules, Algorithms}
 use Rattle.pd_settings.specs.declared.keys.Key.{Key}
 use Rattle.pd_settings.specs.declared.values.Value.{Value}
-use Rattle.pd_settings.specs.declared.values.Value.TheVariants.{Number, Truth, Word, Rate}
+use Rattle.pd_settings.specs.declared.values.Value.TheVariants.{Number, Boolean, WindowRule, Algorithm}
 use Rattle.pd_settings.specs.Rows.{all_keys, row_of}
 
 -- the name that a setting is written by
@@ -21,32 +21,32 @@ key_named name = find (λ key. bytes_eq (name_of key) name) all_keys
 
 -- what each setting takes: the whole numbers of a range, both ends included, the truth values, the rules for the initial
 -- window, or those for the rate of loss recovery
-abbrev pub domain_of : Key → Domain
-domain_of key = (row_of key).takes
+abbrev pub allowed_values_of : Key → AllowedValues
+allowed_values_of key = (row_of key).allowed
 
 -- what a setting is where nobody sets it
 abbrev pub default_of : Key → Value
-default_of key = (row_of key).unset
+default_of key = (row_of key).default_value
 
 -- the value is one of the domain's
-abbrev pub Takes : Domain → Value → Type 0
-Takes (Numbers least greatest) (Number n) = (least ≤ n) × (n ≤ greatest)
-Takes Truths (Truth _) = Unit {0}
-Takes Windows (Word _) = Unit {0}
-Takes Rates (Rate _) = Unit {0}
-Takes _ _ = ⊥
+abbrev pub Allows : AllowedValues → Value → Type 0
+Allows (Numbers least greatest) (Number n) = (least ≤ n) × (n ≤ greatest)
+Allows Booleans (Boolean _) = Unit {0}
+Allows WindowRules (WindowRule _) = Unit {0}
+Allows Algorithms (Algorithm _) = Unit {0}
+Allows _ _ = ⊥
 
 -- whether it is one is decided by its kind, and of a number by the two ends
-abbrev pub decided : (d : Domain) (v : Value) → Dec (Takes d v)
-decided (Numbers least greatest) (Number n) = both (dec_le least n) (dec_le n greatest)
-decided (Numbers least greatest) _ = no (λ impossible. impossible)
-decided Truths (Truth _) = yes tt
-decided Truths _ = no (λ impossible. impossible)
-decided Windows (Word _) = yes tt
-decided Windows _ = no (λ impossible. impossible)
-decided Rates (Rate _) = yes tt
-decided Rates _ = no (λ impossible. impossible)
+abbrev pub decide_allowed : (d : AllowedValues) (v : Value) → Dec (Allows d v)
+decide_allowed (Numbers least greatest) (Number n) = both (dec_le least n) (dec_le n greatest)
+decide_allowed (Numbers least greatest) _ = no (λ impossible. impossible)
+decide_allowed Booleans (Boolean _) = yes tt
+decide_allowed Booleans _ = no (λ impossible. impossible)
+decide_allowed WindowRules (WindowRule _) = yes tt
+decide_allowed WindowRules _ = no (λ impossible. impossible)
+decide_allowed Algorithms (Algorithm _) = yes tt
+decide_allowed Algorithms _ = no (λ impossible. impossible)
 
 -- what is made of a value that the domain takes; None for any other
-abbrev pub value_taken : {A : Type 0} (d : Domain) (v : Value) → (Takes d v → A) → Option A
-value_taken d v made = dite (decided d v) (λ h. Some (made h)) (λ _. None)
+abbrev pub made_if_allowed : {A : Type 0} (d : AllowedValues) (v : Value) → (Allows d v → A) → Option A
+made_if_allowed d v made = dite (decide_allowed d v) (λ h. Some (made h)) (λ _. None)

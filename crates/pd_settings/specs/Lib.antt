@@ -6,4 +6,4 @@ pub mod Keys
 pub mod Settings
 pub mod Change
 pub mod Table
-pub mod Uses
+pub mod SettingSets

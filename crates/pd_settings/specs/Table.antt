@@ -4,10 +4,10 @@ use Rattle.std.specs.Option.{option_or}
 use Rattle.std.specs.Str.{bytes_eq}
 use Rattle.toml.specs.Data.{Data, string, integer, boolean, Members, no_members, member}
 use Rattle.pd_settings.specs.declared.faults.SettingsFault.{SettingsFault}
-use Rattle.pd_settings.specs.declared.fields.Settings.{Settings}
+use Rattle.pd_settings.specs.declared.settings.Settings.{Settings}
 use Rattle.pd_settings.specs.declared.keys.Key.{Key}
 use Rattle.pd_settings.specs.declared.values.Value.{Value}
-use Rattle.pd_settings.specs.declared.values.Value.TheVariants.{Number, Truth, Other}
+use Rattle.pd_settings.specs.declared.values.Value.TheVariants.{Number, Boolean, Other}
 use Rattle.pd_settings.specs.Words.{word_value}
 use Rattle.pd_settings.specs.Keys.{name_of}
 use Rattle.pd_settings.specs.Change.{IsAccepted, IsRefused}
@@ -17,7 +17,7 @@ use Rattle.pd_settings.specs.Settings.{defaults, value_at, with_value}
 -- else is none of these
 abbrev pub value_of : Data → Value
 value_of (integer (pos n)) = Number n
-value_of (boolean b) = Truth b
+value_of (boolean b) = Boolean b
 value_of (string word) = word_value word
 value_of _ = Other
 

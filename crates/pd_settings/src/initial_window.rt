@@ -1,6 +1,6 @@
 //! How large the initial congestion window is.
 ghost use Rattle.std.specs.Prelude.{◌≡◌};
-ghost use Rattle.pd_settings.specs.Words.{window_named, word_for};
+ghost use Rattle.pd_settings.specs.Words.{window_named, window_word};
 
 /// The rule that the initial congestion window follows.
 #[derive(Clone, Copy, PartialEq, Eq)]
@@ -27,7 +27,7 @@ impl InitialWindow {
 
     /// The word that it is written by.
     pub fn word(&self) -> &'static [u8]
-        ensures { result.now ≡ word_for self.now }
+        ensures { result.now ≡ window_word self.now }
     {
         match self {
             InitialWindow::Rfc5681 => b"rfc5681",

@@ -1,8 +1,8 @@
 //! The settings by name.
 ghost use Rattle.std.specs.Prelude.{◌≡◌};
-ghost use Rattle.pd_settings.specs.Keys.{key_named, name_of, domain_of};
+ghost use Rattle.pd_settings.specs.Keys.{key_named, name_of, allowed_values_of};
 
-use crate::domains::Domain;
+use crate::allowed_values::AllowedValues;
 
 /// One of the settings.
 #[derive(Clone, Copy, PartialEq, Eq)]
@@ -78,26 +78,26 @@ impl Key {
     }
 
     /// The values that the setting takes.
-    pub fn domain(&self) -> Domain
-        ensures { result ≡ domain_of self.now }
+    pub fn allowed_values(&self) -> AllowedValues
+        ensures { result ≡ allowed_values_of self.now }
     {
         match self {
-            Key::Mss => Domain::Numbers(64, 65_495),
-            Key::Sack => Domain::Truths,
-            Key::Wscale => Domain::Numbers(0, 14),
-            Key::Sndbuf => Domain::Numbers(1_024, 1_048_576),
-            Key::RcvWnd => Domain::Numbers(1, 1_073_725_440),
-            Key::InitialSsthresh => Domain::Numbers(128, 1_073_741_824),
-            Key::InitialWindow => Domain::Windows,
-            Key::MinRtoUs => Domain::Numbers(1_000, 60_000_000),
-            Key::MaxRtoUs => Domain::Numbers(60_000_000, 3_600_000_000),
-            Key::GranularityUs => Domain::Numbers(1, 1_000_000),
-            Key::Nagle => Domain::Truths,
-            Key::LimitedTransmit => Domain::Truths,
-            Key::AbcLimit => Domain::Numbers(1, 8),
-            Key::SlowStartAfterIdle => Domain::Truths,
-            Key::RecoveryAlgorithm => Domain::Rates,
-            Key::ToleranceUs => Domain::Numbers(0, 1_000_000),
+            Key::Mss => AllowedValues::Numbers(64, 65_495),
+            Key::Sack => AllowedValues::Booleans,
+            Key::Wscale => AllowedValues::Numbers(0, 14),
+            Key::Sndbuf => AllowedValues::Numbers(1_024, 1_048_576),
+            Key::RcvWnd => AllowedValues::Numbers(1, 1_073_725_440),
+            Key::InitialSsthresh => AllowedValues::Numbers(128, 1_073_741_824),
+            Key::InitialWindow => AllowedValues::WindowRules,
+            Key::MinRtoUs => AllowedValues::Numbers(1_000, 60_000_000),
+            Key::MaxRtoUs => AllowedValues::Numbers(60_000_000, 3_600_000_000),
+            Key::GranularityUs => AllowedValues::Numbers(1, 1_000_000),
+            Key::Nagle => AllowedValues::Booleans,
+            Key::LimitedTransmit => AllowedValues::Booleans,
+            Key::AbcLimit => AllowedValues::Numbers(1, 8),
+            Key::SlowStartAfterIdle => AllowedValues::Booleans,
+            Key::RecoveryAlgorithm => AllowedValues::Algorithms,
+            Key::ToleranceUs => AllowedValues::Numbers(0, 1_000_000),
         }
     }
 }

@@ -1,6 +1,6 @@
 //! By which algorithm loss recovery with SACK sends.
 ghost use Rattle.std.specs.Prelude.{◌≡◌};
-ghost use Rattle.pd_settings.specs.Words.{rate_named, rate_word};
+ghost use Rattle.pd_settings.specs.Words.{algorithm_named, algorithm_word};
 
 /// The algorithm by which loss recovery with SACK sends.
 #[derive(Clone, Copy, PartialEq, Eq)]
@@ -17,17 +17,17 @@ impl RecoveryAlgorithm {
 
     /// The one of a word; None where the word is no algorithm's.
     pub fn named(word: &[u8]) -> Option<RecoveryAlgorithm>
-        ensures { result ≡ rate_named word.now }
+        ensures { result ≡ algorithm_named word.now }
     {
         RecoveryAlgorithm::ALL
             .iter()
             .copied()
-            .find(|rate| rate.word() == word)
+            .find(|algorithm| algorithm.word() == word)
     }
 
     /// The word that it is written by.
     pub fn word(&self) -> &'static [u8]
-        ensures { result.now ≡ rate_word self.now }
+        ensures { result.now ≡ algorithm_word self.now }
     {
         match self {
             RecoveryAlgorithm::Rfc6675 => b"rfc6675",

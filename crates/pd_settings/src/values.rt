@@ -1,7 +1,7 @@
 //! What a setting can be set to.
 ghost use Rattle.std.specs.Prelude.{◌≡◌};
 ghost use Rattle.pd_settings.specs.Table.{value_of};
-ghost use Rattle.pd_settings.specs.Words.{rate_value, word_value};
+ghost use Rattle.pd_settings.specs.Words.{algorithm_word_value, word_value};
 ghost use Rattle.toml.specs.View.{view};
 
 use crate::initial_window::InitialWindow;
@@ -13,11 +13,11 @@ pub enum Value {
     /// A whole number.
     Number(u64),
     /// `true` or `false`.
-    Truth(bool),
+    Boolean(bool),
     /// The word of a rule for the initial window.
-    Word(InitialWindow),
+    WindowRule(InitialWindow),
     /// The word of a rule for the rate of loss recovery.
-    Rate(RecoveryAlgorithm),
+    Algorithm(RecoveryAlgorithm),
     /// Anything else, which each setting refuses.
     Other,
 }
@@ -28,17 +28,17 @@ impl Value {
         ensures { result ≡ word_value word.now }
     {
         match InitialWindow::named(word) {
-            Some(window) => Value::Word(window),
-            None => Value::from_rate(word),
+            Some(window) => Value::WindowRule(window),
+            None => Value::from_algorithm_word(word),
         }
     }
 
     /// What a word that names no rule for the initial window says.
-    fn from_rate(word: &[u8]) -> Value
-        ensures { result ≡ rate_value word.now }
+    fn from_algorithm_word(word: &[u8]) -> Value
+        ensures { result ≡ algorithm_word_value word.now }
     {
         match RecoveryAlgorithm::named(word) {
-            Some(rate) => Value::Rate(rate),
+            Some(algorithm) => Value::Algorithm(algorithm),
             None => Value::Other,
         }
     }
@@ -52,7 +52,7 @@ impl Value {
                 Ok(number) => Value::Number(number),
                 Err(_) => Value::Other,
             },
-            toml::Value::Boolean(truth) => Value::Truth(*truth),
+            toml::Value::Boolean(truth) => Value::Boolean(*truth),
             toml::Value::String(word) => Value::from_word(word.as_bytes()),
             _ => Value::Other,
         }

@@ -7,7 +7,7 @@ use Rattle.std.proofs.lemmas.List.Folds.{list_all-append}
 use Rattle.std.proofs.lemmas.List.Sums.{sum_by-append, sum_by-cons}
 use Rattle.std.proofs.lemmas.Bool.Decides.{nat_tests}
 use Rattle.pd_text.specs.Text.{AreLines, is_line, octets_of}
-use Rattle.pd_text.specs.Packed.{octets_between, lines_from, are_ends, start_at}
+use Rattle.pd_text.specs.PackedLines.{octets_between, lines_from, are_ends, start_at}
 
 pub both : (a b : Bool) → (a && b) ≡ true → (a ≡ true) × (b ≡ true)
 both true true h = (refl, refl)
@@ -214,7 +214,7 @@ one_end octets line end e =
 
 -- a place in a row of octets, where these follow others
 abbrev pub moved : ℕ → ℕ → ℕ → ℕ
-moved from to place = to + (place - from)
+moved from to offset = to + (offset - from)
 
 pub moved_lines : (octets others : List ℕ) (s t a : ℕ) (ends : List ℕ) → s ≤ a → are_ends a t ends ≡ true → t ≤ length others
     → lines_from (moved s (length octets) a) (octets ++ octets_between others s t) (map (moved s (length octets)) ends) ≡ lines_from a others ends

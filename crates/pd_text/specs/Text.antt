@@ -12,8 +12,8 @@ abbrev pub AreLines : List (List ℕ) → Type 0
 AreLines lines = IsTrue (list_all is_line lines)
 
 -- how many of the first lines of two texts are equal
-abbrev pub front : List (List ℕ) → List (List ℕ) → ℕ
-front lines others = common_prefix_len bytes_eq lines others
+abbrev pub common_prefix : List (List ℕ) → List (List ℕ) → ℕ
+common_prefix lines others = common_prefix_len bytes_eq lines others
 
 -- the octets of a text, each line counted with one more for its end
 abbrev pub octets_of : List (List ℕ) → ℕ

@@ -9,7 +9,7 @@
 //! (specs/Edit.antt).
 //!
 //! Why it is so:
-//! - A list keeps all octets in one row, with the end of each line beside it (`Packed`), and has no
+//! - A list keeps all octets in one row, with the end of each line beside it (`PackedLines`), and has no
 //!   list for each line. It takes two pieces of memory, however many lines it has, and long
 //!   stretches of two texts are compared at once. `same_front` relies on that: it compares a script
 //!   that was edited with the text before.
@@ -24,19 +24,19 @@
 #![tactic(auto)]
 
 mod faults;
+mod invariants;
+mod limits;
 mod line_edit;
-mod line_facts;
 mod line_list;
-mod packed;
-mod room;
-mod script_lines;
-mod script_name;
-mod shared_text;
+mod lines;
+mod name;
+mod packed_lines;
+mod text;
 
 pub use faults::TextFault;
+pub use limits::{MAX_LINES, MAX_OCTETS};
 pub use line_edit::LineEdit;
 pub use line_list::LineList;
-pub use room::{MAX_LINES, MAX_OCTETS};
-pub use script_lines::Lines;
-pub use script_name::Name;
-pub use shared_text::Text;
+pub use lines::Lines;
+pub use name::Name;
+pub use text::Text;

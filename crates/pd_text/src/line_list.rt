@@ -1,10 +1,10 @@
 //! Lists of lines, of any length.
 ghost use Rattle.std.specs.Prelude.{◌≡◌, ◌+◌, ◌-◌, ◌^◌, ◌≤◌, ◌<◌, ◌++◌, ◌∷◌, ◌↔◌, [], Some, length, take, drop, option_copied, slice_get, IfOk, OnOk, OnErr, IsTrue};
-ghost use Rattle.pd_text.specs.Text.{front, is_line, octets_of, AreLines};
-ghost use Rattle.pd_text.specs.Packed.{lines_from, are_ends};
+ghost use Rattle.pd_text.specs.Text.{common_prefix, is_line, octets_of, AreLines};
+ghost use Rattle.pd_text.specs.PackedLines.{lines_from, are_ends};
 
-use crate::packed::{Packed, place, place_after, push_moved};
-use crate::room::MAX_LINES;
+use crate::limits::MAX_LINES;
+use crate::packed_lines::{PackedLines, offset, offset_after, push_shifted_ends};
 use std::alloc::{AllocError, Global};
 use std::marker::Model;
 
@@ -23,7 +23,7 @@ pub struct LineList {
 impl Model for LineList {
     ghost use Rattle.std.specs.Prelude.{List, ℕ, length, IsTrue};
     ghost use Rattle.pd_text.specs.Text.{AreLines};
-    ghost use Rattle.pd_text.specs.Packed.{lines_from, are_ends};
+    ghost use Rattle.pd_text.specs.PackedLines.{lines_from, are_ends};
 
     ghost Value = { List (List ℕ) };
 
@@ -54,7 +54,7 @@ impl LineList {
         ensures same { OnErr result (self.new ≡ self.old) }
     {
         self.ends.reserve(1)?;
-        let end = place_after(self.octets.len(), line.len())?;
+        let end = offset_after(self.octets.len(), line.len())?;
         self.octets.extend_from_slice(line)?;
         self.ends.push_reserved(end);
         Ok(())
@@ -62,13 +62,13 @@ impl LineList {
 
     /// Its lines as they stand.
     #[inline(always)]
-    fn packed(&self) -> Packed<'_>
+    fn packed_lines(&self) -> PackedLines<'_>
         ensures lines { lines_from 0 result.octets.now result.ends.now ≡ self.now }
         ensures ends { IsTrue (are_ends 0 (length result.octets.now) result.ends.now) }
         ensures count { length result.ends.now ≡ length self.now }
         ensures are_lines { AreLines self.now }
     {
-        Packed {
+        PackedLines {
             octets: self.octets.as_slice(),
             ends: self.ends.as_slice(),
         }
@@ -109,18 +109,19 @@ impl LineList {
         ensures line { slice_get self.now i ≡ Some result.now }
         ensures lines { AreLines self.now }
     {
-        self.packed().line(i)
+        self.packed_lines().line(i)
     }
 
     /// Whether both have the same lines.
     pub fn is_same(&self, other: &LineList) -> bool
         ensures { IsTrue result ↔ (self.now ≡ other.now) }
     {
-        self.stands_as(other) || (self.len() == other.len() && self.same_front(other) == self.len())
+        self.matches_in_place(other)
+            || (self.len() == other.len() && self.same_front(other) == self.len())
     }
 
     /// Whether both have the same octets at the same places.
-    fn stands_as(&self, other: &LineList) -> bool
+    fn matches_in_place(&self, other: &LineList) -> bool
         ensures { IsTrue result → self.now ≡ other.now }
     {
         self.octets == other.octets && self.ends == other.ends
@@ -128,10 +129,10 @@ impl LineList {
 
     /// How many of their first lines are equal; takes no memory.
     pub fn same_front(&self, other: &LineList) -> usize
-        ensures { result ≡ front self.now other.now }
+        ensures { result ≡ common_prefix self.now other.now }
     {
         let most = self.len().min(other.len());
-        'lines: for i in self.same_at_once(other, most)..most {
+        'lines: for i in self.common_prefix_at_once(other, most)..most {
             if self.at(i) != other.at(i) {
                 return i;
             }
@@ -141,31 +142,38 @@ impl LineList {
 
     /// So many of at most `most` first lines that are equal: all but the last of them, where these are the same octets at the
     /// same places, as after a change at the end of a text; else as many as halving finds.
-    fn same_at_once(&self, other: &LineList, most: usize) -> usize
+    fn common_prefix_at_once(&self, other: &LineList, most: usize) -> usize
         requires within { most ≤ length self.now }
         requires beside { most ≤ length other.now }
         ensures few { result ≤ most }
-        ensures same { result + front (drop result self.now) (drop result other.now) ≡ front self.now other.now }
+        ensures same { result + common_prefix (drop result self.now) (drop result other.now) ≡ common_prefix self.now other.now }
     {
         let before_last = most.saturating_sub(1);
-        if self.packed().stands_as(&other.packed(), 0, before_last) {
+        if self
+            .packed_lines()
+            .matches_in_place(&other.packed_lines(), 0, before_last)
+        {
             return before_last;
         }
-        self.same_by_halves(other, most)
+        self.common_prefix_by_halving(other, most)
     }
 
     /// So many of at most `most` first lines that are equal: many lines at once, then half as many, down to one, as long as they
     /// are the same octets at the same places.
-    fn same_by_halves(&self, other: &LineList, most: usize) -> usize
+    fn common_prefix_by_halving(&self, other: &LineList, most: usize) -> usize
         requires within { most ≤ length self.now }
         requires beside { most ≤ length other.now }
         ensures few { result ≤ most }
-        ensures same { result + front (drop result self.now) (drop result other.now) ≡ front self.now other.now }
+        ensures same { result + common_prefix (drop result self.now) (drop result other.now) ≡ common_prefix self.now other.now }
     {
         let mut same = 0;
         'halves: for halving in 0..=HALVINGS {
             let step = MAX_LINES >> halving;
-            if step <= most - same && self.packed().stands_as(&other.packed(), same, same + step) {
+            if step <= most - same
+                && self
+                    .packed_lines()
+                    .matches_in_place(&other.packed_lines(), same, same + step)
+            {
                 same += step;
             }
         }
@@ -177,7 +185,7 @@ impl LineList {
         requires { (from ≤ to) × (to ≤ length self.now) }
         ensures { result + (to - from) ≡ octets_of (take (to - from) (drop from self.now)) }
     {
-        let lines = self.packed();
+        let lines = self.packed_lines();
         lines.start(to) - lines.start(from)
     }
 
@@ -194,14 +202,14 @@ impl LineList {
         requires { (first ≤ end) × (end ≤ length list.now) }
         ensures { OnOk result (self.new ≡ self.old ++ take (end - first) (drop first list.now)) }
     {
-        let lines = list.packed();
+        let lines = list.packed_lines();
         let octets = lines.part(first, end);
-        let from = place(lines.start(first))?;
-        let at = place(self.octets.len())?;
-        let _last = place_after(self.octets.len(), octets.len())?;
+        let from = offset(lines.start(first))?;
+        let at = offset(self.octets.len())?;
+        let _last = offset_after(self.octets.len(), octets.len())?;
         self.ends.reserve(end - first)?;
         self.octets.extend_from_slice(octets)?;
-        push_moved(&mut self.ends, &lines.ends[first..end], from, at);
+        push_shifted_ends(&mut self.ends, &lines.ends[first..end], from, at);
         Ok(())
     }
 

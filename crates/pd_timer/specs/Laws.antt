@@ -1,28 +1,28 @@
 -- What holds of every timer that the rules reach.
 use Rattle.std.specs.Prelude.{◌≡◌, ℕ, ◌+◌, ◌≤◌, None, IsSomeAnd}
-use Rattle.pd_settings.specs.declared.fields.Settings.{Settings}
+use Rattle.pd_settings.specs.declared.settings.Settings.{Settings}
 use Rattle.pd_timer.specs.Rto.{RtoView, initial, sampled, started, restarted, stopped, expired_rto, reinitialized}
 
 -- a timer that goes by these settings, with its timeout within their bounds
-pub record GoesBy (settings : Settings) (t : RtoView) : Type 0 where
+pub record IsBoundedBy (settings : Settings) (t : RtoView) : Type 0 where
   pub least : t.min_rto_us ≡ settings.min_rto_us
   pub greatest : t.max_rto_us ≡ settings.max_rto_us
   pub not_below : settings.min_rto_us ≤ t.rto
   pub not_above : t.rto ≤ settings.max_rto_us
 
 -- a rule keeps the timer's timeout within the bounds of the settings
-abbrev pub KeepsWithin : (RtoView → RtoView) → Type 0
-KeepsWithin rule = (settings : Settings) (t : RtoView) → GoesBy settings t → GoesBy settings (rule t)
+abbrev pub KeepsBounds : (RtoView → RtoView) → Type 0
+KeepsBounds rule = (settings : Settings) (t : RtoView) → IsBoundedBy settings t → IsBoundedBy settings (rule t)
 
 -- the timeout lies within its bounds from the first on (RFC 6298, sections 2.4 and 2.5)
 pub record StaysWithin : Type 0 where
-  pub first : (settings : Settings) → GoesBy settings (initial settings.min_rto_us settings.max_rto_us)
-  pub measured : (r granularity : ℕ) → KeepsWithin (sampled r granularity)
-  pub start : (now : ℕ) → KeepsWithin (started now)
-  pub restart : (now : ℕ) → KeepsWithin (restarted now)
-  pub stop : KeepsWithin stopped
-  pub expiry : (now : ℕ) → KeepsWithin (expired_rto now)
-  pub establishment : KeepsWithin reinitialized
+  pub first : (settings : Settings) → IsBoundedBy settings (initial settings.min_rto_us settings.max_rto_us)
+  pub measured : (r granularity : ℕ) → KeepsBounds (sampled r granularity)
+  pub start : (now : ℕ) → KeepsBounds (started now)
+  pub restart : (now : ℕ) → KeepsBounds (restarted now)
+  pub stop : KeepsBounds stopped
+  pub expiry : (now : ℕ) → KeepsBounds (expired_rto now)
+  pub establishment : KeepsBounds reinitialized
 
 -- the timer runs, and expires at the moment or up to the greatest timeout after it
 abbrev pub RunsFrom : ℕ → RtoView → Type 0

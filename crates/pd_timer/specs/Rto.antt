@@ -73,14 +73,14 @@ abbrev pub timeout_of : ℕ → Estimate → ℕ
 timeout_of granularity e = e.srtt + max granularity (4 * e.rttvar)
 
 -- G, where it stands in the place of a smaller 4 RTTVAR (sections 2.2 and 2.3)
-abbrev pub granularity_in : ℕ → Estimate → Option ℕ
-granularity_in granularity e = if nat_lt (4 * e.rttvar) granularity then Some granularity else None
+abbrev pub replacing_granularity : ℕ → Estimate → Option ℕ
+replacing_granularity granularity e = if nat_lt (4 * e.rttvar) granularity then Some granularity else None
 
 -- how RTO comes from what was measured: before its bounds and within them (sections 2.2 to 2.5)
 abbrev pub timeout_by : ℕ → ℕ → ℕ → Estimate → Timeout
 timeout_by least greatest granularity e = record {
   estimate = e;
-  granularity_us = granularity_in granularity e;
+  granularity_us = replacing_granularity granularity e;
   computed_us = timeout_of granularity e;
   bounded_us = clamped least greatest (timeout_of granularity e);
 }

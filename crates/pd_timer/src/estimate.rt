@@ -1,6 +1,6 @@
 //! What was measured of the round trip.
 ghost use Rattle.std.specs.Prelude.{◌≡◌, ◌<◌, ◌^◌};
-ghost use Rattle.pd_timer.specs.Rto.{IsEstimate, first_estimate, next_estimate, timeout_of, granularity_in};
+ghost use Rattle.pd_timer.specs.Rto.{IsEstimate, first_estimate, next_estimate, timeout_of, replacing_granularity};
 
 /// SRTT and RTTVAR, the smoothed round-trip time and its variation, in microseconds (RFC 6298, section 2).
 #[derive(Clone, Copy)]
@@ -65,7 +65,7 @@ impl Estimate {
     /// The clock's granularity, in microseconds, where it stands in the place of a smaller 4 * RTTVAR.
     pub fn granularity(self, granularity_us: u64) -> Option<u64>
         requires { IsEstimate self }
-        ensures { result ≡ granularity_in granularity_us self }
+        ensures { result ≡ replacing_granularity granularity_us self }
     {
         if 4 * self.rttvar < granularity_us {
             Some(granularity_us)

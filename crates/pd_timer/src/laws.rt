@@ -2,7 +2,7 @@
 ghost use Rattle.pd_timer.specs.Laws.{StaysWithin, ExpiresInTime, BacksOff};
 
 /// What holds of the timer, whatever happens.
-pub fn timers_are_lawful()
+pub fn law_timers()
     ensures bounds { StaysWithin }
     ensures deadlines { ExpiresInTime }
     ensures expiries { BacksOff }

@@ -11,7 +11,7 @@ use std::marker::Model;
 const FIRST_TIMEOUT_US: u64 = 1_000_000;
 
 /// The timeout at establishment where the timer expired in the handshake, in microseconds (RFC 6298, section 5.7).
-const TIMEOUT_AFTER_HANDSHAKE_US: u64 = 3_000_000;
+const TIMEOUT_AFTER_HANDSHAKE_EXPIRY_US: u64 = 3_000_000;
 
 /// The retransmission timer of one connection. Moments are microseconds since the start of the run.
 ///
@@ -65,7 +65,7 @@ impl Rto {
         ensures value { result ≡ initial settings.now.min_rto_us settings.now.max_rto_us }
         ensures known { IsRtoView result }
     {
-        settings.facts();
+        settings.law_invariant();
         Rto {
             estimate: None,
             rto: clamp(
@@ -172,7 +172,7 @@ impl Rto {
         ensures { self.new ≡ reinitialized self.old }
     {
         self.rto = clamp(
-            u128::from(TIMEOUT_AFTER_HANDSHAKE_US),
+            u128::from(TIMEOUT_AFTER_HANDSHAKE_EXPIRY_US),
             self.min_rto_us,
             self.max_rto_us,
         );

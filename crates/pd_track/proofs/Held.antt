@@ -2,18 +2,18 @@
 use Rattle.std.proofs.Common.{◌≡◌, ℕ, zero, suc, ◌+◌, ◌*◌, refl, sym, ap, subst, ◌∙◌, ◌⊎◌, inl, inr, List, [], ◌∷◌, ◌++◌, map, take, slice_get, Option, None, Some, Result, Ok, Err}
 use Rattle.std.specs.List.{AllByRecursion}
 use Rattle.pd_settings.specs.Settings.{value_at}
-use Rattle.pd_settings.specs.Uses.{Agree, Includes}
-use Rattle.pd_settings.specs.declared.fields.Settings.{Settings}
-use Rattle.pd_settings.specs.declared.use_set.UseSet.{UseSet}
+use Rattle.pd_settings.specs.SettingSets.{Agree, Includes}
+use Rattle.pd_settings.specs.declared.settings.Settings.{Settings}
+use Rattle.pd_settings.specs.declared.setting_set.SettingSet.{SettingSet}
 use Rattle.pd_script.specs.Script.{script_of}
-use Rattle.pd_script.specs.declared.parsing.Parsed.{Parsed}
+use Rattle.pd_script.specs.declared.parsed.Parsed.{Parsed}
 use Rattle.pd_script.specs.declared.script_events.Event.{Event}
-use Rattle.pd_run.specs.Consulted.{uses_of, rebound_run, StepsNote}
+use Rattle.pd_run.specs.Consulted.{consulted_settings_of, run_with_settings, StepsNote}
 use Rattle.pd_run.specs.Run.{start_of, states_from, states_in, states_of}
 use Rattle.pd_run.specs.Step.{RunStateView, on_step, step}
-use Rattle.pd_run.specs.declared.verdicts.Verdict.{Verdict}
+use Rattle.pd_run.specs.declared.verdict.Verdict.{Verdict}
 use Rattle.pd_run.proofs.Consulted.{agree_on_fewer, includes_itself, includes_too}
-use Rattle.pd_track.specs.Reuse.{AreHeld, fourths}
+use Rattle.pd_track.specs.Reuse.{AgreeWhereConsulted, every_fourth}
 use Rattle.pd_track.proofs.Fourths.{fourths_take}
 
 -- Lists
@@ -35,7 +35,7 @@ all_take P zero rs h = tt
 all_take P (suc n) [] h = tt
 all_take P (suc n) (r ∷ rs) h = (h.0, all_take P n rs h.1)
 
-all_fourths : (P : RunStateView → Type 0) (j : ℕ) (rs : List RunStateView) → AllByRecursion P rs → AllByRecursion P (fourths j rs)
+all_fourths : (P : RunStateView → Type 0) (j : ℕ) (rs : List RunStateView) → AllByRecursion P rs → AllByRecursion P (every_fourth j rs)
 all_fourths P j [] h = tt
 all_fourths P zero (r ∷ rs) h = (h.0, all_fourths P 3 rs h.1)
 all_fourths P (suc j) (r ∷ rs) h = all_fourths P j rs h.1
@@ -47,10 +47,10 @@ all_at P (s ∷ rs) (suc n) r h is = all_at P rs n r h.1 is
 
 -- Sets of settings
 
-agree_equal : (u : UseSet) (a b : Settings) → a ≡ b → Agree u a b
+agree_equal : (u : SettingSet) (a b : Settings) → a ≡ b → Agree u a b
 agree_equal u a b h key e = ap (λ (s : Settings). value_at s key) h
 
-agree_across : (u : UseSet) (a b c : Settings) → Agree u a b → Agree u a c → Agree u b c
+agree_across : (u : SettingSet) (a b c : Settings) → Agree u a b → Agree u a c → Agree u b c
 agree_across u a b c h k key e = sym (h key e) ∙ k key e
 
 -- Runs
@@ -68,39 +68,39 @@ stay law (e ∷ es) r settings h = go (λ t. stay law es t settings) (step r e) 
     go rest (Err v) o = tt
 
 -- so what it keeps agrees with them
-pub new_held : StepsNote → (es : List Event) (r : RunStateView) (settings : Settings) → r.host.state.settings ≡ settings → AreHeld settings (fourths 3 (states_from es r))
+pub new_held : StepsNote → (es : List Event) (r : RunStateView) (settings : Settings) → r.host.state.settings ≡ settings → AgreeWhereConsulted settings (every_fourth 3 (states_from es r))
 new_held law es r settings h =
-    all_fourths (λ (s : RunStateView). Agree (uses_of s) settings s.host.state.settings) 3 (states_from es r)
-    (all_imp (λ (s : RunStateView). s.host.state.settings ≡ settings) (λ (s : RunStateView). Agree (uses_of s) settings s.host.state.settings) (states_from es r)
-    (λ s e. agree_equal (uses_of s) settings s.host.state.settings (sym e)) (stay law es r settings h))
+    all_fourths (λ (s : RunStateView). Agree (consulted_settings_of s) settings s.host.state.settings) 3 (states_from es r)
+    (all_imp (λ (s : RunStateView). s.host.state.settings ≡ settings) (λ (s : RunStateView). Agree (consulted_settings_of s) settings s.host.state.settings) (states_from es r)
+    (λ s e. agree_equal (consulted_settings_of s) settings s.host.state.settings (sym e)) (stay law es r settings h))
 
-pub held_more : (settings : Settings) (before after : List RunStateView) → AreHeld settings before → AreHeld settings after → AreHeld settings (before ++ after)
-held_more settings before after = all_append (λ (s : RunStateView). Agree (uses_of s) settings s.host.state.settings) before after
+pub held_more : (settings : Settings) (before after : List RunStateView) → AgreeWhereConsulted settings before → AgreeWhereConsulted settings after → AgreeWhereConsulted settings (before ++ after)
+held_more settings before after = all_append (λ (s : RunStateView). Agree (consulted_settings_of s) settings s.host.state.settings) before after
 
-pub held_first : (settings : Settings) (n : ℕ) (checkpoints : List RunStateView) → AreHeld settings checkpoints → AreHeld settings (take n checkpoints)
-held_first settings n checkpoints = all_take (λ (s : RunStateView). Agree (uses_of s) settings s.host.state.settings) n checkpoints
+pub held_first : (settings : Settings) (n : ℕ) (checkpoints : List RunStateView) → AgreeWhereConsulted settings checkpoints → AgreeWhereConsulted settings (take n checkpoints)
+held_first settings n checkpoints = all_take (λ (s : RunStateView). Agree (consulted_settings_of s) settings s.host.state.settings) n checkpoints
 
-pub held_at : (settings : Settings) (checkpoints : List RunStateView) (n : ℕ) (s : RunStateView) → AreHeld settings checkpoints → slice_get checkpoints n ≡ Some s → Agree (uses_of s) settings s.host.state.settings
-held_at settings checkpoints n s = all_at (λ (s : RunStateView). Agree (uses_of s) settings s.host.state.settings) checkpoints n s
+pub held_at : (settings : Settings) (checkpoints : List RunStateView) (n : ℕ) (s : RunStateView) → AgreeWhereConsulted settings checkpoints → slice_get checkpoints n ≡ Some s → Agree (consulted_settings_of s) settings s.host.state.settings
+held_at settings checkpoints n s = all_at (λ (s : RunStateView). Agree (consulted_settings_of s) settings s.host.state.settings) checkpoints n s
 
 -- a state has consulted all that those before it have
 abbrev AreBefore : RunStateView → List RunStateView → Type 0
-AreBefore s rs = AllByRecursion (λ (t : RunStateView). Includes (uses_of s) (uses_of t)) rs
+AreBefore s rs = AllByRecursion (λ (t : RunStateView). Includes (consulted_settings_of s) (consulted_settings_of t)) rs
 
 come_before : StepsNote → (es : List Event) (m : ℕ) (r s : RunStateView) → slice_get (states_from es r) m ≡ Some s
-    → Includes (uses_of s) (uses_of r) × AreBefore s (take (suc m) (states_from es r))
+    → Includes (consulted_settings_of s) (consulted_settings_of r) × AreBefore s (take (suc m) (states_from es r))
 come_before law [] m r s h = absurd cc
 come_before law (e ∷ es) m r s h = go (come_before law es) m (step r e) refl h
   where
-    go : ((m : ℕ) (r s : RunStateView) → slice_get (states_from es r) m ≡ Some s → Includes (uses_of s) (uses_of r) × AreBefore s (take (suc m) (states_from es r)))
+    go : ((m : ℕ) (r s : RunStateView) → slice_get (states_from es r) m ≡ Some s → Includes (consulted_settings_of s) (consulted_settings_of r) × AreBefore s (take (suc m) (states_from es r)))
         → (m : ℕ) (o : Result RunStateView Verdict) → step r e ≡ o → slice_get (on_step (λ t. t ∷ states_from es t) (λ v. []) o) m ≡ Some s
-        → Includes (uses_of s) (uses_of r) × AreBefore s (take (suc m) (on_step (λ t. t ∷ states_from es t) (λ v. []) o))
+        → Includes (consulted_settings_of s) (consulted_settings_of r) × AreBefore s (take (suc m) (on_step (λ t. t ∷ states_from es t) (λ v. []) o))
     go rest zero (Ok t) o h =
         let same : t ≡ s = cc in
-        subst (λ (u : RunStateView). Includes (uses_of u) (uses_of r) × AreBefore u (t ∷ [])) same ((law r t e o).1, (includes_itself (uses_of t), tt))
+        subst (λ (u : RunStateView). Includes (consulted_settings_of u) (consulted_settings_of r) × AreBefore u (t ∷ [])) same ((law r t e o).1, (includes_itself (consulted_settings_of t), tt))
     go rest (suc m) (Ok t) o h =
         let later = rest m t s h in
-        (includes_too (uses_of s) (uses_of t) (uses_of r) later.0 (law r t e o).1, (later.0, later.1))
+        (includes_too (consulted_settings_of s) (consulted_settings_of t) (consulted_settings_of r) later.0 (law r t e o).1, (later.0, later.1))
     go rest m (Err v) o h = absurd cc
 
 -- a run has no states on its way, or those from a first one
@@ -126,25 +126,25 @@ first_of_run law settings p m s h = go (begun settings p)
         subst (λ (rs : List RunStateView). AreBefore s (take (suc m) rs)) (sym some.1)
         (come_before law p.events m some.0 s (subst (λ (rs : List RunStateView). slice_get rs m ≡ Some s) some.1 h)).1
 
-unmapped : (settings : Settings) (s : RunStateView) (rs : List RunStateView) → AreBefore s (map (rebound_run settings) rs) → AreBefore s rs
+unmapped : (settings : Settings) (s : RunStateView) (rs : List RunStateView) → AreBefore s (map (run_with_settings settings) rs) → AreBefore s rs
 unmapped settings s [] h = tt
 unmapped settings s (r ∷ rs) h = (h.0, unmapped settings s rs h.1)
 
 -- the first states that a run kept, up to one of them
 pub kept_before_last : StepsNote → (text : List (List ℕ)) (settings : Settings) (q : ℕ) (s : RunStateView) (checkpoints : List RunStateView)
-    → slice_get (states_of text settings) (4 * q + 3) ≡ Some (rebound_run settings s)
-    → map (rebound_run settings) checkpoints ≡ take (suc q) (fourths 3 (states_of text settings))
+    → slice_get (states_of text settings) (4 * q + 3) ≡ Some (run_with_settings settings s)
+    → map (run_with_settings settings) checkpoints ≡ take (suc q) (every_fourth 3 (states_of text settings))
     → AreBefore s checkpoints
 kept_before_last law text settings q s checkpoints found are =
     unmapped settings s checkpoints
     (subst (AreBefore s) (sym (are ∙ fourths_take 3 q (4 * q + 3) (states_of text settings) refl))
-    (all_fourths (λ (t : RunStateView). Includes (uses_of s) (uses_of t)) 3 (take (suc (4 * q + 3)) (states_of text settings))
-    (first_of_run law settings (script_of text) (4 * q + 3) (rebound_run settings s) found)))
+    (all_fourths (λ (t : RunStateView). Includes (consulted_settings_of s) (consulted_settings_of t)) 3 (take (suc (4 * q + 3)) (states_of text settings))
+    (first_of_run law settings (script_of text) (4 * q + 3) (run_with_settings settings s) found)))
 
 -- where other settings agree on what was consulted up to the last of them, what is held in all of them agrees with those too
-pub held_too : (old new : Settings) (s : RunStateView) (checkpoints : List RunStateView) → AreBefore s checkpoints → Agree (uses_of s) old new → AreHeld old checkpoints → AreHeld new checkpoints
+pub held_too : (old new : Settings) (s : RunStateView) (checkpoints : List RunStateView) → AreBefore s checkpoints → Agree (consulted_settings_of s) old new → AgreeWhereConsulted old checkpoints → AgreeWhereConsulted new checkpoints
 held_too old new s checkpoints before agree held =
-    all_both (λ (t : RunStateView). Includes (uses_of s) (uses_of t)) (λ (t : RunStateView). Agree (uses_of t) old t.host.state.settings)
-    (λ (t : RunStateView). Agree (uses_of t) new t.host.state.settings) checkpoints
-    (λ t includes holds. agree_across (uses_of t) old new t.host.state.settings (agree_on_fewer (uses_of s) (uses_of t) old new includes agree) holds)
+    all_both (λ (t : RunStateView). Includes (consulted_settings_of s) (consulted_settings_of t)) (λ (t : RunStateView). Agree (consulted_settings_of t) old t.host.state.settings)
+    (λ (t : RunStateView). Agree (consulted_settings_of t) new t.host.state.settings) checkpoints
+    (λ t includes holds. agree_across (consulted_settings_of t) old new t.host.state.settings (agree_on_fewer (consulted_settings_of s) (consulted_settings_of t) old new includes agree) holds)
     before held

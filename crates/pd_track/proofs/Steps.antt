@@ -4,10 +4,10 @@ use Rattle.std.proofs.lemmas.List.{append-nil}
 use Rattle.pd_script.specs.declared.script_events.Event.{Event}
 use Rattle.pd_run.specs.Run.{verdict_from, stepped_from, states_from}
 use Rattle.pd_run.specs.Step.{RunStateView, on_step, step}
-use Rattle.pd_run.specs.declared.verdicts.Verdict.{Verdict}
-use Rattle.pd_run.specs.declared.verdicts.Verdict.TheVariants.{Pass}
+use Rattle.pd_run.specs.declared.verdict.Verdict.{Verdict}
+use Rattle.pd_run.specs.declared.verdict.Verdict.TheVariants.{Pass}
 use Rattle.pd_run.proofs.Steps.{verdict_after, stepped_after}
-use Rattle.pd_track.specs.Reuse.{fourths}
+use Rattle.pd_track.specs.Reuse.{every_fourth}
 use Rattle.pd_track.proofs.Fourths.{fourths_next}
 
 -- after a step that goes on, its state is the first of those left
@@ -21,7 +21,7 @@ states_after es rest r s e split h =
 pub record Advances (n passed : ℕ) (es rest : List Event) (old new : RunStateView) : Type 0 where
   pub verdict : verdict_from n es old ≡ verdict_from passed rest new
   pub steps : stepped_from es old ≡ 1 + stepped_from rest new
-  pub states : fourths (3 - n % 4) (states_from es old) ≡ cond ((n + 1) % 4 == 0) (new ∷ []) [] ++ fourths (3 - passed % 4) (states_from rest new)
+  pub states : every_fourth (3 - n % 4) (states_from es old) ≡ cond ((n + 1) % 4 == 0) (new ∷ []) [] ++ every_fourth (3 - passed % 4) (states_from rest new)
 
 pub advances : (n passed : ℕ) (es rest : List Event) (old new : RunStateView) (e : Event) → passed ≡ n + 1 → es ≡ e ∷ rest → step old e ≡ Ok new
     → Advances n passed es rest old new
@@ -30,7 +30,7 @@ advances n passed es rest old new e one_more split told =
       verdict = verdict_after n es rest old new e split told;
       steps = stepped_after es rest old new e split told;
       states =
-          ap (fourths (3 - n % 4)) (states_after es rest old new e split told)
+          ap (every_fourth (3 - n % 4)) (states_after es rest old new e split told)
           ∙ fourths_next n (3 - n % 4) (3 - (n + 1) % 4) new (states_from rest new) (omega arith) (omega arith);
     })
 
@@ -38,7 +38,7 @@ advances n passed es rest old new e one_more split told =
 pub record Ends (n : ℕ) (es : List Event) (old new : RunStateView) : Type 0 where
   pub verdict : verdict_from n es old ≡ Pass (n + 1)
   pub steps : stepped_from es old ≡ 1
-  pub states : fourths (3 - n % 4) (states_from es old) ≡ cond ((n + 1) % 4 == 0) (new ∷ []) []
+  pub states : every_fourth (3 - n % 4) (states_from es old) ≡ cond ((n + 1) % 4 == 0) (new ∷ []) []
 
 pub ends : (n : ℕ) (es : List Event) (old new : RunStateView) (e : Event) → es ≡ e ∷ [] → step old e ≡ Ok new → Ends n es old new
 ends n es old new e split told =

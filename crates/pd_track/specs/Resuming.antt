@@ -1,15 +1,15 @@
 -- A run that goes on where an earlier one is taken up.
 use Rattle.std.specs.Prelude.{◌≡◌, ℕ, ◌+◌, ◌≤◌, ◌%◌, ◌++◌, length, map, drop, List, None, Ok, Option, Some}
-use Rattle.pd_settings.specs.declared.fields.Settings.{Settings}
+use Rattle.pd_settings.specs.declared.settings.Settings.{Settings}
 use Rattle.pd_script.specs.Script.{script_of}
 use Rattle.pd_script.specs.declared.script_events.Event.{Event}
-use Rattle.pd_run.specs.Consulted.{rebound_run}
+use Rattle.pd_run.specs.Consulted.{run_with_settings}
 use Rattle.pd_run.specs.Laws.{IsUnderway}
 use Rattle.pd_run.specs.Run.{start_of, verdict_of, stepped_of, states_of, verdict_from, stepped_from, states_from}
 use Rattle.pd_run.specs.Step.{RunStateView}
-use Rattle.pd_run.specs.declared.verdicts.Verdict.{Verdict}
-use Rattle.pd_reparse.specs.Reading.{DecidedScript, reading_of}
-use Rattle.pd_track.specs.Reuse.{AreHeld, fourths, TrackView, JobView, kept}
+use Rattle.pd_run.specs.declared.verdict.Verdict.{Verdict}
+use Rattle.pd_reparse.specs.Reading.{ReadingView, reading_of}
+use Rattle.pd_track.specs.Reuse.{AgreeWhereConsulted, every_fourth, TrackView, JobView, kept}
 use Rattle.pd_track.specs.declared.task.Task.{Task}
 
 -- the events that a text is
@@ -29,16 +29,16 @@ pub record Resumes (text : List (List ℕ)) (settings : Settings) (passed : ℕ)
   pub underway : IsUnderway passed state
   pub verdict : verdict_from passed (drop passed (script_events text)) state ≡ verdict_of text settings
   pub steps : passed + stepped_from (drop passed (script_events text)) state ≡ stepped_of text settings
-  pub kept : map (rebound_run settings) checkpoints ++ fourths 3 (states_from (drop passed (script_events text)) state) ≡ fourths 3 (states_of text settings)
+  pub kept : map (run_with_settings settings) checkpoints ++ every_fourth 3 (states_from (drop passed (script_events text)) state) ≡ every_fourth 3 (states_of text settings)
   pub bound : state.host.state.settings ≡ settings
-  pub held : AreHeld settings checkpoints
+  pub held : AgreeWhereConsulted settings checkpoints
 
 -- what the whole run of a task comes to, what is read of its text, and every fourth state but for the settings held in it
-pub record IsOutcome (task : Task) (came : Verdict) (reading : DecidedScript) (checkpoints : List RunStateView) : Type 0 where
+pub record IsJobOutcome (task : Task) (came : Verdict) (reading : ReadingView) (checkpoints : List RunStateView) : Type 0 where
   pub verdict : came ≡ verdict_of task.text task.settings
   pub read : reading ≡ reading_of task.text
-  pub kept : map (rebound_run task.settings) checkpoints ≡ fourths 3 (states_of task.text task.settings)
-  pub held : AreHeld task.settings checkpoints
+  pub kept : map (run_with_settings task.settings) checkpoints ≡ every_fourth 3 (states_of task.text task.settings)
+  pub held : AgreeWhereConsulted task.settings checkpoints
 
 -- how many events of a track's text another text keeps: none without a track
 abbrev pub kept_of_track : Option TrackView → List (List ℕ) → ℕ

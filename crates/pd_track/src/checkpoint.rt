@@ -1,7 +1,7 @@
 //! States that runs can be taken up in.
 ghost use Rattle.std.specs.Prelude.{◌≡◌, ◌++◌, ◌∷◌, [], IfOk, OnOk};
 
-use pd_reparse::{Copied, SharedList};
+use pd_reparse::{SharedList, TryClone};
 use pd_run::RunState;
 use std::alloc::AllocError;
 use std::marker::Model;
@@ -26,7 +26,7 @@ impl Checkpoint {
     ///
     /// # Errors
     /// `AllocError` where memory for it is refused, and then nothing is claimed of what the list holds.
-    pub(crate) fn keep(
+    pub(crate) fn push_copy(
         checkpoints: &mut SharedList<Checkpoint>,
         state: &RunState,
     ) -> Result<(), AllocError>
@@ -63,8 +63,8 @@ impl Checkpoint {
     }
 }
 
-impl Copied for Checkpoint {
-    fn copied(&self) -> Result<Checkpoint, AllocError> {
+impl TryClone for Checkpoint {
+    fn try_clone(&self) -> Result<Checkpoint, AllocError> {
         Checkpoint::new(&self.state)
     }
 }

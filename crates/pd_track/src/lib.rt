@@ -16,7 +16,7 @@
 //!
 //! A track has the reading and every fourth state of the run of its text under its settings:
 //! `IsTrack` (specs/Reuse.antt). A `Done` has the verdict of its task: `IsDone`. The run begins at
-//! the last place where it may: the law `runs_begin_last`.
+//! the last place where it may: the law `law_runs_begin_last`.
 //!
 //! Why it is so:
 //! - A script is run again after each edit. From its first event, that takes a time that grows with
@@ -25,7 +25,7 @@
 //!   events are run that needn't be.
 //! - Tracks under different settings may share a checkpoint. It holds the settings of the run that
 //!   kept it, and `run_job` puts its copy under the job's.
-//! - A `Track` is a `Trail` that several own, since the facts of an owned value are those of its
+//! - A `Track` is a `TrackData` that several own, since the facts of an owned value are those of its
 //!   type.
 //! - The run of a text (`pd_run`) and the run of a job are two loops of one step, over the same
 //!   definitions.
@@ -34,20 +34,20 @@
 #![tactic(auto)]
 
 mod checkpoint;
-mod done;
 mod job;
+mod job_run;
 mod laws;
 mod progress;
-mod resuming;
-mod running;
+mod result;
+mod start_point;
 mod task;
 mod track;
-mod trail;
+mod track_data;
 
 pub use checkpoint::Checkpoint;
-pub use done::{Done, Unfinished};
 pub use job::Job;
-pub use laws::runs_begin_last;
-pub use running::run_job;
+pub use job_run::run_job;
+pub use laws::law_runs_begin_last;
+pub use result::{Done, Unfinished};
 pub use task::Task;
 pub use track::Track;

@@ -3,11 +3,11 @@ ghost use Rattle.std.specs.Prelude.{◌≡◌, ◌+◌, ◌-◌, ◌<◌, ◌≤
 ghost use Rattle.pd_reparse.specs.Steps.{events_after};
 ghost use Rattle.pd_run.specs.Laws.{IsUnderway};
 ghost use Rattle.pd_run.specs.Run.{verdict_from, stepped_from, states_from};
-ghost use Rattle.pd_track.specs.Reuse.{fourths};
+ghost use Rattle.pd_track.specs.Reuse.{every_fourth};
 
 use crate::checkpoint::Checkpoint;
-use pd_reparse::{Decided, SharedList};
-use pd_run::{RunState, StepEnd, Stepper, Verdict, runs_are_bounded};
+use pd_reparse::{ParsedEvent, SharedList};
+use pd_run::{RunState, StepEnd, Stepper, Verdict, law_runs_are_bounded};
 use pd_settings::Settings;
 use std::alloc::{AllocError, Global};
 
@@ -24,7 +24,7 @@ pub struct Progress {
 
 /// What a run came to, and its states on the way.
 #[derive(Drop)]
-pub struct Ended {
+pub struct FinishedRun {
     /// The verdict.
     pub verdict: Verdict,
     /// The states after each fourth event that passed, in order.
@@ -51,21 +51,21 @@ impl Progress {
     /// `AllocError` where the stepper answers it, or memory for a kept state is refused.
     pub fn run<S: Stepper>(
         mut self,
-        events: &SharedList<Decided>,
+        events: &SharedList<ParsedEvent>,
         settings: &Settings,
         stepper: &mut S,
-    ) -> Result<Ended, AllocError>
+    ) -> Result<FinishedRun, AllocError>
         requires fourth { self.passed % 4 ≡ 0 }
         requires within { self.passed ≤ length events.now }
         requires few { length events.now ≤ 4096 }
         requires underway { IsUnderway self.passed self.state }
         requires room { S.counted stepper.old + length events.now < 2 ^ 64 }
-        ensures verdict { IfOk result (λ ended. ended.verdict ≡ verdict_from self.passed (events_after self.passed events.now) self.state) }
-        ensures checkpoints { IfOk result (λ ended. ended.checkpoints ≡ self.checkpoints ++ fourths 3 (states_from (events_after self.passed events.now) self.state)) }
+        ensures verdict { IfOk result (λ finished_run. finished_run.verdict ≡ verdict_from self.passed (events_after self.passed events.now) self.state) }
+        ensures checkpoints { IfOk result (λ finished_run. finished_run.checkpoints ≡ self.checkpoints ++ every_fourth 3 (states_from (events_after self.passed events.now) self.state)) }
         ensures steps { OnOk result (S.counted stepper.new ≡ S.counted stepper.old + stepped_from (events_after self.passed events.now) self.state) }
         ensures few { OnOk result (S.counted stepper.new ≤ S.counted stepper.old + length events.now) }
     {
-        runs_are_bounded();
+        law_runs_are_bounded();
         self.checkpoints.reserve((events.len() - self.passed) / 4)?;
         for i in self.passed..events.len() {
             match stepper.step(&mut self.state, &events.at(i).event, settings)? {
@@ -79,21 +79,21 @@ impl Progress {
     }
 
     /// The run has ended.
-    fn end(self, verdict: Verdict) -> Ended
+    fn end(self, verdict: Verdict) -> FinishedRun
         ensures verdict { result.verdict ≡ verdict }
         ensures checkpoints { result.checkpoints ≡ self.checkpoints }
     {
-        Ended {
+        FinishedRun {
             verdict,
             checkpoints: self.checkpoints,
         }
     }
 
     /// The last event has passed, and the run has ended: its state is kept if it is a fourth one.
-    fn pass_last(self) -> Result<Ended, AllocError>
+    fn pass_last(self) -> Result<FinishedRun, AllocError>
         requires { self.passed < 4096 }
-        ensures verdict { IfOk result (λ ended. ended.verdict ≡ Verdict.Pass (self.passed + 1)) }
-        ensures checkpoints { IfOk result (λ ended. ended.checkpoints ≡ self.checkpoints ++ (if (self.passed + 1) % 4 == 0 then self.state ∷ [] else [])) }
+        ensures verdict { IfOk result (λ finished_run. finished_run.verdict ≡ Verdict.Pass (self.passed + 1)) }
+        ensures checkpoints { IfOk result (λ finished_run. finished_run.checkpoints ≡ self.checkpoints ++ (if (self.passed + 1) % 4 == 0 then self.state ∷ [] else [])) }
     {
         let Progress {
             state,
@@ -103,7 +103,7 @@ impl Progress {
         if (passed + 1) % 4 == 0 {
             checkpoints.push(Checkpoint::of(state))?;
         }
-        Ok(Ended {
+        Ok(FinishedRun {
             verdict: Verdict::Pass(passed + 1),
             checkpoints,
         })
@@ -118,7 +118,7 @@ impl Progress {
     {
         self.passed += 1;
         if self.passed % 4 == 0 {
-            Checkpoint::keep(&mut self.checkpoints, &self.state)?;
+            Checkpoint::push_copy(&mut self.checkpoints, &self.state)?;
         }
         Ok(())
     }

@@ -1,13 +1,13 @@
 //! Tracks: what is kept of a run for a later one.
 ghost use Rattle.std.specs.Prelude.{◌≡◌, ◌+◌, ◌*◌, IfOk, IfSome, map, slice_get, option_map, option_copied};
 ghost use Rattle.pd_reparse.specs.Reading.{reading_of};
-ghost use Rattle.pd_run.specs.Consulted.{rebound_run};
+ghost use Rattle.pd_run.specs.Consulted.{run_with_settings};
 ghost use Rattle.pd_run.specs.Run.{states_of};
-ghost use Rattle.pd_settings.specs.Uses.{Agree};
-ghost use Rattle.pd_track.specs.Reuse.{AreHeld, fourths, uses};
+ghost use Rattle.pd_settings.specs.SettingSets.{Agree};
+ghost use Rattle.pd_track.specs.Reuse.{AgreeWhereConsulted, every_fourth, consulted_settings};
 
 use crate::checkpoint::Checkpoint;
-use crate::trail::Trail;
+use crate::track_data::TrackData;
 use pd_reparse::{Reading, SharedList};
 use pd_settings::Settings;
 use pd_text::Text;
@@ -20,7 +20,7 @@ use std::sync::Arc;
 #[derive(Drop)]
 pub struct Track {
     /// What the run left, which each owner of the track shares.
-    trail: Arc<Trail>,
+    track_data: Arc<TrackData>,
 }
 
 impl Model for Track {
@@ -28,7 +28,7 @@ impl Model for Track {
 
     ghost Value = { TrackView };
 
-    ghost view = { λ t. t.trail.value };
+    ghost view = { λ t. t.track_data.value };
 }
 
 impl Track {
@@ -49,9 +49,9 @@ impl Track {
         ensures { IfOk result (λ track. track ≡ record { text = text; settings = settings }) }
     {
         let mut checkpoints = checkpoints;
-        checkpoints.seal()?;
+        checkpoints.freeze()?;
         Ok(Track {
-            trail: Arc::new(alloc, Trail::new(text, settings, reading, checkpoints))?,
+            track_data: Arc::new(alloc, TrackData::new(text, settings, reading, checkpoints))?,
         })
     }
 
@@ -63,7 +63,7 @@ impl Track {
         ensures { IfOk result (λ track. track ≡ self.now) }
     {
         Ok(Track {
-            trail: self.trail.clone()?,
+            track_data: self.track_data.clone()?,
         })
     }
 
@@ -71,36 +71,36 @@ impl Track {
     pub fn text(&self) -> &Text
         ensures { result.now ≡ self.now.text }
     {
-        self.trail.text()
+        self.track_data.text()
     }
 
     /// The settings that it was run under.
     pub fn settings(&self) -> &Settings
         ensures { result.now ≡ self.now.settings }
     {
-        self.trail.settings()
+        self.track_data.settings()
     }
 
     /// What was read of the text.
     pub fn reading(&self) -> &Reading
         ensures { result.now ≡ reading_of self.now.text }
     {
-        self.trail.reading()
+        self.track_data.reading()
     }
 
     /// The states after 4, 8, 12 .. events that passed, but for the settings held in them.
     pub(crate) fn checkpoints(&self) -> &SharedList<Checkpoint>
-        ensures states { map (rebound_run self.now.settings) result.now ≡ fourths 3 (states_of self.now.text self.now.settings) }
-        ensures held { AreHeld self.now.settings result.now }
+        ensures states { map (run_with_settings self.now.settings) result.now ≡ every_fourth 3 (states_of self.now.text self.now.settings) }
+        ensures held { AgreeWhereConsulted self.now.settings result.now }
     {
-        self.trail.checkpoints()
+        self.track_data.checkpoints()
     }
 
     /// The state after 4k + 4 events of the text under the settings, but for the settings held in it, where that many
     /// passed. Those held agree with the track's on all that these events consulted.
     pub fn checkpoint(&self, k: usize) -> Option<&Checkpoint>
-        ensures state { option_map (rebound_run self.now.settings) (option_copied result) ≡ slice_get (states_of self.now.text self.now.settings) (4 * k + 3) }
-        ensures held { IfSome (option_copied result) (λ state. Agree (uses self.now (4 * (k + 1))) self.now.settings state.host.state.settings) }
+        ensures state { option_map (run_with_settings self.now.settings) (option_copied result) ≡ slice_get (states_of self.now.text self.now.settings) (4 * k + 3) }
+        ensures held { IfSome (option_copied result) (λ state. Agree (consulted_settings self.now (4 * (k + 1))) self.now.settings state.host.state.settings) }
     {
         self.checkpoints().get(k)
     }

@@ -6,11 +6,11 @@ use Rattle.std.proofs.lemmas.List.Sums.{sum_by-append}
 use Rattle.std.proofs.lemmas.Bool.Decides.{nat_tests}
 use Rattle.pd_text.specs.Text.{fits_text}
 use Rattle.pd_layout.specs.Traces.{is_trace}
-use Rattle.pd_words.specs.Commands.{fitted}
-use Rattle.pd_words.specs.Input.{IfKnown, to_come}
-use Rattle.pd_words.specs.Pieces.{CutsPiece}
-use Rattle.pd_words.proofs.Gather.{known_at_hand}
-use Rattle.pd_words.proofs.Known.{known_map}
+use Rattle.pd_protocol.specs.Commands.{fitted}
+use Rattle.pd_protocol.specs.Input.{IfKnown, to_come}
+use Rattle.pd_protocol.specs.LinePieces.{CutsPiece}
+use Rattle.pd_protocol.proofs.BuildText.{known_at_hand}
+use Rattle.pd_protocol.proofs.Known.{known_map}
 use Rattle.pdrecord.specs.ScriptInput.{is_dropped, script_in, without_trace}
 use Rattle.pdrecord.specs.Inner.{Gathers, with_line}
 
@@ -31,7 +31,7 @@ long_text texts line h = grind (arith, nat_tests, h, length-append texts (line �
 
 -- the lines that were gathered are those kept so far
 abbrev pub SoFar : Option (List (List ℕ)) → List ℕ → List ℕ → Type 0
-SoFar gathered old new = (texts : List (List ℕ)) × (gathered ≡ fitted texts) × (without_trace (lines old) ≡ texts ++ without_trace (lines new))
+SoFar text_builder old new = (texts : List (List ℕ)) × (text_builder ≡ fitted texts) × (without_trace (lines old) ≡ texts ++ without_trace (lines new))
 
 pub so_first : (g : Option (List (List ℕ))) (x : List ℕ) → g ≡ Some [] → SoFar g x x
 so_first g x e = ([], e, refl)
@@ -66,9 +66,9 @@ fitted_again ls = go (fits_text ls) refl
     go false e = refl
 
 -- before the first line
-pub so_begin : (g : Option (List (List ℕ))) (intake : List ℕ × ℕ) (all : Option (List ℕ)) → g ≡ Some [] → intake ≡ ([], 1048576) → IfKnown (SoFar g) all (to_come intake all)
-so_begin g intake None e f = tt
-so_begin g intake (Some x) e f = rw f (so_first g x e)
+pub so_begin : (g : Option (List (List ℕ))) (line_reader : List ℕ × ℕ) (all : Option (List ℕ)) → g ≡ Some [] → line_reader ≡ ([], 1048576) → IfKnown (SoFar g) all (to_come line_reader all)
+so_begin g line_reader None e f = tt
+so_begin g line_reader (Some x) e f = rw f (so_first g x e)
 
 -- the text of all lines
 pub so_text : (g h text : Option (List (List ℕ))) (x y z : List ℕ) → text ≡ option_and_then fitted h → SoFar g x y → Gathers false g h y z → text ≡ script_in x

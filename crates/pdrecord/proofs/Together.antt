@@ -4,8 +4,8 @@ use Rattle.clap.specs.Kinds.{or_else}
 use Rattle.clap.specs.Words.{Kinds, Text}
 use Rattle.clap.specs.declared.error.kind.ErrorKind.{ErrorKind}
 use Rattle.clap.specs.declared.error.kind.ErrorKind.TheVariants.{ArgumentConflict, MissingRequiredArgument}
-use Rattle.pd_words.specs.ProgramWords.{word_faults}
-use Rattle.pdrecord.specs.RecordWords.{pdrecord, is_trace_of_minimal, is_drop_alone, together_faults, refusals}
+use Rattle.pd_protocol.specs.OptionTable.{word_faults}
+use Rattle.pdrecord.specs.RecordArguments.{pdrecord, is_trace_of_minimal, is_drop_alone, together_faults, refusals}
 
 -- a fault of one kind is one
 one_kind : (kind : ErrorKind) (kinds : Kinds) → (kind ∷ kinds) ≢ []
@@ -33,16 +33,16 @@ none_is : (a b : Kinds) → a ≡ [] → b ≡ [] → or_else a b ≡ []
 none_is a b e f = rw (e, f) refl
 
 -- words that are refused together are refused
-pub refused_together : (words : List Text) → (is_trace_of_minimal words || is_drop_alone words) ≡ true → refusals words ≢ []
-refused_together words t =
-    second_is (word_faults pdrecord words) (together_faults words) (by_both (is_trace_of_minimal words) (is_drop_alone words) ArgumentConflict MissingRequiredArgument t)
+pub refused_together : (arguments : List Text) → (is_trace_of_minimal arguments || is_drop_alone arguments) ≡ true → refusals arguments ≢ []
+refused_together arguments t =
+    second_is (word_faults pdrecord arguments) (together_faults arguments) (by_both (is_trace_of_minimal arguments) (is_drop_alone arguments) ArgumentConflict MissingRequiredArgument t)
 
 -- words that are refused neither one by one nor together are taken
-pub not_refused : (words : List Text) → word_faults pdrecord words ≡ [] → (is_trace_of_minimal words || is_drop_alone words) ≡ false → refusals words ≡ []
-not_refused words e t =
-    none_is (word_faults pdrecord words) (together_faults words) e (by_none (is_trace_of_minimal words) (is_drop_alone words) ArgumentConflict MissingRequiredArgument t)
+pub not_refused : (arguments : List Text) → word_faults pdrecord arguments ≡ [] → (is_trace_of_minimal arguments || is_drop_alone arguments) ≡ false → refusals arguments ≡ []
+not_refused arguments e t =
+    none_is (word_faults pdrecord arguments) (together_faults arguments) e (by_none (is_trace_of_minimal arguments) (is_drop_alone arguments) ArgumentConflict MissingRequiredArgument t)
 
 -- words that are refused one by one are refused
-pub alone_too : (words : List Text) (memory : Type 0) → memory ⊎ (word_faults pdrecord words ≢ []) → memory ⊎ (refusals words ≢ [])
-alone_too words memory (inl m) = inl m
-alone_too words memory (inr h) = inr (first_is (word_faults pdrecord words) (together_faults words) h)
+pub alone_too : (arguments : List Text) (memory : Type 0) → memory ⊎ (word_faults pdrecord arguments ≢ []) → memory ⊎ (refusals arguments ≢ [])
+alone_too arguments memory (inl m) = inl m
+alone_too arguments memory (inr h) = inr (first_is (word_faults pdrecord arguments) (together_faults arguments) h)

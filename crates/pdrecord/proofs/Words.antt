@@ -2,7 +2,7 @@
 use Rattle.std.proofs.Common.{◌≡◌, true, refl}
 use Rattle.clap.specs.Words.{is_simple, is_simple_and_free}
 use Rattle.clap.proofs.OnLiterals.{clap_on_literals}
-use Rattle.pdrecord.specs.RecordWords.{pdrecord}
+use Rattle.pdrecord.specs.RecordArguments.{pdrecord}
 
 pub simple_pdrecord : is_simple pdrecord ≡ true
 unfolding clap_on_literals

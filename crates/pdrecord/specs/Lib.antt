@@ -1,7 +1,7 @@
 -- The definitions of the program that records.
 pub mod RecordProgram
 pub mod FileSections
-pub mod RecordWords
+pub mod RecordArguments
 pub mod ScriptInput
 pub mod Written
 pub mod Inner

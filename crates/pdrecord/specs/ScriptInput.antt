@@ -1,7 +1,7 @@
 -- The script that an input is.
 use Rattle.std.specs.Prelude.{ℕ, not, Bool, nat_le, ◌&&◌, List, length, filter, Option}
 use Rattle.std.specs.Str.Lines.{lines}
-use Rattle.pd_words.specs.Commands.{fitted}
+use Rattle.pd_protocol.specs.Commands.{fitted}
 use Rattle.pd_layout.specs.Traces.{is_trace}
 
 -- a line is dropped: one of a trace that isn't over the limits of a text by itself

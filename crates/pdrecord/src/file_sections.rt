@@ -1,16 +1,16 @@
 //! Records the scripts of files: of each a title, and its recording or why there is none.
 ghost use Rattle.std.specs.Prelude.{◌≡◌, ◌++◌, IfOk, IfErr};
-ghost use Rattle.pd_words.specs.Chosen.{names_of};
+ghost use Rattle.pd_protocol.specs.ChosenOptions.{names_of};
 ghost use Rattle.pdrecord.specs.RecordProgram.{IsStop};
 ghost use Rattle.pdrecord.specs.FileSections.{IsSection, Writes, WritesOne, lines_in, title};
 
-use crate::outcomes::Outcome;
-use crate::record_program::outcome_of;
+use crate::file_source::FileSource;
+use crate::mode::RecordMode;
+use crate::outcome::Outcome;
+use crate::program::outcome_of;
 use crate::script_input::ScriptInput;
-use crate::shelf::Shelf;
-use crate::ways::Way;
+use pd_protocol::{InputStream, ServeFault, put_number, write_all};
 use pd_settings::Settings;
-use pd_words::{InputStream, ServeFault, put_all, put_number};
 use std::alloc::{AllocError, Global};
 use std::io::Write;
 
@@ -34,42 +34,42 @@ pub struct FileFault<'a> {
 ///
 /// # Errors
 /// The first file with `Read` where it can't be opened or read, `Write` where a write fails, `Differs` or `OutOfMemory`.
-pub fn put_sections<'a, R: InputStream + Drop, F: Shelf<R>, W: Write>(
+pub fn put_sections<'a, R: InputStream + Drop, F: FileSource<R>, W: Write>(
     alloc: Global,
     settings: &Settings,
-    way: Way,
+    mode: RecordMode,
     names: &[&'a str],
     files: &F,
     out: &mut W,
 ) -> Result<bool, FileFault<'a>>
-    ensures { Writes settings.now way (F.held files.now) (names_of names.now) result (W.contents out.old) (W.contents out.new) }
+    ensures { Writes settings.now mode (F.octets_in files.now) (names_of names.now) result (W.contents out.old) (W.contents out.new) }
 {
-    let mut is_all = true;
+    let mut are_all_recorded = true;
     for name in names {
-        match put_section(alloc, settings, way, name, files, out) {
-            Ok(is_recorded) => is_all &= is_recorded,
+        match put_section(alloc, settings, mode, name, files, out) {
+            Ok(is_recorded) => are_all_recorded &= is_recorded,
             Err(fault) => return Err(FileFault { name: *name, fault }),
         }
     }
-    Ok(is_all)
+    Ok(are_all_recorded)
 }
 
 /// Records the script of a file, and writes what came of it; whether it was recorded.
 ///
 /// # Errors
 /// As those of `put_sections`.
-fn put_section<R: InputStream + Drop, F: Shelf<R>, W: Write>(
+fn put_section<R: InputStream + Drop, F: FileSource<R>, W: Write>(
     alloc: Global,
     settings: &Settings,
-    way: Way,
+    mode: RecordMode,
     name: &str,
     files: &F,
     out: &mut W,
 ) -> Result<bool, ServeFault>
-    ensures { WritesOne settings.now way (F.held files.now) name.now result (W.contents out.old) (W.contents out.new) }
+    ensures { WritesOne settings.now mode (F.octets_in files.now) name.now result (W.contents out.old) (W.contents out.new) }
 {
-    let section = section_of(alloc, settings, way, name, files)?;
-    put_all(out, section.octets.as_slice())?;
+    let section = section_of(alloc, settings, mode, name, files)?;
+    write_all(out, section.octets.as_slice())?;
     Ok(section.is_recorded)
 }
 
@@ -77,25 +77,25 @@ fn put_section<R: InputStream + Drop, F: Shelf<R>, W: Write>(
 ///
 /// # Errors
 /// `Read` where it can't be opened or read, `Differs` and `OutOfMemory`.
-fn section_of<R: InputStream + Drop, F: Shelf<R>>(
+fn section_of<R: InputStream + Drop, F: FileSource<R>>(
     alloc: Global,
     settings: &Settings,
-    way: Way,
+    mode: RecordMode,
     name: &str,
     files: &F,
 ) -> Result<Section, ServeFault>
-    ensures section { IfOk result (λ section. IsSection settings.now way name.now (F.held files.now name.now) section.is_recorded section.octets.items) }
+    ensures section { IfOk result (λ section. IsSection settings.now mode name.now (F.octets_in files.now name.now) section.is_recorded section.octets.items) }
     ensures only { IfErr result IsStop }
 {
     let mut file = files.open(name)?;
     let input = ScriptInput::read(alloc, &mut file)?;
-    match outcome_of(alloc, &input, settings, way)? {
+    match outcome_of(alloc, &input, settings, mode)? {
         Outcome::Recorded(octets) => Ok(Section {
             octets: titled(alloc, b"recorded ", octets.as_slice(), name)?,
             is_recorded: true,
         }),
-        Outcome::Refused(said) => Ok(Section {
-            octets: titled(alloc, b"refused ", said.as_slice(), name)?,
+        Outcome::Refused(message) => Ok(Section {
+            octets: titled(alloc, b"refused ", message.as_slice(), name)?,
             is_recorded: false,
         }),
     }

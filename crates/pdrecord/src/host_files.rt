@@ -1,6 +1,6 @@
 //! The files of this machine.
-use crate::shelf::Shelf;
-use pd_words::ServeFault;
+use crate::file_source::FileSource;
+use pd_protocol::ServeFault;
 use std::fs::{self, File};
 
 /// The files of this machine, of which nothing is claimed.
@@ -15,10 +15,10 @@ impl<'a> HostFiles<'a> {
     }
 }
 
-impl Shelf<File> for HostFiles<'_> {
+impl FileSource<File> for HostFiles<'_> {
     ghost use Rattle.std.specs.Prelude.{None};
 
-    ghost held = { λ _ _. None };
+    ghost octets_in = { λ _ _. None };
 
     fn open(&self, name: &str) -> Result<File, ServeFault> {
         match fs::open(self.rt, name) {

@@ -2,8 +2,8 @@
 //!
 //! `run_with_files` is the whole program but for its streams. It reads its words (`RecordOptions`),
 //! and records the input or, one after the other, the scripts of files. A `ScriptInput` is what was
-//! read, without the lines of a trace. A `Way` says how it is recorded: whole or with a trace
-//! (`pd_record`), or by the least change (`pd_least`). An `Outcome` is a recording's octets or the
+//! read, without the lines of a trace. A `RecordMode` says how it is recorded: whole or with a trace
+//! (`pd_record`), or by the least change (`pd_mend`). An `Outcome` is a recording's octets or the
 //! lines of a refusal.
 //!
 //! ```text
@@ -19,7 +19,7 @@
 //!
 //! Why it is so:
 //! - The modules are part of the program and no library of their own, since nothing else uses them.
-//! - Files are opened by a `Shelf`. The program's is `HostFiles`, of which nothing is claimed, so
+//! - Files are opened by a `FileSource`. The program's is `HostFiles`, of which nothing is claimed, so
 //!   contracts say what is written whatever the files hold.
 //! - Lines of a trace are left out as they are read, so that a trace of a trace is the same.
 //!   Refusals name the lines of the input as it was given, so `ScriptInput` keeps their numbers.
@@ -27,30 +27,30 @@
 //!   (`causes`), so that a script that isn't recorded says why as a row does.
 #![tactic(auto)]
 
-mod causes;
 mod file_sections;
+mod file_source;
 mod host_files;
-mod mending;
-mod outcomes;
-mod record_program;
-mod record_words;
-mod recorded_text;
+mod mend_outcome;
+mod mode;
+mod outcome;
+mod program;
+mod record_options;
 mod script_input;
-mod shelf;
-mod ways;
+mod stop_cause;
+mod trace_text;
 
 use host_files::HostFiles;
-use pd_words::{arguments, refuse_arguments};
-use record_program::{PROGRAM, run_with_files};
+use pd_protocol::{arguments, refuse_arguments};
+use program::{PROGRAM, run_with_files};
 use std::process::ExitCode;
 
 fn main(rt: HostRuntime) -> ExitCode {
     let exit = match arguments(&rt) {
-        Ok(words) => {
-            let words = words.as_slice();
+        Ok(arguments) => {
+            let arguments = arguments.as_slice();
             run_with_files(
                 rt.alloc(),
-                words,
+                arguments,
                 &mut rt.stdin(),
                 &HostFiles::new(&rt),
                 &mut rt.stdout(),

@@ -1,15 +1,17 @@
 //! A script as the input of a program, without the lines of a trace.
 ghost use Rattle.std.specs.Prelude.{◌≡◌, ◌<◌, IfOk, IfErr, IfSome, OnOk};
 ghost use Rattle.std.specs.Bool.{OnTrue};
-ghost use Rattle.pd_words.specs.Input.{IfKnown, to_come, work_left, Spends, IsCaused, HasCause};
-ghost use Rattle.pd_words.specs.Pieces.{NoNewline};
-ghost use Rattle.pd_words.specs.TakenLines.{IsIo};
+ghost use Rattle.pd_protocol.specs.Input.{IfKnown, to_come, work_left, Spends, IsCaused, HasCause};
+ghost use Rattle.pd_protocol.specs.LinePieces.{NoNewline};
+ghost use Rattle.pd_protocol.specs.NextLines.{IsIo};
 ghost use Rattle.pdrecord.specs.ScriptInput.{is_dropped, script_in};
 ghost use Rattle.pdrecord.specs.Inner.{Gathers, with_line};
 
 use pd_layout::is_trace;
+use pd_protocol::{
+    InputStream, LineReader, NextLine, ServeFault, TextBuilder, text_of, without_carriage_return,
+};
 use pd_text::{Lines, MAX_LINES, MAX_OCTETS};
-use pd_words::{Gathered, InputStream, Intake, ServeFault, Taken, text_of, without_return};
 use std::alloc::{AllocError, Global};
 
 /// The script that an input is.
@@ -31,19 +33,25 @@ impl ScriptInput {
         ensures only { IfErr result IsIo }
         ensures cause { HasCause result (R.has_failed reader.new) (R.remaining reader.old) }
     {
-        let mut intake = Intake::new(alloc);
-        let mut gathered = Gathered::new(alloc);
+        let mut line_reader = LineReader::new(alloc);
+        let mut text_builder = TextBuilder::new(alloc);
         let mut numbers = LineNumbers::new(alloc);
-        while take_line(alloc, &mut intake, reader, &mut gathered, &mut numbers)? {}
+        while read_line(
+            alloc,
+            &mut line_reader,
+            reader,
+            &mut text_builder,
+            &mut numbers,
+        )? {}
         Ok(ScriptInput {
-            lines: text_of(gathered.into_lines()),
+            lines: text_of(text_builder.into_lines()),
             numbers,
         })
     }
 
     /// Which line of the input a line of the script is, both counted from 1.
     pub fn line_of(&self, line: usize) -> usize {
-        match self.numbers.kept.get(line.saturating_sub(1)) {
+        match self.numbers.kept_lines.get(line.saturating_sub(1)) {
             Some(number) => *number,
             None => line,
         }
@@ -54,7 +62,7 @@ impl ScriptInput {
 #[derive(Drop)]
 struct LineNumbers {
     /// The numbers of the lines that were kept, counted from 1.
-    kept: Vec<usize>,
+    kept_lines: Vec<usize>,
     /// How many lines were read.
     read: usize,
 }
@@ -62,7 +70,7 @@ struct LineNumbers {
 impl LineNumbers {
     fn new(alloc: Global) -> LineNumbers {
         LineNumbers {
-            kept: Vec::new(alloc),
+            kept_lines: Vec::new(alloc),
             read: 0,
         }
     }
@@ -70,61 +78,61 @@ impl LineNumbers {
     /// Counts a line, which is kept or dropped; no text has more than 4,096.
     fn count(&mut self, line: &[u8]) -> Result<(), AllocError> {
         self.read = self.read.saturating_add(1);
-        if self.kept.len() < MAX_LINES && !is_dropped(line) {
-            self.kept.push(self.read)?;
+        if self.kept_lines.len() < MAX_LINES && !is_dropped(line) {
+            self.kept_lines.push(self.read)?;
         }
         Ok(())
     }
 }
 
 /// Takes a line of an input; false where there is none.
-fn take_line<R: InputStream>(
+fn read_line<R: InputStream>(
     alloc: Global,
-    intake: &mut Intake,
+    line_reader: &mut LineReader,
     reader: &mut R,
-    gathered: &mut Gathered,
+    text_builder: &mut TextBuilder,
     numbers: &mut LineNumbers,
 ) -> Result<bool, ServeFault>
-    ensures line { let old = to_come intake.old (R.remaining reader.old) in
-        let new = to_come intake.new (R.remaining reader.new) in
-        IfOk result (λ more. IfKnown (Gathers more gathered.old gathered.new) old new) }
-    ensures less { IfOk result (λ _. work_left intake.new < work_left intake.old) }
-    ensures reads { IfOk result (λ more. OnTrue more (IfKnown (Spends intake.old intake.new) (R.remaining reader.old) (R.remaining reader.new))) }
+    ensures line { let old = to_come line_reader.old (R.remaining reader.old) in
+        let new = to_come line_reader.new (R.remaining reader.new) in
+        IfOk result (λ more. IfKnown (Gathers more text_builder.old text_builder.new) old new) }
+    ensures less { IfOk result (λ _. work_left line_reader.new < work_left line_reader.old) }
+    ensures reads { IfOk result (λ more. OnTrue more (IfKnown (Spends line_reader.old line_reader.new) (R.remaining reader.old) (R.remaining reader.new))) }
     ensures only { IfErr result IsIo }
-    ensures cause { IfErr result (IsCaused (R.has_failed reader.new) intake.old intake.new (R.remaining reader.old)) }
+    ensures cause { IfErr result (IsCaused (R.has_failed reader.new) line_reader.old line_reader.new (R.remaining reader.old)) }
 {
-    if let Some(line) = intake.line_at_hand() {
+    if let Some(line) = line_reader.buffered_line() {
         let octets = line.len() + 1;
-        let line = without_return(line);
+        let line = without_carriage_return(line);
         numbers.count(line)?;
-        gather(gathered, line)?;
-        intake.pass(octets);
+        gather(text_builder, line)?;
+        line_reader.consume(octets);
         return Ok(true);
     }
-    match intake.next_line(alloc, reader, MAX_OCTETS)? {
-        Taken::Whole(line) => {
+    match line_reader.next_line(alloc, reader, MAX_OCTETS)? {
+        NextLine::Whole(line) => {
             numbers.count(line.as_slice())?;
-            gather(gathered, line.as_slice())?;
-            intake.give_back(line);
+            gather(text_builder, line.as_slice())?;
+            line_reader.recycle(line);
             Ok(true)
         }
-        Taken::Long => {
-            gathered.add_long();
+        NextLine::Long => {
+            text_builder.add_long();
             Ok(true)
         }
-        Taken::End => Ok(false),
+        NextLine::End => Ok(false),
     }
 }
 
 /// Adds a line, unless it is dropped.
-fn gather(gathered: &mut Gathered, line: &[u8]) -> Result<(), AllocError>
+fn gather(text_builder: &mut TextBuilder, line: &[u8]) -> Result<(), AllocError>
     requires { NoNewline line.now }
-    ensures { OnOk result (gathered.new ≡ with_line line.now gathered.old) }
+    ensures { OnOk result (text_builder.new ≡ with_line line.now text_builder.old) }
 {
     if is_dropped(line) {
         return Ok(());
     }
-    gathered.add(line)
+    text_builder.add(line)
 }
 
 /// Whether a line is dropped: one of a trace that isn't over the limits of a text by itself.

@@ -9,7 +9,7 @@
 //!   promises nothing; runs of the built program (tests/cases/runs) show that it hands in its words
 //!   and streams and gives the status.
 //! - `pdrecord` is a program of its own, since it has no book and no threads. What both need is in
-//!   `pd_words`.
+//!   `pd_protocol`.
 #![tactic(auto)]
 
 use pd_cli::{PROGRAM, arguments, refuse_arguments, run};

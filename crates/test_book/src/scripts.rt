@@ -4,22 +4,22 @@ use pd_run::{Plain, Stepper, run_all, run_with};
 use pd_script::{Parsed, parse};
 use pd_settings::Settings;
 use pd_text::Lines;
-use test_rows::{REFUSED, Said, Texts, Words, say_ran, say_verdict};
+use test_support::{AnswerText, CallArguments, OUT_OF_MEMORY, Texts, write_run, write_verdict};
 
 /// Says the kinds and lines of the tokens from a place on, at most 100, and what ends them.
-pub fn tokens(lines: &Lines, words: &mut Words<'_>, said: &mut Said) {
+pub fn tokens(lines: &Lines, arguments: &mut CallArguments<'_>, output: &mut AnswerText) {
     let mut place = Place {
-        line: words.number() as usize,
-        at: words.number() as usize,
+        line: arguments.number() as usize,
+        at: arguments.number() as usize,
     };
     for _token in 0..100 {
         match next_token(lines, place) {
             Lexed::Token(token) => {
                 place = token.to;
-                said.count(kind_name(token.kind), token.from.line as u64, ", ");
+                output.count(kind_name(token.kind), token.from.line as u64, ", ");
             }
-            Lexed::Bad(line) => return said.count("Bad ", line as u64, ""),
-            Lexed::End => return said.say("End"),
+            Lexed::Bad(line) => return output.count("Bad ", line as u64, ""),
+            Lexed::End => return output.push_str("End"),
         }
     }
 }
@@ -40,39 +40,49 @@ fn kind_name(kind: TokenKind) -> &'static str {
 }
 
 /// Says what a text is read as: the lines of its header's items and of its events, and the one at which no script goes on.
-pub fn script(texts: &Texts, lines: &Lines, said: &mut Said) {
+pub fn script(texts: &Texts, lines: &Lines, output: &mut AnswerText) {
     match parse(texts.alloc, lines) {
-        Ok(parsed) => say_parsed(said, &parsed),
-        Err(_) => said.say(REFUSED),
+        Ok(parsed) => write_parsed(output, &parsed),
+        Err(_) => output.push_str(OUT_OF_MEMORY),
     }
 }
 
-fn say_parsed(said: &mut Said, parsed: &Parsed) {
+fn write_parsed(output: &mut AnswerText, parsed: &Parsed) {
     for item in parsed.header.as_slice() {
-        said.count("", item.line as u64, " item, ");
+        output.count("", item.line as u64, " item, ");
     }
     for event in parsed.events.as_slice() {
-        said.count("", event.line as u64, " event, ");
+        output.count("", event.line as u64, " event, ");
     }
     if let Some(line) = parsed.fault {
-        said.count("", line as u64, " fault, ");
+        output.count("", line as u64, " fault, ");
     }
-    said.say("end");
+    output.push_str("end");
 }
 
 /// Says the verdict of a text, and how many steps its run took.
-pub fn counted(texts: &Texts, lines: &Lines, settings: &Settings, said: &mut Said) {
+pub fn write_verdict_and_steps(
+    texts: &Texts,
+    lines: &Lines,
+    settings: &Settings,
+    output: &mut AnswerText,
+) {
     let mut stepper = Plain::new();
     match run_with(texts.alloc, lines, settings, &mut stepper) {
-        Ok(verdict) => say_ran(said, verdict, stepper.count()),
-        Err(_) => said.say(REFUSED),
+        Ok(verdict) => write_run(output, verdict, stepper.count()),
+        Err(_) => output.push_str(OUT_OF_MEMORY),
     }
 }
 
 /// Says the verdict of a text that is run without a stepper.
-pub fn plain(texts: &Texts, lines: &Lines, settings: &Settings, said: &mut Said) {
+pub fn write_plain_verdict(
+    texts: &Texts,
+    lines: &Lines,
+    settings: &Settings,
+    output: &mut AnswerText,
+) {
     match run_all(texts.alloc, lines, settings) {
-        Ok(verdict) => say_verdict(said, verdict),
-        Err(_) => said.say(REFUSED),
+        Ok(verdict) => write_verdict(output, verdict),
+        Err(_) => output.push_str(OUT_OF_MEMORY),
     }
 }

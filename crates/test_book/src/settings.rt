@@ -2,7 +2,9 @@
 use pd_settings::{Key, Settings};
 use pd_text::Name;
 use std::alloc::Global;
-use test_rows::{MISSING, REFUSED, Said, Texts, Words, say_value, value_of, with};
+use test_support::{
+    AnswerText, CallArguments, NO_SUCH_THING, OUT_OF_MEMORY, Texts, value_of, with, write_value,
+};
 use toml::Table;
 
 /// Makes a call of settings, or of a name; whether there is such a call.
@@ -10,31 +12,31 @@ pub fn answer(
     settings: &mut Settings,
     texts: &Texts,
     word: &str,
-    words: &mut Words<'_>,
-    said: &mut Said,
+    arguments: &mut CallArguments<'_>,
+    output: &mut AnswerText,
 ) -> bool {
     match word {
-        "get" => get(settings, words.rest, said),
-        "with" => said.say(change(settings, words)),
-        "toml" => said.say(compare(texts.alloc, settings, words.rest)),
-        "name" => said.say(name_kind(texts, words.name())),
+        "get" => get(settings, arguments.rest, output),
+        "with" => output.push_str(change(settings, arguments)),
+        "toml" => output.push_str(compare(texts.alloc, settings, arguments.rest)),
+        "name" => output.push_str(name_kind(texts, arguments.name())),
         _ => return false,
     }
     true
 }
 
 /// Says what the setting of a name is set to.
-fn get(settings: &Settings, name: &str, said: &mut Said) {
+fn get(settings: &Settings, name: &str, output: &mut AnswerText) {
     match Key::named(name.as_bytes()) {
-        Some(key) => say_value(said, value_of(settings, key)),
-        None => said.say(MISSING),
+        Some(key) => write_value(output, value_of(settings, key)),
+        None => output.push_str(NO_SUCH_THING),
     }
 }
 
 /// Sets a setting.
-fn change(settings: &mut Settings, words: &mut Words<'_>) -> &'static str {
-    let key = words.word().as_bytes();
-    match with(settings, key, words.value()) {
+fn change(settings: &mut Settings, arguments: &mut CallArguments<'_>) -> &'static str {
+    let key = arguments.word().as_bytes();
+    match with(settings, key, arguments.value()) {
         Ok(changed) => {
             *settings = changed;
             "ok"
@@ -47,26 +49,26 @@ fn change(settings: &mut Settings, words: &mut Words<'_>) -> &'static str {
 fn compare(alloc: Global, settings: &Settings, written: &str) -> &'static str {
     match written.replace(alloc, " | ", "\n") {
         Ok(text) => compare_text(alloc, settings, text.as_str()),
-        Err(_) => REFUSED,
+        Err(_) => OUT_OF_MEMORY,
     }
 }
 
 fn compare_text(alloc: Global, settings: &Settings, text: &str) -> &'static str {
     match toml::table_from_str(alloc, text) {
         Ok(table) => compare_table(settings, &table),
-        Err(error) if error.is_memory() => REFUSED,
+        Err(error) if error.is_memory() => OUT_OF_MEMORY,
         Err(_) => "(not a table)",
     }
 }
 
 fn compare_table(settings: &Settings, table: &Table) -> &'static str {
     match Settings::from_table(table) {
-        Ok(read) => sameness(&read, settings),
+        Ok(read) => same_or_other(&read, settings),
         Err(fault) => fault.text(),
     }
 }
 
-fn sameness(one: &Settings, other: &Settings) -> &'static str {
+fn same_or_other(one: &Settings, other: &Settings) -> &'static str {
     if one.is_same(other) { "same" } else { "other" }
 }
 
@@ -74,14 +76,14 @@ fn sameness(one: &Settings, other: &Settings) -> &'static str {
 fn name_kind(texts: &Texts, octets: &[u8]) -> &'static str {
     match texts.name(octets) {
         Ok(name) => shared_kind(&name),
-        Err(_) => REFUSED,
+        Err(_) => OUT_OF_MEMORY,
     }
 }
 
 fn shared_kind(name: &Name) -> &'static str {
     match name.share() {
         Ok(copy) => kind_of(name, &copy),
-        Err(_) => REFUSED,
+        Err(_) => OUT_OF_MEMORY,
     }
 }
 

@@ -1,25 +1,25 @@
 //! Tables of rows as they are read. A story begins with its title, a line that begins `# `, and a table with a line that
 //! begins `== `. Empty lines are passed over.
-use crate::story::Story;
+use crate::transcript::BookTranscript;
 use std::alloc::{AllocError, Global};
-use test_rows::{Form, Teller, call_of};
+use test_support::{AnswerForm, RowRunner, call_of};
 
 /// The story that is told, and what is reported of its table.
 #[derive(Drop)]
-pub struct Tables {
-    pub teller: Teller,
-    story: Story,
+pub struct TranscriptTables {
+    pub runner: RowRunner,
+    transcript: BookTranscript,
 }
 
-impl Tables {
-    pub fn new(alloc: Global) -> Result<Tables, AllocError> {
-        let teller = match Teller::new(alloc, Form::Full) {
-            Ok(teller) => teller,
-            Err(_) => Teller::new(alloc, Form::Full)?,
+impl TranscriptTables {
+    pub fn new(alloc: Global) -> Result<TranscriptTables, AllocError> {
+        let runner = match RowRunner::new(alloc, AnswerForm::Full) {
+            Ok(runner) => runner,
+            Err(_) => RowRunner::new(alloc, AnswerForm::Full)?,
         };
-        Ok(Tables {
-            teller,
-            story: Story::new(alloc),
+        Ok(TranscriptTables {
+            runner,
+            transcript: BookTranscript::new(alloc),
         })
     }
 
@@ -28,23 +28,23 @@ impl Tables {
         for line in text.split("\n") {
             self.take(line);
         }
-        self.teller.end();
+        self.runner.end();
     }
 
     /// Takes one line. The call of a row is made again where it found no memory.
     fn take(&mut self, line: &str) {
-        let Tables { teller, story } = self;
+        let TranscriptTables { runner, transcript } = self;
         if line.starts_with("== ") {
-            teller.begin_table(line);
+            runner.begin_table(line);
         } else if line.starts_with("# ") {
-            teller.begin_story();
-            story.begin();
+            runner.begin_transcript();
+            transcript.begin();
         } else if !line.is_empty() {
-            story.answer(call_of(line), teller.hear());
-            if teller.is_refused(line) {
-                story.answer(call_of(line), teller.hear());
+            transcript.answer(call_of(line), runner.begin_answer());
+            if runner.is_out_of_memory(line) {
+                transcript.answer(call_of(line), runner.begin_answer());
             }
-            teller.compare(line);
+            runner.compare(line);
         }
     }
 }

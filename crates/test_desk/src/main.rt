@@ -1,19 +1,19 @@
 //! Tries a desk, and the program on streams that fail: tells the stories of the input, serves beside two workers that
 //! overlap, and on random schedules, and compares what is written with what is written without
 //! threads; and makes calls in all orders in which threads may hand the turn on. With a word,
-//! `stories`, `overlap`, `schedules` or `orders`, it does that alone; a status of 2 says that it
+//! `transcripts`, `two_workers`, `schedules` or `interleavings`, it does that alone; a status of 2 says that it
 //! wasn't tried to the end.
 //!
 //! A story is a list of rows, each a call of a desk with its answer, some beside threads that wait
-//! (`stories`). `overlap` holds one worker at its job until another has begun. `schedules` serves
-//! random commands beside workers that are delayed at random. `orders` lets one thread at a time go
+//! (`transcripts`). `two_workers` holds one worker at its job until another has begun. `schedules` serves
+//! random commands beside workers that are delayed at random. `interleavings` lets one thread at a time go
 //! on, and goes through all orders of turns. `streams` runs the whole program on streams that give
 //! or take little, or fail.
 //!
 //! Why it is so:
 //! - No contract says in which order threads run, who is woken, or that a call that waits ends.
 //!   Only tests show it, most of them here.
-//! - What is written beside workers is compared with what one thread writes (`hand`, and serving
+//! - What is written beside workers is compared with what one thread writes (`reference`, and serving
 //!   without workers): a settled report depends on the accepted commands alone.
 //! - Random schedules seldom meet a rare order, so a few short lists of calls are made in all of
 //!   them.
@@ -21,23 +21,23 @@
 //!   shows as a row that differs.
 #![tactic(auto)]
 
-mod aside;
-mod chairs;
-mod hand;
-mod orders;
-mod overlap;
+mod callers;
+mod during_pool;
+mod interleavings;
 mod progress;
+mod reference;
 mod schedules;
 mod serving;
-mod stories;
 mod streams;
-mod tally;
-mod watched;
+mod summary;
+mod tracing_worker;
+mod transcripts;
+mod two_workers;
 
-use crate::orders::try_orders;
-use crate::overlap::try_overlap;
-use crate::schedules::try_schedules;
-use crate::stories::tell;
+use crate::interleavings::run_interleavings;
+use crate::schedules::run_schedules;
+use crate::transcripts::run_transcripts;
+use crate::two_workers::run_two_workers;
 use std::process::ExitCode;
 use std::rt::Env;
 use std::sync::Wait;
@@ -45,36 +45,36 @@ use std::thread::Threads;
 use std::{env, io};
 
 /// The status where the input or the output failed, or there was no memory.
-const NOT_TRIED: u8 = 2;
+const NOT_RUN: u8 = 2;
 
 fn main(rt: HostRuntime) -> ExitCode {
-    match try_parts(&rt) {
+    match run_selected(&rt) {
         Ok(true) => ExitCode::SUCCESS,
         Ok(false) => ExitCode::FAILURE,
         Err(_) => {
             let _ = rt.eprint("not tried: the input or the output failed, or there is no memory\n");
-            ExitCode::from(NOT_TRIED)
+            ExitCode::from(NOT_RUN)
         }
     }
 }
 
 /// What is tried.
 #[derive(Clone, Copy)]
-struct Parts {
-    stories: bool,
-    overlap: bool,
+struct TestSelection {
+    transcripts: bool,
+    two_workers: bool,
     schedules: bool,
-    orders: bool,
+    interleavings: bool,
 }
 
-impl Parts {
+impl TestSelection {
     /// Those of a name, or all where it is empty.
-    fn named(name: &str) -> Parts {
-        Parts {
-            stories: is_named(name, "stories"),
-            overlap: is_named(name, "overlap"),
+    fn named(name: &str) -> TestSelection {
+        TestSelection {
+            transcripts: is_named(name, "stories"),
+            two_workers: is_named(name, "overlap"),
             schedules: is_named(name, "schedules"),
-            orders: is_named(name, "orders"),
+            interleavings: is_named(name, "orders"),
         }
     }
 }
@@ -84,22 +84,22 @@ fn is_named(name: &str, part: &str) -> bool {
 }
 
 /// What the program's word asks for.
-fn parts_asked(rt: &(impl Env + AllocGlobal)) -> io::Result<Parts> {
-    let words = env::args(rt)?.collect::<Vec<String>>(rt.alloc())?;
-    Ok(match words.get(1) {
-        Some(word) => Parts::named(word.as_str()),
-        None => Parts::named(""),
+fn selection_asked(rt: &(impl Env + AllocGlobal)) -> io::Result<TestSelection> {
+    let arguments = env::args(rt)?.collect::<Vec<String>>(rt.alloc())?;
+    Ok(match arguments.get(1) {
+        Some(word) => TestSelection::named(word.as_str()),
+        None => TestSelection::named(""),
     })
 }
 
 /// Whether all that was tried agrees.
-fn try_parts<R: Env + Input + Print + AllocGlobal + Threads + Wait + Sync>(
+fn run_selected<R: Env + Input + Print + AllocGlobal + Threads + Wait + Sync>(
     rt: &R,
 ) -> io::Result<bool> {
-    let parts = parts_asked(rt)?;
-    let is_told = !parts.stories || tell(rt)?;
-    let is_overlapped = !parts.overlap || try_overlap(rt)?;
-    let is_scheduled = !parts.schedules || try_schedules(rt)?;
-    let is_ordered = !parts.orders || try_orders(rt)?;
-    Ok(is_told && is_overlapped && is_scheduled && is_ordered)
+    let parts = selection_asked(rt)?;
+    let transcripts_agree = !parts.transcripts || run_transcripts(rt)?;
+    let workers_agree = !parts.two_workers || run_two_workers(rt)?;
+    let schedules_agree = !parts.schedules || run_schedules(rt)?;
+    let interleavings_agree = !parts.interleavings || run_interleavings(rt)?;
+    Ok(transcripts_agree && workers_agree && schedules_agree && interleavings_agree)
 }

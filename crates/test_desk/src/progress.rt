@@ -30,7 +30,7 @@ pub fn give_way(turns: u64) {
 /// or ended to work, how many make changes and how many changes they made, how many took a first step, and how many waits came
 /// to no end within the turns.
 #[derive(Drop)]
-pub struct Progress {
+pub struct ThreadProgress {
     pub workers: u64,
     pub others: u64,
     begun: AtomicU64,
@@ -42,9 +42,9 @@ pub struct Progress {
     pub late: AtomicU64,
 }
 
-impl Progress {
+impl ThreadProgress {
     /// That of threads of these letters, none of which has begun.
-    pub fn of(letters: &str) -> Progress {
+    pub fn of(letters: &str) -> ThreadProgress {
         let mut workers = 0u64;
         let mut changing = 0u64;
         for letter in letters.as_bytes() {
@@ -54,7 +54,7 @@ impl Progress {
                 _ => {}
             }
         }
-        Progress {
+        ThreadProgress {
             workers,
             others: (letters.len() as u64).wrapping_sub(workers),
             begun: AtomicU64::new(0),

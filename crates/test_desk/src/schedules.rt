@@ -1,20 +1,20 @@
 //! Commands that are served while workers run, on random schedules. What is written is compared with what is written
 //! without threads, and at the end the report of the history with what a book makes of it.
-mod comparing;
+mod compare;
 mod delays;
-mod dice;
 mod inputs;
+mod random;
 
-use self::comparing::is_served;
+use self::compare::is_served;
 use self::delays::Delays;
 pub use self::delays::SlowReader;
-use self::dice::Dice;
-use self::inputs::Input;
-use crate::aside::{Aside, run_aside};
-use crate::chairs::{close, open};
-use crate::hand::Hand;
-use crate::serving::Served;
-use crate::tally::Tally;
+use self::inputs::RandomInput;
+use self::random::Random;
+use crate::callers::{close, open};
+use crate::during_pool::{DuringPool, run_during_pool};
+use crate::reference::ReferenceBook;
+use crate::serving::ServedOutput;
+use crate::summary::Summary;
 use pd_book::{Book, Report};
 use pd_cli::render;
 use pd_desk::Desk;
@@ -32,45 +32,45 @@ const ROUNDS: u64 = 30;
 const COMMANDS: u64 = 24;
 
 /// Serves each input beside workers, and prints how many differ; whether none does.
-pub fn try_schedules(rt: &(impl Print + AllocGlobal + Threads + Wait + Sync)) -> io::Result<bool> {
-    let mut dice = Dice::new(20_261_123);
-    let mut trial = Trial::new(rt.alloc())?;
+pub fn run_schedules(rt: &(impl Print + AllocGlobal + Threads + Wait + Sync)) -> io::Result<bool> {
+    let mut random = Random::new(20_261_123);
+    let mut schedule_run = ScheduleRun::new(rt.alloc())?;
     for _round in 0..ROUNDS {
         for workers in 1..=WORKERS {
-            trial.tally.begin();
-            trial.try_input(rt, &mut dice, workers);
+            schedule_run.summary.begin();
+            schedule_run.run_input(rt, &mut random, workers);
         }
     }
-    trial.tally.print(rt, " schedules, ")
+    schedule_run.summary.print(rt, " schedules, ")
 }
 
 /// An input, what is served of it without threads and beside workers, and what differs.
 #[derive(Drop)]
-struct Trial {
+struct ScheduleRun {
     alloc: Global,
-    input: Input,
-    alone: Served,
-    served: Mutex<Served>,
-    tally: Tally,
+    input: RandomInput,
+    alone: ServedOutput,
+    served: Mutex<ServedOutput>,
+    summary: Summary,
 }
 
-impl Trial {
-    fn new(alloc: Global) -> Result<Trial, AllocError> {
-        Ok(Trial {
+impl ScheduleRun {
+    fn new(alloc: Global) -> Result<ScheduleRun, AllocError> {
+        Ok(ScheduleRun {
             alloc,
-            input: Input::new(alloc)?,
-            alone: Served::new(alloc)?,
-            served: Mutex::new(Served::new(alloc)?),
-            tally: Tally::new(alloc)?,
+            input: RandomInput::new(alloc)?,
+            alone: ServedOutput::new(alloc)?,
+            served: Mutex::new(ServedOutput::new(alloc)?),
+            summary: Summary::new(alloc)?,
         })
     }
 
     /// Serves random commands beside so many workers, and again at a seat of a desk, which is then closed.
-    fn try_input<R: Threads + Wait + Sync>(&mut self, rt: &R, dice: &mut Dice, workers: u8) {
+    fn run_input<R: Threads + Wait + Sync>(&mut self, rt: &R, random: &mut Random, workers: u8) {
         let gate = Delays {
-            seed: dice.below(1_000_000),
+            seed: random.below(1_000_000),
         };
-        self.input.throw(dice, COMMANDS);
+        self.input.generate(random, COMMANDS);
         let mut reader = SlowReader::new(self.input.settled.as_str(), 0);
         self.alone.serve_alone(self.alloc, &mut reader);
         let mut reader = SlowReader::new(self.input.written.as_str(), gate.seed);
@@ -78,24 +78,24 @@ impl Trial {
             .lock(rt)
             .serve_beside(rt, self.alloc, &mut reader, workers, &gate);
         self.compare(rt, "what is served");
-        self.try_desk(rt, &gate, workers);
+        self.run_desk(rt, &gate, workers);
     }
 
     fn compare<R: Wait>(&mut self, rt: &R, what: &str) {
         let are_settled = self.input.are_settled.as_slice();
         let is_same = is_served(&self.served.lock(rt), &self.alone, are_settled);
-        self.tally.must(is_same, what);
+        self.summary.must(is_same, what);
     }
 
     /// Opens a desk for so many workers, serves the commands while they run, and closes it.
-    fn try_desk<R: Threads + Wait + Sync>(&mut self, rt: &R, gate: &Delays, workers: u8) {
+    fn run_desk<R: Threads + Wait + Sync>(&mut self, rt: &R, gate: &Delays, workers: u8) {
         let workers = usize::from(workers);
         match open(self.alloc, workers, workers.saturating_add(1)) {
             Some((desk, mut seats)) => {
                 self.serve_seated(rt, &desk, gate, seats.as_mut_slice());
                 self.close(rt, desk, seats);
             }
-            None => self.tally.must(false, "the opening"),
+            None => self.summary.must(false, "the opening"),
         }
     }
 
@@ -108,26 +108,26 @@ impl Trial {
         seats: &mut [Seat],
     ) {
         let written = self.input.written.as_str();
-        let aside = Aside::Serve(&self.served, written, gate.seed);
-        let left = run_aside(rt, self.alloc, desk, gate, seats, aside);
+        let during_pool = DuringPool::Serve(&self.served, written, gate.seed);
+        let left = run_during_pool(rt, self.alloc, desk, gate, seats, during_pool);
         self.compare(rt, "what a seat is served");
-        self.tally.must(left == "ok", "how a worker left");
+        self.summary.must(left == "ok", "how a worker left");
     }
 
     /// Closes a desk, and compares its book.
     fn close<R: Wait>(&mut self, rt: &R, desk: Desk, seats: Vec<Seat>) {
         match close(desk, seats) {
             Some(book) => self.compare_book(rt, &book),
-            None => self.tally.must(false, "the closing"),
+            None => self.summary.must(false, "the closing"),
         }
     }
 
     /// Compares a book's report and that of its history, made again, with the last that was written without threads.
     fn compare_book<R: Wait>(&mut self, rt: &R, book: &Book) {
         self.compare_last(shown(book), "the closed book");
-        let mut again = Hand::new(self.alloc);
-        let are_made = again.are_made(book.history(), &mut self.served.lock(rt).said);
-        self.tally.must(are_made, "an act");
+        let mut again = ReferenceBook::new(self.alloc);
+        let are_made = again.are_made(book.history(), &mut self.served.lock(rt).out);
+        self.summary.must(are_made, "an act");
         self.compare_last(again.report(), "the report of the history");
     }
 
@@ -136,7 +136,7 @@ impl Trial {
             Ok(report) => is_last(self.alloc, &report, &self.alone),
             Err(_) => false,
         };
-        self.tally.must(is_same, what);
+        self.summary.must(is_same, what);
     }
 }
 
@@ -145,9 +145,9 @@ fn shown(book: &Book) -> Result<Report, &'static str> {
 }
 
 /// Whether a report is the last that was written.
-fn is_last(alloc: Global, report: &Report, alone: &Served) -> bool {
+fn is_last(alloc: Global, report: &Report, alone: &ServedOutput) -> bool {
     match render(alloc, report) {
-        Ok(octets) => alone.said.as_str().as_bytes().ends_with(octets.as_slice()),
+        Ok(octets) => alone.out.as_str().as_bytes().ends_with(octets.as_slice()),
         Err(_) => false,
     }
 }

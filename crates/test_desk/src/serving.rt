@@ -1,5 +1,5 @@
 //! Serving: without threads, beside workers, and at a seat of a desk that can be closed.
-use crate::chairs::CACHE;
+use crate::callers::CACHE;
 use pd_cli::InputStream;
 use pd_desk::{Desk, Gate};
 use pd_seat::Seat;
@@ -9,27 +9,27 @@ use std::io;
 use std::io::Write;
 use std::sync::Wait;
 use std::thread::Threads;
-use test_rows::{Form, Said};
+use test_support::{AnswerForm, AnswerText};
 
 /// What was written, and whether the last report passes; `None` where serving stopped at a fault. At most so many octets are
 /// taken a call, and the call of number `fails_at`, from 1, fails.
 #[derive(Drop)]
-pub struct Served {
-    pub said: Said,
+pub struct ServedOutput {
+    pub out: AnswerText,
     pub passes: Option<bool>,
     most: usize,
     fails_at: u64,
     pub calls: u64,
 }
 
-impl Write for Served {
+impl Write for ServedOutput {
     fn write(&mut self, buf: &[u8]) -> io::Result<usize> {
         self.calls = self.calls.saturating_add(1);
         if self.fails_at == self.calls {
             return Err(io::ErrorKind::BrokenPipe.into());
         }
         let count = self.most.min(buf.len());
-        self.said.say_octets(&buf[..count]);
+        self.out.push_octets(&buf[..count]);
         Ok(count)
     }
 
@@ -38,10 +38,10 @@ impl Write for Served {
     }
 }
 
-impl Served {
-    pub fn new(alloc: Global) -> Result<Served, AllocError> {
-        Ok(Served {
-            said: Said::new(alloc, Form::Short)?,
+impl ServedOutput {
+    pub fn new(alloc: Global) -> Result<ServedOutput, AllocError> {
+        Ok(ServedOutput {
+            out: AnswerText::new(alloc, AnswerForm::Short)?,
             passes: None,
             most: usize::MAX,
             fails_at: 0,
@@ -51,7 +51,7 @@ impl Served {
 
     /// Begins anew, with so many octets a call and this call that fails.
     pub fn begin(&mut self, most: usize, fails_at: u64) {
-        self.said.clear();
+        self.out.clear();
         self.most = most;
         self.fails_at = fails_at;
         self.calls = 0;
@@ -59,7 +59,7 @@ impl Served {
 
     /// Serves what this reader gives, without threads.
     pub fn serve_alone(&mut self, alloc: Global, reader: &mut impl InputStream) {
-        self.said.clear();
+        self.out.clear();
         let ended = pd_cli::serve_alone(alloc, Settings::new(), CACHE, reader, self);
         self.passes = ended.ok();
     }
@@ -73,7 +73,7 @@ impl Served {
         workers: u8,
         gate: &(impl Gate + Sync),
     ) {
-        self.said.clear();
+        self.out.clear();
         let workers = usize::from(workers.min(64));
         let settings = Settings::new();
         let ended = pd_cli::serve(rt, alloc, settings, CACHE, workers, reader, self, gate);
@@ -89,7 +89,7 @@ impl Served {
         seat: &mut Seat,
         reader: &mut impl InputStream,
     ) {
-        self.said.clear();
+        self.out.clear();
         let ended = pd_cli::serve_seat(rt, alloc, desk, seat, Settings::new(), reader, self);
         self.passes = ended.ok();
     }

@@ -1,34 +1,34 @@
 //! The whole program without workers, on streams that give or take little or fail, on an input without an end, and where it
 //! may find no memory.
-mod failing;
+mod faults;
 mod source;
 mod stored;
 
 use self::source::{Pace, STEADY, Source};
 use self::stored::{MEMORY_INPUT, MEMORY_OUTPUT};
-use crate::chairs::CACHE;
-use crate::serving::Served;
+use crate::callers::CACHE;
+use crate::serving::ServedOutput;
 use pd_cli::{Options, run_alone};
 use std::alloc::{AllocError, Global};
-use test_rows::{REFUSED, Said, Words};
+use test_support::{AnswerText, CallArguments, OUT_OF_MEMORY};
 
 /// Makes the check of a row, and says how many runs it has made and how many were wrong.
-pub fn check_streams(alloc: Global, words: &mut Words<'_>, said: &mut Said) {
-    match Runs::new(alloc) {
+pub fn check_streams(alloc: Global, arguments: &mut CallArguments<'_>, out: &mut AnswerText) {
+    match StreamRuns::new(alloc) {
         Ok(mut runs) => {
-            runs.check(words);
-            runs.say(said);
+            runs.check(arguments);
+            runs.write_counts(out);
         }
-        Err(_) => said.say(REFUSED),
+        Err(_) => out.push_str(OUT_OF_MEMORY),
     }
 }
 
 /// What came of the last run, and how many there were.
 #[derive(Drop)]
-struct Runs {
+struct StreamRuns {
     alloc: Global,
-    output: Served,
-    errors: Served,
+    output: ServedOutput,
+    errors: ServedOutput,
     status: u8,
     /// How many reads the last run made, and the greatest number of octets that one asked for.
     reads: u64,
@@ -38,14 +38,14 @@ struct Runs {
     /// Which call was to fail in the last run that was wrong.
     at: u64,
     /// Whether a run found no memory.
-    is_refused: bool,
+    is_out_of_memory: bool,
 }
 
-impl Runs {
-    fn new(alloc: Global) -> Result<Runs, AllocError> {
-        Ok(Runs {
-            output: Served::new(alloc)?,
-            errors: Served::new(alloc)?,
+impl StreamRuns {
+    fn new(alloc: Global) -> Result<StreamRuns, AllocError> {
+        Ok(StreamRuns {
+            output: ServedOutput::new(alloc)?,
+            errors: ServedOutput::new(alloc)?,
             alloc,
             status: 0,
             reads: 0,
@@ -53,30 +53,30 @@ impl Runs {
             runs: 0,
             wrong: 0,
             at: 0,
-            is_refused: false,
+            is_out_of_memory: false,
         })
     }
 
     /// Makes a check, of streams that give or take at most so many octets a call.
-    fn check(&mut self, words: &mut Words<'_>) {
-        match words.word() {
-            "reads" => self.check_reads(words.number() as usize),
-            "writes" => self.check_writes(words.number() as usize),
-            "errors" => self.check_unheard(),
+    fn check(&mut self, arguments: &mut CallArguments<'_>) {
+        match arguments.word() {
+            "reads" => self.check_reads(arguments.number() as usize),
+            "writes" => self.check_writes(arguments.number() as usize),
+            "errors" => self.check_unwritten_errors(),
             "newlines" => self.check_newlines(),
             "memory" => self.check_memory(),
             _ => self.note(false, 0),
         }
     }
 
-    fn say(&self, said: &mut Said) {
-        if self.is_refused {
-            return said.say(REFUSED);
+    fn write_counts(&self, out: &mut AnswerText) {
+        if self.is_out_of_memory {
+            return out.push_str(OUT_OF_MEMORY);
         }
-        said.count("", self.runs, " runs, ");
-        said.count("", self.wrong, " wrong");
+        out.count("", self.runs, " runs, ");
+        out.count("", self.wrong, " wrong");
         if self.wrong != 0 {
-            said.count(", the last at ", self.at, "");
+            out.count(", the last at ", self.at, "");
         }
     }
 
@@ -91,15 +91,15 @@ impl Runs {
 
     /// Whether the last run said this.
     fn says(&self, output: &str, errors: &str, status: u8) -> bool {
-        self.output.said.as_str() == output
-            && self.errors.said.as_str() == errors
+        self.output.out.as_str() == output
+            && self.errors.out.as_str() == errors
             && self.status == status
     }
 
     /// Runs the program with the settings of a text on this input, by streams of this pace.
     fn run(&mut self, settings: &str, input: &str, pace: Pace) {
         self.output.begin(pace.taken, pace.write_fails);
-        self.errors.begin(pace.heard, 0);
+        self.errors.begin(pace.error_limit, 0);
         let mut source = Source::new(input, pace);
         self.status = run_on(
             self.alloc,
@@ -117,8 +117,8 @@ impl Runs {
     fn check_memory(&mut self) {
         self.run("tolerance_us = 5000", MEMORY_INPUT, STEADY);
         let is_right = self.says(MEMORY_OUTPUT, "", 0);
-        let is_prefix = MEMORY_OUTPUT.starts_with(self.output.said.as_str());
-        self.is_refused = self.status == 2 && is_prefix;
+        let is_prefix = MEMORY_OUTPUT.starts_with(self.output.out.as_str());
+        self.is_out_of_memory = self.status == 2 && is_prefix;
         self.note(is_right, 0);
     }
 }
@@ -128,8 +128,8 @@ fn run_on(
     alloc: Global,
     settings: &str,
     source: &mut Source<'_>,
-    output: &mut Served,
-    errors: &mut Served,
+    output: &mut ServedOutput,
+    errors: &mut ServedOutput,
 ) -> u8 {
     let options = Options {
         settings,

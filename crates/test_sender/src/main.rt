@@ -1,8 +1,8 @@
 //! Tries what the sender is made of: packets as octets, the scoreboard with loss recovery, and the states that scripts lead to.
 //! Tells the tables of the files of `data`, and then the scripts of the input.
 //!
-//! A `Trial` is a scoreboard with its congestion control, and the calls that rows make on them.
-//! `Tables` reads the tables of a file and compares each answer with the row's. Then come the
+//! A `ScoreboardCalls` is a scoreboard with its congestion control, and the calls that rows make on them.
+//! `SenderTables` reads the tables of a file and compares each answer with the row's. Then come the
 //! scripts, each in one line: a stepper of its own notes the states through which the run leads,
 //! and lets it go on with a copy after each event. What is said is the program's output, which has
 //! to be the stored one.
@@ -16,38 +16,38 @@
 //!   crates of the report.
 #![tactic(auto)]
 
+mod hand_computed;
 mod lines;
+mod output;
 mod packets;
-mod reading;
+mod read_back;
 mod rows;
-mod said;
+mod scoreboard_calls;
+mod state_trace;
 mod states;
 mod tables;
-mod trial;
-mod watching;
-mod worked;
 
-use crate::states::say_all_states;
-use crate::tables::Tables;
-use crate::worked::{say_answers, say_moments};
+use crate::hand_computed::{write_answers, write_times};
+use crate::states::write_all_states;
+use crate::tables::SenderTables;
 use std::io;
 use std::rt::Files;
 
 fn main(rt: HostRuntime) -> io::Result<()> {
-    let mut tables = Tables::new(rt.alloc());
-    tell(&rt, &mut tables);
-    tables.said.print(&rt)
+    let mut tables = SenderTables::new(rt.alloc());
+    run_tables(&rt, &mut tables);
+    tables.output.print(&rt)
 }
 
 /// Tells the tables and the scripts.
-fn tell(rt: &(impl Input + Files + AllocGlobal), tables: &mut Tables) {
-    tables.tell(rt, "worked.txt");
-    say_answers(rt.alloc(), &mut tables.said);
-    say_moments(rt.alloc(), &mut tables.said);
-    tables.tell(rt, "random_packets.txt");
-    tables.tell(rt, "random_boards.txt");
+fn run_tables(rt: &(impl Input + Files + AllocGlobal), tables: &mut SenderTables) {
+    tables.run_tables(rt, "worked.txt");
+    write_answers(rt.alloc(), &mut tables.output);
+    write_times(rt.alloc(), &mut tables.output);
+    tables.run_tables(rt, "random_packets.txt");
+    tables.run_tables(rt, "random_boards.txt");
     match io::read_to_string(rt.alloc(), rt.reader()) {
-        Ok(scripts) => say_all_states(rt.alloc(), scripts.as_str(), &mut tables.said),
-        Err(_) => tables.said.is_whole = false,
+        Ok(scripts) => write_all_states(rt.alloc(), scripts.as_str(), &mut tables.output),
+        Err(_) => tables.output.is_whole = false,
     }
 }

@@ -1,14 +1,14 @@
 //! Packets as rows have them: a time, the flags, the numbers, and how many options there are and which.
-use crate::reading::is_read_back;
-use crate::rows::{NO_MEMORY, Row};
-use crate::said::Said;
+use crate::output::OutputText;
+use crate::read_back::is_read_back;
+use crate::rows::{NO_MEMORY, RowReader};
 use pd_print::write_sent;
 use pd_script::Time;
-use pd_seg::{Flags, SackBlocks, SegOption, SegOptions, Segment, Sent, Span};
+use pd_seg::{Flags, SackSpans, SegOption, SegOptions, Segment, Sent, Span};
 use std::alloc::Global;
 
 /// Writes a packet, reads it back and copies it. What is written is the rest of the row; where the row has none, it is said.
-pub fn tell_packet(alloc: Global, row: &mut Row<'_>, said: &mut Said) {
+pub fn run_packet(alloc: Global, row: &mut RowReader<'_>, output: &mut OutputText) {
     let time = read_time(row);
     let sent = Sent {
         segment: read_segment(alloc, row),
@@ -19,18 +19,18 @@ pub fn tell_packet(alloc: Global, row: &mut Row<'_>, said: &mut Said) {
         Ok(text) => {
             let text = text.as_slice();
             row.check("what is read back", is_read_back(alloc, text, time, &sent));
-            compare(text, row, said);
+            compare(text, row, output);
         }
         Err(_) => row.note(NO_MEMORY),
     }
 }
 
 /// Compares what is written with the rest of the row, or says it.
-fn compare(text: &[u8], row: &mut Row<'_>, said: &mut Said) {
+fn compare(text: &[u8], row: &mut RowReader<'_>, output: &mut OutputText) {
     let wanted = row.all();
     if wanted.is_empty() {
-        said.octets(text);
-        said.say("\n");
+        output.octets(text);
+        output.push_str("\n");
     } else {
         row.check("its octets", wanted.as_bytes() == text);
     }
@@ -44,7 +44,7 @@ fn is_copied(sent: &Sent) -> bool {
     }
 }
 
-fn read_time(row: &mut Row<'_>) -> Time {
+fn read_time(row: &mut RowReader<'_>) -> Time {
     match row.word() {
         "at" => Time::Absolute(row.number()),
         "between" => Time::AbsoluteRange(row.number(), row.number()),
@@ -54,7 +54,7 @@ fn read_time(row: &mut Row<'_>) -> Time {
     }
 }
 
-fn read_segment(alloc: Global, row: &mut Row<'_>) -> Segment {
+fn read_segment(alloc: Global, row: &mut RowReader<'_>) -> Segment {
     Segment {
         flags: read_flags(row.word()),
         start: row.octets(),
@@ -75,7 +75,7 @@ fn read_flags(letters: &str) -> Flags {
     }
 }
 
-fn read_options(alloc: Global, row: &mut Row<'_>) -> SegOptions {
+fn read_options(alloc: Global, row: &mut RowReader<'_>) -> SegOptions {
     let mut options = SegOptions::new(alloc);
     for _option in 0..row.number() {
         let option = read_option(alloc, row);
@@ -86,7 +86,7 @@ fn read_options(alloc: Global, row: &mut Row<'_>) -> SegOptions {
     options
 }
 
-fn read_option(alloc: Global, row: &mut Row<'_>) -> SegOption {
+fn read_option(alloc: Global, row: &mut RowReader<'_>) -> SegOption {
     match row.word() {
         "mss" => SegOption::Mss(row.short()),
         "wscale" => SegOption::Wscale(row.word().parse::<u8>().unwrap_or(0)),
@@ -99,8 +99,8 @@ fn read_option(alloc: Global, row: &mut Row<'_>) -> SegOption {
 }
 
 /// Reads how many blocks there are, and their edges.
-fn read_blocks(alloc: Global, row: &mut Row<'_>) -> SackBlocks {
-    let mut blocks = SackBlocks::new(alloc);
+fn read_blocks(alloc: Global, row: &mut RowReader<'_>) -> SackSpans {
+    let mut blocks = SackSpans::new(alloc);
     for _block in 0..row.number() {
         let block = Span {
             start: row.octets(),

@@ -6,14 +6,14 @@ pub const NO_MEMORY: &str = "memory";
 
 /// The words of a row that aren't read yet, and what differed first from its words.
 #[derive(Drop)]
-pub struct Row<'a> {
+pub struct RowReader<'a> {
     rest: &'a str,
     pub difference: Option<&'static str>,
 }
 
-impl<'a> Row<'a> {
-    pub fn new(row: &'a str) -> Row<'a> {
-        Row {
+impl<'a> RowReader<'a> {
+    pub fn new(row: &'a str) -> RowReader<'a> {
+        RowReader {
             rest: row,
             difference: None,
         }

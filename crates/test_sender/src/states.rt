@@ -1,7 +1,7 @@
 //! Scripts of one line.
 use crate::lines::one_line;
-use crate::said::Said;
-use crate::watching::Watching;
+use crate::output::OutputText;
+use crate::state_trace::StateTrace;
 use pd_run::{Verdict, run_with};
 use pd_settings::Settings;
 use pd_text::Lines;
@@ -12,48 +12,48 @@ const OPENING: &str =
     "0 socket(..., SOCK_STREAM, 0) = 3 +0 bind(3, ..., ...) = 0 +0 listen(3, 1) = 0 +0.1 < S 0:0(0) win 32792 <mss 1000,sackOK,nop,nop,nop,wscale 7> +0 > S. 0:0(0) ack 1 <...> +0.1 < . 1:1(0) ack 1 win 257 +0 accept(3, ..., ...) = 4 ";
 
 /// Says of each script, a line each, the names of the states that it goes through, and whether it stops before its end.
-pub fn say_all_states(alloc: Global, scripts: &str, said: &mut Said) {
+pub fn write_all_states(alloc: Global, scripts: &str, output: &mut OutputText) {
     for script in scripts.lines() {
-        say_states(alloc, script, said);
+        write_states(alloc, script, output);
     }
 }
 
-fn say_states(alloc: Global, script: &str, said: &mut Said) {
-    let mut text = Said::new(alloc);
+fn write_states(alloc: Global, script: &str, output: &mut OutputText) {
+    let mut text = OutputText::new(alloc);
     put(script, &mut text);
     match one_line(alloc, text.as_str().as_bytes()) {
-        Ok(lines) => run(alloc, &lines, said),
-        Err(_) => said.is_whole = false,
+        Ok(lines) => run(alloc, &lines, output),
+        Err(_) => output.is_whole = false,
     }
-    said.is_whole = said.is_whole && text.is_whole;
+    output.is_whole = output.is_whole && text.is_whole;
 }
 
 /// Puts down the whole script.
-fn put(script: &str, text: &mut Said) {
+fn put(script: &str, text: &mut OutputText) {
     if !script.starts_with('0') {
-        text.say(OPENING);
+        text.push_str(OPENING);
     }
     match script.strip_prefix("1025 times ") {
-        None => text.say(script),
+        None => text.push_str(script),
         Some(event) => {
             for _time in 0..1_025 {
-                text.say(event);
-                text.say(" ");
+                text.push_str(event);
+                text.push_str(" ");
             }
         }
     }
 }
 
-fn run(alloc: Global, lines: &Lines, said: &mut Said) {
-    let mut watching = Watching::new(alloc);
-    let verdict = run_with(alloc, lines, &Settings::new(), &mut watching);
-    said.say(watching.states.as_str());
-    said.say(match verdict {
+fn run(alloc: Global, lines: &Lines, output: &mut OutputText) {
+    let mut state_trace = StateTrace::new(alloc);
+    let verdict = run_with(alloc, lines, &Settings::new(), &mut state_trace);
+    output.push_str(state_trace.states.as_str());
+    output.push_str(match verdict {
         Ok(Verdict::Pass(_)) => "",
         Ok(_) => " stops",
         Err(_) => " finds no memory",
     });
-    said.say(if watching.is_copied {
+    output.push_str(if state_trace.is_copied {
         "\n"
     } else {
         ", but not its copy\n"

@@ -1,46 +1,46 @@
 //! Tables of rows, as files hold them. A table has packets, each a row, or lists of calls, each a row that begins with `list`
 //! and the rows of its calls. A line `== TITLE` ends it.
-use crate::packets::tell_packet;
-use crate::rows::Row;
-use crate::said::Said;
-use crate::trial::Trial;
+use crate::output::OutputText;
+use crate::packets::run_packet;
+use crate::rows::RowReader;
+use crate::scoreboard_calls::ScoreboardCalls;
 use std::alloc::Global;
 use std::fs;
 use std::rt::Files;
 
 /// What the rows are told to, what is said of them, and how many packets or lists the present table has so far.
 #[derive(Drop)]
-pub struct Tables {
+pub struct SenderTables {
     alloc: Global,
-    pub said: Said,
-    pub trial: Trial,
-    told: u64,
+    pub output: OutputText,
+    pub scoreboard_calls: ScoreboardCalls,
+    run: u64,
     differing: u64,
     /// Whether the last one differs.
     differs: bool,
 }
 
-impl Tables {
-    pub fn new(alloc: Global) -> Tables {
-        Tables {
+impl SenderTables {
+    pub fn new(alloc: Global) -> SenderTables {
+        SenderTables {
             alloc,
-            said: Said::new(alloc),
-            trial: Trial::new(alloc),
-            told: 0,
+            output: OutputText::new(alloc),
+            scoreboard_calls: ScoreboardCalls::new(alloc),
+            run: 0,
             differing: 0,
             differs: false,
         }
     }
 
     /// Tells the tables of a file.
-    pub fn tell(&mut self, rt: &(impl Files + AllocGlobal), name: &str) {
+    pub fn run_tables(&mut self, rt: &(impl Files + AllocGlobal), name: &str) {
         match fs::read_to_string(rt, name) {
-            Ok(rows) => self.tell_rows(rows.as_str()),
-            Err(_) => self.said.is_whole = false,
+            Ok(rows) => self.run_rows(rows.as_str()),
+            Err(_) => self.output.is_whole = false,
         }
     }
 
-    fn tell_rows(&mut self, rows: &str) {
+    fn run_rows(&mut self, rows: &str) {
         for row in rows.lines() {
             self.take(row);
         }
@@ -48,19 +48,19 @@ impl Tables {
 
     /// Makes the call of a row.
     fn take(&mut self, written: &str) {
-        let mut row = Row::new(written);
+        let mut row = RowReader::new(written);
         match row.word() {
-            "#" => self.say_line(row.all()),
+            "#" => self.push_line(row.all()),
             "==" => self.end(row.all()),
             "packet" => {
                 self.begin();
-                tell_packet(self.alloc, &mut row, &mut self.said);
+                run_packet(self.alloc, &mut row, &mut self.output);
             }
             "list" => {
                 self.begin();
-                self.trial.begin(&mut row);
+                self.scoreboard_calls.begin(&mut row);
             }
-            call => self.trial.make(call, &mut row),
+            call => self.scoreboard_calls.make(call, &mut row),
         }
         row.expect_word("the end of the row", "");
         if let Some(what) = row.difference {
@@ -68,14 +68,14 @@ impl Tables {
         }
     }
 
-    fn say_line(&mut self, line: &str) {
-        self.said.say(line);
-        self.said.say("\n");
+    fn push_line(&mut self, line: &str) {
+        self.output.push_str(line);
+        self.output.push_str("\n");
     }
 
     /// A packet or a list begins.
     fn begin(&mut self) {
-        self.told = self.told.wrapping_add(1);
+        self.run = self.run.wrapping_add(1);
         self.differs = false;
     }
 
@@ -86,23 +86,23 @@ impl Tables {
         }
         self.differs = true;
         self.differing = self.differing.wrapping_add(1);
-        self.said.number(self.told);
-        self.said.say(" differs in ");
-        self.said.say(what);
-        self.said.say(": ");
-        self.said.say(row);
-        self.said.say("\n");
+        self.output.number(self.run);
+        self.output.push_str(" differs in ");
+        self.output.push_str(what);
+        self.output.push_str(": ");
+        self.output.push_str(row);
+        self.output.push_str("\n");
     }
 
     /// Says how many there are, and how many of them differ.
     fn end(&mut self, title: &str) {
-        self.said.number(self.told);
-        self.said.say(" ");
-        self.said.say(title);
-        self.said.say(", ");
-        self.said.number(self.differing);
-        self.said.say(" differ\n");
-        self.told = 0;
+        self.output.number(self.run);
+        self.output.push_str(" ");
+        self.output.push_str(title);
+        self.output.push_str(", ");
+        self.output.number(self.differing);
+        self.output.push_str(" differ\n");
+        self.run = 0;
         self.differing = 0;
     }
 }

@@ -3,6 +3,6 @@ ghost use Rattle.pd_explain.specs.Windows.{NamedWindowsHold};
 
 /// Where the reason that no packet was sent names a window, the octets that it is about lie beyond that window, and within
 /// those that the reasons before it name.
-pub fn named_windows_hold()
+pub fn law_named_windows_hold()
     ensures { NamedWindowsHold }
 {}

@@ -2,7 +2,7 @@
 ghost use Rattle.std.specs.Prelude.{◌≡◌, ◌++◌, codes, IfOk};
 ghost use Rattle.std.specs.Fmt.{decimal};
 
-use crate::refusals::trying::{goes_on, is_script};
+use crate::refusals::probe::{goes_on, is_script};
 use itoa::Buffer;
 use std::alloc::{AllocError, Global};
 
@@ -66,7 +66,7 @@ const LAST: [(&str, &str); 4] = [("=", "`=`"), (",", "`,`"), ("<", "`<`"), (">",
 
 /// The candidates that were tried.
 #[derive(Drop)]
-struct Trials<'a> {
+struct Candidates<'a> {
     alloc: Global,
     /// The octets after which they are tried.
     before: &'a [u8],
@@ -84,25 +84,25 @@ pub fn expected(
     before: &[u8],
     difference: Option<u64>,
 ) -> Result<Vec<Vec<u8>>, AllocError> {
-    let mut trials = Trials {
+    let mut candidates = Candidates {
         alloc,
         before,
         expected: Vec::new(alloc),
     };
-    if trials.goes_on(ONLY_INSIDE)? {
-        trials.try_all(&INSIDE)?;
+    if candidates.goes_on(ONLY_INSIDE)? {
+        candidates.try_all(&INSIDE)?;
     } else {
-        trials.try_outside(difference)?;
+        candidates.try_outside(difference)?;
     }
-    Ok(trials.expected)
+    Ok(candidates.expected)
 }
 
-impl Trials<'_> {
+impl Candidates<'_> {
     fn goes_on(&self, candidate: &[u8]) -> Result<bool, AllocError> {
         goes_on(self.alloc, self.before, candidate)
     }
 
-    fn tell(&mut self, words: &str) -> Result<(), AllocError> {
+    fn put_expected(&mut self, words: &str) -> Result<(), AllocError> {
         let words = Vec::from_slice(self.alloc, words.as_bytes())?;
         self.expected.push(words)?;
         Ok(())
@@ -111,7 +111,7 @@ impl Trials<'_> {
     fn try_all(&mut self, candidates: &[(&'static str, &'static str)]) -> Result<(), AllocError> {
         for (candidate, words) in candidates {
             if self.goes_on(candidate.as_bytes())? {
-                self.tell(words)?;
+                self.put_expected(words)?;
             }
         }
         Ok(())
@@ -150,25 +150,25 @@ impl Trials<'_> {
     /// What follows a whole event: the time of the next one, and the end of the text.
     fn try_end(&mut self, begins_event: bool) -> Result<(), AllocError> {
         if begins_event {
-            self.tell("a time")?;
+            self.put_expected("a time")?;
         }
         if is_script(self.alloc, self.before)? {
-            self.tell("the end of the text")?;
+            self.put_expected("the end of the text")?;
         }
         Ok(())
     }
 
     fn try_any_word(&mut self) -> Result<(), AllocError> {
         if self.goes_on(SOME_CALL)? {
-            self.tell("the name of a call")
+            self.put_expected("the name of a call")
         } else {
-            self.tell("the name of an error")
+            self.put_expected("the name of an error")
         }
     }
 
     fn try_flags(&mut self) -> Result<(), AllocError> {
         if self.goes_on(b"S")? {
-            self.tell("letters of flags")?;
+            self.put_expected("letters of flags")?;
         }
         Ok(())
     }
@@ -176,13 +176,13 @@ impl Trials<'_> {
     /// A number is tried by the least and the greatest that are written in 32 bits.
     fn try_number(&mut self, difference: Option<u64>) -> Result<(), AllocError> {
         if self.goes_on(b"+")? {
-            self.tell("`+`")?;
+            self.put_expected("`+`")?;
         }
         if self.goes_on(b"4294967295.999999")? {
             if self.goes_on(b"0.0")? {
-                self.tell("seconds below 4,294,967,296")
+                self.put_expected("seconds below 4,294,967,296")
             } else {
-                self.tell("seconds from the first number on, below 4,294,967,296")
+                self.put_expected("seconds from the first number on, below 4,294,967,296")
             }
         } else {
             self.try_length(difference)
@@ -208,9 +208,9 @@ impl Trials<'_> {
             return Ok(());
         }
         if self.goes_on(b"0")? {
-            self.tell("a whole number up to 4,294,967,295")
+            self.put_expected("a whole number up to 4,294,967,295")
         } else {
-            self.tell("a whole number from the start up to 4,294,967,295")
+            self.put_expected("a whole number from the start up to 4,294,967,295")
         }
     }
 }

@@ -3,7 +3,7 @@ ghost use Rattle.pd_explain.specs.Rules.{LimitsHaveNumbers, ShapesHaveRules, Ope
 
 /// A number is named exactly where some number of an event is over its limit, and a shape exactly where its shape isn't run.
 /// Of a segment that the sender doesn't run, the rule that is named holds.
-pub fn rules_are_lawful()
+pub fn law_rules()
     ensures limits { LimitsHaveNumbers }
     ensures shapes { ShapesHaveRules }
     ensures openings { OpeningsHaveRules }

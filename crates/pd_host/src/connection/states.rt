@@ -58,7 +58,7 @@ impl Connection {
     pub fn state(&self) -> ConnState
         ensures { result ≡ state_of self.now }
     {
-        if self.reset {
+        if self.is_reset {
             return ConnState::Closed;
         }
         match &self.established {

@@ -6,18 +6,18 @@ use std::marker::Model;
 use std::sync::Arc;
 
 /// Fewer items than these are copied, so that no list consists of many small blocks.
-const FEW: usize = 4;
+const MIN_SHARED: usize = 4;
 
 /// The first of some items, which are held once however many blocks they are the first of.
 #[derive(Drop)]
-pub struct Block<T> {
+pub struct SharedBlock<T> {
     /// All items that are held; other blocks may have more of them.
     items: Arc<Vec<T>>,
     /// How many of them the block has.
     used: usize,
 }
 
-impl<T> Model for Block<T> {
+impl<T> Model for SharedBlock<T> {
     ghost use Rattle.std.specs.Prelude.{◌≤◌, List, length, take};
 
     ghost Value = { List T };
@@ -27,32 +27,32 @@ impl<T> Model for Block<T> {
     ghost invariant = { λ b. b.used ≤ length b.items.value.items };
 }
 
-impl<T: Drop> Block<T> {
+impl<T: Drop> SharedBlock<T> {
     /// The block of all these items.
-    pub(crate) fn new(alloc: Global, items: Vec<T>) -> Result<Block<T>, AllocError>
+    pub(crate) fn new(alloc: Global, items: Vec<T>) -> Result<SharedBlock<T>, AllocError>
         ensures { IfOk result (λ block. block ≡ items.items) }
     {
         let used = items.len();
-        Ok(Block {
+        Ok(SharedBlock {
             items: Arc::new(alloc, items)?,
             used,
         })
     }
 
     /// The first items, shared. Fails only where the count of owners is full.
-    pub(crate) fn first(&self, count: usize) -> Result<Block<T>, AllocError>
+    pub(crate) fn first(&self, count: usize) -> Result<SharedBlock<T>, AllocError>
         requires { count ≤ length self.now }
         ensures { IfOk result (λ block. block ≡ take count self.now) }
     {
-        Ok(Block {
+        Ok(SharedBlock {
             items: self.items.clone()?,
             used: count,
         })
     }
 
     /// Whether so many of its items are better shared than copied: at least half of those that are held then, and not few.
-    pub(crate) fn is_worth_sharing(&self, count: usize) -> bool {
-        FEW <= count && self.items.len() / 2 <= count
+    pub(crate) fn should_share(&self, count: usize) -> bool {
+        MIN_SHARED <= count && self.items.len() / 2 <= count
     }
 
     pub(crate) fn len(&self) -> usize

@@ -3,18 +3,18 @@ ghost use Rattle.std.specs.Prelude.{◌≡◌, ◌<◌, ◌^◌, false, None, So
 ghost use Rattle.std.specs.List.{list_any};
 ghost use Rattle.pd_host.specs.Expiries.{advanced, deadline_of};
 ghost use Rattle.pd_host.specs.Host.{IsShort};
-ghost use Rattle.pd_host.specs.declared.halts.Ending.TheVariants.{OutOfMemory};
+ghost use Rattle.pd_host.specs.declared.halts.HostEnd.TheVariants.{OutOfMemory};
 ghost use Rattle.pd_run.specs.Inner.{Ends};
 ghost use Rattle.pd_run.specs.Limits.{is_long, written_times, is_packet_over};
-ghost use Rattle.pd_run.specs.Step.{arrives, on_arrival, answers, on_answer, on_expiry, awaited, packet_taken, leaves, outcome, why, Steps};
+ghost use Rattle.pd_run.specs.Step.{arrives, on_arrival, answers, on_answer, on_expiry, awaited, packet_taken, leaves, outcome, stop_reason, Steps};
 
 use super::RunState;
-use crate::acting::{answer, arrive};
-use crate::bars::{Bar, bar_of};
-use crate::laws::sender_is_lawful;
-use crate::stepping::StepEnd;
-use crate::times::{base_after, is_in_reach, moments_of};
-use crate::whys::{Stop, Why};
+use crate::host_input::{answer, arrive};
+use crate::laws::law_sender;
+use crate::prechecks::{Precheck, failed_precheck};
+use crate::stepper::StepEnd;
+use crate::stop_reason::{StopKind, StopReason};
+use crate::times::{base_after, may_be_in_time, time_range_of};
 use pd_match::{Expect, check_call, check_packet};
 use pd_script::{Action, Call, Event, Packet};
 use std::alloc::AllocError;
@@ -33,7 +33,7 @@ impl RunState {
         ensures memory { OnErr result (self.new.host.ended ≡ Some OutOfMemory) }
     {
         if let Some(ending) = self.host.ended() {
-            return Ok(StepEnd::Stop(Stop::by(ending)?.verdict(event.line)));
+            return Ok(StepEnd::Stop(StopKind::by(ending)?.verdict(event.line)));
         }
         match self.outcome(event)? {
             None => Ok(StepEnd::Go),
@@ -45,23 +45,23 @@ impl RunState {
     ///
     /// # Errors
     /// `AllocError` where a growth is refused.
-    pub fn why(&self, event: &Event) -> Result<Option<Why>, AllocError>
+    pub fn stop_reason(&self, event: &Event) -> Result<Option<StopReason>, AllocError>
         requires live { self.now.host.ended ≡ None }
         requires clock { self.now.clock < 2 ^ 61 }
         requires base { self.now.base < 2 ^ 61 }
         requires short { IsShort self.now.host.state }
-        ensures { IfOk result (λ reason. reason ≡ why self.now event.now) }
+        ensures { IfOk result (λ reason. reason ≡ stop_reason self.now event.now) }
     {
         let mut run = self.copy()?;
         match run.outcome(event)? {
             None => Ok(None),
-            Some(stop) => Ok(Some(stop.told(run)?)),
+            Some(stop) => Ok(Some(stop.into_reason(run)?)),
         }
     }
 
     /// How an event ends: its checks in order, then the event itself. Nothing where the run goes on.
     #[inline(always)]
-    fn outcome(&mut self, event: &Event) -> Result<Option<Stop>, AllocError>
+    fn outcome(&mut self, event: &Event) -> Result<Option<StopKind>, AllocError>
         requires live { self.old.host.ended ≡ None }
         requires clock { self.old.clock < 2 ^ 61 }
         requires base { self.old.base < 2 ^ 61 }
@@ -69,22 +69,22 @@ impl RunState {
         ensures ends { IfOk result (λ end. Ends (outcome self.old event.now) end self.new) }
         ensures memory { OnErr result (self.new.host.ended ≡ Some OutOfMemory) }
     {
-        if let Some(bar) = bar_of(self.base, event) {
-            return Ok(Some(Stop::Barred(bar)));
+        if let Some(bar) = failed_precheck(self.base, event) {
+            return Ok(Some(StopKind::FailedPrecheck(bar)));
         }
         match &event.action {
             Action::Inbound(packet) => self.arrive(event, packet),
             Action::Outbound(packet) => {
-                self.note();
+                self.note_comparison();
                 self.expect(event, packet)
             }
             Action::Call(call) => self.call(event, call),
-            Action::Command | Action::Code => Ok(Some(Stop::Barred(Bar::NotRun))),
+            Action::Command | Action::Code => Ok(Some(StopKind::FailedPrecheck(Precheck::NotRun))),
         }
     }
 
     #[inline(always)]
-    fn arrive(&mut self, event: &Event, packet: &Packet) -> Result<Option<Stop>, AllocError>
+    fn arrive(&mut self, event: &Event, packet: &Packet) -> Result<Option<StopKind>, AllocError>
         requires live { self.old.host.ended ≡ None }
         requires clock { self.old.clock < 2 ^ 61 }
         requires base { self.old.base < 2 ^ 61 }
@@ -93,19 +93,19 @@ impl RunState {
         ensures ends { IfOk result (λ end. Ends (on_arrival self.old event.now (arrives self.old event.now packet.now)) end self.new) }
         ensures memory { OnErr result (self.new.host.ended ≡ Some OutOfMemory) }
     {
-        sender_is_lawful();
-        let moment = self.acts_at(event);
+        law_sender();
+        let moment = self.action_time(event);
         match arrive(&mut self.host, packet, moment) {
             Ok(()) => {}
-            Err(ending) => return Ok(Some(Stop::by(ending)?)),
+            Err(ending) => return Ok(Some(StopKind::by(ending)?)),
         }
         self.clock = moment;
-        self.rebase(event);
+        self.set_base(event);
         Ok(None)
     }
 
     #[inline(always)]
-    fn call(&mut self, event: &Event, call: &Call) -> Result<Option<Stop>, AllocError>
+    fn call(&mut self, event: &Event, call: &Call) -> Result<Option<StopKind>, AllocError>
         requires live { self.old.host.ended ≡ None }
         requires clock { self.old.clock < 2 ^ 61 }
         requires base { self.old.base < 2 ^ 61 }
@@ -114,22 +114,22 @@ impl RunState {
         ensures ends { IfOk result (λ end. Ends (on_answer self.old event.now call.now (answers self.old event.now call.now)) end self.new) }
         ensures memory { OnErr result (self.new.host.ended ≡ Some OutOfMemory) }
     {
-        sender_is_lawful();
-        let moment = self.acts_at(event);
+        law_sender();
+        let moment = self.action_time(event);
         let answer = match answer(&mut self.host, call, moment) {
             Ok(answer) => answer,
-            Err(ending) => return Ok(Some(Stop::by(ending)?)),
+            Err(ending) => return Ok(Some(StopKind::by(ending)?)),
         };
         self.clock = moment;
-        self.rebase(event);
+        self.set_base(event);
         match check_call(call, &answer) {
             None => Ok(None),
-            Some(_) => Ok(Some(Stop::Answered(answer))),
+            Some(_) => Ok(Some(StopKind::Answered(answer))),
         }
     }
 
     #[inline(always)]
-    fn expect(&mut self, event: &Event, packet: &Packet) -> Result<Option<Stop>, AllocError>
+    fn expect(&mut self, event: &Event, packet: &Packet) -> Result<Option<StopKind>, AllocError>
         requires live { self.old.host.ended ≡ None }
         requires clock { self.old.clock < 2 ^ 61 }
         requires base { self.old.base < 2 ^ 61 }
@@ -145,7 +145,7 @@ impl RunState {
 
     /// Where no packet is untaken, performs the next expiry that may send the expected one.
     #[inline(always)]
-    fn wait(&mut self, event: &Event) -> Result<Option<Stop>, AllocError>
+    fn wait(&mut self, event: &Event) -> Result<Option<StopKind>, AllocError>
         requires live { self.old.host.ended ≡ None }
         requires clock { self.old.clock < 2 ^ 61 }
         requires base { self.old.base < 2 ^ 61 }
@@ -157,16 +157,16 @@ impl RunState {
         if !self.host.outbox().is_empty() {
             return Ok(None);
         }
-        let moments = moments_of(self.base, event.time);
+        let time_range = time_range_of(self.base, event.time);
         match self.host.deadline() {
             // One expiry is enough: each puts a packet out.
-            Some(at) if is_in_reach(moments, self.tolerance(), at) => self.expire(at),
-            _ => Ok(Some(Stop::Missing)),
+            Some(at) if may_be_in_time(time_range, self.tolerance(), at) => self.expire(at),
+            _ => Ok(Some(StopKind::Missing)),
         }
     }
 
     /// Performs the next expiry, whose moment the clock becomes.
-    fn expire(&mut self, at: u64) -> Result<Option<Stop>, AllocError>
+    fn expire(&mut self, at: u64) -> Result<Option<StopKind>, AllocError>
         requires live { self.old.host.ended ≡ None }
         requires clock { self.old.clock < 2 ^ 61 }
         requires due { deadline_of self.old.host.state ≡ Some at }
@@ -174,10 +174,10 @@ impl RunState {
         ensures memory { OnErr result (self.new.host.ended ≡ Some OutOfMemory) }
         ensures base { self.new.base ≡ self.old.base }
     {
-        sender_is_lawful();
+        law_sender();
         match self.host.advance(at) {
             Ok(()) => {}
-            Err(ending) => return Ok(Some(Stop::by(ending)?)),
+            Err(ending) => return Ok(Some(StopKind::by(ending)?)),
         }
         self.clock = at;
         Ok(None)
@@ -185,21 +185,21 @@ impl RunState {
 
     /// Compares the oldest packet, and takes it where it agrees.
     #[inline(always)]
-    fn take(&mut self, event: &Event, packet: &Packet) -> Option<Stop>
+    fn take(&mut self, event: &Event, packet: &Packet) -> Option<StopKind>
         requires base { self.old.base < 2 ^ 61 }
         requires short { list_any is_long (written_times event.now.time) ≡ false }
         ensures { Ends (packet_taken event.now packet.now self.old (slice_get self.old.host.state.endpoint.outbox 0)) result self.new }
     {
-        sender_is_lawful();
+        law_sender();
         let Some(sent) = self.host.outbox().get(0) else {
-            return Some(Stop::Missing);
+            return Some(StopKind::Missing);
         };
         let expect = Expect {
             packet,
-            moments: moments_of(self.base, event.time),
+            time_range: time_range_of(self.base, event.time),
         };
         if let Some(kind) = check_packet(&expect, sent, self.tolerance()) {
-            return Some(Stop::Differs(kind));
+            return Some(StopKind::Differs(kind));
         }
         self.base = base_after(self.base, event.time, sent.at);
         let _ = self.host.take();

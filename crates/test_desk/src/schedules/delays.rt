@@ -1,5 +1,5 @@
 //! A gate and a reader that delay.
-use crate::schedules::dice::Dice;
+use crate::schedules::random::Random;
 use pd_cli::InputStream;
 use pd_desk::Gate;
 use std::io::Read;
@@ -7,9 +7,9 @@ use std::{io, thread};
 
 /// Yields some times by a seed and a moment, mostly a few: on a busy machine each may take a slice of time.
 fn delay(seed: u64, moment: u64) {
-    let mut dice = Dice::new(seed.wrapping_add(moment));
-    let most = if dice.below(8) == 0 { 60 } else { 6 };
-    for _turn in 0..dice.below(most) {
+    let mut random = Random::new(seed.wrapping_add(moment));
+    let most = if random.below(8) == 0 { 60 } else { 6 };
+    for _turn in 0..random.below(most) {
         thread::yield_now();
     }
 }

@@ -1,14 +1,14 @@
 //! Commands, as they come at random.
-use crate::schedules::dice::Dice;
+use crate::schedules::random::Random;
 use std::alloc::{AllocError, Global};
-use test_rows::{Form, Said};
+use test_support::{AnswerForm, AnswerText};
 
 /// Commands, as they are served beside workers and without.
 #[derive(Drop)]
-pub struct Input {
-    pub written: Said,
+pub struct RandomInput {
+    pub written: AnswerText,
     /// The same, but that each `show` is a `settle`.
-    pub settled: Said,
+    pub settled: AnswerText,
     /// Of each report that is printed, also the last, whether it is settled.
     pub are_settled: Vec<bool>,
 }
@@ -38,34 +38,34 @@ const SETTINGS: [&str; 4] = [
     "nagle true",
 ];
 
-impl Input {
-    pub fn new(alloc: Global) -> Result<Input, AllocError> {
-        Ok(Input {
-            written: Said::new(alloc, Form::Short)?,
-            settled: Said::new(alloc, Form::Short)?,
+impl RandomInput {
+    pub fn new(alloc: Global) -> Result<RandomInput, AllocError> {
+        Ok(RandomInput {
+            written: AnswerText::new(alloc, AnswerForm::Short)?,
+            settled: AnswerText::new(alloc, AnswerForm::Short)?,
             are_settled: Vec::new(alloc),
         })
     }
 
     /// So many commands in place of those before.
-    pub fn throw(&mut self, dice: &mut Dice, commands: u64) {
+    pub fn generate(&mut self, random: &mut Random, commands: u64) {
         self.written.clear();
         self.settled.clear();
         self.are_settled.clear();
         for _command in 0..commands {
-            self.add_command(dice);
+            self.add_command(random);
         }
         self.note_report(true);
     }
 
-    fn add_command(&mut self, dice: &mut Dice) {
-        let script = dice.pick(&SCRIPTS);
-        let line = dice.pick(&LINES);
-        match dice.below(16) {
+    fn add_command(&mut self, random: &mut Random) {
+        let script = random.pick(&SCRIPTS);
+        let line = random.pick(&LINES);
+        match random.below(16) {
             0..=4 => self.put(&["add ", script, BEGINNING, line, "\n"]),
             5..=9 => self.put(&["edit ", script, " 4 1 1\n", line, "\n"]),
             10 => self.put(&["remove ", script, "\n"]),
-            11 => self.put(&["set ", dice.pick(&SETTINGS), "\n"]),
+            11 => self.put(&["set ", random.pick(&SETTINGS), "\n"]),
             12..=14 => self.report("show\n", false),
             _ => self.report("settle\n", true),
         }
@@ -74,14 +74,14 @@ impl Input {
     /// Adds these pieces to both.
     fn put(&mut self, pieces: &[&str]) {
         for piece in pieces {
-            self.written.say(piece);
-            self.settled.say(piece);
+            self.written.push_str(piece);
+            self.settled.push_str(piece);
         }
     }
 
     fn report(&mut self, word: &str, is_settled: bool) {
-        self.written.say(word);
-        self.settled.say("settle\n");
+        self.written.push_str(word);
+        self.settled.push_str("settle\n");
         self.note_report(is_settled);
     }
 

@@ -15,7 +15,7 @@ pub struct Pace {
     pub taken: usize,
     pub write_fails: u64,
     /// How many octets the error stream takes.
-    pub heard: usize,
+    pub error_limit: usize,
 }
 
 /// Streams that never fail.
@@ -26,7 +26,7 @@ pub const STEADY: Pace = Pace {
     is_endless: false,
     taken: 1_048_576,
     write_fails: 0,
-    heard: 1_048_576,
+    error_limit: 1_048_576,
 };
 
 /// A reader of these octets.

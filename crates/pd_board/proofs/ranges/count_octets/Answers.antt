@@ -1,6 +1,6 @@
 -- One range more.
 use Rattle.std.proofs.Common.{◌-◌, ◌^◌, arith}
-use Rattle.pd_board.proofs.Ahead.{none, sum_in, order_in, octets_small}
+use Rattle.pd_board.proofs.Searching.{none, sum_in, order_in, octets_small}
 use Rattle.pd_board.proofs.ranges.count_octets.Goals as goal
 
 pub overflow_sub-octets : goal.overflow_sub-octets

@@ -1,8 +1,8 @@
 -- One range more is done, or joined with the one in hand.
 use Rattle.std.proofs.Common.{ℕ, ◌+◌, ◌∷◌, List, drop, get_or, arith, ap, ◌∙◌, subst}
-use Rattle.pd_seg.specs.declared.sack_blocks.Span.{Span}
+use Rattle.pd_seg.specs.declared.sack_spans.Span.{Span}
 use Rattle.pd_board.specs.Ranges.{Merging}
-use Rattle.pd_board.proofs.Ahead.{none, rest_in}
+use Rattle.pd_board.proofs.Searching.{none, rest_in}
 use Rattle.pd_board.proofs.Counted.{Between-push}
 use Rattle.pd_board.proofs.Merge.{merge_before, merge_past, merge_in, Merging-same}
 use Rattle.pd_board.proofs.ranges.merged.Goals as goal

@@ -1,5 +1,5 @@
 use Rattle.std.proofs.Common.{◌≡◌, ◌≤◌, length}
-use Rattle.pd_layout.specs.Laid.{after_end}
+use Rattle.pd_layout.specs.Canonical.{after_end}
 use Rattle.pd_layout.proofs.comments.after_end.Given as goal
 
 abbrev pub invariant-loop-rest : goal.invariant-loop-rest

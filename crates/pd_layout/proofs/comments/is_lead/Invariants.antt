@@ -1,6 +1,6 @@
 use Rattle.std.proofs.Common.{◌≡◌, length}
-use Rattle.pd_layout.specs.Laid.{lead}
-use Rattle.pd_layout.specs.Inner.{lines_of}
+use Rattle.pd_layout.specs.Canonical.{lead}
+use Rattle.pd_layout.specs.Internal.{lines_of}
 use Rattle.pd_layout.proofs.comments.is_lead.Given as goal
 
 abbrev pub invariant-loop-line : goal.invariant-loop-line

@@ -1,7 +1,7 @@
 -- Each turn goes past a comment.
 use Rattle.std.proofs.Common.{◌≡◌, ◌∙◌, List, ℕ, Bool, Option, Some, None, true, false, take, drop, length, bytes_eq, codes, ap, sym, arith}
 use Rattle.std.specs.Option.{option_map_or}
-use Rattle.pd_layout.specs.Laid.{trail, after_end}
+use Rattle.pd_layout.specs.Canonical.{trail, after_end}
 use Rattle.pd_layout.proofs.CommentEnds.{trail_inside, trail_opens}
 use Rattle.pd_layout.proofs.comments.trail.Goals as goal
 

@@ -1,5 +1,5 @@
 use Rattle.std.proofs.Common.{◌≡◌, length, false}
-use Rattle.pd_layout.specs.Laid.{trail}
+use Rattle.pd_layout.specs.Canonical.{trail}
 use Rattle.pd_layout.proofs.comments.trail.Given as goal
 
 abbrev pub invariant-loop-comment : goal.invariant-loop-comment

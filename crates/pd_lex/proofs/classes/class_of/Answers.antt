@@ -2,34 +2,34 @@
 use Rattle.std.proofs.Common.{◌≡◌, ◌∙◌, sym, ap, ℕ, zero, suc, ◌<◌, Bool, true, false, ◌&&◌, nat_eq, slice_index_or, List, refl, arith, inl, inr}
 use Rattle.std.proofs.lemmas.Bool.{cases_eq}
 use Rattle.std.proofs.lemmas.Bool.Decides.{nat_tests}
-use Rattle.pd_lex.specs.declared.classes.Class.{Class}
-use Rattle.pd_lex.specs.declared.classes.Class.TheVariants.{Digit, Letter, Point, Symbol, Other}
+use Rattle.pd_lex.specs.declared.classes.OctetClass.{OctetClass}
+use Rattle.pd_lex.specs.declared.classes.OctetClass.TheVariants.{Digit, Letter, Point, Symbol, Other}
 use Rattle.pd_lex.specs.declared.classes.TheConstants.{CLASSES}
 use Rattle.pd_lex.specs.Classes.{class_of}
 use Rattle.pd_lex.proofs.classes.class_of.Goals as goal
 
-abbrev number_of : Class → ℕ
+abbrev number_of : OctetClass → ℕ
 number_of Digit = 0
 number_of Letter = 1
 number_of Point = 2
 number_of Symbol = 3
 number_of Other = 4
 
-abbrev numbered : ℕ → Class
+abbrev numbered : ℕ → OctetClass
 numbered zero = Digit
 numbered (suc zero) = Letter
 numbered (suc (suc zero)) = Point
 numbered (suc (suc (suc zero))) = Symbol
 numbered (suc (suc (suc (suc n)))) = Other
 
-numbered_back : (c : Class) → numbered (number_of c) ≡ c
+numbered_back : (c : OctetClass) → numbered (number_of c) ≡ c
 numbered_back Digit = refl
 numbered_back Letter = refl
 numbered_back Point = refl
 numbered_back Symbol = refl
 numbered_back Other = refl
 
-same_class : (c d : Class) → number_of c ≡ number_of d → c ≡ d
+same_class : (c d : OctetClass) → number_of c ≡ number_of d → c ≡ d
 same_class c d h = sym (numbered_back c) ∙ (ap numbered h ∙ numbered_back d)
 
 -- table and definition agree below n
@@ -51,7 +51,7 @@ agree_at f g (suc n) h b lt =
     let both = both_of (f n) (g n) (agree_below f g n) h in
     elim (cases_eq b n) [ inl same ↦ rw same both.0 | inr other ↦ agree_at f g n both.1 b (omega arith) ]
 
-from_table : (table : List Class) (b : ℕ) → b < 256
+from_table : (table : List OctetClass) (b : ℕ) → b < 256
     → agree_below (λ k. number_of (slice_index_or table k Digit)) (λ k. number_of (class_of k)) 256 ≡ true
     → slice_index_or table b Digit ≡ class_of b
 from_table table b lt h = same_class _ _ (agree_at _ _ 256 h b lt)

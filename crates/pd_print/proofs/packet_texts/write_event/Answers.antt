@@ -2,9 +2,9 @@
 use Rattle.std.proofs.Common.{rules, ◌≡◌, List, ℕ, sym, ap, ◌∙◌, subst}
 use Rattle.pd_script.specs.Grammar.{IsEvent}
 use Rattle.pd_print.specs.Packets.{event_text, action_of}
-use Rattle.pd_print.specs.WayBack.{IsReadAs, event_of}
+use Rattle.pd_print.specs.RoundTrip.{IsReadAs, event_of}
 use Rattle.pd_text.specs.Text.{is_line}
-use Rattle.pd_print.proofs.Inside.{event_inside}
+use Rattle.pd_print.proofs.InOneLine.{event_inside}
 use Rattle.pd_print.proofs.Events.{event_back}
 use Rattle.pd_print.proofs.packet_texts.write_event.Goals as goal
 

@@ -1,7 +1,7 @@
 -- The options so far, as a script writes them.
 use Rattle.std.proofs.Common.{◌≡◌, take, map}
 use Rattle.std.specs.List.{AllByRecursion}
-use Rattle.pd_print.specs.WayBack.{IsSmallOption}
+use Rattle.pd_print.specs.RoundTrip.{IsSmallOption}
 use Rattle.pd_match.specs.Agreement.{option_of}
 use Rattle.pd_print.proofs.sent_packets.written_list.Given as goal
 

@@ -2,43 +2,43 @@
 use Rattle.std.proofs.Common.{◌≡◌, List, Some, Ok, subst}
 use Rattle.pd_script.specs.Script.{script_of}
 use Rattle.pd_script.specs.declared.script_events.Event.{Event}
-use Rattle.pd_record.specs.Recording.{tracks_of, events_of}
-use Rattle.pd_record.specs.Scripts.{IsRead}
+use Rattle.pd_record.specs.Recording.{recorded_script_of, events_of}
+use Rattle.pd_record.specs.PlacedScripts.{IsRead}
 use Rattle.pd_record.proofs.Again.{Bases}
 use Rattle.pd_record.proofs.Right.{on_ok, kept_recording, written_recording, settled_recording}
 use Rattle.pd_record.proofs.recording.record.Goals as goal
 
 pub returns-then-branch-clause-recorded : goal.returns-then-branch-clause-recorded
 returns-then-branch-clause-recorded c =
-    let laws : Bases = record { after = c.advances_are_lawful.ensures.packets; one_by_one = c.sending_goes_one_by_one.ensures; starts = c.runs_are_bounded.ensures.start; steps = c.runs_are_bounded.ensures.step; reasons = c.verdicts_have_reasons.ensures.reasons } in
+    let laws : Bases = record { after = c.law_advances.ensures.packets; one_by_one = c.law_sending_one_by_one.ensures; starts = c.law_runs_are_bounded.ensures.start; steps = c.law_runs_are_bounded.ensures.step; reasons = c.law_verdicts_have_reasons.ensures.reasons } in
     let read : IsRead (script_of c.args.lines.now) (Some c.in-Some.script) = subst (IsRead (script_of c.args.lines.now)) c.in-Some.is c.in_ok-script.ensures.read in
-    let tracks : tracks_of c.in-Some.script.header.items c.in-Some.script.events.items c.args.settings.now ≡ Ok c.in_ok-tracks.tracks = subst (λ (es : List Event). tracks_of c.in-Some.script.header.items es c.args.settings.now ≡ Ok c.in_ok-tracks.tracks) c.as_slice.ensures.value c.in_ok-tracks.ensures in
-    on_ok c.keep.result (kept_recording laws c.args.lines.now c.args.settings.now c.in_ok-tracks.tracks c.in-Some.script c.keep.result read tracks (c.in_ok-is_kept.ensures.0 c.if-branch.true).1 c.keep.ensures.same) (λ x both. both.once)
+    let recorded_script : recorded_script_of c.in-Some.script.header.items c.in-Some.script.events.items c.args.settings.now ≡ Ok c.in_ok-recorded_script.recorded_script = subst (λ (es : List Event). recorded_script_of c.in-Some.script.header.items es c.args.settings.now ≡ Ok c.in_ok-recorded_script.recorded_script) c.as_slice.ensures.value c.in_ok-recorded_script.ensures in
+    on_ok c.unchanged_recording.result (kept_recording laws c.args.lines.now c.args.settings.now c.in_ok-recorded_script.recorded_script c.in-Some.script c.unchanged_recording.result read recorded_script (c.in_ok-is_unchanged.ensures.0 c.if-branch.true).1 c.unchanged_recording.ensures.same) (λ x both. both.once)
 
 pub returns-then-branch-clause-again : goal.returns-then-branch-clause-again
 returns-then-branch-clause-again c =
-    let laws : Bases = record { after = c.advances_are_lawful.ensures.packets; one_by_one = c.sending_goes_one_by_one.ensures; starts = c.runs_are_bounded.ensures.start; steps = c.runs_are_bounded.ensures.step; reasons = c.verdicts_have_reasons.ensures.reasons } in
+    let laws : Bases = record { after = c.law_advances.ensures.packets; one_by_one = c.law_sending_one_by_one.ensures; starts = c.law_runs_are_bounded.ensures.start; steps = c.law_runs_are_bounded.ensures.step; reasons = c.law_verdicts_have_reasons.ensures.reasons } in
     let read : IsRead (script_of c.args.lines.now) (Some c.in-Some.script) = subst (IsRead (script_of c.args.lines.now)) c.in-Some.is c.in_ok-script.ensures.read in
-    let tracks : tracks_of c.in-Some.script.header.items c.in-Some.script.events.items c.args.settings.now ≡ Ok c.in_ok-tracks.tracks = subst (λ (es : List Event). tracks_of c.in-Some.script.header.items es c.args.settings.now ≡ Ok c.in_ok-tracks.tracks) c.as_slice.ensures.value c.in_ok-tracks.ensures in
-    on_ok c.keep.result (kept_recording laws c.args.lines.now c.args.settings.now c.in_ok-tracks.tracks c.in-Some.script c.keep.result read tracks (c.in_ok-is_kept.ensures.0 c.if-branch.true).1 c.keep.ensures.same) (λ x both. both.twice)
+    let recorded_script : recorded_script_of c.in-Some.script.header.items c.in-Some.script.events.items c.args.settings.now ≡ Ok c.in_ok-recorded_script.recorded_script = subst (λ (es : List Event). recorded_script_of c.in-Some.script.header.items es c.args.settings.now ≡ Ok c.in_ok-recorded_script.recorded_script) c.as_slice.ensures.value c.in_ok-recorded_script.ensures in
+    on_ok c.unchanged_recording.result (kept_recording laws c.args.lines.now c.args.settings.now c.in_ok-recorded_script.recorded_script c.in-Some.script c.unchanged_recording.result read recorded_script (c.in_ok-is_unchanged.ensures.0 c.if-branch.true).1 c.unchanged_recording.ensures.same) (λ x both. both.twice)
 
 pub returns-clause-recorded : goal.returns-clause-recorded
 returns-clause-recorded c =
-    let laws : Bases = record { after = c.advances_are_lawful.ensures.packets; one_by_one = c.sending_goes_one_by_one.ensures; starts = c.runs_are_bounded.ensures.start; steps = c.runs_are_bounded.ensures.step; reasons = c.verdicts_have_reasons.ensures.reasons } in
+    let laws : Bases = record { after = c.law_advances.ensures.packets; one_by_one = c.law_sending_one_by_one.ensures; starts = c.law_runs_are_bounded.ensures.start; steps = c.law_runs_are_bounded.ensures.step; reasons = c.law_verdicts_have_reasons.ensures.reasons } in
     let read : IsRead (script_of c.args.lines.now) (Some c.in-Some.script) = subst (IsRead (script_of c.args.lines.now)) c.in-Some.is c.in_ok-script.ensures.read in
-    let tracks : tracks_of c.in-Some.script.header.items c.in-Some.script.events.items c.args.settings.now ≡ Ok c.in_ok-tracks.tracks = subst (λ (es : List Event). tracks_of c.in-Some.script.header.items es c.args.settings.now ≡ Ok c.in_ok-tracks.tracks) c.as_slice.ensures.value c.in_ok-tracks.ensures in
-    on_ok c.write.result (written_recording laws c.args.lines.now c.args.settings.now c.in_ok-tracks.tracks c.in-Some.script c.write.result read tracks c.write.ensures.written) (λ x both. both.once)
+    let recorded_script : recorded_script_of c.in-Some.script.header.items c.in-Some.script.events.items c.args.settings.now ≡ Ok c.in_ok-recorded_script.recorded_script = subst (λ (es : List Event). recorded_script_of c.in-Some.script.header.items es c.args.settings.now ≡ Ok c.in_ok-recorded_script.recorded_script) c.as_slice.ensures.value c.in_ok-recorded_script.ensures in
+    on_ok c.write.result (written_recording laws c.args.lines.now c.args.settings.now c.in_ok-recorded_script.recorded_script c.in-Some.script c.write.result read recorded_script c.write.ensures.written) (λ x both. both.once)
 
 pub returns-clause-again : goal.returns-clause-again
 returns-clause-again c =
-    let laws : Bases = record { after = c.advances_are_lawful.ensures.packets; one_by_one = c.sending_goes_one_by_one.ensures; starts = c.runs_are_bounded.ensures.start; steps = c.runs_are_bounded.ensures.step; reasons = c.verdicts_have_reasons.ensures.reasons } in
+    let laws : Bases = record { after = c.law_advances.ensures.packets; one_by_one = c.law_sending_one_by_one.ensures; starts = c.law_runs_are_bounded.ensures.start; steps = c.law_runs_are_bounded.ensures.step; reasons = c.law_verdicts_have_reasons.ensures.reasons } in
     let read : IsRead (script_of c.args.lines.now) (Some c.in-Some.script) = subst (IsRead (script_of c.args.lines.now)) c.in-Some.is c.in_ok-script.ensures.read in
-    let tracks : tracks_of c.in-Some.script.header.items c.in-Some.script.events.items c.args.settings.now ≡ Ok c.in_ok-tracks.tracks = subst (λ (es : List Event). tracks_of c.in-Some.script.header.items es c.args.settings.now ≡ Ok c.in_ok-tracks.tracks) c.as_slice.ensures.value c.in_ok-tracks.ensures in
-    on_ok c.write.result (written_recording laws c.args.lines.now c.args.settings.now c.in_ok-tracks.tracks c.in-Some.script c.write.result read tracks c.write.ensures.written) (λ x both. both.twice)
+    let recorded_script : recorded_script_of c.in-Some.script.header.items c.in-Some.script.events.items c.args.settings.now ≡ Ok c.in_ok-recorded_script.recorded_script = subst (λ (es : List Event). recorded_script_of c.in-Some.script.header.items es c.args.settings.now ≡ Ok c.in_ok-recorded_script.recorded_script) c.as_slice.ensures.value c.in_ok-recorded_script.ensures in
+    on_ok c.write.result (written_recording laws c.args.lines.now c.args.settings.now c.in_ok-recorded_script.recorded_script c.in-Some.script c.write.result read recorded_script c.write.ensures.written) (λ x both. both.twice)
 
 pub returns-clause-settled : goal.returns-clause-settled
 returns-clause-settled c =
-    let laws : Bases = record { after = c.advances_are_lawful.ensures.packets; one_by_one = c.sending_goes_one_by_one.ensures; starts = c.runs_are_bounded.ensures.start; steps = c.runs_are_bounded.ensures.step; reasons = c.verdicts_have_reasons.ensures.reasons } in
+    let laws : Bases = record { after = c.law_advances.ensures.packets; one_by_one = c.law_sending_one_by_one.ensures; starts = c.law_runs_are_bounded.ensures.start; steps = c.law_runs_are_bounded.ensures.step; reasons = c.law_verdicts_have_reasons.ensures.reasons } in
     let read : IsRead (script_of c.args.lines.now) (Some c.in-Some.script) = subst (IsRead (script_of c.args.lines.now)) c.in-Some.is c.in_ok-script.ensures.read in
-    let tracks : tracks_of c.in-Some.script.header.items c.in-Some.script.events.items c.args.settings.now ≡ Ok c.in_ok-tracks.tracks = subst (λ (es : List Event). tracks_of c.in-Some.script.header.items es c.args.settings.now ≡ Ok c.in_ok-tracks.tracks) c.as_slice.ensures.value c.in_ok-tracks.ensures in
-    settled_recording c.args.lines.now c.args.settings.now c.in-Some.script.header.items (events_of c.in_ok-tracks.tracks) c.write.result c.write.ensures.written (written_recording laws c.args.lines.now c.args.settings.now c.in_ok-tracks.tracks c.in-Some.script c.write.result read tracks c.write.ensures.written)
+    let recorded_script : recorded_script_of c.in-Some.script.header.items c.in-Some.script.events.items c.args.settings.now ≡ Ok c.in_ok-recorded_script.recorded_script = subst (λ (es : List Event). recorded_script_of c.in-Some.script.header.items es c.args.settings.now ≡ Ok c.in_ok-recorded_script.recorded_script) c.as_slice.ensures.value c.in_ok-recorded_script.ensures in
+    settled_recording c.args.lines.now c.args.settings.now c.in-Some.script.header.items (events_of c.in_ok-recorded_script.recorded_script) c.write.result c.write.ensures.written (written_recording laws c.args.lines.now c.args.settings.now c.in_ok-recorded_script.recorded_script c.in-Some.script c.write.result read recorded_script c.write.ensures.written)

@@ -1,6 +1,6 @@
 -- The blocks that are left, and after them the items that were taken so far.
 use Rattle.std.proofs.Common.{◌≡◌, ◌++◌, length}
-use Rattle.pd_reparse.specs.Blocks.{items_in}
+use Rattle.pd_reparse.specs.SharedBlocks.{items_in}
 use Rattle.pd_reparse.proofs.shared_list.gather.Given as goal
 
 abbrev pub invariant-loop-i : goal.invariant-loop-i

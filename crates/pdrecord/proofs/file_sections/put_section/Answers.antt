@@ -3,14 +3,14 @@ use Rattle.pdrecord.proofs.file_sections.put_section.Goals as goal
 
 pub returns-in_err-section : goal.returns-in_err-section
 returns-in_err-section g c =
-    writes_stopped c.args.settings.now c.args.way (g.F.Shelf.held c.args.files.now) c.args.name.now c.from_residual.result c.in_err-section.field-0.0 (g.W.Write.contents c.args.out.now)
+    writes_stopped c.args.settings.now c.args.mode (g.F.FileSource.octets_in c.args.files.now) c.args.name.now c.from_residual.result c.in_err-section.field-0.0 (g.W.Write.contents c.args.out.now)
     c.from_residual.ensures.1 c.in_err-section.ensures.only
 
-pub returns-in_err-put_all : goal.returns-in_err-put_all
-returns-in_err-put_all g c =
-    writes_failed c.args.settings.now c.args.way (g.F.Shelf.held c.args.files.now) c.args.name.now c.in_ok-section.section.is_recorded c.in_ok-section.section.octets.items (g.W.Write.contents c.args.out.now) (g.W.Write.contents c.put_all.new.writer) c.from_residual-in_err-put_all.result c.in_err-put_all.field-0.0
-    c.from_residual-in_err-put_all.ensures.1 c.in_err-put_all.ensures.only c.in_ok-section.ensures.section (rw c.as_slice.ensures.value at c.in_err-put_all.ensures.err)
+pub returns-in_err-write_all : goal.returns-in_err-write_all
+returns-in_err-write_all g c =
+    writes_failed c.args.settings.now c.args.mode (g.F.FileSource.octets_in c.args.files.now) c.args.name.now c.in_ok-section.section.is_recorded c.in_ok-section.section.octets.items (g.W.Write.contents c.args.out.now) (g.W.Write.contents c.write_all.new.writer) c.from_residual-in_err-write_all.result c.in_err-write_all.field-0.0
+    c.from_residual-in_err-write_all.ensures.1 c.in_err-write_all.ensures.only c.in_ok-section.ensures.section (rw c.as_slice.ensures.value at c.in_err-write_all.ensures.err)
 
 pub returns : goal.returns
 returns g c =
-    (c.in_ok-section.section.octets.items, c.in_ok-section.ensures.section, rw c.as_slice.ensures.value at c.in_ok-put_all.ensures.ok)
+    (c.in_ok-section.section.octets.items, c.in_ok-section.ensures.section, rw c.as_slice.ensures.value at c.in_ok-write_all.ensures.ok)

@@ -3,10 +3,10 @@ use Rattle.std.proofs.Common.{◌≡◌, ◌≤◌, ℕ, Bool, ◌||◌, ◌&&�
 use Rattle.std.specs.Prelude.{nat_le, nat_lt, Result, Ok, Err, OnOk, IfOk}
 use Rattle.std.proofs.lemmas.Bool.Decides.{nat_tests}
 use Rattle.pd_board.specs.contracts.board.Board.{the_view}
-use Rattle.pd_board.specs.Board.{marked, has_new}
+use Rattle.pd_board.specs.Board.{with_sacked_block, has_new}
 use Rattle.pd_board.specs.Ranges.{in_ranges}
 use Rattle.pd_board.proofs.Shown.{marked_is, has_new_is, has_none_new}
-use Rattle.pd_board.proofs.Ahead.{wider}
+use Rattle.pd_board.proofs.Searching.{wider}
 use Rattle.pd_board.proofs.board.Board.mark.Goals as goal
 
 no_block : (f b x : ℕ) (was : Bool) → b ≤ f → was ≡ (was || (nat_le f x && nat_lt x b))
@@ -18,7 +18,7 @@ returns-then-block-first-clause-ok c =
     sym c.self.view_is
     ∙ marked_is (in_ranges i.ranges) (the_view i) refl (in_ranges i.ranges) c.args.block c.max-first.result c.max-first.ensures
     (λ x. no_block c.max-first.result c.args.block.end x (in_ranges i.ranges x) c.if-block-first.true)
-    ∙ ap (marked c.args.block) c.self.view_is
+    ∙ ap (with_sacked_block c.args.block) c.self.view_is
 
 pub returns-then-block-first-clause-new : goal.returns-then-block-first-clause-new
 returns-then-block-first-clause-new c =
@@ -38,7 +38,7 @@ pub returns-else-is_err-clause-ok : goal.returns-else-is_err-clause-ok
 returns-else-is_err-clause-ok c =
     let i = c.self.inside in
     on_ok c.insert-inserted.result
-    (λ h. marked_is (in_ranges i.ranges) (the_view i) refl (in_ranges c.insert-inserted.new.self) c.args.block c.max-first.result c.max-first.ensures h ∙ ap (marked c.args.block) c.self.view_is)
+    (λ h. marked_is (in_ranges i.ranges) (the_view i) refl (in_ranges c.insert-inserted.new.self) c.args.block c.max-first.result c.max-first.ensures h ∙ ap (with_sacked_block c.args.block) c.self.view_is)
     c.insert-inserted.ensures.octets
 
 pub returns-else-is_err-clause-new : goal.returns-else-is_err-clause-new

@@ -1,10 +1,10 @@
 -- The first range ends the run.
 use Rattle.std.proofs.Common.{◌≡◌, ◌+◌, min, refl, ap, ◌∙◌, arith, ◌^◌}
 use Rattle.pd_board.specs.contracts.board.Board.{the_view}
-use Rattle.pd_board.specs.Choice.{run_at}
+use Rattle.pd_board.specs.Retransmit.{run_at}
 use Rattle.pd_board.specs.Ranges.{in_ranges}
 use Rattle.pd_board.proofs.Chosen.{run_is}
-use Rattle.pd_board.proofs.Ahead.{wider}
+use Rattle.pd_board.proofs.Searching.{wider}
 use Rattle.pd_board.proofs.board.Board.run_at.Goals as goal
 
 pub returns : goal.returns
@@ -12,9 +12,9 @@ returns c =
     let i = c.self.inside in
     let una : i.una ≡ c.args.self.now.una = ap (λ s. s.una) c.self.view_is in
     let most : c.min-most.result ≡ min (c.args.x + i.smss) i.top = omega arith in
-    run_is (in_ranges i.ranges) (the_view i) refl c.args.x c.min-most.result c.first_marked.result (omega arith) most
-    c.first_marked.ensures.low c.first_marked.ensures.high c.first_marked.ensures.before c.first_marked.ensures.found
+    run_is (in_ranges i.ranges) (the_view i) refl c.args.x c.min-most.result c.first_sacked.result (omega arith) most
+    c.first_sacked.ensures.low c.first_sacked.ensures.high c.first_sacked.ensures.before c.first_sacked.ensures.found
     ∙ ap (run_at c.args.x) c.self.view_is
 
-pub first_marked-requires-clause-ranges : goal.first_marked-requires-clause-ranges
-first_marked-requires-clause-ranges c = wider c.self.inside.una (c.self.inside.top + 1) (2 ^ 31) c.self.inside.ranges (omega arith) c.self.invariant.ranges
+pub first_sacked-requires-clause-ranges : goal.first_sacked-requires-clause-ranges
+first_sacked-requires-clause-ranges c = wider c.self.inside.una (c.self.inside.top + 1) (2 ^ 31) c.self.inside.ranges (omega arith) c.self.invariant.ranges

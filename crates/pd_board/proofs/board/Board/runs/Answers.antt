@@ -1,10 +1,10 @@
 -- The ranges are the runs.
 use Rattle.std.proofs.Common.{List, refl, sym, subst}
-use Rattle.pd_seg.specs.declared.sack_blocks.Span.{Span}
+use Rattle.pd_seg.specs.declared.sack_spans.Span.{Span}
 use Rattle.pd_board.specs.contracts.board.Board.{the_view}
 use Rattle.pd_board.specs.Board.{BoardView}
 use Rattle.pd_board.specs.Runs.{AreRuns}
-use Rattle.pd_board.proofs.Ahead.{are_runs}
+use Rattle.pd_board.proofs.Searching.{are_runs}
 use Rattle.pd_board.proofs.board.Board.runs.Goals as goal
 
 pub returns : goal.returns

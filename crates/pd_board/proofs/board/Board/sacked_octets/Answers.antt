@@ -3,10 +3,10 @@ use Rattle.std.proofs.Common.{◌+◌, refl, sym, ap, ◌∙◌, arith}
 use Rattle.pd_board.specs.contracts.board.Board.{the_view}
 use Rattle.pd_board.specs.Loss.{sacked_octets}
 use Rattle.pd_board.specs.Ranges.{in_ranges}
-use Rattle.pd_board.proofs.Ahead.{octets_small}
+use Rattle.pd_board.proofs.Searching.{octets_small}
 use Rattle.pd_board.proofs.Counted.{octets_of}
 use Rattle.pd_board.proofs.Shown.{octets_from}
-use Rattle.pd_board.proofs.Way.{all_octets}
+use Rattle.pd_board.proofs.Pipe.{all_octets}
 use Rattle.pd_board.proofs.board.Board.sacked_octets.Goals as goal
 
 pub returns-clause-value : goal.returns-clause-value

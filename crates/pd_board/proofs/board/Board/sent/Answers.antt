@@ -3,7 +3,7 @@ use Rattle.std.proofs.Common.{◌≡◌, ◌+◌, refl, ap, ◌∙◌, arith}
 use Rattle.pd_board.specs.contracts.board.Board.{the_view}
 use Rattle.pd_board.specs.Board.{sent_to}
 use Rattle.pd_board.specs.Ranges.{in_ranges}
-use Rattle.pd_board.proofs.Ahead.{held_past, longer}
+use Rattle.pd_board.proofs.Searching.{held_past, longer}
 use Rattle.pd_board.proofs.Shown.{sent_is}
 use Rattle.pd_board.proofs.board.Board.sent.Goals as goal
 

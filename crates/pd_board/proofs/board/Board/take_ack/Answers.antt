@@ -4,7 +4,7 @@ use Rattle.pd_board.specs.contracts.board.Board.{the_view}
 use Rattle.pd_board.specs.Board.{acknowledged}
 use Rattle.pd_board.specs.Ranges.{in_ranges}
 use Rattle.pd_board.proofs.Shown.{acknowledged_is}
-use Rattle.pd_board.proofs.Ahead.{wider}
+use Rattle.pd_board.proofs.Searching.{wider}
 use Rattle.pd_board.proofs.board.Board.take_ack.Goals as goal
 
 pub returns : goal.returns

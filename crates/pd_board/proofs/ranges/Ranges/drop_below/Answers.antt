@@ -1,10 +1,10 @@
 -- What is left is the ranges from the start on.
 use Rattle.std.proofs.Common.{◌^◌, List, sym, ap, ◌∙◌, subst, arith}
-use Rattle.pd_seg.specs.declared.sack_blocks.Span.{Span}
+use Rattle.pd_seg.specs.declared.sack_spans.Span.{Span}
 use Rattle.pd_board.specs.Runs.{among, Between}
 use Rattle.pd_board.specs.Ranges.{raised}
 use Rattle.pd_board.proofs.Counted.{Between-lower}
-use Rattle.pd_board.proofs.Ahead.{cut_ranges, cut_same}
+use Rattle.pd_board.proofs.Searching.{cut_ranges, cut_same}
 use Rattle.pd_board.proofs.ranges.Ranges.drop_below.Goals as goal
 
 pub count_octets-self-requires : goal.count_octets-self-requires

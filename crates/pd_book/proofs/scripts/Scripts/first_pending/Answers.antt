@@ -2,7 +2,7 @@
 use Rattle.std.proofs.Common.{◌∙◌, find, ap, rules, tests}
 use Rattle.std.proofs.lemmas.Iterator.Consumers.{YieldsList-from_rest}
 use Rattle.std.proofs.lemmas.Iterator.Search.{find_from_yields_List}
-use Rattle.pd_book.specs.Kept.{is_pending}
+use Rattle.pd_book.specs.StoredScripts.{is_pending}
 use Rattle.pd_book.proofs.scripts.Scripts.first_pending.Goals as goal
 
 pub returns : goal.returns

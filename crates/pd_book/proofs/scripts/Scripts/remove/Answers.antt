@@ -2,7 +2,7 @@
 use Rattle.std.proofs.Common.{◌≡◌, ◌∙◌, None}
 use Rattle.std.specs.Map.{lookup, remove_entry}
 use Rattle.std.specs.Str.{bytes_eq}
-use Rattle.pd_book.proofs.Named.{remove_named}
+use Rattle.pd_book.proofs.NamedText.{remove_named}
 use Rattle.pd_book.proofs.scripts.Scripts.remove.Goals as goal
 
 pub returns : goal.returns

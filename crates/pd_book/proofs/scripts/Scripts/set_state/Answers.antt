@@ -3,19 +3,19 @@ use Rattle.std.proofs.Common.{◌≡◌, ◌∙◌, Option, None, Some, refl, sy
 use Rattle.std.specs.Map.{lookup, set_value}
 use Rattle.std.specs.Option.{option_map_or}
 use Rattle.std.specs.Str.{bytes_eq}
-use Rattle.pd_book.specs.declared.script.Script.{Script}
-use Rattle.pd_book.specs.Kept.{in_state, with_state}
-use Rattle.pd_book.proofs.Named.{set_named, set_unnamed}
+use Rattle.pd_book.specs.declared.stored_script.StoredScript.{StoredScript}
+use Rattle.pd_book.specs.StoredScripts.{in_state, with_state}
+use Rattle.pd_book.proofs.NamedText.{set_named, set_unnamed}
 use Rattle.pd_book.proofs.scripts.Scripts.set_state.Goals as goal
 
 pub returns : goal.returns
 returns c =
     let n = c.args.name.now in
     let es = c.args.self.now in
-    let f = λ (s : Script). in_state s c.args.state in
+    let f = λ (s : StoredScript). in_state s c.args.state in
     let d = c.write_state.ensures.distinct in
-    let go : (r : Option Script) → lookup (bytes_eq n) es ≡ r → option_map_or (λ (s : Script). set_value (bytes_eq n) es (f s)) r es ≡ with_state (bytes_eq n) c.args.state es =
-    λ r. elim r as (λ (x : Option Script). lookup (bytes_eq n) es ≡ x → option_map_or (λ (s : Script). set_value (bytes_eq n) es (f s)) x es ≡ with_state (bytes_eq n) c.args.state es) [
+    let go : (r : Option StoredScript) → lookup (bytes_eq n) es ≡ r → option_map_or (λ (s : StoredScript). set_value (bytes_eq n) es (f s)) r es ≡ with_state (bytes_eq n) c.args.state es =
+    λ r. elim r as (λ (x : Option StoredScript). lookup (bytes_eq n) es ≡ x → option_map_or (λ (s : StoredScript). set_value (bytes_eq n) es (f s)) x es ≡ with_state (bytes_eq n) c.args.state es) [
       | None ↦ λ h. sym (set_unnamed n f es h)
       | Some s ↦ λ h. set_named n f s es d h
     ] in

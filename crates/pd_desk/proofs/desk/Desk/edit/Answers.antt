@@ -1,9 +1,9 @@
 -- What the book gave, after the story that was held.
 use Rattle.pd_book.specs.declared.faults.BookFault.TheVariants.{OutOfMemory}
-use Rattle.pd_book.specs.Given.{GivesEdit}
+use Rattle.pd_book.specs.Replies.{GivesEdit}
 use Rattle.pd_desk.proofs.AfterSome.{after_some}
 use Rattle.pd_desk.proofs.desk.Desk.edit.Goals as goal
 
 pub returns-clause-gives : goal.returns-clause-gives
 returns-clause-gives g c =
-    after_some OutOfMemory c.edit-reply.result (λ before after. GivesEdit before c.args.name.now c.args.edit.now c.edit-reply.result after) c.deref_mut.result.now.held.book.story c.edit-reply.new.self.book.story c.edit-reply.ensures.legal c.edit-reply.ensures.gives
+    after_some OutOfMemory c.edit-reply.result (λ before after. GivesEdit before c.args.name.now c.args.edit.now c.edit-reply.result after) c.deref_mut.result.now.held.book.history c.edit-reply.new.self.book.history c.edit-reply.ensures.legal c.edit-reply.ensures.gives

@@ -1,7 +1,7 @@
 -- One job more, and how a worker leaves.
 use Rattle.std.proofs.Common.{◌≡◌, Err, refl, sym, subst, arith, rules}
 use Rattle.pd_book.specs.declared.act.Act.TheVariants.{Start}
-use Rattle.pd_book.specs.Story.{JobView}
+use Rattle.pd_book.specs.History.{JobView}
 use Rattle.pd_seat.specs.Seats.{with_act}
 use Rattle.pd_desk.specs.Work.{Works}
 use Rattle.pd_desk.proofs.Jobs.{is_started, worked_none, worked_more, worked_on, works_given_up, works_want, of_given}
@@ -17,17 +17,17 @@ returns-in_err-job-clause-works g c =
     let before = worked_on c.args.seat.now c.loop.seat c.next_job.new.seat c.loop.invariant.jobs c.in_err-job.ensures.refuses in
     subst (λ r. Works c.args.seat.now r c.next_job.new.seat) (sym failed) (works_want c.args.seat.now c.next_job.new.seat fault c.in_err-job.ensures.fault before)
 
-pub returns-in_err-do_job-clause-works : goal.returns-in_err-do_job-clause-works
-returns-in_err-do_job-clause-works g c =
-    let fault = c.in_err-do_job.field-0.0 in
-    let failed : c.from_residual-in_err-do_job.result ≡ Err fault = search rules in
+pub returns-in_err-run_and_finish-clause-works : goal.returns-in_err-run_and_finish-clause-works
+returns-in_err-run_and_finish-clause-works g c =
+    let fault = c.in_err-run_and_finish.field-0.0 in
+    let failed : c.from_residual-in_err-run_and_finish.result ≡ Err fault = search rules in
     let task = c.in-Some.job.task in
     let begun = of_given (λ (job : JobView). c.next_job.new.seat ≡ with_act c.loop.seat (Start job.task.number job.task.name)) c.in_ok-job.field-0 c.in-Some.job c.in-Some.is c.in_ok-job.ensures.records in
-    let left = works_given_up c.args.seat.now c.loop.seat c.next_job.new.seat c.do_job.new.seat task.number task.name fault c.loop.invariant.jobs begun c.in_err-do_job.ensures.given_up in
-    subst (λ r. Works c.args.seat.now r c.do_job.new.seat) (sym failed) left
+    let left = works_given_up c.args.seat.now c.loop.seat c.next_job.new.seat c.run_and_finish.new.seat task.number task.name fault c.loop.invariant.jobs begun c.in_err-run_and_finish.ensures.given_up in
+    subst (λ r. Works c.args.seat.now r c.run_and_finish.new.seat) (sym failed) left
 
-pub do_job-requires-clause-started : goal.do_job-requires-clause-started
-do_job-requires-clause-started g c =
+pub run_and_finish-requires-clause-started : goal.run_and_finish-requires-clause-started
+run_and_finish-requires-clause-started g c =
     let task = c.in-Some.job.task in
     let begun = of_given (λ (job : JobView). c.next_job.new.seat ≡ with_act c.loop.seat (Start job.task.number job.task.name)) c.in_ok-job.field-0 c.in-Some.job c.in-Some.is c.in_ok-job.ensures.records in
     is_started c.loop.seat c.next_job.new.seat task.number task.name begun
@@ -37,6 +37,6 @@ loop-preserved g c =
     let task = c.in-Some.job.task in
     let begun = of_given (λ (job : JobView). c.next_job.new.seat ≡ with_act c.loop.seat (Start job.task.number job.task.name)) c.in_ok-job.field-0 c.in-Some.job c.in-Some.is c.in_ok-job.ensures.records in
     record {
-      jobs = worked_more c.args.seat.now c.loop.seat c.next_job.new.seat c.do_job.new.seat task c.loop.invariant.jobs begun c.in_ok-do_job.ensures.finished;
-      few = omega (arith, c.in_ok-do_job.ensures.few, c.loop.invariant.few);
+      jobs = worked_more c.args.seat.now c.loop.seat c.next_job.new.seat c.run_and_finish.new.seat task c.loop.invariant.jobs begun c.in_ok-run_and_finish.ensures.finished;
+      few = omega (arith, c.in_ok-run_and_finish.ensures.few, c.loop.invariant.few);
     }

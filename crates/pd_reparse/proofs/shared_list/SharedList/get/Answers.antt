@@ -1,6 +1,6 @@
 -- An item is at each index below their number.
 use Rattle.std.proofs.Common.{sym, arith}
-use Rattle.pd_reparse.proofs.Blocks.{found_at, none_after}
+use Rattle.pd_reparse.proofs.SharedBlocks.{found_at, none_after}
 use Rattle.pd_reparse.proofs.shared_list.SharedList.get.Goals as goal
 
 pub returns-then-index-len : goal.returns-then-index-len

@@ -1,6 +1,6 @@
 -- The sender is up to date at the moment of the packet.
 use Rattle.std.proofs.Common.{ap, ◌∙◌}
-use Rattle.pd_run.specs.Inbound.{segment_in}
+use Rattle.pd_run.specs.InboundSegment.{segment_in}
 use Rattle.pd_run.specs.RunStates.{RunStateView, KeepsTime}
 use Rattle.pd_run.proofs.Bounds.{host_after_arrival, acts_later}
 use Rattle.pd_run.proofs.Timed.{keeps_time}
@@ -8,7 +8,7 @@ use Rattle.pd_run.proofs.run_state.RunState.arrive.Goals as goal
 
 pub invariant_of-self-2 : goal.invariant_of-self-2
 invariant_of-self-2 c =
-    host_after_arrival KeepsTime (keeps_time c.sender_is_lawful.ensures) c.self.inside.host c.arrive.new.host (segment_in c.args.packet.now) c.self.inside.clock c.acts_at-moment.result c.in-Ok.field-0 c.self.invariant
+    host_after_arrival KeepsTime (keeps_time c.law_sender.ensures) c.self.inside.host c.arrive.new.host (segment_in c.args.packet.now) c.self.inside.clock c.action_time-moment.result c.in-Ok.field-0 c.self.invariant
     (ap (λ (r : RunStateView). r.host.ended) c.self.view_is ∙ c.requires.live)
-    (acts_later c.args.self.now c.args.event.now c.self.inside.clock c.acts_at-moment.result (ap (λ (r : RunStateView). r.clock) c.self.view_is) c.acts_at-moment.ensures)
+    (acts_later c.args.self.now c.args.event.now c.self.inside.clock c.action_time-moment.result (ap (λ (r : RunStateView). r.clock) c.self.view_is) c.action_time-moment.ensures)
     c.in-Ok.ensures

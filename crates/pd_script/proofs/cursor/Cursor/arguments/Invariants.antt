@@ -1,6 +1,6 @@
 use Rattle.std.proofs.Common.{◌≡◌, length}
 use Rattle.pd_script.specs.Reader.{machine_at, onto}
-use Rattle.pd_script.specs.Drafts.{argument_move}
+use Rattle.pd_script.specs.ArgumentReading.{argument_move}
 use Rattle.pd_script.specs.EventReading.{arguments_at}
 use Rattle.pd_script.proofs.cursor.Cursor.arguments.Given as goal
 

@@ -1,7 +1,7 @@
 use Rattle.std.proofs.Common.{◌≡◌, ◌∙◌, sym, ap, List, [], ◌∷◌, true, false, Ok}
 use Rattle.std.proofs.lemmas.List.{append-nil}
 use Rattle.std.proofs.lemmas.Result.{err_from_is_err_and}
-use Rattle.pd_script.specs.declared.packets.Block.{Block}
+use Rattle.pd_script.specs.declared.packets.SackBlock.{SackBlock}
 use Rattle.pd_script.specs.Items.{is_int, next_is}
 use Rattle.pd_script.specs.Reader.{Read, onto}
 use Rattle.pd_script.specs.PacketReading.{repeated_at, block_at, blocks_at}
@@ -25,17 +25,17 @@ pub returns-in_err-block-2 : goal.returns-in_err-block-2
 returns-in_err-block-2 c =
     let p = err_from_is_err_and c.from_residual-in_err-block-2.result c.from_residual-in_err-block-2.ensures.1 in
     let next : next_is is_int c.more.self ≡ true = cc (c.is_int.ensures, c.more-test.true) in
-    rw (p.1, p.2) (err_leaves c.in_err-block-2.field-0.0 c.block-in-more.new.self (block_at c.more.self) (blocks_at c.args.self.now) (rw c.in_err-block-2.was at c.block-in-more.ensures) (λ e. sym c.more.invariant ∙ ap (λ (r : Read (List Block)). onto c.more.blocks r) (repeat_err is_int block_at block_less c.more.self c.block-in-more.new.self next e)))
+    rw (p.1, p.2) (err_leaves c.in_err-block-2.field-0.0 c.block-in-more.new.self (block_at c.more.self) (blocks_at c.args.self.now) (rw c.in_err-block-2.was at c.block-in-more.ensures) (λ e. sym c.more.invariant ∙ ap (λ (r : Read (List SackBlock)). onto c.more.blocks r) (repeat_err is_int block_at block_less c.more.self c.block-in-more.new.self next e)))
 
 pub more-preserved : goal.more-preserved
 more-preserved c =
     let got = rw c.in_ok-block-2.was at c.block-in-more.ensures in
     let next : next_is is_int c.more.self ≡ true = cc (c.is_int.ensures, c.more-test.true) in
     let G = repeat_goes is_int block_at block_less c.more.self c.block-in-more.new.self c.in_ok-block-2.block next got in
-    rw c.in_ok-push-2.ensures (onto-append c.more.blocks (c.in_ok-block-2.block ∷ []) (repeated_at is_int block_at c.block-in-more.new.self) ∙ ap (λ (r : Read (List Block)). onto c.more.blocks r) (sym G.0) ∙ c.more.invariant)
+    rw c.in_ok-push-2.ensures (onto-append c.more.blocks (c.in_ok-block-2.block ∷ []) (repeated_at is_int block_at c.block-in-more.new.self) ∙ ap (λ (r : Read (List SackBlock)). onto c.more.blocks r) (sym G.0) ∙ c.more.invariant)
 
 pub returns : goal.returns
 returns c =
     let next : next_is is_int c.more.self ≡ false = cc (c.is_int.ensures, c.more-test.false) in
-    let none : List Block = [] in
-    sym c.more.invariant ∙ ap (λ (r : Read (List Block)). onto c.more.blocks r) (repeat_stops is_int block_at block_less c.more.self next) ∙ ap (λ (bs : List Block). Ok (bs, c.more.self)) (append-nil c.more.blocks)
+    let none : List SackBlock = [] in
+    sym c.more.invariant ∙ ap (λ (r : Read (List SackBlock)). onto c.more.blocks r) (repeat_stops is_int block_at block_less c.more.self next) ∙ ap (λ (bs : List SackBlock). Ok (bs, c.more.self)) (append-nil c.more.blocks)

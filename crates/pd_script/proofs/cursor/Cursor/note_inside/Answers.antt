@@ -1,7 +1,7 @@
 use Rattle.std.proofs.Common.{◌≡◌, ◌∙◌, sym, ℕ, [], true, false}
 use Rattle.std.proofs.lemmas.Result.{err_from_is_err_and}
 use Rattle.pd_script.specs.Reader.{machine_at}
-use Rattle.pd_script.specs.Drafts.{note_move, note_part_at, is_last}
+use Rattle.pd_script.specs.ArgumentReading.{note_move, note_part_at, is_last}
 use Rattle.pd_script.proofs.NoteLaws.{note_goes, note_stuck, note_ends}
 use Rattle.pd_script.proofs.Taking.{err_skips}
 use Rattle.pd_script.proofs.cursor.Cursor.note_inside.Goals as goal
@@ -9,7 +9,7 @@ use Rattle.pd_script.proofs.cursor.Cursor.note_inside.Goals as goal
 pub returns-then-is_last : goal.returns-then-is_last
 returns-then-is_last c =
     let last : is_last c.tokens.pairs c.tokens.self ≡ true = cc (c.is_last.ensures, c.if-is_last.true) in
-    rw c.take.ensures (sym c.tokens.invariant ∙ note_ends c.tokens.pairs c.tokens.self last)
+    rw c.advance.ensures (sym c.tokens.invariant ∙ note_ends c.tokens.pairs c.tokens.self last)
 
 pub returns-in_err-pairs : goal.returns-in_err-pairs
 returns-in_err-pairs c =

@@ -1,6 +1,6 @@
 use Rattle.std.proofs.Common.{◌≡◌, length, []}
 use Rattle.pd_script.specs.Reader.{machine_at}
-use Rattle.pd_script.specs.Drafts.{note_move}
+use Rattle.pd_script.specs.ArgumentReading.{note_move}
 use Rattle.pd_script.proofs.cursor.Cursor.note_inside.Given as goal
 
 abbrev pub invariant-tokens : goal.invariant-tokens

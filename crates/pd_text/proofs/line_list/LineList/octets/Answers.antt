@@ -1,6 +1,6 @@
 -- The octets are those of the lines.
 use Rattle.std.proofs.Common.{◌≡◌, length, arith}
-use Rattle.pd_text.specs.Packed.{lines_from}
+use Rattle.pd_text.specs.PackedLines.{lines_from}
 use Rattle.pd_text.proofs.Placed.{length_lines, octets_lines}
 use Rattle.pd_text.proofs.line_list.LineList.octets.Goals as goal
 

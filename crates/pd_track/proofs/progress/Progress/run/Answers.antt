@@ -3,14 +3,14 @@ use Rattle.std.proofs.Common.{◌≡◌, ◌+◌, ◌-◌, ◌%◌, ◌==◌, �
 use Rattle.std.proofs.lemmas.List.{drop_all, drop_more}
 use Rattle.pd_reparse.specs.Reading.{events_of}
 use Rattle.pd_reparse.specs.Steps.{events_after}
-use Rattle.pd_reparse.specs.declared.decided.Decided.{Decided}
+use Rattle.pd_reparse.specs.declared.parsed_event.ParsedEvent.{ParsedEvent}
 use Rattle.pd_run.specs.Laws.{IsUnderway}
 use Rattle.pd_run.specs.Run.{states_from, stepped_from}
 use Rattle.pd_run.specs.Step.{RunStateView, step, Steps}
-use Rattle.pd_run.specs.declared.stepping.StepEnd.TheVariants.{Go}
+use Rattle.pd_run.specs.declared.stepper.StepEnd.TheVariants.{Go}
 use Rattle.pd_run.proofs.Bounds.{ok}
 use Rattle.pd_run.proofs.Steps.{tells}
-use Rattle.pd_track.specs.Reuse.{fourths}
+use Rattle.pd_track.specs.Reuse.{every_fourth}
 use Rattle.pd_track.proofs.Steps.{Advances, Ends, advances, ends, kept_more, of_each}
 use Rattle.pd_track.proofs.Went.{on_ok}
 use Rattle.pd_track.proofs.progress.Progress.run.Given as given
@@ -22,16 +22,16 @@ loop-i-preserved g c =
     tells c.loop-i.self.state c.step.new.state c.at.result.now.event Go c.loop-i.invariant.underway.live
     (subst (λ end. Steps c.loop-i.self.state c.at.result.now.event end c.step.new.state) c.in-Go.is c.in_ok-step.ensures.ends)
     ∙ ap ok (sym c.pass.ensures.state) in
-    let rest : List Decided = drop (c.loop-i.i + 1) c.args.events.now in
+    let rest : List ParsedEvent = drop (c.loop-i.i + 1) c.args.events.now in
     let split : drop c.loop-i.i c.args.events.now ≡ c.at.result.now ∷ rest =
     drop_more c.args.events.now c.loop-i.i c.at.result.now (omega (arith, c.loop-i-test.true, c.len-i-end.ensures))
-    ∙ ap (λ (d : Decided). d ∷ rest) (sym c.at.ensures) in
+    ∙ ap (λ (d : ParsedEvent). d ∷ rest) (sym c.at.ensures) in
     let passed : c.pass.new.self.passed ≡ c.loop-i.self.passed + 1 = c.in_ok-pass-in-Go.ensures.passed in
     let more : Advances c.loop-i.self.passed c.pass.new.self.passed (events_of (drop c.loop-i.i c.args.events.now)) (events_of rest) c.loop-i.self.state c.pass.new.self.state =
     advances c.loop-i.self.passed c.pass.new.self.passed (events_of (drop c.loop-i.i c.args.events.now)) (events_of rest) c.loop-i.self.state c.pass.new.self.state c.at.result.now.event
     passed (ap events_of split) told in
     let underway : IsUnderway (c.loop-i.self.passed + 1) c.pass.new.self.state =
-    c.runs_are_bounded.ensures.step c.loop-i.self.passed c.loop-i.self.state c.pass.new.self.state c.at.result.now.event c.loop-i.invariant.underway told in
+    c.law_runs_are_bounded.ensures.step c.loop-i.self.passed c.loop-i.self.state c.pass.new.self.state c.at.result.now.event c.loop-i.invariant.underway told in
     record {
       passed = omega (arith, passed, c.loop-i.invariant.passed);
       underway = subst (λ n. IsUnderway n c.pass.new.self.state) (sym passed) underway;
@@ -40,34 +40,34 @@ loop-i-preserved g c =
       checkpoints = kept_more c.loop-i.self.checkpoints
           (cond ((c.loop-i.self.passed + 1) % 4 == 0) (c.pass.new.self.state ∷ []) [])
           c.pass.new.self.checkpoints
-          (fourths (3 - c.pass.new.self.passed % 4) (states_from (events_of rest) c.pass.new.self.state))
+          (every_fourth (3 - c.pass.new.self.passed % 4) (states_from (events_of rest) c.pass.new.self.state))
           _
           c.in_ok-pass-in-Go.ensures.checkpoints
           (ap (λ rs. c.loop-i.self.checkpoints ++ rs) (sym more.states) ∙ c.loop-i.invariant.checkpoints);
       counted = omega (arith, c.step.ensures.one_more, c.loop-i.invariant.counted);
     }
 
-ended : (g : given.Over) (c : goal.After-pass_last g) → Ends c.loop-i.self.passed (events_after c.loop-i.i c.args.events.now) c.loop-i.self.state c.step.new.state
-ended g c =
+finished_run : (g : given.Over) (c : goal.After-pass_last g) → Ends c.loop-i.self.passed (events_after c.loop-i.i c.args.events.now) c.loop-i.self.state c.step.new.state
+finished_run g c =
     let told : step c.loop-i.self.state c.at.result.now.event ≡ Ok c.step.new.state =
     tells c.loop-i.self.state c.step.new.state c.at.result.now.event Go c.loop-i.invariant.underway.live
     (subst (λ end. Steps c.loop-i.self.state c.at.result.now.event end c.step.new.state) c.in-Go-2.is c.in_ok-step.ensures.ends) in
     let none : drop (c.loop-i.i + 1) c.args.events.now ≡ [] = drop_all (c.loop-i.i + 1) c.args.events.now (omega (arith, c.if-i-len.false)) in
     let split : drop c.loop-i.i c.args.events.now ≡ c.at.result.now ∷ [] =
     drop_more c.args.events.now c.loop-i.i c.at.result.now (omega (arith, c.loop-i-test.true, c.len-i-end.ensures))
-    ∙ (ap (λ (d : Decided). d ∷ drop (c.loop-i.i + 1) c.args.events.now) (sym c.at.ensures) ∙ ap (λ (ds : List Decided). c.at.result.now ∷ ds) none) in
+    ∙ (ap (λ (d : ParsedEvent). d ∷ drop (c.loop-i.i + 1) c.args.events.now) (sym c.at.ensures) ∙ ap (λ (ds : List ParsedEvent). c.at.result.now ∷ ds) none) in
     ends c.loop-i.self.passed (events_of (drop c.loop-i.i c.args.events.now)) c.loop-i.self.state c.step.new.state c.at.result.now.event (ap events_of split) told
 
 pub returns-in-Go-2-clause-checkpoints : goal.returns-in-Go-2-clause-checkpoints
 returns-in-Go-2-clause-checkpoints g c =
-    let whole : List RunStateView = c.args.self.checkpoints ++ fourths 3 (states_from (events_after c.args.self.passed c.args.events.now) c.args.self.state) in
+    let whole : List RunStateView = c.args.self.checkpoints ++ every_fourth 3 (states_from (events_after c.args.self.passed c.args.events.now) c.args.self.state) in
     let kept : List RunStateView = c.loop-i.self.checkpoints ++ cond ((c.loop-i.self.passed + 1) % 4 == 0) (c.step.new.state ∷ []) [] in
     of_each c.pass_last.result (λ e. e.checkpoints ≡ kept) (λ e. e.checkpoints ≡ whole)
-    (λ e is. is ∙ (ap (λ rs. c.loop-i.self.checkpoints ++ rs) (sym (ended g c).states) ∙ c.loop-i.invariant.checkpoints))
+    (λ e is. is ∙ (ap (λ rs. c.loop-i.self.checkpoints ++ rs) (sym (finished_run g c).states) ∙ c.loop-i.invariant.checkpoints))
     c.pass_last.ensures.checkpoints
 
 pub returns-in-Go-2-clause-steps : goal.returns-in-Go-2-clause-steps
 returns-in-Go-2-clause-steps g c =
-    let one = (ended g c).steps in
+    let one = (finished_run g c).steps in
     on_ok c.pass_last.result (g.S.Stepper.counted c.step.new.self ≡ g.S.Stepper.counted c.args.stepper.now + stepped_from (events_after c.args.self.passed c.args.events.now) c.args.self.state)
     (omega (arith, one, c.step.ensures.one_more, c.loop-i.invariant.steps))

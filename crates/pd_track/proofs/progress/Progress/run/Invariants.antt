@@ -3,7 +3,7 @@ use Rattle.std.proofs.Common.{◌≡◌, ◌+◌, ◌-◌, ◌%◌, ◌++◌}
 use Rattle.pd_reparse.specs.Steps.{events_after}
 use Rattle.pd_run.specs.Laws.{IsUnderway}
 use Rattle.pd_run.specs.Run.{verdict_from, stepped_from, states_from}
-use Rattle.pd_track.specs.Reuse.{fourths}
+use Rattle.pd_track.specs.Reuse.{every_fourth}
 use Rattle.pd_track.proofs.progress.Progress.run.Given as goal
 
 abbrev pub invariant-loop-i : goal.invariant-loop-i
@@ -17,7 +17,7 @@ invariant-loop-i g l =
       verdict : verdict_from l.self.passed rest l.self.state ≡ verdict_from l.fn.self.passed all l.fn.self.state;
       steps : counted l.stepper + stepped_from rest l.self.state ≡ counted l.fn.stepper + stepped_from all l.fn.self.state;
       checkpoints :
-          l.self.checkpoints ++ fourths (3 - l.self.passed % 4) (states_from rest l.self.state)
-          ≡ l.fn.self.checkpoints ++ fourths 3 (states_from all l.fn.self.state);
+          l.self.checkpoints ++ every_fourth (3 - l.self.passed % 4) (states_from rest l.self.state)
+          ≡ l.fn.self.checkpoints ++ every_fourth 3 (states_from all l.fn.self.state);
       counted : counted l.stepper + l.fn.self.passed ≡ counted l.fn.stepper + l.i;
     }

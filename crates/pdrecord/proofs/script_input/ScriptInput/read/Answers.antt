@@ -1,28 +1,28 @@
 use Rattle.std.proofs.Common.{true, []}
-use Rattle.pd_words.specs.Input.{to_come}
-use Rattle.pd_words.proofs.Known.{known_then}
-use Rattle.pd_words.proofs.Spending.{spent_none, spends_then, caused_out}
+use Rattle.pd_protocol.specs.Input.{to_come}
+use Rattle.pd_protocol.proofs.Known.{known_then}
+use Rattle.pd_protocol.proofs.Spending.{spent_none, spends_then, caused_out}
 use Rattle.pdrecord.specs.Inner.{Gathers}
 use Rattle.pdrecord.proofs.Gathering.{SoFar, so_begin, so_more}
 use Rattle.pdrecord.proofs.script_input.ScriptInput.read.Goals as goal
 
 pub loop-numbers-init : goal.loop-numbers-init
 loop-numbers-init g c = record {
-  so_far = so_begin c.new-gathered.result c.new-intake.result (g.R.Read.remaining c.args.reader.now) c.new-gathered.ensures c.new-intake.ensures;
-  spent = spent_none c.new-intake.result (g.R.Read.remaining c.args.reader.now) c.new-intake.ensures;
+  so_far = so_begin c.new-text_builder.result c.new-line_reader.result (g.R.Read.remaining c.args.reader.now) c.new-text_builder.ensures c.new-line_reader.ensures;
+  spent = spent_none c.new-line_reader.result (g.R.Read.remaining c.args.reader.now) c.new-line_reader.ensures;
 }
 
 pub loop-numbers-preserved : goal.loop-numbers-preserved
 loop-numbers-preserved g c =
-    let old = to_come c.loop-numbers.intake (g.R.Read.remaining c.loop-numbers.reader) in
-    let new = to_come c.take_line.new.intake (g.R.Read.remaining c.take_line.new.reader) in
+    let old = to_come c.loop-numbers.line_reader (g.R.Read.remaining c.loop-numbers.reader) in
+    let new = to_come c.read_line.new.line_reader (g.R.Read.remaining c.read_line.new.reader) in
     record {
-      so_far = known_then (SoFar c.loop-numbers.gathered) (Gathers true c.loop-numbers.gathered c.take_line.new.gathered) (SoFar c.take_line.new.gathered) (g.R.Read.remaining c.args.reader.now) old new
-          (λ x y z s t. so_more c.loop-numbers.gathered c.take_line.new.gathered x y z s t) c.loop-numbers.invariant.so_far (rw c.if-branch.true at c.in_ok-take_line.ensures.line);
-      spent = spends_then ([], 1048576) c.loop-numbers.intake c.take_line.new.intake (g.R.Read.remaining c.args.reader.now) (g.R.Read.remaining c.loop-numbers.reader) (g.R.Read.remaining c.take_line.new.reader) c.loop-numbers.invariant.spent (rw c.if-branch.true at c.in_ok-take_line.ensures.reads);
+      so_far = known_then (SoFar c.loop-numbers.text_builder) (Gathers true c.loop-numbers.text_builder c.read_line.new.text_builder) (SoFar c.read_line.new.text_builder) (g.R.Read.remaining c.args.reader.now) old new
+          (λ x y z s t. so_more c.loop-numbers.text_builder c.read_line.new.text_builder x y z s t) c.loop-numbers.invariant.so_far (rw c.if-branch.true at c.in_ok-read_line.ensures.line);
+      spent = spends_then ([], 1048576) c.loop-numbers.line_reader c.read_line.new.line_reader (g.R.Read.remaining c.args.reader.now) (g.R.Read.remaining c.loop-numbers.reader) (g.R.Read.remaining c.read_line.new.reader) c.loop-numbers.invariant.spent (rw c.if-branch.true at c.in_ok-read_line.ensures.reads);
     }
 
-pub returns-in_err-take_line-clause-cause : goal.returns-in_err-take_line-clause-cause
-returns-in_err-take_line-clause-cause g c =
-    caused_out c.from_residual.result c.in_err-take_line.field-0.0 (g.R.InputStream.has_failed c.take_line.new.reader) c.loop-numbers.intake c.take_line.new.intake (g.R.Read.remaining c.args.reader.now) (g.R.Read.remaining c.loop-numbers.reader)
-    c.from_residual.ensures.1 c.loop-numbers.invariant.spent c.in_err-take_line.ensures.cause
+pub returns-in_err-read_line-clause-cause : goal.returns-in_err-read_line-clause-cause
+returns-in_err-read_line-clause-cause g c =
+    caused_out c.from_residual.result c.in_err-read_line.field-0.0 (g.R.InputStream.has_failed c.read_line.new.reader) c.loop-numbers.line_reader c.read_line.new.line_reader (g.R.Read.remaining c.args.reader.now) (g.R.Read.remaining c.loop-numbers.reader)
+    c.from_residual.ensures.1 c.loop-numbers.invariant.spent c.in_err-read_line.ensures.cause

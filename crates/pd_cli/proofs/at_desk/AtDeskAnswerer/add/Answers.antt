@@ -1,5 +1,0 @@
-use Rattle.pd_words.specs.declared.command.Command.TheVariants.{Add}
-use Rattle.pd_cli.proofs.at_desk.AtDeskAnswerer.add.Goals as goal
-
-pub returns-in-Err-clause-failed : goal.returns-in-Err-clause-failed
-returns-in-Err-clause-failed g c = c.declined.ensures.only (Add c.args.name c.args.text)

@@ -1,5 +1,0 @@
-use Rattle.pd_words.specs.declared.command.Command.TheVariants.{Edit}
-use Rattle.pd_cli.proofs.at_desk.AtDeskAnswerer.edit.Goals as goal
-
-pub returns-in-Ok-clause-failed : goal.returns-in-Ok-clause-failed
-returns-in-Ok-clause-failed g c = c.accepted.ensures.only (Edit c.args.name.now c.args.edit)

@@ -1,0 +1,102 @@
+//! A book that answers commands: a settle runs what is owed here and now.
+ghost use Rattle.std.specs.Prelude.{◌≡◌, IfOk, IfErr};
+ghost use Rattle.pd_cli.specs.Output.{refused};
+ghost use Rattle.pd_cli.specs.Steps.{RepliesTo};
+
+use crate::handler::CommandHandler;
+use crate::observer::JobObserver;
+use crate::settle::{settle_and_show, show};
+use pd_book::{Book, BookFault, SharedEdit};
+use pd_protocol::ServeFault;
+use pd_settings::Value;
+use pd_text::{LineEdit, Lines, Name};
+use std::alloc::{AllocError, Global};
+
+/// A book, with who hears of its jobs.
+#[derive(Drop)]
+pub(crate) struct LocalHandler<L> {
+    /// What it allocates by.
+    pub alloc: Global,
+    /// The book.
+    pub book: Book,
+    /// Who hears of each job as it is finished.
+    pub observer: L,
+}
+
+impl<L: JobObserver> CommandHandler for LocalHandler<L> {
+    ghost use Rattle.std.specs.Prelude.{Ok, Err};
+    ghost use Rattle.pd_cli.specs.Output.{PrintsAlone, report, all_pass};
+    ghost use Rattle.pd_cli.specs.Steps.{IsQuiet, Fails};
+    ghost use Rattle.pd_cli.specs.Observed.{ObservesNumbered};
+
+    ghost is_ready = { λ at. IsQuiet at.book.history };
+
+    ghost prints = { λ old command octets new. PrintsAlone old.book.history command octets new.book.history × ObservesNumbered {V = Unit {0}} L.observes (Ok tt) old.book.history new.book.history old.observer new.observer };
+
+    ghost fails = { λ fault old command new. Fails fault old.book.history command × ObservesNumbered {V = Unit {0}} L.observes (Err fault) old.book.history new.book.history old.observer new.observer };
+
+    ghost passes = { λ at. all_pass (report at.book.history) };
+
+    fn alloc(&self) -> Global {
+        self.alloc
+    }
+
+    fn add(&mut self, name: Name, text: Option<Lines>) -> Result<Vec<u8>, ServeFault> {
+        match text {
+            Some(text) => reply(self.alloc, self.book.add(name, text)),
+            None => reply(self.alloc, Err(BookFault::TooLarge)),
+        }
+    }
+
+    fn edit(&mut self, name: &Name, edit: Option<LineEdit>) -> Result<Vec<u8>, ServeFault> {
+        match edit {
+            Some(edit) => {
+                let edit = SharedEdit::new(self.alloc, edit)?;
+                reply(self.alloc, self.book.edit_shared(name, edit))
+            }
+            None => reply(self.alloc, Err(BookFault::TooLarge)),
+        }
+    }
+
+    fn remove(&mut self, name: &Name) -> Result<Vec<u8>, ServeFault> {
+        reply(self.alloc, self.book.remove(name))
+    }
+
+    fn set(&mut self, key: &Name, value: Value) -> Result<Vec<u8>, ServeFault> {
+        reply(self.alloc, self.book.set(key.as_slice(), value))
+    }
+
+    fn show(&mut self) -> Result<Vec<u8>, ServeFault> {
+        Ok(show(self.alloc, &self.book)?.0)
+    }
+
+    fn settle(&mut self) -> Result<(Vec<u8>, bool), ServeFault> {
+        settle_and_show(self.alloc, &mut self.book, &mut self.observer)
+    }
+}
+
+/// What an answer of the book prints: nothing, or the line of a refusal.
+fn reply(alloc: Global, answer: Result<(), BookFault>) -> Result<Vec<u8>, ServeFault>
+    ensures reply { IfOk result (λ octets. RepliesTo answer octets.items) }
+    ensures only { IfErr result (λ fault. fault ≡ ServeFault.OutOfMemory) }
+{
+    match answer {
+        Ok(()) => Ok(Vec::new(alloc)),
+        Err(BookFault::OutOfMemory) => Err(ServeFault::OutOfMemory),
+        Err(fault) => Ok(refusal_line(alloc, fault)?),
+    }
+}
+
+/// The line of a refusal.
+///
+/// # Errors
+/// `AllocError` where a growth is refused.
+pub(crate) fn refusal_line(alloc: Global, fault: BookFault) -> Result<Vec<u8>, AllocError>
+    ensures { IfOk result (λ octets. octets.items ≡ refused fault) }
+{
+    let mut out = Vec::new(alloc);
+    out.extend_from_slice(b"refused ")?;
+    out.extend_from_slice(fault.text().as_bytes())?;
+    out.extend_from_slice(b"\n")?;
+    Ok(out)
+}

@@ -1,0 +1,161 @@
+//! The whole program, over words, a reader and two writers.
+ghost use Rattle.std.specs.Prelude.{◌≡◌, ◌≢◌, ◌≤◌, ℕ, List, [], map};
+ghost use Rattle.pd_protocol.specs.ChosenOptions.{ReportOptions, report_options, report_options_of};
+ghost use Rattle.pd_protocol.specs.OptionTable.{pdregress, settings_text, worker_count, refusals};
+ghost use Rattle.pd_protocol.specs.WriterOutput.{WritesTo, ExitsRefused};
+ghost use Rattle.pd_cli.specs.StepLines.{FinishedJob, AreNumbered};
+ghost use Rattle.pd_cli.specs.Observed.{WritesMore};
+ghost use Rattle.pd_cli.specs.Reported.{AreReported};
+ghost use Rattle.pd_cli.specs.Grammatical.{ServesAlone};
+ghost use Rattle.pd_protocol.specs.Input.{HasCause};
+ghost use Rattle.pd_cli.specs.Program.{end_of, status_of, stderr_of, Finishes};
+
+use crate::laws::law_reports;
+use crate::local_handler::LocalHandler;
+use crate::reporter::Reporter;
+use crate::serve_commands::serve_all;
+use crate::workers::serve;
+use pd_book::{Book, law_headline};
+use pd_desk::OpenGate;
+use pd_protocol::{
+    Exit, FAULT_STATUS, InputStream, Options, ProgramFault, ServeFault, fail, options, refuse,
+    settings_of,
+};
+use pd_settings::Settings;
+use std::alloc::Global;
+use std::convert::AsStr;
+use std::io::Write;
+use std::sync::Wait;
+use std::thread::Threads;
+
+/// The program's own name, by which it says its faults.
+pub const PROGRAM: &str = "pdregress";
+
+/// Runs the program on its words, of which the first is its own name. Words that `clap` refuses, and `--help`, print
+/// its own text on `err`, with the status 2. It starts threads where the words ask for workers, and no others.
+pub fn run<H: Threads + Wait + Sync, S: AsStr, R: InputStream, W: Write, E: Write>(
+    rt: &H,
+    alloc: Global,
+    words: &[S],
+    reader: &mut R,
+    out: &mut W,
+    err: &mut E,
+) -> Exit
+    ensures taken { let words = map S.text words.now in
+        let input = R.remaining reader.old in
+        refusals words ≡ [] → Finishes (R.has_failed reader.new) result (worker_count words) (report_options words) (settings_text pdregress words) input (W.contents out.old) (W.contents out.new) (E.contents err.old) (E.contents err.new) }
+    ensures refused { refusals (map S.text words.now) ≢ [] → ExitsRefused result (W.contents out.old) (W.contents out.new) }
+{
+    let chosen = match options(alloc, words) {
+        Ok(options) => options,
+        Err(error) => return refuse(alloc, PROGRAM, &error, err),
+    };
+    if chosen.workers == 0 {
+        return run_alone(alloc, &chosen, reader, out, err);
+    }
+    run_beside(rt, alloc, &chosen, reader, out, err)
+}
+
+/// Runs the program without workers: it serves the input, tells what the options ask for, and says at the end why it doesn't
+/// go on. After what can't be written nothing more is. It starts no thread.
+pub fn run_alone<R: InputStream, W: Write, E: Write>(
+    alloc: Global,
+    options: &Options<'_>,
+    reader: &mut R,
+    out: &mut W,
+    err: &mut E,
+) -> Exit
+    requires some { 1 ≤ options.now.cache }
+    requires few { options.now.cache ≤ 1024 }
+    ensures { let input = R.remaining reader.old in
+        Finishes (R.has_failed reader.new) result 0 (report_options_of options.now) options.now.settings.now input (W.contents out.old) (W.contents out.new) (E.contents err.old) (E.contents err.new) }
+{
+    match settings_of(alloc, options.settings) {
+        Ok(settings) => {
+            let (err, stderr_ok, end) = serve_and_report(
+                alloc, options, settings, reader, out, err,
+            );
+            exit_of(stderr_ok, end, err)
+        }
+        Err(fault) => fail(PROGRAM, err, fault),
+    }
+}
+
+/// Serves the input alone and tells on a writer what the options ask for. It hands the writer back, with whether all was
+/// said.
+fn serve_and_report<'a, R: InputStream, W: Write, E: Write>(
+    alloc: Global,
+    options: &Options<'_>,
+    settings: Settings,
+    reader: &mut R,
+    out: &mut W,
+    err: &'a mut E,
+) -> (&'a mut E, bool, Result<bool, ServeFault>)
+    requires some { 1 ≤ options.now.cache }
+    requires few { options.now.cache ≤ 1024 }
+    ensures same_reference { result.0.ghost_name ≡ err.entry.ghost_name }
+    ensures stderr { (jobs : List FinishedJob) × (lines : List ℕ) × AreNumbered 0 jobs × AreReported (report_options_of options.now) jobs lines × WritesTo result.1 (E.contents err.old) (E.contents result.0.now) lines }
+    ensures served { ServesAlone result.2 settings (R.remaining reader.old) (W.contents out.old) (W.contents out.new) }
+    ensures cause { HasCause result.2 (R.has_failed reader.new) (R.remaining reader.old) }
+{
+    law_headline();
+    law_reports();
+    let mut at = LocalHandler {
+        alloc,
+        book: Book::new(alloc, options.cache, settings),
+        observer: Reporter {
+            alloc,
+            err,
+            options,
+            stderr_ok: true,
+        },
+    };
+    let end = serve_all(&mut at, reader, out);
+    let LocalHandler { observer, .. } = at;
+    let Reporter { err, stderr_ok, .. } = observer;
+    (err, stderr_ok, end)
+}
+
+/// Runs the program beside workers: it serves the input, and says at the end why it doesn't go on.
+fn run_beside<H: Threads + Wait + Sync, R: InputStream, W: Write, E: Write>(
+    rt: &H,
+    alloc: Global,
+    options: &Options<'_>,
+    reader: &mut R,
+    out: &mut W,
+    err: &mut E,
+) -> Exit
+    requires some { 1 ≤ options.now.workers }
+    requires few { options.now.workers ≤ 64 }
+    requires least { 1 ≤ options.now.cache }
+    requires most { options.now.cache ≤ 1024 }
+    ensures { let input = R.remaining reader.old in
+        (report_options : ReportOptions) → Finishes (R.has_failed reader.new) result options.now.workers report_options options.now.settings.now input (W.contents out.old) (W.contents out.new) (E.contents err.old) (E.contents err.new) }
+{
+    let (cache, workers) = (options.cache, options.workers);
+    match settings_of(alloc, options.settings) {
+        Ok(settings) => {
+            let end = serve(rt, alloc, settings, cache, workers, reader, out, &OpenGate);
+            exit_of(true, end, err)
+        }
+        Err(fault) => fail(PROGRAM, err, fault),
+    }
+}
+
+/// Ends a run that served its input, with whether all was written so far: says the fault of serving where there is one.
+fn exit_of<E: Write>(stderr_ok: bool, end: Result<bool, ServeFault>, err: &mut E) -> Exit
+    ensures status { result.status ≡ status_of (end_of end) }
+    ensures stderr { WritesMore stderr_ok result.stderr_ok (E.contents err.old) (E.contents err.new) (stderr_of (end_of end)) }
+{
+    match end {
+        Ok(passed) => Exit {
+            status: if passed { 0 } else { 1 },
+            stderr_ok,
+        },
+        Err(fault) if stderr_ok => fail(PROGRAM, err, ProgramFault::Serving(fault)),
+        Err(_) => Exit {
+            status: FAULT_STATUS,
+            stderr_ok: false,
+        },
+    }
+}

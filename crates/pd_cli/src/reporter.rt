@@ -1,0 +1,84 @@
+//! A writer that hears of each finished job what the options ask for: its steps, and why it doesn't pass.
+ghost use Rattle.std.specs.Prelude.{◌≡◌, ◌++◌, IfOk, OnOk};
+ghost use Rattle.pd_protocol.specs.ChosenOptions.{report_options_of};
+ghost use Rattle.pd_cli.specs.StepLines.{FinishedJob, step_line};
+ghost use Rattle.pd_cli.specs.Reported.{MayReport};
+
+use crate::explanations::explanation_of;
+use crate::observer::JobObserver;
+use pd_book::Done;
+use pd_protocol::{Options, try_write};
+use pd_text::Name;
+use std::alloc::{AllocError, Global};
+use std::io::Write;
+
+/// A writer that hears of each job.
+#[derive(Drop)]
+pub(crate) struct Reporter<'a, 'b, E> {
+    /// What is reported is allocated by this.
+    pub alloc: Global,
+    /// Where it is written.
+    pub err: &'a mut E,
+    /// What is reported of each job.
+    pub options: &'b Options<'b>,
+    /// Whether all that was told is on the writer. After what couldn't be written nothing more is reported.
+    pub stderr_ok: bool,
+}
+
+impl<'a, 'b, E: Write> JobObserver for Reporter<'a, 'b, E> {
+    ghost use Rattle.std.specs.Prelude.{◌≡◌, ℕ, List};
+    ghost use Rattle.pd_protocol.specs.ChosenOptions.{report_options_of};
+    ghost use Rattle.pd_cli.specs.Reported.{MayReport};
+    ghost use Rattle.pd_cli.specs.Observed.{WritesMore};
+
+    ghost observes = { λ old new job. (new.err.ghost_name ≡ old.err.ghost_name) × (report_options_of new.options.now ≡ report_options_of old.options.now) × (lines : List ℕ) × MayReport (report_options_of old.options.now) job lines × WritesMore old.stderr_ok new.stderr_ok (E.contents old.err.now) (E.contents new.err.now) lines };
+
+    fn finished(&mut self, done: &Done, steps: u64) -> Result<(), AllocError> {
+        if self.stderr_ok {
+            let lines = report_of(self.alloc, self.options, done, steps)?;
+            self.stderr_ok = try_write(self.err, lines.as_slice());
+        }
+        Ok(())
+    }
+}
+
+/// What is reported of a job: its line of steps where these are asked for, then its block where explanations are.
+fn report_of(
+    alloc: Global,
+    options: &Options<'_>,
+    done: &Done,
+    steps: u64,
+) -> Result<Vec<u8>, AllocError>
+    ensures { IfOk result (λ lines. MayReport (report_options_of options.now) (record { number = done.now.number; name = done.now.name; steps = steps }) lines.items) }
+{
+    let mut lines = Vec::new(alloc);
+    if options.steps {
+        put_step_line(alloc, &mut lines, done.number(), done.name(), steps)?;
+    }
+    if let Some(explain_options) = &options.explain {
+        let block = explanation_of(alloc, explain_options, done)?;
+        lines.extend_from_slice(block.as_slice())?;
+    }
+    Ok(lines)
+}
+
+/// Adds the line of a job that was finished.
+fn put_step_line(
+    alloc: Global,
+    out: &mut Vec<u8>,
+    number: u64,
+    name: &Name,
+    steps: u64,
+) -> Result<(), AllocError>
+    ensures { OnOk result (out.new.items ≡ out.old.items ++ step_line (record { number = number; name = name.now; steps = steps })) }
+{
+    let number = number.to_string(alloc)?;
+    let steps = steps.to_string(alloc)?;
+    out.extend_from_slice(b"job ")?;
+    out.extend_from_slice(number.as_bytes())?;
+    out.extend_from_slice(b" ")?;
+    out.extend_from_slice(name.as_slice())?;
+    out.extend_from_slice(b" steps ")?;
+    out.extend_from_slice(steps.as_bytes())?;
+    out.extend_from_slice(b"\n")
+}

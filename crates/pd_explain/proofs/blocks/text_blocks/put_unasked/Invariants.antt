@@ -1,6 +1,0 @@
--- Lines so far.
-use Rattle.pd_explain.specs.Inner.{AddsLines}
-use Rattle.pd_explain.proofs.blocks.text_blocks.put_unasked.Given as goal
-
-abbrev pub invariant-loop-packet : goal.invariant-loop-packet
-invariant-loop-packet l = AddsLines l.initial.out.items l.out.items

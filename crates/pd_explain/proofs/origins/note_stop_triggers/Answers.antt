@@ -1,0 +1,16 @@
+-- Who let the packets go of an event whose packet or answer was compared.
+use Rattle.std.proofs.Common.{◌≡◌, ◌++◌, OnOk, subst, sym}
+use Rattle.pd_explain.proofs.NotedStop.{differs_noted, answers_noted}
+use Rattle.pd_explain.proofs.origins.note_stop_triggers.Goals as goal
+
+pub returns-in-Differs : goal.returns-in-Differs
+returns-in-Differs c =
+    let known = differs_noted c.args.stop.now.before c.args.event.now c.args.stop.now.stop_reason _ _ _ c.requires.stops c.in-Differs.is in
+    subst (λ triggers. OnOk c.note_compared_triggers.result (c.note_compared_triggers.new.triggers.items ≡ c.args.triggers.now.items ++ triggers)) (sym known.2)
+    (c.note_compared_triggers.ensures known.0 known.1)
+
+pub returns-in-Answered : goal.returns-in-Answered
+returns-in-Answered c =
+    let known = answers_noted c.args.stop.now.before c.args.event.now c.args.stop.now.stop_reason _ _ c.requires.stops c.in-Answered.is in
+    subst (λ triggers. OnOk c.note_compared_triggers-in-Answered.result (c.note_compared_triggers-in-Answered.new.triggers.items ≡ c.args.triggers.now.items ++ triggers)) (sym known.2)
+    (c.note_compared_triggers-in-Answered.ensures known.0 known.1)

@@ -1,0 +1,29 @@
+-- Each turn goes past a token with which the part doesn't begin.
+use Rattle.std.proofs.Common.{ap, sym, ◌∙◌}
+use Rattle.pd_lex.specs.Lexing.{items}
+use Rattle.pd_explain.specs.Parts.{found}
+use Rattle.pd_explain.specs.declared.parts.nesting.Nesting.{Nesting}
+use Rattle.pd_explain.proofs.PartLemmas.{finds, goes_on, fewer, none_left}
+use Rattle.pd_explain.proofs.parts.locate.find_part.Goals as goal
+
+pub tokens-init : goal.tokens-init
+tokens-init c = ap (λ (b : Nesting). found c.args.part b (items c.args.lines.now c.args.from)) c.at_first-before.ensures
+
+pub returns-in_default : goal.returns-in_default
+returns-in_default c =
+    sym (none_left c.args.lines.now c.args.part c.tokens.before c.tokens.place c.next_token.result c.next_token.ensures.next c.in_default.not-Token)
+    ∙ c.tokens.invariant
+
+pub returns-then-begins : goal.returns-then-begins
+returns-then-begins c =
+    sym (finds c.args.lines.now c.in-Token.token c.in-Token.ensures.text c.args.part c.tokens.before c.tokens.place c.of-role.result c.of-role.ensures c.in-Token.ensures.next (sym c.begins.ensures ∙ c.if-begins.true))
+    ∙ c.tokens.invariant
+
+pub tokens-smaller : goal.tokens-smaller
+tokens-smaller c = fewer c.args.lines.now c.in-Token.token c.in-Token.ensures.text c.args.part c.tokens.before c.tokens.place c.of-role.result c.of-role.ensures c.in-Token.ensures.next
+
+pub tokens-preserved : goal.tokens-preserved
+tokens-preserved c =
+    ap (λ (b : Nesting). found c.args.part b (items c.args.lines.now c.in-Token.token.to)) c.after-before.ensures
+    ∙ (sym (goes_on c.args.lines.now c.in-Token.token c.in-Token.ensures.text c.args.part c.tokens.before c.tokens.place c.of-role.result c.of-role.ensures c.in-Token.ensures.next (sym c.begins.ensures ∙ c.if-begins.false))
+    ∙ c.tokens.invariant)

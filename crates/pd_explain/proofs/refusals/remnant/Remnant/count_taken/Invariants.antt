@@ -1,6 +1,0 @@
--- What is left to look through.
-use Rattle.std.proofs.Common.{◌-◌}
-use Rattle.pd_explain.proofs.refusals.remnant.Remnant.count_taken.Given as goal
-
-abbrev pub decreases-halves : goal.decreases-halves
-decreases-halves l = l.high - l.low

@@ -1,0 +1,152 @@
+//! Packets as events of a script, one below the other in columns.
+ghost use Rattle.std.specs.Prelude.{◌≡◌, ◌++◌, IfOk, OnOk};
+ghost use Rattle.pd_print.specs.Sent.{packet_of};
+ghost use Rattle.pd_print.specs.Numbers.{time_text};
+ghost use Rattle.pd_explain.specs.AlignedPackets.{time_since, comment_of, sent_text, followed, lined_up};
+ghost use Rattle.pd_explain.specs.Inner.{laid};
+
+use pd_print::{
+    PacketParts, sent_packet, write_fixed_seconds, write_parts, write_sent, write_time,
+};
+use pd_script::{Packet, Time};
+use pd_seg::Sent;
+use std::alloc::{AllocError, Global};
+
+/// A part that is longer than this isn't lined up.
+const MAX_WIDTH: usize = 40;
+
+/// Two events, one below the other.
+#[derive(Drop)]
+pub struct AlignedPackets {
+    /// The event of the script.
+    pub script: Vec<u8>,
+    /// The event that happened, with its moment in a comment.
+    pub actual: Vec<u8>,
+}
+
+/// The event of a script, whose time is written so, and the one that happened, with equal columns.
+///
+/// # Errors
+/// `AllocError` where a growth is refused.
+pub fn aligned_packets(
+    alloc: Global,
+    time: &[u8],
+    packet: &Packet,
+    sent: &Sent,
+    base: u64,
+) -> Result<AlignedPackets, AllocError>
+    ensures script { IfOk result (λ pair. pair.script.items ≡ lined_up time.now packet.now (time_text (time_since base sent.now.at)) (packet_of sent.now.segment)) }
+    ensures actual { IfOk result (λ pair. pair.actual.items ≡ lined_up (time_text (time_since base sent.now.at)) (packet_of sent.now.segment) time.now packet.now ++ comment_of sent.now.at) }
+{
+    let since = write_time(alloc, time_since(base, sent.at))?;
+    let segment = sent_packet(alloc, &sent.segment)?;
+    let script = lined_up(alloc, time, packet, &since, &segment)?;
+    let actual = lined_up(alloc, &since, &segment, time, packet)?;
+    Ok(AlignedPackets {
+        script,
+        actual: with_comment(alloc, actual, sent.at)?,
+    })
+}
+
+/// The event of a script by itself, whose time is written so.
+///
+/// # Errors
+/// `AllocError` where a growth is refused.
+pub fn event_of(alloc: Global, time: &[u8], packet: &Packet) -> Result<Vec<u8>, AllocError>
+    ensures { IfOk result (λ line. line.items ≡ lined_up time.now packet.now time.now packet.now) }
+{
+    lined_up(alloc, time, packet, time, packet)
+}
+
+/// A packet that was sent as an event that happened, with its moment in a comment.
+///
+/// # Errors
+/// `AllocError` where a growth is refused.
+pub fn event_sent(alloc: Global, sent: &Sent, base: u64) -> Result<Vec<u8>, AllocError>
+    ensures { IfOk result (λ line. line.items ≡ sent_text base sent.now) }
+{
+    let line = write_sent(alloc, time_since(base, sent.at), &sent.segment)?;
+    with_comment(alloc, line, sent.at)
+}
+
+/// The time of a moment from the base; `*` where it lies before that, which no written time can say.
+fn time_since(base: u64, at: u64) -> Time
+    ensures { result ≡ time_since base at }
+{
+    if base <= at {
+        Time::Relative(at - base)
+    } else {
+        Time::Any
+    }
+}
+
+/// A line with a moment as a comment.
+fn with_comment(alloc: Global, line: Vec<u8>, at: u64) -> Result<Vec<u8>, AllocError>
+    ensures { IfOk result (λ with. with.items ≡ line.items ++ comment_of at) }
+{
+    let moment = write_fixed_seconds(alloc, at)?;
+    let mut line = line;
+    line.extend_from_slice(b" // ")?;
+    line.extend_from_slice(&moment)?;
+    Ok(line)
+}
+
+/// The event of a packet that leaves, its parts as wide as those of another one where these are wider.
+fn lined_up(
+    alloc: Global,
+    time: &[u8],
+    packet: &Packet,
+    other_time: &[u8],
+    other: &Packet,
+) -> Result<Vec<u8>, AllocError>
+    ensures { IfOk result (λ line. line.items ≡ lined_up time.now packet.now other_time.now other.now) }
+{
+    let parts = write_parts(alloc, packet)?;
+    let others = write_parts(alloc, other)?;
+    laid(alloc, time, &parts, other_time, &others)
+}
+
+/// The same of the parts: what is on the right of a part is laid first.
+fn laid(
+    alloc: Global,
+    time: &[u8],
+    parts: &PacketParts,
+    other_time: &[u8],
+    others: &PacketParts,
+) -> Result<Vec<u8>, AllocError>
+    ensures { IfOk result (λ line. line.items ≡ laid time.now parts.now other_time.now others.now) }
+{
+    let line = followed(alloc, &parts.win, &others.win, &parts.options)?;
+    let line = followed_by(alloc, &parts.ack, &others.ack, line)?;
+    let line = followed_by(alloc, &parts.octets, &others.octets, line)?;
+    let line = followed_by(alloc, &parts.flags, &others.flags, line)?;
+    let mut rest = Vec::new(alloc);
+    rest.extend_from_slice(b" > ")?;
+    rest.extend_from_slice(&line)?;
+    followed(alloc, time, other_time, &rest)
+}
+
+/// A part and a line that follows it.
+fn followed_by(
+    alloc: Global,
+    part: &[u8],
+    other: &[u8],
+    rest: Vec<u8>,
+) -> Result<Vec<u8>, AllocError>
+    ensures { IfOk result (λ line. line.items ≡ followed part.now other.now rest.items) }
+{
+    followed(alloc, part, other, &rest)
+}
+
+/// A part and what follows it: with blanks between them where another part is wider, and something follows.
+fn followed(alloc: Global, part: &[u8], other: &[u8], rest: &[u8]) -> Result<Vec<u8>, AllocError>
+    ensures { IfOk result (λ line. line.items ≡ followed part.now other.now rest.now) }
+{
+    let mut line = Vec::new(alloc);
+    line.extend_from_slice(part)?;
+    if !rest.is_empty() {
+        line.resize(part.len().max(other.len().min(MAX_WIDTH)), b' ')?;
+        line.extend_from_slice(rest)?;
+    }
+    Ok(line)
+}

@@ -1,0 +1,256 @@
+//! What of an event didn't happen as written, found where it stopped a run.
+ghost use Rattle.std.specs.Prelude.{◌≡◌, ◌<◌, ◌≤◌, ◌^◌, false, is_some, IfOk, IfSome};
+ghost use Rattle.std.specs.List.{list_any};
+ghost use Rattle.pd_host.specs.Expiries.{deadline_of};
+ghost use Rattle.pd_host.specs.SendBlockers.{blocker_in};
+ghost use Rattle.pd_print.specs.Answers.{answer_text};
+ghost use Rattle.pd_run.specs.Limits.{is_long, written_times};
+ghost use Rattle.pd_run.specs.Times.{time_range_of};
+ghost use Rattle.pd_explain.specs.Failures.{is_failure, sender_at, ShowsPackets, Tells, IsFailureOf};
+ghost use Rattle.pd_explain.specs.Outlook.{IsOutlook};
+ghost use Rattle.pd_explain.specs.SenderSnapshots.{snapshot_of, reason_of};
+ghost use Rattle.pd_explain.specs.Unexpected.{CountsUnexpected};
+ghost use Rattle.pd_explain.specs.Inner.{expected_time_of};
+ghost use Rattle.pd_explain.specs.Escape.{escaped};
+
+use crate::causes::aligned_packets::{AlignedPackets, aligned_packets, event_of, event_sent};
+use crate::causes::failure::{
+    ExpectedTime, Failed, Failure, MissingPacket, SenderSnapshot, TimeBackwards, WrongPacket,
+    WrongResult,
+};
+use crate::causes::not_sent_reason::NotSentReason;
+use crate::causes::outlook::outlook_of;
+use crate::causes::source_text::SourceText;
+use crate::causes::unexpected::count_unexpected;
+use crate::causes::unmatched::list_unmatched;
+use crate::escape::escaped;
+use pd_host::Host;
+use pd_match::Kind;
+use pd_print::write_answer;
+use pd_run::{Precheck, RunState, StopPoint, StopReason, time_range_of};
+use pd_script::{Action, Event, Packet, Time};
+use pd_seg::{Answer, Sent};
+use std::alloc::{AllocError, Global};
+
+/// What of an event that stopped a run, and is written so, didn't happen as written; nothing where a rule stopped it.
+///
+/// # Errors
+/// `AllocError` where a growth is refused.
+pub fn failure_of(
+    alloc: Global,
+    event: &Event,
+    stop: &StopPoint,
+    source_text: SourceText,
+) -> Result<Option<Failure>, AllocError>
+    ensures rules { IfOk result (λ reported. is_some reported ≡ is_failure stop.now.stop_reason) }
+    ensures reported { IfOk result (λ reported. IfSome reported (IsFailureOf source_text.time.items event.now stop.now)) }
+{
+    match failed_of(alloc, event, stop, source_text)? {
+        None => Ok(None),
+        Some(failed) => Ok(Some(failure(alloc, stop, failed)?)),
+    }
+}
+
+/// The same without the sender at the stop.
+fn failed_of(
+    alloc: Global,
+    event: &Event,
+    stop: &StopPoint,
+    source_text: SourceText,
+) -> Result<Option<Failed>, AllocError>
+    ensures rules { IfOk result (λ reported. is_some reported ≡ is_failure stop.now.stop_reason) }
+    ensures reported { IfOk result (λ reported. IfSome reported (Tells source_text.time.items event.now stop.now.before stop.now.stop_reason)) }
+{
+    let before = &stop.before;
+    let failed = match &stop.stop_reason {
+        StopReason::FailedPrecheck(Precheck::OverLimit | Precheck::NotRun)
+        | StopReason::Halted(_) => return Ok(None),
+        StopReason::FailedPrecheck(Precheck::Backwards) => Failed::Backwards(time_backwards(
+            event,
+            before,
+            source_text,
+        )),
+        StopReason::Missing => {
+            let script = line_of(alloc, event, source_text)?;
+            Failed::Missing(missing_packet(alloc, event, before, script)?)
+        }
+        StopReason::Differs(kind, sent, run) => {
+            Failed::Packet(wrong_packet(alloc, event, *kind, sent, run, source_text)?)
+        }
+        StopReason::Answered(answer, _) => Failed::Result(wrong_result(
+            alloc,
+            *answer,
+            source_text,
+        )?),
+    };
+    Ok(Some(failed))
+}
+
+/// The run at the stop, whose sender is shown.
+pub fn run_at(stop: &StopPoint) -> &RunState
+    ensures { result.now.host ≡ sender_at stop.now.before stop.now.stop_reason }
+{
+    match &stop.stop_reason {
+        StopReason::Differs(_, _, run) => run,
+        StopReason::Answered(_, run) => run,
+        _ => &stop.before,
+    }
+}
+
+/// What failed, with the sender at the stop and its packets that were put out and not taken, the one compared left out.
+fn failure(alloc: Global, stop: &StopPoint, failed: Failed) -> Result<Failure, AllocError>
+    ensures failed { IfOk result (λ failure. failure.failed ≡ failed) }
+    ensures sender { IfOk result (λ failure. failure.sender ≡ snapshot_of (sender_at stop.now.before stop.now.stop_reason)) }
+{
+    let run = run_at(stop);
+    let compared = usize::from(matches!(stop.stop_reason, StopReason::Differs(_, _, _)));
+    Ok(Failure {
+        failed,
+        unmatched: list_unmatched(alloc, run, compared)?,
+        origins: Vec::new(alloc),
+        dropped: Vec::new(alloc),
+        sender: sender(run),
+    })
+}
+
+/// How the sender of a run stands.
+pub fn sender(run: &RunState) -> SenderSnapshot
+    ensures { result ≡ snapshot_of run.now.host }
+{
+    let host = run.host();
+    SenderSnapshot {
+        state: host.state(),
+        connection_snapshot: host.connection_snapshot(),
+        expiry: host.deadline(),
+    }
+}
+
+fn time_backwards(event: &Event, before: &RunState, source_text: SourceText) -> TimeBackwards
+    ensures { result.base ≡ before.now.base }
+{
+    TimeBackwards {
+        event: source_text.event,
+        time: first_time(event.time),
+        base: before.base(),
+    }
+}
+
+/// The first moment of an absolute time.
+fn first_time(time: Time) -> u64 {
+    match time {
+        Time::Absolute(time) | Time::AbsoluteRange(time, _) => time,
+        Time::Any | Time::Relative(_) | Time::RelativeRange(_, _) => 0,
+    }
+}
+
+/// What is reported of an awaited event, which is shown so.
+fn missing_packet(
+    alloc: Global,
+    event: &Event,
+    before: &RunState,
+    script: Vec<u8>,
+) -> Result<MissingPacket, AllocError>
+    ensures reason { IfOk result (λ missing_packet. missing_packet.reason ≡ reason_of event.now.action (blocker_in before.now.host.state)) }
+    ensures expiry { IfOk result (λ missing_packet. missing_packet.expiry ≡ deadline_of before.now.host.state) }
+    ensures outlook { IfOk result (λ missing_packet. IsOutlook before.now.host.state missing_packet.outlook) }
+{
+    let host = before.host();
+    let reason = NotSentReason::of(&event.action, host.send_blocker()?);
+    Ok(MissingPacket {
+        script,
+        expected_time: expected_time(event.time, before),
+        expiry: host.deadline(),
+        reason,
+        words: words_of(alloc, reason, host)?,
+        outlook: outlook_of(alloc, host)?,
+    })
+}
+
+/// A reason in words, with the numbers of a sender.
+fn words_of(alloc: Global, reason: NotSentReason, host: &Host) -> Result<Vec<u8>, AllocError> {
+    reason.in_words(alloc, host.connection_snapshot(), host.wanted_octet()?)
+}
+
+/// The event by itself: its time as written, and of a packet what is written.
+fn line_of(alloc: Global, event: &Event, source_text: SourceText) -> Result<Vec<u8>, AllocError> {
+    match packet_of(event) {
+        Some(packet) => event_of(alloc, &escaped(alloc, &source_text.time)?, packet),
+        None => Ok(source_text.event),
+    }
+}
+
+fn wrong_packet(
+    alloc: Global,
+    event: &Event,
+    kind: Kind,
+    sent: &Sent,
+    run: &RunState,
+    source_text: SourceText,
+) -> Result<WrongPacket, AllocError>
+    ensures kind { IfOk result (λ compared. compared.kind ≡ kind) }
+    ensures at { IfOk result (λ compared. compared.at ≡ sent.now.at) }
+    ensures packets { IfOk result (λ compared. ShowsPackets (escaped source_text.time.items) event.now.action sent.now run.now.base compared) }
+    ensures unexpected { IfOk result (λ compared. CountsUnexpected event.now run.now compared.unexpected) }
+{
+    let pair = match &event.action {
+        Action::Outbound(packet) => aligned_packets(
+            alloc,
+            &escaped(alloc, &source_text.time)?,
+            packet,
+            sent,
+            run.base(),
+        )?,
+        Action::Inbound(_) | Action::Call(_) | Action::Command | Action::Code => AlignedPackets {
+            script: source_text.event,
+            actual: event_sent(alloc, sent, run.base())?,
+        },
+    };
+    Ok(WrongPacket {
+        kind,
+        script: pair.script,
+        actual: pair.actual,
+        at: sent.at,
+        expected_time: match kind {
+            Kind::Time => expected_time(event.time, run),
+            _ => None,
+        },
+        unexpected: count_unexpected(event, run),
+    })
+}
+
+fn wrong_result(
+    alloc: Global,
+    answer: Answer,
+    source_text: SourceText,
+) -> Result<WrongResult, AllocError>
+    ensures { IfOk result (λ wrong_result. wrong_result.answer.items ≡ answer_text answer) }
+{
+    let answer = write_answer(alloc, answer)?;
+    Ok(WrongResult {
+        call: source_text.event,
+        expected: source_text.result,
+        answer,
+    })
+}
+
+/// The packet that an event expects to leave.
+fn packet_of(event: &Event) -> Option<&Packet> {
+    match &event.action {
+        Action::Outbound(packet) => Some(packet),
+        Action::Inbound(_) | Action::Call(_) | Action::Command | Action::Code => None,
+    }
+}
+
+/// When a packet with a time is awaited.
+fn expected_time(time: Time, run: &RunState) -> Option<ExpectedTime>
+    ensures { run.now.base < 2 ^ 61 → list_any is_long (written_times time) ≡ false → result ≡ expected_time_of time run.now }
+{
+    match time_range_of(run.base(), time) {
+        None => None,
+        Some((first, last)) => Some(ExpectedTime {
+            first,
+            last,
+            tolerance: run.tolerance(),
+        }),
+    }
+}

@@ -1,0 +1,173 @@
+//! Octets of a script as they are shown, so that no script writes to a terminal what its reader didn't ask for.
+ghost use Rattle.std.specs.Prelude.{◌≡◌, ◌++◌, true, IfOk, OnOk};
+ghost use Rattle.pd_explain.specs.Escape.{is_printable, are_printable, hex_digit, escaped_octet, escaped};
+
+use std::alloc::{AllocError, Global};
+
+/// How many shown octets of a line are printed at most.
+const MAX_PRINTED: usize = 200;
+
+/// How many of them are before a mark that is far along a line.
+const BEFORE_MARK: usize = 100;
+
+/// How many octets `\xHH` has.
+const ESCAPED: usize = 4;
+
+fn is_printable(octet: u8) -> bool
+    ensures { result ≡ is_printable octet }
+{
+    matches!(octet, 0x20..=0x7e)
+}
+
+fn hex_digit(value: u8) -> u8
+    ensures { result ≡ hex_digit value }
+{
+    if value < 10 {
+        b'0' + value
+    } else {
+        b'a' + value.saturating_sub(10).min(5)
+    }
+}
+
+/// Adds octets as they are shown: a printable one as itself, any other as `\xHH`.
+///
+/// # Errors
+/// `AllocError` where a growth is refused.
+pub fn put_escaped(out: &mut Vec<u8>, octets: &[u8]) -> Result<(), AllocError>
+    ensures { OnOk result (out.new.items ≡ out.old.items ++ escaped octets.now) }
+{
+    for octet in octets {
+        put_octet(out, *octet)?;
+    }
+    Ok(())
+}
+
+/// Octets as they are shown.
+///
+/// # Errors
+/// `AllocError` where a growth is refused.
+pub fn escaped(alloc: Global, octets: &[u8]) -> Result<Vec<u8>, AllocError>
+    ensures { IfOk result (λ text. text.items ≡ escaped octets.now) }
+{
+    let mut text = Vec::new(alloc);
+    put_escaped(&mut text, octets)?;
+    Ok(text)
+}
+
+fn put_octet(out: &mut Vec<u8>, octet: u8) -> Result<(), AllocError>
+    ensures { OnOk result (out.new.items ≡ out.old.items ++ escaped_octet octet) }
+{
+    if is_printable(octet) {
+        out.push(octet)?;
+        return Ok(());
+    }
+    out.extend_from_slice(&[b'\\', b'x', hex_digit(octet / 16), hex_digit(octet % 16)])
+}
+
+/// How many octets are shown for these.
+pub fn escaped_len(octets: &[u8]) -> usize {
+    let mut len = 0usize;
+    for octet in octets {
+        let more = if is_printable(*octet) { 1 } else { ESCAPED };
+        len = len.saturating_add(more);
+    }
+    len
+}
+
+/// A shown line, cut at 200 octets; `..` is in the place of what is cut off.
+///
+/// # Errors
+/// `AllocError` where a growth is refused.
+pub fn truncated(alloc: Global, line: &[u8]) -> Result<Vec<u8>, AllocError>
+    ensures { IfOk result (λ cut. are_printable line.now ≡ true → are_printable cut.items ≡ true) }
+{
+    let (cut, _) = truncated_around(alloc, line, 0)?;
+    Ok(cut)
+}
+
+/// A shown line, cut to 200 octets around the one at `mark`, and where that one stands then.
+///
+/// # Errors
+/// `AllocError` where a growth is refused.
+pub fn truncated_around(
+    alloc: Global,
+    line: &[u8],
+    mark: usize,
+) -> Result<(Vec<u8>, usize), AllocError>
+    ensures { IfOk result (λ cut. are_printable line.now ≡ true → are_printable cut.0.items ≡ true) }
+{
+    let start = start_of(line, mark);
+    let end = end_from(line, start);
+    let mut cut = Vec::new(alloc);
+    put_cut(&mut cut, start > 0)?;
+    let column = mark.saturating_sub(start).saturating_add(cut.len());
+    put_part(&mut cut, part(line, start, end))?;
+    put_cut(&mut cut, end < line.len())?;
+    Ok((cut, column))
+}
+
+/// Adds a part of a line.
+#[tactic(auto, using(crate::proofs::ShownLemmas::joined))]
+fn put_part(out: &mut Vec<u8>, part: &[u8]) -> Result<(), AllocError>
+    ensures { OnOk result (are_printable out.old.items ≡ true → are_printable part.now ≡ true → are_printable out.new.items ≡ true) }
+{
+    out.extend_from_slice(part)
+}
+
+/// Adds what is in the place of what is cut off, if something is.
+fn put_cut(out: &mut Vec<u8>, is_cut: bool) -> Result<(), AllocError>
+    ensures { OnOk result (are_printable out.old.items ≡ true → are_printable out.new.items ≡ true) }
+{
+    if is_cut {
+        put_part(out, b"..")?;
+    }
+    Ok(())
+}
+
+/// The octets from a place up to another.
+#[tactic(auto, using(crate::proofs::ShownLemmas::ranged))]
+pub fn part(line: &[u8], start: usize, end: usize) -> &[u8]
+    ensures { are_printable line.now ≡ true → are_printable result.now ≡ true }
+{
+    let end = end.min(line.len());
+    let start = start.min(end);
+    &line[start..end]
+}
+
+/// Where what is shown of a line begins: at its begin where the mark is near, else a little before the mark, or so that it
+/// ends with the line.
+fn start_of(line: &[u8], mark: usize) -> usize {
+    if mark < MAX_PRINTED - BEFORE_MARK / 2 {
+        return 0;
+    }
+    let wanted = mark.saturating_sub(BEFORE_MARK);
+    let start = wanted.min(line.len().saturating_sub(MAX_PRINTED));
+    match torn_at(line, start) {
+        Some(escape) => escape.saturating_add(ESCAPED),
+        None => start,
+    }
+}
+
+/// Where what is shown from a place on ends.
+fn end_from(line: &[u8], start: usize) -> usize {
+    let end = start.saturating_add(MAX_PRINTED).min(line.len());
+    torn_at(line, end).unwrap_or(end)
+}
+
+/// Where the `\xHH` begins that a cut before an octet would tear.
+fn torn_at(line: &[u8], at: usize) -> Option<usize> {
+    for back in 1..ESCAPED {
+        if at >= back && is_escape(part(line, at - back, line.len())) {
+            return Some(at - back);
+        }
+    }
+    None
+}
+
+/// Whether a line begins with `\xHH`.
+fn is_escape(line: &[u8]) -> bool {
+    match line {
+        [b'\\', b'x', high, low, ..] => high.is_ascii_hexdigit() && low.is_ascii_hexdigit(),
+        _ => false,
+    }
+}

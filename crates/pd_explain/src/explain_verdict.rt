@@ -1,0 +1,289 @@
+//! Explains a verdict: looks into the run where it stopped.
+ghost use Rattle.std.specs.Prelude.{◌≡◌, true, None, Some, option_map, IfOk, IfSome};
+ghost use Rattle.pd_reparse.specs.Reading.{reading_of, script_part};
+ghost use Rattle.pd_run.specs.Run.{verdict_of};
+ghost use Rattle.pd_run.specs.StopPoints.{line_of, stop_in};
+ghost use Rattle.pd_script.specs.Script.{script_of};
+ghost use Rattle.pd_explain.specs.Causes.{IsCauseOf};
+ghost use Rattle.pd_explain.specs.Dropped.{dropped_before_stop};
+ghost use Rattle.pd_explain.specs.Explained.{row_line, not_run, HasHistory, IsCauseIn, IsCause, IsHeaderCause};
+ghost use Rattle.pd_explain.specs.Inner.{IsResumed, IsTraced, knows_all_origins};
+
+use crate::causes::{Cause, cause_at, with_history};
+use crate::dropped::{DroppedSegment, dropped_before_stop};
+use crate::explanation::Explanation;
+use crate::parts::event_place;
+use crate::refusals::find_refusal;
+use crate::resume::{ResumedRun, TracedStop, resume_before, resume_early, trace_stop};
+use crate::rule_violation::header_violation;
+use pd_lex::Place;
+use pd_reparse::{ParsedEvent, Reading, law_readings, read};
+use pd_run::{Verdict, law_verdicts_have_reasons};
+use pd_script::{Header, HeaderItem, HeaderKind};
+use pd_settings::Settings;
+use pd_text::Lines;
+use pd_track::Done;
+use std::alloc::{AllocError, Global};
+
+/// Explains the verdict that a run of a text under settings came to; nothing for a pass. The text is read and run again, up to the
+/// stop.
+///
+/// # Errors
+/// `AllocError` where a growth is refused.
+pub fn explain(
+    alloc: Global,
+    lines: &Lines,
+    settings: &Settings,
+    verdict: Verdict,
+) -> Result<Option<Explanation>, AllocError>
+    requires { verdict ≡ verdict_of lines.now settings.now }
+    ensures reported { IfOk result (λ reported. option_map (λ e. e.verdict) reported ≡ option_map (λ _. verdict) (row_line verdict)) }
+    ensures at { IfOk result (λ reported. option_map (λ e. e.line) reported ≡ row_line verdict) }
+    ensures cause { IfOk result (λ reported. IfSome reported (λ e. IsCause lines.now settings.now verdict e.cause)) }
+{
+    let Some(line) = row_line(verdict) else {
+        return Ok(None);
+    };
+    let cause = cause_of(alloc, lines, settings, verdict, line)?;
+    Ok(Some(Explanation {
+        line,
+        verdict,
+        cause,
+    }))
+}
+
+/// Explains the verdict of a job that was run; nothing for a pass. Its text isn't read again, and of its run mostly at most
+/// three events before those of the line at which it stopped.
+///
+/// # Errors
+/// `AllocError` where a growth is refused.
+pub fn explain_job(alloc: Global, done: &Done) -> Result<Option<Explanation>, AllocError>
+    ensures reported { IfOk result (λ reported. option_map (λ e. e.verdict) reported ≡ option_map (λ _. verdict_of done.now.text done.now.settings) (row_line (verdict_of done.now.text done.now.settings))) }
+    ensures at { IfOk result (λ reported. option_map (λ e. e.line) reported ≡ row_line (verdict_of done.now.text done.now.settings)) }
+    ensures cause { IfOk result (λ reported. IfSome reported (λ e. IsCause done.now.text done.now.settings (verdict_of done.now.text done.now.settings) e.cause)) }
+{
+    let verdict = done.verdict();
+    let Some(line) = row_line(verdict) else {
+        return Ok(None);
+    };
+    let cause = cause_of_job(alloc, done, verdict, line)?;
+    Ok(Some(Explanation {
+        line,
+        verdict,
+        cause,
+    }))
+}
+
+/// The line of a row that isn't a pass.
+fn row_line(verdict: Verdict) -> Option<usize>
+    ensures { result ≡ row_line verdict }
+{
+    match verdict {
+        Verdict::Pass(_) => None,
+        Verdict::Fail(line, _) => Some(line),
+        Verdict::Syntax(line) | Verdict::Unsupported(line) | Verdict::Limit(line) => Some(line),
+    }
+}
+
+/// Why a text comes to its verdict at a line.
+fn cause_of(
+    alloc: Global,
+    lines: &Lines,
+    settings: &Settings,
+    verdict: Verdict,
+    line: usize,
+) -> Result<Cause, AllocError>
+    requires verdict { verdict ≡ verdict_of lines.now settings.now }
+    requires line { row_line verdict ≡ Some line }
+    ensures { IfOk result (IsCause lines.now settings.now verdict) }
+{
+    match verdict {
+        Verdict::Syntax(_) => Ok(Cause::Syntax(find_refusal(alloc, lines, line)?)),
+        _ => {
+            let reading = read(alloc, lines)?;
+            cause_of_stop(alloc, lines, settings, verdict, line, &reading, None, None)
+        }
+    }
+}
+
+/// Why a job that was run comes to its verdict at a line.
+fn cause_of_job(
+    alloc: Global,
+    done: &Done,
+    verdict: Verdict,
+    line: usize,
+) -> Result<Cause, AllocError>
+    requires verdict { verdict ≡ verdict_of done.now.text done.now.settings }
+    requires line { row_line verdict ≡ Some line }
+    ensures { IfOk result (IsCause done.now.text done.now.settings verdict) }
+{
+    let lines = done.text().lines();
+    match verdict {
+        Verdict::Syntax(_) => Ok(Cause::Syntax(find_refusal(alloc, lines, line)?)),
+        _ => {
+            let track = done.track();
+            let resumed = resume_before(track, line)?;
+            let resumed_early = resume_early(track, verdict, line)?;
+            cause_of_stop(
+                alloc,
+                lines,
+                track.settings(),
+                verdict,
+                line,
+                track.reading(),
+                resumed,
+                resumed_early,
+            )
+        }
+    }
+}
+
+/// Why the run of a script that was read comes to its verdict at a line. The run is taken up on its way, once more early where
+/// segments are looked for that were dropped, or else is run from its first event.
+fn cause_of_stop(
+    alloc: Global,
+    lines: &Lines,
+    settings: &Settings,
+    verdict: Verdict,
+    line: usize,
+    reading: &Reading,
+    resumed: Option<ResumedRun>,
+    resumed_early: Option<ResumedRun>,
+) -> Result<Cause, AllocError>
+    requires verdict { verdict ≡ verdict_of lines.now settings.now }
+    requires line { line_of verdict ≡ Some line }
+    requires reading { reading.now ≡ reading_of lines.now }
+    requires resumed { IfSome resumed (λ t. IsResumed settings.now (script_of lines.now) t.passed t.run) }
+    requires resumed_early { IfSome resumed_early (λ t. IsResumed settings.now (script_of lines.now) t.passed t.run) }
+    ensures { IfOk result (IsCauseIn lines.now line settings.now (script_of lines.now) verdict) }
+{
+    // The laws do no work here and below: that a stop is found rests on them.
+    law_readings();
+    match item_not_run(reading.header()) {
+        Some(item) => cause_of_header(alloc, lines, &item),
+        None => cause_of_run(
+            alloc,
+            lines,
+            settings,
+            verdict,
+            line,
+            reading,
+            resumed,
+            resumed_early,
+        ),
+    }
+}
+
+/// Why a script isn't run: for an item of its header.
+fn cause_of_header(alloc: Global, lines: &Lines, item: &HeaderItem) -> Result<Cause, AllocError>
+    ensures { IfOk result (IsHeaderCause lines.now item.now.kind) }
+{
+    Ok(Cause::Rule(header_violation(alloc, lines, item)?))
+}
+
+/// The same of a script whose header is run.
+fn cause_of_run(
+    alloc: Global,
+    lines: &Lines,
+    settings: &Settings,
+    verdict: Verdict,
+    line: usize,
+    reading: &Reading,
+    resumed: Option<ResumedRun>,
+    resumed_early: Option<ResumedRun>,
+) -> Result<Cause, AllocError>
+    requires verdict { verdict ≡ verdict_of lines.now settings.now }
+    requires line { line_of verdict ≡ Some line }
+    requires reading { reading.now ≡ reading_of lines.now }
+    requires header { not_run (script_part reading.now).header.items ≡ None }
+    requires resumed { IfSome resumed (λ t. IsResumed settings.now (script_of lines.now) t.passed t.run) }
+    requires resumed_early { IfSome resumed_early (λ t. IsResumed settings.now (script_of lines.now) t.passed t.run) }
+    ensures { IfOk result (IsCauseIn lines.now line settings.now (script_of lines.now) verdict) }
+{
+    law_verdicts_have_reasons();
+    law_readings();
+    match trace_stop(alloc, reading, settings, resumed, line)? {
+        Some(traced) => cause_of_found(
+            alloc,
+            lines,
+            settings,
+            verdict,
+            line,
+            reading,
+            &traced,
+            resumed_early,
+        ),
+        None => unreachable!(),
+    }
+}
+
+/// The same where the run was traced to its stop.
+fn cause_of_found(
+    alloc: Global,
+    lines: &Lines,
+    settings: &Settings,
+    _verdict: Verdict,
+    _line: usize,
+    reading: &Reading,
+    traced: &TracedStop,
+    resumed_early: Option<ResumedRun>,
+) -> Result<Cause, AllocError>
+    requires verdict { _verdict ≡ verdict_of lines.now settings.now }
+    requires line { line_of _verdict ≡ Some _line }
+    requires reading { reading.now ≡ reading_of lines.now }
+    requires header { not_run (script_part reading.now).header.items ≡ None }
+    requires resumed_early { IfSome resumed_early (λ t. IsResumed settings.now (script_of lines.now) t.passed t.run) }
+    requires stop { stop_in _line settings.now (script_part reading.now) ≡ Some traced.now.stop }
+    requires traced { IsTraced settings.now (script_part reading.now) traced.now.stop traced.now.triggers.items }
+    requires whole { knows_all_origins traced.now.stop traced.now.triggers.items ≡ true }
+    ensures { IfOk result (IsCauseIn lines.now _line settings.now (script_of lines.now) _verdict) }
+{
+    law_verdicts_have_reasons();
+    law_readings();
+    let place = event_place(reading, traced.stop.passed);
+    let parsed_event = reading.events().at(traced.stop.passed);
+    let dropped = dropped_before_stop(alloc, reading, settings, resumed_early, &traced.stop)?;
+    cause_of_traced(
+        alloc,
+        lines,
+        settings,
+        reading,
+        place,
+        parsed_event,
+        traced,
+        dropped,
+    )
+}
+
+/// Why an event stopped a run that was traced, with what let the packets go that nobody has taken there, and which segments were
+/// dropped.
+fn cause_of_traced(
+    alloc: Global,
+    lines: &Lines,
+    _settings: &Settings,
+    _reading: &Reading,
+    place: Place,
+    parsed_event: &ParsedEvent,
+    traced: &TracedStop,
+    dropped: Vec<DroppedSegment>,
+) -> Result<Cause, AllocError>
+    requires traced { IsTraced _settings.now (script_part _reading.now) traced.now.stop traced.now.triggers.items }
+    requires whole { knows_all_origins traced.now.stop traced.now.triggers.items ≡ true }
+    requires dropped { dropped.items ≡ dropped_before_stop _settings.now (script_part _reading.now) traced.now.stop }
+    ensures { IfOk result (λ cause. IsCauseOf lines.now place parsed_event.now.event traced.now.stop cause × HasHistory _settings.now (script_part _reading.now) traced.now.stop cause) }
+{
+    let cause = cause_at(alloc, lines, place, parsed_event, &traced.stop)?;
+    let origins = traced.origins(alloc)?;
+    Ok(with_history(cause, origins, dropped))
+}
+
+/// The first header item that isn't run.
+fn item_not_run(header: &Header) -> Option<HeaderItem>
+    ensures { result ≡ not_run header.now.items }
+{
+    header
+        .as_slice()
+        .iter()
+        .copied()
+        .find(|item| !matches!(item.kind, HeaderKind::Tolerance(_)))
+}

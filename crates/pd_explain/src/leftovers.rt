@@ -1,0 +1,175 @@
+//! What a script that passes leaves at its end.
+ghost use Rattle.std.specs.Prelude.{◌≡◌, ◌≤◌, IfOk, IfSome, Ok, length, option_map};
+ghost use Rattle.pd_run.specs.Laws.{unmatched};
+ghost use Rattle.pd_run.specs.Run.{start_of};
+ghost use Rattle.pd_explain.specs.Leftovers.{awaits_any, end_from, end_in, last_line, IsLeftovers, IsLeftoversOf, PassesHaveEnds};
+ghost use Rattle.pd_explain.specs.Inner.{AreOriginsOf, HasTriggersToEnd};
+ghost use Rattle.pd_explain.specs.Origins.{AreOrigins};
+
+use crate::causes::{Origin, SenderSnapshot, Unmatched, list_unmatched, sender};
+use crate::origins::{Trigger, is_awaited, law_packets_append, origins_of, step_with_triggers};
+use pd_run::{Plain, RunState, StepEnd, law_runs_are_bounded, law_verdicts_have_reasons};
+use pd_script::{Event, Parsed, parse};
+use pd_settings::Settings;
+use pd_text::Lines;
+use std::alloc::{AllocError, Global};
+
+/// What a script that passes leaves at its end, where it awaits no packet or leaves some.
+#[derive(Drop)]
+pub struct Leftovers {
+    /// The line of its last event; 1 where it has none.
+    pub line: usize,
+    /// Whether an event awaits a packet.
+    pub awaits: bool,
+    /// The packets that were put out and not taken.
+    pub unmatched: Unmatched,
+    /// What let each of those go that are listed, and the next one.
+    pub origins: Vec<Origin>,
+    /// The sender at the end.
+    pub sender: SenderSnapshot,
+}
+
+/// What a text that passes under settings leaves at its end. Nothing where it awaits a packet and leaves none, and nothing of a
+/// text that doesn't pass.
+///
+/// # Errors
+/// `AllocError` where a growth is refused.
+pub fn find_leftovers(
+    alloc: Global,
+    lines: &Lines,
+    settings: &Settings,
+) -> Result<Option<Leftovers>, AllocError>
+    ensures { IfOk result (IsLeftovers lines.now settings.now) }
+{
+    let parsed = parse(alloc, lines)?;
+    match run_to_end(alloc, &parsed, settings)? {
+        Some(end) => leftovers_of(alloc, &parsed, settings, &end),
+        None => Ok(None),
+    }
+}
+
+/// A run at its end, and who let its packets go.
+#[derive(Drop)]
+struct PassedRun {
+    /// The run.
+    run: RunState,
+    /// Who let each packet go that it put out.
+    triggers: Vec<Trigger>,
+}
+
+impl PassedRun {
+    /// What let the oldest packets go that nobody has taken.
+    fn origins(&self, alloc: Global) -> Result<Vec<Origin>, AllocError>
+        requires { length (unmatched self.now.run) ≤ length self.now.triggers.items }
+        ensures { IfOk result (λ origins. AreOriginsOf (unmatched self.now.run) self.now.triggers.items origins.items) }
+    {
+        origins_of(alloc, self.run.host().outbox(), self.triggers.as_slice())
+    }
+}
+
+/// The run at the end of a script that was read; nothing where it stops before.
+fn run_to_end(
+    alloc: Global,
+    parsed: &Parsed,
+    settings: &Settings,
+) -> Result<Option<PassedRun>, AllocError>
+    requires few { length parsed.now.events ≤ 4096 }
+    ensures run { IfOk result (λ end. option_map (λ e. e.run) end ≡ end_in settings.now parsed.now) }
+    ensures triggers { IfOk result (λ end. IfSome end (λ e. HasTriggersToEnd settings.now parsed.now e.run e.triggers.items)) }
+{
+    law_runs_are_bounded();
+    if parsed.fault.is_some() {
+        return Ok(None);
+    }
+    match RunState::new(alloc, &parsed.header, settings) {
+        Ok(start) => run_from(alloc, parsed, settings, start),
+        Err(_) => Ok(None),
+    }
+}
+
+/// The run after the last event, and who let its packets go.
+fn run_from(
+    alloc: Global,
+    parsed: &Parsed,
+    settings: &Settings,
+    start: RunState,
+) -> Result<Option<PassedRun>, AllocError>
+    requires few { length parsed.now.events ≤ 4096 }
+    requires start { start_of parsed.now.header.items settings.now ≡ Ok start }
+    ensures run { IfOk result (λ end. option_map (λ e. e.run) end ≡ end_from parsed.now.events start) }
+    ensures triggers { IfOk result (λ end. IfSome end (λ e. HasTriggersToEnd settings.now parsed.now e.run e.triggers.items)) }
+{
+    law_runs_are_bounded();
+    law_packets_append();
+    let mut stepper = Plain::new();
+    let mut triggers = Vec::new(alloc);
+    let mut run = start;
+    for event in parsed.events.as_slice() {
+        match step_with_triggers(&mut stepper, &mut run, event, settings, &mut triggers)? {
+            StepEnd::Go => {}
+            StepEnd::Stop(_) => return Ok(None),
+        }
+    }
+    Ok(Some(PassedRun { run, triggers }))
+}
+
+/// What is reported of a run after the last of its events.
+fn leftovers_of(
+    alloc: Global,
+    parsed: &Parsed,
+    settings: &Settings,
+    end: &PassedRun,
+) -> Result<Option<Leftovers>, AllocError>
+    requires { HasTriggersToEnd settings.now parsed.now end.now.run end.now.triggers.items }
+    ensures { IfOk result (IsLeftoversOf settings.now parsed.now end.now.run) }
+{
+    let events = parsed.events.as_slice();
+    let awaits = awaits_any(events);
+    if awaits && end.run.host().outbox().is_empty() {
+        return Ok(None);
+    }
+    Ok(Some(Leftovers {
+        line: last_line(events),
+        awaits,
+        unmatched: list_unmatched(alloc, &end.run, 0)?,
+        origins: origins_at_end(alloc, parsed, settings, end)?,
+        sender: sender(&end.run),
+    }))
+}
+
+/// What let the oldest packets go that nobody has taken at the end.
+fn origins_at_end(
+    alloc: Global,
+    _parsed: &Parsed,
+    _settings: &Settings,
+    end: &PassedRun,
+) -> Result<Vec<Origin>, AllocError>
+    requires { HasTriggersToEnd _settings.now _parsed.now end.now.run end.now.triggers.items }
+    ensures { IfOk result (λ origins. AreOrigins _settings.now _parsed.now (length _parsed.now.events) (unmatched end.now.run) origins.items) }
+{
+    let origins = end.origins(alloc)?;
+    Ok(origins)
+}
+
+/// Whether an event awaits a packet.
+fn awaits_any(events: &[Event]) -> bool
+    ensures { result ≡ awaits_any events.now }
+{
+    events.iter().any(|event| is_awaited(&event.action))
+}
+
+fn last_line(events: &[Event]) -> usize
+    ensures { result ≡ last_line events.now }
+{
+    match events.get(events.len().saturating_sub(1)) {
+        Some(event) => event.line,
+        None => 1,
+    }
+}
+
+/// A law: a script passes exactly where its run comes to its end.
+pub fn law_passes_have_ends()
+    ensures { PassesHaveEnds }
+{
+    law_verdicts_have_reasons();
+}

@@ -1,0 +1,295 @@
+//! Runs of which it is noted who let each packet go.
+ghost use Rattle.std.specs.Prelude.{◌≡◌, ◌-◌, ◌++◌, ◌<◌, ◌≤◌, ◌^◌, ◌+◌, false, is_some, None, Some, IfOk, OnOk, length, replicate, if◌then◌else◌};
+ghost use Rattle.std.specs.List.{list_any};
+ghost use Rattle.pd_host.specs.Expiries.{advanced, deadline_of, due_by};
+ghost use Rattle.pd_host.specs.Host.{IsShort};
+ghost use Rattle.pd_run.specs.Prechecks.{failed_precheck};
+ghost use Rattle.pd_run.specs.Laws.{unmatched};
+ghost use Rattle.pd_run.specs.Limits.{is_long, written_times};
+ghost use Rattle.pd_run.specs.Step.{action_time, step, IsStepEnd, stop_reason};
+ghost use Rattle.pd_run.specs.declared.stepper.StepEnd.TheVariants.{Go};
+ghost use Rattle.pd_explain.specs.Origins.{is_awaited, matched_count, packets_in, after_timer, after_input};
+ghost use Rattle.pd_explain.specs.Inner.{AreOriginsOf, PacketsAppend, origin_by, triggers_at, triggers_by, triggers_of};
+
+use crate::causes::Origin;
+use pd_host::{Host, HostEnd, Outbox, law_advances, law_arrivals, law_calls};
+use pd_run::{
+    Plain, RunState, StepEnd, Stepper, StopPoint, StopReason, failed_precheck, law_steps, time_of,
+};
+use pd_script::{Action, Event};
+use pd_seg::Sent;
+use pd_settings::Settings;
+use std::alloc::{AllocError, Global};
+
+/// How many packets are told of at most: the one compared, and ten others.
+const MAX_REPORTED: usize = 11;
+
+/// Who let a packet go.
+#[derive(Clone, Copy)]
+pub enum Trigger {
+    /// The timer.
+    Timer,
+    /// The input at a line.
+    Line(usize),
+}
+
+/// What notes rest on: that no event takes a packet out of the midst of others, or puts one there.
+pub fn law_packets_append()
+    ensures { PacketsAppend }
+{
+    law_steps();
+    law_arrivals();
+    law_calls();
+    law_advances();
+}
+
+/// One event of a run: it is noted who let the packets go that it put out, where it passes.
+///
+/// # Errors
+/// `AllocError` where a growth is refused.
+pub fn step_with_triggers(
+    stepper: &mut Plain,
+    run: &mut RunState,
+    event: &Event,
+    settings: &Settings,
+    triggers: &mut Vec<Trigger>,
+) -> Result<StepEnd, AllocError>
+    requires room { stepper.old < 2 ^ 64 - 1 }
+    requires live { run.old.host.ended ≡ None }
+    requires clock { run.old.clock < 2 ^ 61 }
+    requires base { run.old.base < 2 ^ 61 }
+    requires short { IsShort run.old.host.state }
+    ensures ends { IfOk result (λ end. IsStepEnd (step run.old event.now) end run.new) }
+    ensures one_more { OnOk result (stepper.new ≡ stepper.old + 1) }
+    ensures noted { IfOk result (λ end. end ≡ Go → triggers.new.items ≡ triggers.old.items ++ triggers_at run.old event.now) }
+{
+    law_packets_append();
+    let before = count_unmatched(run);
+    let expired = count_expired(run, event)?;
+    let end = stepper.step(run, event, settings)?;
+    if let StepEnd::Go = end {
+        let after = count_with_matched(run, event)?;
+        put_event(triggers, event, before, expired, after)?;
+    }
+    Ok(end)
+}
+
+/// Notes the same of an event that stopped a run.
+///
+/// # Errors
+/// `AllocError` where a growth is refused.
+pub fn note_stop_triggers(
+    triggers: &mut Vec<Trigger>,
+    event: &Event,
+    stop: &StopPoint,
+) -> Result<(), AllocError>
+    requires live { stop.now.before.host.ended ≡ None }
+    requires clock { stop.now.before.clock < 2 ^ 61 }
+    requires base { stop.now.before.base < 2 ^ 61 }
+    requires stops { stop_reason stop.now.before event.now ≡ Some stop.now.stop_reason }
+    ensures { OnOk result (triggers.new.items ≡ triggers.old.items ++ triggers_by stop.now.before event.now stop.now.stop_reason) }
+{
+    law_packets_append();
+    match &stop.stop_reason {
+        StopReason::Differs(_, _, run) => note_compared_triggers(
+            triggers,
+            event,
+            &stop.before,
+            run,
+        ),
+        StopReason::Answered(_, run) => note_compared_triggers(triggers, event, &stop.before, run),
+        StopReason::FailedPrecheck(_) | StopReason::Halted(_) | StopReason::Missing => Ok(()),
+    }
+}
+
+/// The same where a packet or an answer was compared in a run.
+fn note_compared_triggers(
+    triggers: &mut Vec<Trigger>,
+    event: &Event,
+    before: &RunState,
+    run: &RunState,
+) -> Result<(), AllocError>
+    requires live { before.now.host.ended ≡ None }
+    requires clock { before.now.clock < 2 ^ 61 }
+    requires base { before.now.base < 2 ^ 61 }
+    ensures { failed_precheck before.now.base event.now ≡ None → length (unmatched run.now) ≡ length (after_input before.now event.now) → OnOk result (triggers.new.items ≡ triggers.old.items ++ triggers_at before.now event.now) }
+{
+    law_packets_append();
+    let stood = count_unmatched(before);
+    let expired = count_expired(before, event)?;
+    let after = count_unmatched(run);
+    put_event(triggers, event, stood, expired, after)
+}
+
+/// Adds who let the packets go that an event put out, by how many stood before, after its expiries and after it.
+fn put_event(
+    triggers: &mut Vec<Trigger>,
+    event: &Event,
+    before: usize,
+    expired: usize,
+    after: usize,
+) -> Result<(), AllocError>
+    ensures { OnOk result (triggers.new.items ≡ triggers.old.items ++ triggers_of ((if is_awaited event.now.action then after else expired) - before) (after - (if is_awaited event.now.action then after else expired)) event.now.line) }
+{
+    let by_timer = if is_awaited(&event.action) {
+        after
+    } else {
+        expired
+    };
+    put_triggers(
+        triggers,
+        by_timer.saturating_sub(before),
+        after.saturating_sub(by_timer),
+        event.line,
+    )
+}
+
+/// Adds who let so many packets go: first the timer, and then the input of a line.
+fn put_triggers(
+    triggers: &mut Vec<Trigger>,
+    timer: usize,
+    input: usize,
+    line: usize,
+) -> Result<(), AllocError>
+    ensures { OnOk result (triggers.new.items ≡ triggers.old.items ++ triggers_of timer input line) }
+{
+    repeat_trigger(triggers, timer, Trigger::Timer)?;
+    repeat_trigger(triggers, input, Trigger::Line(line))
+}
+
+/// Adds a sender so many times.
+fn repeat_trigger(
+    triggers: &mut Vec<Trigger>,
+    count: usize,
+    trigger: Trigger,
+) -> Result<(), AllocError>
+    ensures { OnOk result (triggers.new.items ≡ triggers.old.items ++ replicate count trigger) }
+{
+    for _time in 0..count {
+        triggers.push(trigger)?;
+    }
+    Ok(())
+}
+
+/// How many packets of a run stand untaken.
+fn count_unmatched(run: &RunState) -> usize
+    ensures { result ≡ length (unmatched run.now) }
+{
+    run.host().outbox().len()
+}
+
+/// The same with the one that an event took.
+fn count_with_matched(run: &RunState, event: &Event) -> Result<usize, AllocError>
+    ensures { IfOk result (λ count. count ≡ length (unmatched run.now) + matched_count event.now) }
+{
+    match count_unmatched(run).checked_add(matched_count(event)) {
+        Some(count) => Ok(count),
+        None => Err(AllocError),
+    }
+}
+
+/// How many packets stand untaken after all expiries up to the moment at which an event acts.
+fn count_expired(run: &RunState, event: &Event) -> Result<usize, AllocError>
+    requires live { run.now.host.ended ≡ None }
+    requires clock { run.now.clock < 2 ^ 61 }
+    requires base { run.now.base < 2 ^ 61 }
+    ensures { IfOk result (λ count. failed_precheck run.now.base event.now ≡ None → is_awaited event.now.action ≡ false → count ≡ length (after_timer run.now event.now)) }
+{
+    let before = count_unmatched(run);
+    if is_awaited(&event.action) || failed_precheck(run.base(), event).is_some() {
+        return Ok(before);
+    }
+    let moment = action_time(run, event);
+    if is_due(run, moment) {
+        return count_after(run.host(), moment);
+    }
+    Ok(before)
+}
+
+/// The moment at which an event acts.
+pub fn action_time(run: &RunState, event: &Event) -> u64
+    requires clock { run.now.clock < 2 ^ 61 }
+    requires base { run.now.base < 2 ^ 61 }
+    requires short { list_any is_long (written_times event.now.time) ≡ false }
+    ensures acts { result ≡ action_time run.now event.now }
+    ensures early { result < 2 ^ 62 }
+{
+    time_of(run.base(), event.time).max(run.clock())
+}
+
+/// Whether an expiry lies at or before a moment.
+pub fn is_due(run: &RunState, until: u64) -> bool
+    ensures { result ≡ is_some (due_by until (deadline_of run.now.host.state)) }
+{
+    match run.host().deadline() {
+        None => false,
+        Some(at) => at <= until,
+    }
+}
+
+/// How many packets of a host stand untaken after all expiries up to a moment.
+fn count_after(host: &Host, until: u64) -> Result<usize, AllocError>
+    requires live { host.now.ended ≡ None }
+    requires early { until < 2 ^ 62 }
+    ensures { IfOk result (λ count. count ≡ length (packets_in host.now.state.endpoint.outbox (advanced until host.now.state))) }
+{
+    let before = host.outbox().len();
+    let mut host = host.copy()?;
+    match host.advance(until) {
+        Ok(()) => Ok(host.outbox().len()),
+        Err(HostEnd::Halted(_)) => Ok(before),
+        Err(HostEnd::OutOfMemory) => Err(AllocError),
+    }
+}
+
+/// How many packets an event takes that passes.
+pub fn matched_count(event: &Event) -> usize
+    ensures { result ≡ matched_count event.now }
+{
+    if is_awaited(&event.action) { 1 } else { 0 }
+}
+
+/// Whether an action awaits a packet.
+pub fn is_awaited(action: &Action) -> bool
+    ensures { result ≡ is_awaited action.now }
+{
+    match action {
+        Action::Outbound(_) => true,
+        Action::Inbound(_) => false,
+        Action::Call(_) => false,
+        Action::Command => false,
+        Action::Code => false,
+    }
+}
+
+/// What let the oldest untaken packets go, of which the last senders are known.
+///
+/// # Errors
+/// `AllocError` where a growth is refused.
+pub fn origins_of(
+    alloc: Global,
+    outbox: &Outbox,
+    triggers: &[Trigger],
+) -> Result<Vec<Origin>, AllocError>
+    requires { length outbox.now ≤ length triggers.now }
+    ensures { IfOk result (λ origins. AreOriginsOf outbox.now triggers.now origins.items) }
+{
+    let skipped = triggers.len() - outbox.len();
+    let mut origins = Vec::new(alloc);
+    for place in 0..outbox.len().min(MAX_REPORTED) {
+        match outbox.get(place) {
+            Some(sent) => origins.push(origin_of(sent, triggers[skipped + place]))?,
+            None => unreachable!(),
+        }
+    }
+    Ok(origins)
+}
+
+fn origin_of(sent: &Sent, trigger: Trigger) -> Origin
+    ensures { result ≡ origin_by trigger sent.now.at }
+{
+    match trigger {
+        Trigger::Timer => Origin::Timer(sent.at),
+        Trigger::Line(line) => Origin::Line(line),
+    }
+}

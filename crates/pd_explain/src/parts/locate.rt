@@ -1,0 +1,110 @@
+//! Where parts of a text stand, and how they are shown.
+ghost use Rattle.std.specs.Prelude.{◌≡◌, IfOk, take, drop};
+ghost use Rattle.pd_lex.specs.Lexing.{items};
+ghost use Rattle.pd_explain.specs.Parts.{event_place, at_first, found, place_of_part, line_in, IsShownAt};
+
+use crate::escape::escaped;
+use crate::parts::nesting::Nesting;
+use crate::parts::rule_part::RulePart;
+use crate::parts::token_roles::TokenRole;
+use pd_lex::{Lexed, Place, next_token};
+use pd_reparse::Reading;
+use pd_text::Lines;
+use std::alloc::{AllocError, Global};
+
+/// Where a part of a text begins, in the line as it is shown.
+#[derive(Drop)]
+pub struct ShownPart {
+    /// The line in which it begins, counted from 1.
+    pub line: usize,
+    /// The octets of that line as they are shown, all of them.
+    pub text: Vec<u8>,
+    /// In which column of `text` it begins, counted from 0.
+    pub column: usize,
+}
+
+/// Where the event of a text that was read stands that comes after so many others: at the token after those, the first one after
+/// the header.
+pub fn event_place(reading: &Reading, passed: usize) -> Place
+    ensures { result ≡ event_place reading.now passed }
+{
+    let end = reading.header().end();
+    if passed == 0 {
+        return end;
+    }
+    match reading.events().get(passed - 1) {
+        Some(parsed_event) => parsed_event.after,
+        None => end,
+    }
+}
+
+/// Where the first such part from a place on begins; that place where there is none.
+pub fn place_of_part(lines: &Lines, from: Place, part: RulePart) -> Place
+    ensures { result ≡ place_of_part part lines.now from }
+{
+    match find_part(lines, from, part) {
+        Some(place) => place,
+        None => from,
+    }
+}
+
+/// Where the first token from a place on stands with which a part begins.
+fn find_part(lines: &Lines, from: Place, part: RulePart) -> Option<Place>
+    ensures { result ≡ found part at_first (items lines.now from) }
+{
+    let mut place = from;
+    let mut before = Nesting::at_first();
+    'tokens: loop {
+        let Lexed::Token(token) = next_token(lines, place) else {
+            return None;
+        };
+        let role = TokenRole::of(&token);
+        if part.begins(before, role) {
+            return Some(token.from);
+        }
+        before = before.after(role);
+        place = token.to;
+    }
+}
+
+/// How a text is shown at a place.
+///
+/// # Errors
+/// `AllocError` where a growth is refused.
+pub fn shown_at(alloc: Global, lines: &Lines, place: Place) -> Result<ShownPart, AllocError>
+    ensures { IfOk result (IsShownAt lines.now place) }
+{
+    let line = line_in(lines, place.line);
+    let text = escaped(alloc, line)?;
+    let front = escaped(alloc, first_octets(line, place.at))?;
+    Ok(ShownPart {
+        line: place.line,
+        text,
+        column: front.len(),
+    })
+}
+
+/// What is left of a line from a place on.
+pub fn rest_at(lines: &Lines, place: Place) -> &[u8]
+    ensures { result.now ≡ drop place.at (line_in lines.now place.line) }
+{
+    let line = line_in(lines, place.line);
+    &line[place.at.min(line.len())..]
+}
+
+/// A line of a text, counted from 1; nothing outside of it.
+fn line_in(lines: &Lines, number: usize) -> &[u8]
+    ensures { result.now ≡ line_in lines.now number }
+{
+    match lines.line(number) {
+        Some(line) => line,
+        None => &[],
+    }
+}
+
+/// The first octets of a line, so many.
+fn first_octets(line: &[u8], count: usize) -> &[u8]
+    ensures { result.now ≡ take count line.now }
+{
+    &line[..count.min(line.len())]
+}

@@ -1,0 +1,82 @@
+//! What stands before a token of an event.
+ghost use Rattle.std.specs.Prelude.{◌≡◌};
+ghost use Rattle.pd_explain.specs.Parts.{at_first, one_more, depth_after, commas_after, colons_after, after_role};
+
+use crate::parts::token_roles::TokenRole;
+
+/// What stands before a token. Each count stops at 32, which those of a script that is read don't reach where they tell.
+#[derive(Clone, Copy)]
+pub struct Nesting {
+    /// The token just before it.
+    pub last: TokenRole,
+    /// How many brackets are open.
+    pub depth: usize,
+    /// How many commas came where one bracket was open.
+    pub commas: usize,
+    /// How many colons came since the last `sack`.
+    pub colons: usize,
+}
+
+/// Where counts stop.
+const MOST: usize = 32;
+
+impl Nesting {
+    /// Before the first token.
+    pub fn at_first() -> Nesting
+        ensures { result ≡ at_first }
+    {
+        Nesting {
+            last: TokenRole::Other,
+            depth: 0,
+            commas: 0,
+            colons: 0,
+        }
+    }
+
+    /// Before the token after this one.
+    pub fn after(self, role: TokenRole) -> Nesting
+        ensures { result ≡ after_role self role }
+    {
+        Nesting {
+            last: role,
+            depth: depth_after(self.depth, role),
+            commas: commas_after(self.depth, self.commas, role),
+            colons: colons_after(self.colons, role),
+        }
+    }
+}
+
+fn one_more(count: usize) -> usize
+    ensures { result ≡ one_more count }
+{
+    if count < MOST { count + 1 } else { count }
+}
+
+fn depth_after(depth: usize, role: TokenRole) -> usize
+    ensures { result ≡ depth_after depth role }
+{
+    match role {
+        TokenRole::Parenthesis | TokenRole::Bracket => one_more(depth),
+        TokenRole::Closing => depth.saturating_sub(1),
+        _ => depth,
+    }
+}
+
+fn commas_after(depth: usize, commas: usize, role: TokenRole) -> usize
+    ensures { result ≡ commas_after depth commas role }
+{
+    match role {
+        TokenRole::Comma => { if depth == 1 { one_more(commas) } else { commas } }
+        _ => commas,
+    }
+}
+
+fn colons_after(colons: usize, role: TokenRole) -> usize
+    ensures { result ≡ colons_after colons role }
+{
+    match role {
+        TokenRole::Sack => 0,
+        TokenRole::Colon => one_more(colons),
+        _ => colons,
+    }
+}

@@ -1,0 +1,99 @@
+//! What a row came to, in words.
+use crate::causes::{Cause, Failed};
+use crate::explanation::Explanation;
+use crate::leftovers::Leftovers;
+use pd_match::Kind;
+use pd_run::Verdict;
+use std::alloc::{AllocError, Global};
+
+/// The name of a verdict, as in a report.
+pub fn verdict_name(verdict: Verdict) -> &'static str {
+    match verdict {
+        Verdict::Pass(_) => "pass",
+        Verdict::Fail(_, _) => "fail",
+        Verdict::Syntax(_) => "syntax",
+        Verdict::Unsupported(_) => "unsupported",
+        Verdict::Limit(_) => "limit",
+    }
+}
+
+/// What a verdict says.
+fn verdict_words(verdict: Verdict) -> &'static str {
+    match verdict {
+        Verdict::Pass(_) => "all events passed",
+        Verdict::Fail(_, kind) => kind_words(kind),
+        Verdict::Syntax(_) => "the text is no script",
+        Verdict::Unsupported(_) => "the sender doesn't run this",
+        Verdict::Limit(_) => "a number is over its limit",
+    }
+}
+
+fn kind_words(kind: Kind) -> &'static str {
+    match kind {
+        Kind::Time => "the packet was sent at another time",
+        Kind::Flags => "the packet has other flags",
+        Kind::Seq => "the packet has other octets",
+        Kind::Ack => "the packet has another acknowledgment number",
+        Kind::Win => "the packet has another window",
+        Kind::Options => "the packet has other options",
+        Kind::Result => "the call has another result",
+        Kind::Missing => "no packet was sent in time",
+        Kind::Backwards => "the event's time lies before that of the event before it",
+    }
+}
+
+/// What an explanation says first: what its verdict says, or that no line asks for packets before the awaited one.
+///
+/// # Errors
+/// `AllocError` where a growth is refused.
+pub fn first_words(alloc: Global, explanation: &Explanation) -> Result<Vec<u8>, AllocError> {
+    let count = unexpected_in(&explanation.cause);
+    let mut words = Vec::new(alloc);
+    if count == 0 {
+        words.extend_from_slice(verdict_words(explanation.verdict).as_bytes())?;
+        return Ok(words);
+    }
+    words.extend_from_slice(count.to_string(alloc)?.as_bytes())?;
+    words.extend_from_slice(if count == 1 {
+        b" packet before it is".as_slice()
+    } else {
+        b" packets before it are".as_slice()
+    })?;
+    words.extend_from_slice(b" asked for by no line")?;
+    Ok(words)
+}
+
+/// How many packets before the awaited one no line asks for.
+fn unexpected_in(cause: &Cause) -> usize {
+    match cause {
+        Cause::Failed(failure) => match &failure.failed {
+            Failed::Packet(packets) => packets.unexpected,
+            Failed::Missing(_) | Failed::Result(_) | Failed::Backwards(_) => 0,
+        },
+        Cause::Syntax(_) | Cause::Rule(_) => 0,
+    }
+}
+
+/// What a script that passes leaves at its end.
+///
+/// # Errors
+/// `AllocError` where a growth is refused.
+pub fn leftovers_words(alloc: Global, leftovers: &Leftovers) -> Result<Vec<u8>, AllocError> {
+    let count = leftovers.unmatched.count();
+    let mut words = Vec::new(alloc);
+    if !leftovers.awaits {
+        words.extend_from_slice(b"it awaits no packet")?;
+        if count == 0 {
+            return Ok(words);
+        }
+        words.extend_from_slice(b", and ")?;
+    }
+    words.extend_from_slice(count.to_string(alloc)?.as_bytes())?;
+    words.extend_from_slice(if count == 1 {
+        b" packet stands".as_slice()
+    } else {
+        b" packets stand".as_slice()
+    })?;
+    words.extend_from_slice(b" untaken at its end")?;
+    Ok(words)
+}

@@ -1,0 +1,274 @@
+//! Runs that are taken up in a state which an earlier one kept, to find where they stop and who let their packets go.
+ghost use Rattle.std.specs.Prelude.{◌≡◌, ◌≤◌, [], true, option_map, IfOk, IfSome};
+ghost use Rattle.pd_reparse.specs.Reading.{script_part};
+ghost use Rattle.pd_run.specs.Laws.{unmatched};
+ghost use Rattle.pd_run.specs.StopPoints.{stop_in};
+ghost use Rattle.pd_script.specs.Script.{script_of};
+ghost use Rattle.pd_explain.specs.Inner.{AreOriginsOf, IsResumed, IsTraced, knows_all_origins, unmatched_at};
+
+use crate::causes::{Origin, run_at};
+use crate::dropped::MAX_EVENTS_BACK;
+use crate::origins::{
+    Trigger, law_packets_append, matched_count, note_stop_triggers, origins_of, step_with_triggers,
+};
+use pd_reparse::{ParsedEvent, Reading, SharedList};
+use pd_run::{
+    Kind, Plain, RunState, StepEnd, StopPoint, Verdict, law_runs_are_bounded,
+    law_verdicts_have_reasons, stop_reason_on,
+};
+use pd_settings::Settings;
+use pd_track::Track;
+use std::alloc::{AllocError, Global};
+
+/// A run after so many events.
+#[derive(Drop)]
+pub struct ResumedRun {
+    /// How many events it has passed.
+    pub passed: usize,
+    /// Its state after them.
+    pub run: RunState,
+}
+
+/// Where a run stops, and who let the packets go that were put out last before that.
+#[derive(Drop)]
+pub struct TracedStop {
+    /// Where it stops.
+    pub stop: StopPoint,
+    /// Who let them go, the stop's among them.
+    pub triggers: Vec<Trigger>,
+}
+
+impl TracedStop {
+    /// Whether it is known of each packet that nobody has taken at the stop.
+    fn knows_all_origins(&self) -> bool
+        ensures { result ≡ knows_all_origins self.now.stop self.now.triggers.items }
+    {
+        run_at(&self.stop).host().outbox().len() <= self.triggers.len()
+    }
+
+    /// What let the oldest packets go that nobody has taken at the stop.
+    ///
+    /// # Errors
+    /// `AllocError` where a growth is refused.
+    pub fn origins(&self, alloc: Global) -> Result<Vec<Origin>, AllocError>
+        requires { knows_all_origins self.now.stop self.now.triggers.items ≡ true }
+        ensures { IfOk result (λ origins. AreOriginsOf (unmatched_at self.now.stop) self.now.triggers.items origins.items) }
+    {
+        let run = run_at(&self.stop);
+        origins_of(alloc, run.host().outbox(), self.triggers.as_slice())
+    }
+}
+
+/// The last state that a track kept before the events of a line from which on the packets that stand untaken are taken: mostly at
+/// most three events before the first of that line. Nothing where it kept none.
+///
+/// # Errors
+/// `AllocError` where a growth is refused.
+pub fn resume_before(track: &Track, line: usize) -> Result<Option<ResumedRun>, AllocError>
+    ensures { IfOk result (λ resumed. IfSome resumed (λ t. IsResumed track.now.settings (script_of track.now.text) t.passed t.run)) }
+{
+    resume_after(track, last_checkpoint(track, line))
+}
+
+/// The last state that a track kept before those events ahead of a line that are looked at for segments that were dropped, where
+/// a packet differs or is missing there. Nothing where it kept none.
+///
+/// # Errors
+/// `AllocError` where a growth is refused.
+pub fn resume_early(
+    track: &Track,
+    verdict: Verdict,
+    line: usize,
+) -> Result<Option<ResumedRun>, AllocError>
+    ensures { IfOk result (λ resumed. IfSome resumed (λ t. IsResumed track.now.settings (script_of track.now.text) t.passed t.run)) }
+{
+    match verdict {
+        Verdict::Fail(_, kind) if is_of_packet(kind) => {
+            resume_after(track, last_early_checkpoint(track, line))
+        }
+        _ => Ok(None),
+    }
+}
+
+/// Whether a packet fails so.
+fn is_of_packet(kind: Kind) -> bool {
+    !matches!(kind, Kind::Result | Kind::Backwards)
+}
+
+/// After how many fourth events that state was kept; 0 where none was.
+fn last_early_checkpoint(track: &Track, line: usize) -> usize
+    ensures { result ≤ 1024 }
+{
+    let earlier = count_earlier(track.reading().events(), line).min(4096);
+    let last = earlier.saturating_sub(MAX_EVENTS_BACK) / 4;
+    for back in 0..last {
+        if track.checkpoint(last - back - 1).is_some() {
+            return last - back;
+        }
+    }
+    0
+}
+
+/// The state that a track kept after so many fourth events, if it kept one.
+fn resume_after(track: &Track, checkpoints: usize) -> Result<Option<ResumedRun>, AllocError>
+    requires { checkpoints ≤ 1024 }
+    ensures { IfOk result (λ resumed. IfSome resumed (λ t. IsResumed track.now.settings (script_of track.now.text) t.passed t.run)) }
+{
+    law_runs_are_bounded();
+    law_verdicts_have_reasons();
+    if checkpoints == 0 {
+        return Ok(None);
+    }
+    let Some(checkpoint) = track.checkpoint(checkpoints - 1) else {
+        return Ok(None);
+    };
+    let mut run = checkpoint.state().copy()?;
+    run.set_settings(track.settings());
+    Ok(Some(ResumedRun {
+        passed: 4 * checkpoints,
+        run,
+    }))
+}
+
+/// After how many fourth events the last state was kept where so many packets stand untaken, at most, as the events take that come
+/// after it and before a line; 0 where none was. So all that stand untaken on that line were put out after it.
+fn last_checkpoint(track: &Track, line: usize) -> usize
+    ensures { result ≤ 1024 }
+{
+    let events = track.reading().events();
+    let earlier = count_earlier(events, line).min(4096);
+    let last = earlier / 4;
+    let mut until = earlier;
+    let mut matched = 0usize;
+    for back in 0..last {
+        let checkpoints = last - back;
+        matched = matched.saturating_add(count_matched(events, 4 * checkpoints, until));
+        until = 4 * checkpoints;
+        if let Some(checkpoint) = track.checkpoint(checkpoints - 1) {
+            if checkpoint.state().host().outbox().len() <= matched {
+                return checkpoints;
+            }
+        }
+    }
+    0
+}
+
+/// How many packets the events from one on, and before another, take.
+fn count_matched(events: &SharedList<ParsedEvent>, from: usize, until: usize) -> usize {
+    let mut matched = 0usize;
+    for place in from..until {
+        if let Some(parsed_event) = events.get(place) {
+            matched = matched.saturating_add(matched_count(&parsed_event.event));
+        }
+    }
+    matched
+}
+
+/// How many events begin before a line.
+fn count_earlier(events: &SharedList<ParsedEvent>, line: usize) -> usize {
+    let (blocks, rest) = events.parts();
+    let mut count = count_among(rest, line);
+    for block in blocks {
+        count = count.saturating_add(count_among(block.as_slice(), line));
+    }
+    count
+}
+
+/// The same of events that are together.
+fn count_among(events: &[ParsedEvent], line: usize) -> usize {
+    events
+        .iter()
+        .filter(|parsed_event| parsed_event.event.line < line)
+        .count()
+}
+
+/// Where the run of a script that was read stops on a line, of those on which events begin: at the first event there that has a
+/// reason. And who let the packets go that nobody has taken there. It is run from where it is taken up, where that tells all of
+/// them, else from its first event. Nothing where no event stops the run there.
+///
+/// # Errors
+/// `AllocError` where a growth is refused.
+pub fn trace_stop(
+    alloc: Global,
+    reading: &Reading,
+    settings: &Settings,
+    resumed: Option<ResumedRun>,
+    line: usize,
+) -> Result<Option<TracedStop>, AllocError>
+    requires { IfSome resumed (λ t. IsResumed settings.now (script_part reading.now) t.passed t.run) }
+    ensures stop { IfOk result (λ found. option_map (λ t. t.stop) found ≡ stop_in line settings.now (script_part reading.now)) }
+    ensures triggers { IfOk result (λ found. IfSome found (λ t. IsTraced settings.now (script_part reading.now) t.stop t.triggers.items)) }
+    ensures whole { IfOk result (λ found. IfSome found (λ t. knows_all_origins t.stop t.triggers.items ≡ true)) }
+{
+    if let Some(resumed) = resumed {
+        match stop_after(alloc, reading, settings, resumed, line)? {
+            None => return Ok(None),
+            Some(found) if found.knows_all_origins() => return Ok(Some(found)),
+            Some(_) => {}
+        }
+    }
+    trace_all(alloc, reading, settings, line)
+}
+
+/// The same from the first event on.
+fn trace_all(
+    alloc: Global,
+    reading: &Reading,
+    settings: &Settings,
+    line: usize,
+) -> Result<Option<TracedStop>, AllocError>
+    ensures stop { IfOk result (λ found. option_map (λ t. t.stop) found ≡ stop_in line settings.now (script_part reading.now)) }
+    ensures triggers { IfOk result (λ found. IfSome found (λ t. IsTraced settings.now (script_part reading.now) t.stop t.triggers.items)) }
+    ensures whole { IfOk result (λ found. IfSome found (λ t. knows_all_origins t.stop t.triggers.items ≡ true)) }
+{
+    law_runs_are_bounded();
+    match RunState::new(alloc, reading.header(), settings) {
+        Ok(run) => stop_after(
+            alloc,
+            reading,
+            settings,
+            ResumedRun { passed: 0, run },
+            line,
+        ),
+        Err(_) => Ok(None),
+    }
+}
+
+/// Where a run that is taken up stops on a line.
+fn stop_after(
+    alloc: Global,
+    reading: &Reading,
+    settings: &Settings,
+    resumed: ResumedRun,
+    line: usize,
+) -> Result<Option<TracedStop>, AllocError>
+    requires { IsResumed settings.now (script_part reading.now) resumed.passed resumed.run }
+    ensures stop { IfOk result (λ found. option_map (λ t. t.stop) found ≡ stop_in line settings.now (script_part reading.now)) }
+    ensures triggers { IfOk result (λ found. IfSome found (λ t. IsTraced settings.now (script_part reading.now) t.stop t.triggers.items)) }
+    ensures whole { unmatched resumed.run ≡ [] → resumed.passed ≡ 0 → IfOk result (λ found. IfSome found (λ t. knows_all_origins t.stop t.triggers.items ≡ true)) }
+{
+    law_runs_are_bounded();
+    law_verdicts_have_reasons();
+    law_packets_append();
+    let events = reading.events();
+    let mut stepper = Plain::new();
+    let mut triggers = Vec::new(alloc);
+    let mut run = resumed.run;
+    for passed in resumed.passed..events.len() {
+        let event = &events.at(passed).event;
+        if let Some(stop_reason) = stop_reason_on(&run, event, line)? {
+            let stop = StopPoint {
+                passed,
+                before: run,
+                stop_reason,
+            };
+            note_stop_triggers(&mut triggers, event, &stop)?;
+            return Ok(Some(TracedStop { stop, triggers }));
+        }
+        match step_with_triggers(&mut stepper, &mut run, event, settings, &mut triggers)? {
+            StepEnd::Go => {}
+            StepEnd::Stop(_) => return Ok(None),
+        }
+    }
+    Ok(None)
+}

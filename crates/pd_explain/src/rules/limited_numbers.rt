@@ -1,0 +1,249 @@
+//! The numbers of an event that have limits.
+ghost use Rattle.std.specs.Prelude.{◌≡◌};
+ghost use Rattle.std.specs.List.{list_any};
+ghost use Rattle.pd_run.specs.Limits.{is_long, written_times, written_blocking_end, is_action_over, is_block_over};
+ghost use Rattle.pd_explain.specs.Rules.{limit_of, where_so, above, some_above, option_over, first_option_over, options_over, packet_over, action_over, number_over};
+ghost use Rattle.pd_explain.specs.declared.rules.limited_numbers.LimitedNumber.TheVariants.{Edge};
+
+use pd_script::{
+    Action, Argument, BlockingEnd, Call, Event, Function, Options, Packet, PacketOption, SackBlock,
+    Time,
+};
+
+/// A number that has a limit.
+#[derive(Clone, Copy)]
+pub enum LimitedNumber {
+    /// A written time, or the end of a blocking call.
+    Time,
+    /// The number of a packet's first octet.
+    Start,
+    /// The number after its last octet.
+    End,
+    /// Its acknowledgment number.
+    Ack,
+    /// Its window field.
+    Window,
+    /// How many options it has.
+    Options,
+    /// What `mss` names.
+    Mss,
+    /// What `wscale` names.
+    Shift,
+    /// How many blocks a `sack` has.
+    Blocks,
+    /// The left or the right end of a block.
+    Edge,
+    /// The third argument of a `write`.
+    Write,
+    /// How many packets are untaken.
+    Outbox,
+}
+
+/// The greatest written time, in microseconds.
+const MAX_TIME_US: u64 = 3_600_000_000;
+
+impl LimitedNumber {
+    pub fn words(self) -> &'static str {
+        match self {
+            LimitedNumber::Time => "a written time above 3,600 s",
+            LimitedNumber::Start => "a start above 2,147,483,647",
+            LimitedNumber::End => "an end above 2,147,483,647",
+            LimitedNumber::Ack => "an acknowledgment number above 2,147,483,647",
+            LimitedNumber::Window => "a window above 65,535",
+            LimitedNumber::Options => "more than 16 options",
+            LimitedNumber::Mss => "an `mss` above 65,535",
+            LimitedNumber::Shift => "a `wscale` above 255",
+            LimitedNumber::Blocks => "more than 4 blocks in one `sack`",
+            LimitedNumber::Edge => "a block number above 2,147,483,647",
+            LimitedNumber::Write => "a `write` whose third argument is above 262,144",
+            LimitedNumber::Outbox =>
+                "more than 1,024 packets that the sender has put out stand untaken",
+        }
+    }
+
+    pub fn key(self) -> &'static str {
+        match self {
+            LimitedNumber::Time => "time",
+            LimitedNumber::Start => "start",
+            LimitedNumber::End => "end",
+            LimitedNumber::Ack => "ack",
+            LimitedNumber::Window => "win",
+            LimitedNumber::Options => "options",
+            LimitedNumber::Mss => "mss",
+            LimitedNumber::Shift => "wscale",
+            LimitedNumber::Blocks => "blocks",
+            LimitedNumber::Edge => "block",
+            LimitedNumber::Write => "write",
+            LimitedNumber::Outbox => "outbox",
+        }
+    }
+
+    /// Its limit; of a time in seconds.
+    pub fn limit(self) -> u64
+        ensures { result ≡ limit_of self }
+    {
+        match self {
+            LimitedNumber::Time => 3_600,
+            LimitedNumber::Start | LimitedNumber::End | LimitedNumber::Ack | LimitedNumber::Edge =>
+                2_147_483_647,
+            LimitedNumber::Window | LimitedNumber::Mss => 65_535,
+            LimitedNumber::Options => 16,
+            LimitedNumber::Shift => 255,
+            LimitedNumber::Blocks => 4,
+            LimitedNumber::Write => 262_144,
+            LimitedNumber::Outbox => 1_024,
+        }
+    }
+
+    /// The number, where it is above its limit.
+    fn above(self, value: u64) -> Option<LimitedNumber>
+        ensures { result ≡ above self value }
+    {
+        if value > self.limit() {
+            Some(self)
+        } else {
+            None
+        }
+    }
+
+    /// The same, where it is written.
+    fn some_above(self, value: Option<u32>) -> Option<LimitedNumber>
+        ensures { result ≡ some_above self value }
+    {
+        match value {
+            None => None,
+            Some(value) => self.above(u64::from(value)),
+        }
+    }
+}
+
+/// The first number of an event that is over its limit.
+pub fn number_over(event: &Event) -> Option<LimitedNumber>
+    ensures { result ≡ number_over event.now }
+{
+    if is_time_long(event.time) || is_blocking_end_long(event.blocking_end) {
+        return Some(LimitedNumber::Time);
+    }
+    action_over(&event.action)
+}
+
+/// Whether a written time is over the limit.
+pub fn is_time_long(time: Time) -> bool
+    ensures { result ≡ list_any is_long (written_times time) }
+{
+    match time {
+        Time::Any => false,
+        Time::Absolute(t) | Time::Relative(t) => t > MAX_TIME_US,
+        Time::AbsoluteRange(first, last) | Time::RelativeRange(first, last) => {
+            first > MAX_TIME_US || last > MAX_TIME_US
+        }
+    }
+}
+
+fn is_blocking_end_long(blocking_end: Option<BlockingEnd>) -> bool
+    ensures { result ≡ list_any is_long (written_blocking_end blocking_end) }
+{
+    match blocking_end {
+        None => false,
+        Some(BlockingEnd::Absolute(t)) => t > MAX_TIME_US,
+        Some(BlockingEnd::Relative(t)) => t > MAX_TIME_US,
+    }
+}
+
+fn action_over(action: &Action) -> Option<LimitedNumber>
+    ensures { result ≡ action_over action.now }
+{
+    match action {
+        Action::Inbound(packet) => packet_over(packet),
+        Action::Outbound(packet) => packet_over(packet),
+        Action::Call(call) => {
+            if is_write_over(call) {
+                Some(LimitedNumber::Write)
+            } else {
+                None
+            }
+        }
+        Action::Command => None,
+        Action::Code => None,
+    }
+}
+
+fn is_write_over(call: &Call) -> bool
+    ensures { result ≡ is_action_over (Action.Call call.now) }
+{
+    match (call.function, call.arguments.as_slice().get(2)) {
+        (Function::Write, Some(Argument::Int(count))) => *count > LimitedNumber::Write.limit(),
+        _ => false,
+    }
+}
+
+fn packet_over(packet: &Packet) -> Option<LimitedNumber>
+    ensures { result ≡ packet_over packet.now }
+{
+    LimitedNumber::Start
+        .above(u64::from(packet.start))
+        .or(LimitedNumber::End.above(u64::from(packet.end)))
+        .or(LimitedNumber::Ack.some_above(packet.ack))
+        .or(LimitedNumber::Window.some_above(packet.win))
+        .or(list_over(&packet.options))
+}
+
+fn list_over(options: &Options) -> Option<LimitedNumber>
+    ensures { result ≡ options_over options.now }
+{
+    match options {
+        Options::Listed(list) => {
+            if let Some(number) = LimitedNumber::Options.above(list.len() as u64) {
+                return Some(number);
+            }
+            first_option_over(list.as_slice())
+        }
+        Options::Absent => None,
+        Options::Any => None,
+    }
+}
+
+fn first_option_over(options: &[PacketOption]) -> Option<LimitedNumber>
+    ensures { result ≡ first_option_over options.now }
+{
+    for option in options {
+        if let Some(number) = option_over(option) {
+            return Some(number);
+        }
+    }
+    None
+}
+
+fn option_over(option: &PacketOption) -> Option<LimitedNumber>
+    ensures { result ≡ option_over option.now }
+{
+    match option {
+        PacketOption::Mss(octets) => LimitedNumber::Mss.above(*octets),
+        PacketOption::Wscale(count) => LimitedNumber::Shift.above(*count),
+        PacketOption::Sack(blocks) => {
+            LimitedNumber::Blocks
+                .above(blocks.len() as u64)
+                .or(edge_over(blocks.as_slice()))
+        }
+        _ => None,
+    }
+}
+
+fn edge_over(blocks: &[SackBlock]) -> Option<LimitedNumber>
+    ensures { result ≡ where_so (list_any is_block_over blocks.now) Edge }
+{
+    if is_edge_high(blocks) {
+        Some(LimitedNumber::Edge)
+    } else {
+        None
+    }
+}
+
+fn is_edge_high(blocks: &[SackBlock]) -> bool
+    ensures { result ≡ list_any is_block_over blocks.now }
+{
+    let highest = LimitedNumber::Edge.limit();
+    blocks
+        .iter()
+        .any(|block| block.left > highest || block.right > highest)
+}

@@ -1,0 +1,129 @@
+//! What isn't run wherever it is written.
+ghost use Rattle.std.specs.Prelude.{◌≡◌};
+ghost use Rattle.pd_run.specs.Times.{is_single};
+ghost use Rattle.pd_explain.specs.Rules.{call_shape, packet_shape, action_shape, shape_rule};
+
+use pd_host::is_run;
+use pd_script::{Action, Call, Event, Function, Packet, Time};
+
+/// What isn't run wherever it is written.
+#[derive(Clone, Copy)]
+pub enum UnsupportedShape {
+    /// An option of the header, but for a valid tolerance.
+    HeaderOption,
+    /// A command in the header.
+    HeaderCommand,
+    /// An event with the end of a blocking call.
+    Blocking,
+    /// A command as an event.
+    Command,
+    /// Code.
+    Code,
+    /// A packet that arrives, with `*` or a range.
+    InboundTime,
+    /// A call with `*` or a range.
+    CallTime,
+    /// A packet with a flag that isn't run.
+    Flag,
+    /// A call with a name that isn't run.
+    CallName,
+    /// A call with arguments that aren't run.
+    CallShape,
+}
+
+impl UnsupportedShape {
+    pub fn words(self) -> &'static str {
+        match self {
+            UnsupportedShape::HeaderOption => {
+                "an option of the header other than `--tolerance_usecs=N` with N at most 1,000,000"
+            }
+            UnsupportedShape::HeaderCommand => "a command in the header",
+            UnsupportedShape::Blocking => "a blocking call",
+            UnsupportedShape::Command => "a command",
+            UnsupportedShape::Code => "code",
+            UnsupportedShape::InboundTime =>
+                "a packet that arrives with `*` or a range as its time",
+            UnsupportedShape::CallTime => "a call with `*` or a range as its time",
+            UnsupportedShape::Flag => "a packet with one of the flags U, E, W and C",
+            UnsupportedShape::CallName => "a call whose name isn't in the table of calls",
+            UnsupportedShape::CallShape => "a call whose shape isn't in the table of calls",
+        }
+    }
+
+    pub fn key(self) -> &'static str {
+        match self {
+            UnsupportedShape::HeaderOption => "header_option",
+            UnsupportedShape::HeaderCommand => "header_command",
+            UnsupportedShape::Blocking => "blocking",
+            UnsupportedShape::Command => "command",
+            UnsupportedShape::Code => "code",
+            UnsupportedShape::InboundTime => "inbound_time",
+            UnsupportedShape::CallTime => "call_time",
+            UnsupportedShape::Flag => "flag",
+            UnsupportedShape::CallName => "call_name",
+            UnsupportedShape::CallShape => "call_shape",
+        }
+    }
+}
+
+/// The first rule by which an event isn't run, whatever the sender's state.
+pub fn shape_rule(event: &Event) -> Option<UnsupportedShape>
+    ensures { result ≡ shape_rule event.now }
+{
+    if event.blocking_end.is_some() {
+        return Some(UnsupportedShape::Blocking);
+    }
+    action_shape(event.time, &event.action)
+}
+
+fn is_single(time: Time) -> bool
+    ensures { result ≡ is_single time }
+{
+    matches!(time, Time::Absolute(_) | Time::Relative(_))
+}
+
+fn action_shape(time: Time, action: &Action) -> Option<UnsupportedShape>
+    ensures { result ≡ action_shape time action.now }
+{
+    match action {
+        Action::Inbound(packet) => {
+            if is_single(time) {
+                packet_shape(packet)
+            } else {
+                Some(UnsupportedShape::InboundTime)
+            }
+        }
+        Action::Outbound(packet) => packet_shape(packet),
+        Action::Call(call) => {
+            if is_single(time) {
+                call_shape(call)
+            } else {
+                Some(UnsupportedShape::CallTime)
+            }
+        }
+        Action::Command => Some(UnsupportedShape::Command),
+        Action::Code => Some(UnsupportedShape::Code),
+    }
+}
+
+fn packet_shape(packet: &Packet) -> Option<UnsupportedShape>
+    ensures { result ≡ packet_shape packet.now }
+{
+    if packet.flags.other {
+        Some(UnsupportedShape::Flag)
+    } else {
+        None
+    }
+}
+
+fn call_shape(call: &Call) -> Option<UnsupportedShape>
+    ensures { result ≡ call_shape call.now }
+{
+    if is_run(call) {
+        return None;
+    }
+    match call.function {
+        Function::Unknown => Some(UnsupportedShape::CallName),
+        _ => Some(UnsupportedShape::CallShape),
+    }
+}

@@ -1,0 +1,11 @@
+-- What was told so far, and what is left tells, is all.
+use Rattle.std.proofs.Common.{◌≡◌, drop}
+use Rattle.pd_host.specs.AckEffects.{with_blocks_marked}
+use Rattle.pd_host.proofs.connection.ack_effects.mark_blocks.Given as goal
+
+abbrev pub invariant-loop-block : goal.invariant-loop-block
+invariant-loop-block l =
+    record {
+      same : with_blocks_marked (drop l.block-index l.blocks) (l.board, l.fresh) ≡ with_blocks_marked l.blocks (l.fn.board, l.so_far);
+      una : l.board.una ≡ l.fn.board.una;
+    }

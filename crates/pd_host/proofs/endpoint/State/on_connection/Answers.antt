@@ -1,6 +1,0 @@
--- What is written leaves the rest of the state, beside the setting that was consulted.
-use Rattle.std.proofs.Common.{rules}
-use Rattle.pd_host.proofs.endpoint.State.on_connection.Goals as goal
-
-pub returns-in-Write-2 : goal.returns-in-Write-2
-returns-in-Write-2 c = let told = c.write.ensures (record c.args.self.now { uses = c.with_write-self.result }) in search rules

@@ -1,0 +1,82 @@
+//! What an acceptable ACK leads to.
+ghost use Rattle.std.specs.Prelude.{◌≡◌, ◌<◌, ◌^◌};
+ghost use Rattle.pd_host.specs.AckEffects.{filled, entry, after_ack_action};
+ghost use Rattle.pd_host.specs.Steps.{FollowsQueued, GivesOn};
+
+use crate::connection::Connection;
+use crate::connection::ack_effects::WindowFill;
+use crate::halts::HostEnd;
+use crate::outbox::Outbox;
+use crate::send::{put_segment, send};
+use pd_recover::AckAction;
+
+/// Sends at a moment what an ACK led to.
+///
+/// # Errors
+/// Of the first packet that fails: `Halted` by `Limit` where the outbox is full, else `OutOfMemory` where its growth is
+/// refused or the scoreboard has found no memory before.
+pub fn act_on_ack(
+    connection: &mut Connection,
+    outbox: &mut Outbox,
+    next: AckAction,
+    now: u64,
+) -> Result<(), HostEnd>
+    requires early { now < 2 ^ 62 }
+    requires queued { FollowsQueued next connection.old }
+    ensures { GivesOn (λ s. after_ack_action now connection.old s next) connection.old outbox.old result connection.new outbox.new }
+{
+    match next {
+        AckAction::Ordinary => send(connection, outbox, now),
+        AckAction::StepC => fill_window(connection, outbox, WindowFill::NextSeg, now),
+        AckAction::Entry => {
+            enter_recovery(connection, outbox, now)?;
+            fill_window(connection, outbox, WindowFill::NextSeg, now)
+        }
+        AckAction::LimitedTransmit => fill_window(connection, outbox, WindowFill::NewData, now),
+        AckAction::NewSegment(segment) => {
+            put_segment(connection, outbox, segment, now)?;
+            connection.note_segment_sent(segment, now)?;
+            Ok(())
+        }
+        AckAction::FastRetransmit(segment) => {
+            put_segment(connection, outbox, segment, now)?;
+            connection.start_timing(segment, now);
+            send(connection, outbox, now)
+        }
+        AckAction::Nothing => Ok(()),
+    }
+}
+
+/// The segment at `una` is sent again, unless its first octet is SACKed.
+fn enter_recovery(connection: &mut Connection, outbox: &mut Outbox, now: u64) -> Result<(), HostEnd>
+    requires early { now < 2 ^ 62 }
+    ensures { GivesOn (entry now connection.old) connection.old outbox.old result connection.new outbox.new }
+{
+    let segment = connection.first();
+    if segment.start < segment.end {
+        put_segment(connection, outbox, segment, now)?;
+        connection.start_timing(segment, now);
+    }
+    connection.enter_recovery(segment);
+    Ok(())
+}
+
+/// Segments are sent while the congestion window has room for them (RFC 6675, section 5).
+fn fill_window(
+    connection: &mut Connection,
+    outbox: &mut Outbox,
+    filling: WindowFill,
+    now: u64,
+) -> Result<(), HostEnd>
+    requires early { now < 2 ^ 62 }
+    ensures { GivesOn (filled now filling) connection.old outbox.old result connection.new outbox.new }
+{
+    let mut pipe = connection.pipe();
+    while let Some(sent) = connection.next_fill_segment(filling, pipe) {
+        let segment = sent.segment();
+        put_segment(connection, outbox, segment, now)?;
+        connection.note_fill_sent(filling, &sent, now)?;
+        pipe += segment.end - segment.start;
+    }
+    Ok(())
+}

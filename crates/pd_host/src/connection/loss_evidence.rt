@@ -1,0 +1,113 @@
+//! What may lead to sending next: duplicates, and what the timer measured.
+ghost use Rattle.std.specs.Prelude.{◌≡◌};
+ghost use Rattle.pd_board.specs.Runs.{AreRuns};
+ghost use Rattle.pd_host.specs.LossEvidence.{sack_evidence_of, loss_evidence_of, dup_ack_status_since, dup_ack_status_of, timeout_of};
+
+use super::Connection;
+use crate::established::Established;
+use pd_board::DUP_THRESH;
+use pd_recover::Cong;
+use pd_seg::Span;
+use pd_timer::Timeout;
+
+/// What a duplicate leads to, where octets are outstanding and no loss recovery goes on.
+#[derive(Clone, Copy)]
+pub enum DupAckStatus {
+    /// To no recovery while SND.UNA is below this number, the one after RecoveryPoint (RFC 6675, sections 5 and 5.1).
+    Below(u32),
+    /// To recovery, where enough has come with it.
+    Counted(LossEvidence),
+}
+
+/// What has come of what shows a loss, and how much has to come.
+#[derive(Clone, Copy)]
+pub struct LossEvidence {
+    /// DupAcks: how many duplicates came since the last ACK of new octets or expiry (RFC 6675, section 5).
+    pub dup_acks: u32,
+    /// How many begin recovery: DupThresh (RFC 6675, section 5; RFC 5681, section 3.2).
+    pub needed: u32,
+    /// What is SACKed above SND.UNA, where SACK was agreed.
+    pub sacked: Option<SackEvidence>,
+}
+
+/// What is SACKed above SND.UNA, and how much of it shows that octet to be lost (RFC 6675, section 4, IsLost).
+#[derive(Clone, Copy)]
+pub struct SackEvidence {
+    /// How many octets.
+    pub octets: u32,
+    /// More octets than this are needed: (DupThresh - 1) * SMSS.
+    pub most: u32,
+    /// In how many maximal runs they lie.
+    pub runs: usize,
+    /// How many runs are needed instead: DupThresh.
+    pub needed: usize,
+}
+
+impl Connection {
+    /// What a duplicate leads to; nothing where no octet is outstanding, recovery goes on, or none is looked at.
+    pub fn dup_ack_status(&self) -> Option<DupAckStatus>
+        ensures { result ≡ dup_ack_status_of self.now }
+    {
+        match &self.established {
+            None => None,
+            Some(established) => self.dup_ack_status_since(established),
+        }
+    }
+
+    fn dup_ack_status_since(&self, established: &Established) -> Option<DupAckStatus>
+        ensures { result ≡ dup_ack_status_since self.now established.now }
+    {
+        let congestion = &established.congestion;
+        if self.is_reset || congestion.is_recovering() || self.board.una() == self.board.top() {
+            None
+        } else if self.board.una() < congestion.recovery_point() {
+            Some(DupAckStatus::Below(congestion.recovery_point()))
+        } else {
+            Some(DupAckStatus::Counted(self.loss_evidence(congestion)))
+        }
+    }
+
+    fn loss_evidence(&self, congestion: &Cong) -> LossEvidence
+        ensures { result ≡ loss_evidence_of self.now congestion.now }
+    {
+        LossEvidence {
+            dup_acks: congestion.dup_acks(),
+            needed: DUP_THRESH,
+            sacked: if self.sack {
+                Some(self.sacked_above())
+            } else {
+                None
+            },
+        }
+    }
+
+    fn sacked_above(&self) -> SackEvidence
+        ensures { result ≡ sack_evidence_of self.now.board }
+    {
+        self.board.law_invariant();
+        let above = self.board.above(self.board.una());
+        SackEvidence {
+            octets: above.octets,
+            most: (DUP_THRESH - 1) * u32::from(self.board.smss()),
+            runs: above.runs,
+            needed: DUP_THRESH as usize,
+        }
+    }
+
+    /// How the timeout comes from what was measured; nothing before any measurement.
+    pub fn timeout(&self) -> Option<Timeout>
+        ensures { result ≡ timeout_of self.now }
+    {
+        match &self.established {
+            None => None,
+            Some(established) => self.timer.timeout(established.granularity_us),
+        }
+    }
+
+    /// The maximal runs of SACKed octets, in ascending order.
+    pub fn sacked_runs(&self) -> &[Span]
+        ensures { AreRuns self.now.board result.now }
+    {
+        self.board.runs()
+    }
+}

@@ -1,0 +1,221 @@
+//! Which segment a connection sends next, and what a segment has.
+ghost use Rattle.std.specs.Prelude.{◌≡◌, ◌<◌, ◌^◌, Some, IfSome, IfOk};
+ghost use Rattle.pd_host.specs.Connection.{data_end};
+ghost use Rattle.pd_host.specs.Packets.{covers_fin, ends_data, data_of};
+ghost use Rattle.pd_host.specs.SendBlockers.{is_worth_sending};
+ghost use Rattle.pd_host.specs.Sending.{window_edge, usable, unsent, sendable, unsent_segment, is_full, is_all_unsent, is_half_max_window, leaves_now, is_nagle_delayed, next_new, next_retransmitted, found, is_idle, restarted_if_idle, past_sacked, sent_on};
+ghost use Rattle.pd_host.specs.Steps.{IsQueued};
+
+use super::Connection;
+use super::control_segments::{MAX_WINDOW_FIELD, NO_FLAGS};
+use crate::established::Established;
+use pd_seg::{Flags, SegOptions, Segment, Span};
+use std::alloc::{AllocError, Global};
+
+impl Connection {
+    /// The number after the last octet of data that is queued.
+    fn data_end(&self) -> u32
+        ensures { result ≡ data_end self.now }
+    {
+        if self.fin {
+            self.board.end().saturating_sub(1)
+        } else {
+            self.board.end()
+        }
+    }
+
+    fn covers_fin(&self, segment: Span) -> bool
+        ensures { result ≡ covers_fin self.now segment }
+    {
+        self.fin && segment.start < self.board.end() && self.board.end() <= segment.end
+    }
+
+    fn ends_data(&self, segment: Span) -> bool
+        ensures { result ≡ ends_data self.now segment }
+    {
+        segment.start < self.data_end() && self.data_end() <= segment.end
+    }
+
+    /// A segment with these octets of data.
+    pub fn data(&self, segment: Span, alloc: Global) -> Segment
+        ensures { result ≡ data_of self.now segment }
+    {
+        Segment {
+            flags: Flags {
+                fin: self.covers_fin(segment),
+                psh: self.ends_data(segment),
+                ack: true,
+                ..NO_FLAGS
+            },
+            start: segment.start,
+            end: segment.end.min(self.data_end()),
+            ack: self.rcv_nxt(),
+            win: self.shifted_window(),
+            options: SegOptions::new(alloc),
+        }
+    }
+
+    fn window_edge(&self, established: &Established) -> u32
+        ensures { result ≡ window_edge self.now established.now }
+    {
+        self.board.una() + established.congestion.cwnd().min(established.rwnd)
+    }
+
+    /// U: how many octets from the sending place on the windows let leave.
+    fn usable(&self, established: &Established) -> u32
+        ensures { result ≡ usable self.now established.now }
+    {
+        self.window_edge(established)
+            .saturating_sub(self.board.next())
+    }
+
+    /// D: how many octets are queued from there on.
+    fn unsent(&self) -> u32
+        ensures { result ≡ unsent self.now }
+    {
+        self.board.end().saturating_sub(self.board.next())
+    }
+
+    fn sendable(&self, established: &Established) -> u32
+        ensures { result ≡ sendable self.now established.now }
+    {
+        self.unsent().min(self.usable(established))
+    }
+
+    fn unsent_segment(&self, established: &Established) -> Span
+        ensures value { result ≡ unsent_segment self.now established.now }
+        ensures queued { IsQueued result self.now }
+    {
+        let octets = self.sendable(established).min(u32::from(self.board.smss()));
+        Span {
+            start: self.board.next(),
+            end: self.board.next() + octets,
+        }
+    }
+
+    /// Whether Nagle's algorithm holds a segment that isn't full.
+    fn is_nagle_delayed(&self, established: &Established) -> bool
+        ensures { result ≡ is_nagle_delayed self.now established.now }
+    {
+        established.nagle
+            && self.board.una() < self.board.top()
+            && !self.covers_fin(self.unsent_segment(established))
+    }
+
+    /// Whether a full segment can leave.
+    fn is_full(&self, established: &Established) -> bool
+        ensures { result ≡ is_full self.now established.now }
+    {
+        self.sendable(established) >= u32::from(self.board.smss())
+    }
+
+    /// Whether all that is queued can leave.
+    fn is_all_unsent(&self, established: &Established) -> bool
+        ensures { result ≡ is_all_unsent self.now established.now }
+    {
+        self.unsent() <= self.usable(established)
+    }
+
+    /// Whether at least half of the largest window seen can leave.
+    fn is_half_max_window(&self, established: &Established) -> bool
+        ensures { result ≡ is_half_max_window self.now established.now }
+    {
+        u64::from(self.sendable(established)) * 2 >= u64::from(self.max_window)
+    }
+
+    /// Whether a segment of new octets leaves.
+    pub fn leaves_now(&self, established: &Established) -> bool
+        ensures { result ≡ leaves_now self.now established.now }
+    {
+        self.is_full(established)
+            || ((self.is_all_unsent(established) || self.is_half_max_window(established))
+                && !self.is_nagle_delayed(established))
+    }
+
+    /// Whether what could leave is a segment worth sending, Nagle's algorithm apart.
+    pub fn is_worth_sending(&self, established: &Established) -> bool
+        ensures { result ≡ is_worth_sending self.now established.now }
+    {
+        self.is_full(established)
+            || self.is_all_unsent(established)
+            || self.is_half_max_window(established)
+    }
+
+    fn next_new(&self, established: &Established) -> Option<Span>
+        ensures value { result ≡ next_new self.now established.now }
+        ensures queued { IfSome result (λ segment. IsQueued segment self.now) }
+    {
+        if self.sendable(established) > 0 && self.leaves_now(established) {
+            Some(self.unsent_segment(established))
+        } else {
+            None
+        }
+    }
+
+    fn next_retransmitted(&self, established: &Established) -> Option<Span>
+        ensures value { result ≡ next_retransmitted self.now established.now }
+        ensures queued { IfSome result (λ segment. IsQueued segment self.now) }
+    {
+        let segment = self.board.run_at(self.board.next());
+        if segment.end <= self.window_edge(established) {
+            Some(segment)
+        } else {
+            None
+        }
+    }
+
+    /// The segment that ordinary sending sends next.
+    pub fn next_segment(&self) -> Option<Span>
+        ensures value { result ≡ found (Some self.now) }
+        ensures queued { IfSome result (λ segment. IsQueued segment self.now) }
+    {
+        let Some(established) = &self.established else {
+            return None;
+        };
+        if self.board.next() < self.board.top() {
+            self.next_retransmitted(established)
+        } else {
+            self.next_new(established)
+        }
+    }
+
+    /// Whether no octets were sent for longer than RTO and none are outstanding.
+    fn is_idle(&self, now: u64) -> bool
+        ensures { result ≡ is_idle now self.now }
+    {
+        self.board.una() == self.board.top()
+            && now.saturating_sub(self.last_sent) > self.timer.rto()
+    }
+
+    /// Sending begins at a moment: after an idle time the congestion window restarts, where the setting was on (RFC 5681,
+    /// section 4.1).
+    pub fn restart_if_idle(&mut self, now: u64)
+        ensures { self.new ≡ restarted_if_idle now self.old }
+    {
+        let idle = self.is_idle(now);
+        let smss = self.board.smss();
+        if let Some(established) = &mut self.established {
+            established.congestion.restart(smss, idle);
+        }
+    }
+
+    /// The sending place moves past SACKed octets.
+    pub fn skip_sacked(&mut self)
+        ensures { self.new ≡ past_sacked self.old }
+    {
+        self.board.skip_sacked();
+    }
+
+    /// A segment was sent from the sending place at a moment.
+    ///
+    /// # Errors
+    /// `AllocError` where the scoreboard has found no memory before.
+    pub fn note_segment_sent(&mut self, segment: Span, now: u64) -> Result<(), AllocError>
+        requires early { now < 2 ^ 62 }
+        requires queued { IsQueued segment self.old }
+        ensures { IfOk result (λ done. self.new ≡ sent_on now segment self.old) }
+    {
+        self.start_timing(segment, now);
+        self.board.sent(segment.end)
+    }
+}

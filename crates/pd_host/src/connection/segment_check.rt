@@ -1,0 +1,144 @@
+//! The checks of a segment that arrives on a connection.
+ghost use Rattle.std.specs.Prelude.{◌≡◌, ◌≤◌, Some, IfNone};
+ghost use Rattle.pd_host.specs.declared.connection.segment_check.SegmentCheck.TheVariants.{FirstAck};
+ghost use Rattle.pd_host.specs.Arrivals.{is_in_window, is_next_fin, is_stray_fin, check_contents, check_window, check_rst, check_ack_flag, check_handshake, check_ack, failed_check_of};
+
+use super::Connection;
+use pd_seg::Segment;
+
+/// The check that a segment doesn't pass, and so what becomes of it.
+#[derive(Clone, Copy, PartialEq, Eq)]
+pub enum SegmentCheck {
+    /// Data, a SYN, a FIN that isn't the next octet, or anything on a closed connection: it isn't run.
+    NotRun,
+    /// An RST from outside the receive window: it is dropped.
+    StrayRst,
+    /// Another segment from outside the receive window: it is answered by an ACK and dropped.
+    OutsideWindow,
+    /// An RST at RCV.NXT: it resets the connection.
+    ExactRst,
+    /// Another RST: it is answered by an ACK and dropped.
+    ChallengedRst,
+    /// A segment without the ACK flag: it is dropped.
+    WithoutAck,
+    /// An ACK of our SYN: it establishes the connection.
+    FirstAck,
+    /// Another ACK in the handshake: it is refused by an RST.
+    RefusedAck,
+    /// An ACK of what wasn't sent: it is answered by an ACK and dropped.
+    EarlyAck,
+    /// An ACK below what is acknowledged: of its segment the FIN alone is looked at.
+    OldAck,
+}
+
+impl Connection {
+    /// The ruling of the first check that rules; `None` for a segment that passes them all.
+    #[inline(always)]
+    pub fn failed_check(&self, segment: &Segment) -> Option<SegmentCheck>
+        ensures failed_check { result ≡ failed_check_of self.now segment.now }
+        ensures known { IfNone result (self.now.board.una ≤ segment.now.ack) }
+        ensures sent { IfNone result (segment.now.ack ≤ self.now.board.top) }
+        ensures first { result ≡ Some FirstAck → (self.now.board.una ≤ 1) × (1 ≤ self.now.board.top) }
+    {
+        self.check_contents(segment)
+            .or(self.check_window(segment))
+            .or(self.check_rst(segment))
+            .or(check_ack_flag(segment))
+            .or(self.check_handshake(segment))
+            .or(self.check_ack(segment))
+    }
+
+    fn check_contents(&self, segment: &Segment) -> Option<SegmentCheck>
+        ensures { result ≡ check_contents self.now segment.now }
+    {
+        if segment.len() > 0
+            || segment.flags.syn
+            || self.is_stray_fin(segment)
+            || self.state().is_closed()
+        {
+            Some(SegmentCheck::NotRun)
+        } else {
+            None
+        }
+    }
+
+    /// Whether it has a FIN in the receive window that isn't the peer's next octet.
+    fn is_stray_fin(&self, segment: &Segment) -> bool
+        ensures { result ≡ is_stray_fin self.now segment.now }
+    {
+        segment.flags.fin && self.is_in_window(segment) && !self.is_next_fin(segment)
+    }
+
+    /// Whether its FIN is the peer's next octet, and the first one.
+    fn is_next_fin(&self, segment: &Segment) -> bool
+        ensures { result ≡ is_next_fin self.now segment.now }
+    {
+        self.peer_fin().is_awaited() && segment.start == self.rcv_nxt()
+    }
+
+    fn is_in_window(&self, segment: &Segment) -> bool
+        ensures { result ≡ is_in_window self.now segment.now }
+    {
+        let next = self.rcv_nxt();
+        next <= segment.start && segment.start - next < self.rcv_wnd
+    }
+
+    fn check_window(&self, segment: &Segment) -> Option<SegmentCheck>
+        ensures { result ≡ check_window self.now segment.now }
+    {
+        if self.is_in_window(segment) {
+            None
+        } else if segment.flags.rst {
+            Some(SegmentCheck::StrayRst)
+        } else {
+            Some(SegmentCheck::OutsideWindow)
+        }
+    }
+
+    fn check_rst(&self, segment: &Segment) -> Option<SegmentCheck>
+        ensures { result ≡ check_rst self.now segment.now }
+    {
+        if !segment.flags.rst {
+            None
+        } else if segment.start == self.rcv_nxt() {
+            Some(SegmentCheck::ExactRst)
+        } else {
+            Some(SegmentCheck::ChallengedRst)
+        }
+    }
+
+    fn check_handshake(&self, segment: &Segment) -> Option<SegmentCheck>
+        ensures failed_check { result ≡ check_handshake self.now segment.now }
+        ensures known { IfNone self.now.established (self.now.board.una ≤ 1) }
+    {
+        if self.established.is_some() {
+            None
+        } else if self.board.una() < segment.ack && segment.ack <= self.board.top() {
+            Some(SegmentCheck::FirstAck)
+        } else {
+            Some(SegmentCheck::RefusedAck)
+        }
+    }
+
+    fn check_ack(&self, segment: &Segment) -> Option<SegmentCheck>
+        ensures { result ≡ check_ack self.now segment.now }
+    {
+        if self.board.top() < segment.ack {
+            Some(SegmentCheck::EarlyAck)
+        } else if segment.ack < self.board.una() {
+            Some(SegmentCheck::OldAck)
+        } else {
+            None
+        }
+    }
+}
+
+fn check_ack_flag(segment: &Segment) -> Option<SegmentCheck>
+    ensures { result ≡ check_ack_flag segment.now }
+{
+    if segment.flags.ack {
+        None
+    } else {
+        Some(SegmentCheck::WithoutAck)
+    }
+}

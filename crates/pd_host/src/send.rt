@@ -1,0 +1,45 @@
+//! Ordinary sending.
+ghost use Rattle.std.specs.Prelude.{◌≡◌, ◌<◌, ◌^◌};
+ghost use Rattle.pd_host.specs.Host.{with_packet};
+ghost use Rattle.pd_host.specs.InputResults.{Gives};
+ghost use Rattle.pd_host.specs.Packets.{data_of};
+ghost use Rattle.pd_host.specs.Sending.{ordinary};
+ghost use Rattle.pd_host.specs.Steps.{GivesOn};
+
+use crate::connection::Connection;
+use crate::halts::HostEnd;
+use crate::outbox::Outbox;
+use pd_seg::Span;
+
+/// Puts a segment of a connection out at a moment.
+pub fn put_segment(
+    connection: &Connection,
+    outbox: &mut Outbox,
+    segment: Span,
+    now: u64,
+) -> Result<(), HostEnd>
+    ensures { Gives (with_packet now (data_of connection.now segment) outbox.old) result outbox.new }
+{
+    let packet = connection.data(segment, outbox.allocator());
+    outbox.push(packet, now)
+}
+
+/// Sends at a moment what the windows and Nagle's algorithm let leave: the congestion window restarts after an idle time,
+/// and the sending place moves past SACKed octets.
+///
+/// # Errors
+/// Of the first packet that fails: `Halted` by `Limit` where the outbox is full, else `OutOfMemory` where its growth is
+/// refused or the scoreboard has found no memory before.
+pub fn send(connection: &mut Connection, outbox: &mut Outbox, now: u64) -> Result<(), HostEnd>
+    requires early { now < 2 ^ 62 }
+    ensures { GivesOn (ordinary now) connection.old outbox.old result connection.new outbox.new }
+{
+    connection.restart_if_idle(now);
+    connection.skip_sacked();
+    while let Some(segment) = connection.next_segment() {
+        put_segment(connection, outbox, segment, now)?;
+        connection.note_segment_sent(segment, now)?;
+        connection.skip_sacked();
+    }
+    Ok(())
+}

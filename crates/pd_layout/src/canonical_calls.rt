@@ -1,0 +1,161 @@
+//! Calls as they stand in recordings.
+ghost use Rattle.std.specs.Prelude.{◌≡◌, IfOk, drop};
+ghost use Rattle.pd_layout.specs.Canonical.{gap, after_octets, passes_at, note_end, note_or_gap, answered_at, begins_word, call_octets, call_line, error_of, answer_of};
+ghost use Rattle.pd_layout.specs.Internal.{lines_of, closing_of};
+
+use crate::comments::is_gap;
+use crate::line_cursor::LineCursor;
+use crate::outside_brackets::find_outside;
+use pd_lex::Place;
+use pd_print::{put_answer, put_time};
+use pd_script::{ErrorName, Event, ExpectedResult};
+use pd_seg::{Answer, Errno};
+use pd_text::Lines;
+use std::alloc::AllocError;
+
+/// Whether octets are at the front of a line, and a gap after them.
+pub fn has_gap_after(octets: &[u8], line: &[u8], lines: LineCursor<'_>) -> bool
+    ensures { result ≡ after_octets octets.now (gap (lines_of lines.entry)) line.now }
+{
+    match line.strip_prefix(octets) {
+        Some(rest) => is_gap(rest, lines),
+        None => false,
+    }
+}
+
+/// What is left of a line after so many octets.
+fn left_after(line: &[u8], at: usize) -> &[u8]
+    ensures { result.now ≡ drop at line.now }
+{
+    if at < line.len() { &line[at..] } else { &[] }
+}
+
+/// Whether the end of a note is at a place, and a gap up to a line.
+fn is_note_end(lines: &Lines, until: usize, place: Place) -> bool
+    ensures { result ≡ passes_at note_end lines.now until place }
+{
+    match LineCursor::new(lines, place.line.saturating_sub(1), until).split_first() {
+        Some((line, after)) => has_gap_after(b")", left_after(line, place.at), after),
+        None => false,
+    }
+}
+
+/// Whether a gap follows the answer to an equals sign at a place, or a note and a gap up to a line.
+fn is_note_or_gap(
+    lines: &Lines,
+    until: usize,
+    equals: Place,
+    rest: &[u8],
+    after: LineCursor<'_>,
+) -> bool
+    ensures { result ≡ note_or_gap lines.now until (closing_of lines.now equals) (lines_of after.entry) rest.now }
+{
+    if is_gap(rest, after) {
+        return true;
+    }
+    if !rest.starts_with(b" (") {
+        return false;
+    }
+    match find_outside(lines, equals, b')') {
+        Some(closing) => is_note_end(lines, until, closing),
+        None => false,
+    }
+}
+
+/// Whether an equals sign is at a place, an answer, a note or none, and a gap up to a line.
+fn is_answered(answer: &[u8], lines: &Lines, until: usize, equals: Place) -> bool
+    ensures { result ≡ answered_at answer.now lines.now until equals }
+{
+    let lines_between = LineCursor::new(lines, equals.line.saturating_sub(1), until);
+    let Some((line, after)) = lines_between.split_first() else {
+        return false;
+    };
+    let Some(rest) = left_after(line, equals.at).strip_prefix(b"= ") else {
+        return false;
+    };
+    match rest.strip_prefix(answer) {
+        Some(rest) => is_note_or_gap(lines, until, equals, rest, after),
+        None => false,
+    }
+}
+
+/// Whether what is left of a line begins a call, whose equals sign is followed by an answer, a note or none, and a gap up to a
+/// line.
+fn is_call(answer: &[u8], lines: &Lines, from: usize, until: usize, rest: &[u8]) -> bool
+    ensures { result ≡ call_octets answer.now lines.now from until rest.now }
+{
+    if !begins_word(rest) {
+        return false;
+    }
+    match find_outside(lines, Place::line_start(from), b'=') {
+        Some(equals) => is_answered(answer, lines, until, equals),
+        None => false,
+    }
+}
+
+fn begins_word(rest: &[u8]) -> bool
+    ensures { result ≡ begins_word rest.now }
+{
+    match rest {
+        [octet, ..] => octet.is_ascii_alphanumeric() || *octet == b'_',
+        [] => false,
+    }
+}
+
+/// Whether the line of an event is a call with the answer that the script expects, and a gap up to a line; its time and its
+/// answer are written into a buffer.
+///
+/// # Errors
+/// `AllocError` where a growth is refused.
+pub fn is_call_line(
+    text: &mut Vec<u8>,
+    lines: &Lines,
+    until: usize,
+    event: &Event,
+    expected_result: ExpectedResult,
+    line: &[u8],
+) -> Result<bool, AllocError>
+    ensures { IfOk result (λ canonical. canonical ≡ call_line lines.now event.now.line until event.now.time expected_result line.now) }
+{
+    let Some(answer) = answer_of(expected_result) else {
+        return Ok(false);
+    };
+    text.clear();
+    put_time(text, event.time)?;
+    let Some(rest) = line.strip_prefix(text.as_slice()) else {
+        return Ok(false);
+    };
+    let Some(rest) = rest.strip_prefix(b" ") else {
+        return Ok(false);
+    };
+    text.clear();
+    put_answer(text, answer)?;
+    Ok(is_call(text.as_slice(), lines, event.line, until, rest))
+}
+
+/// The answer that a result is.
+fn answer_of(expected_result: ExpectedResult) -> Option<Answer>
+    ensures { result ≡ answer_of expected_result }
+{
+    match expected_result {
+        ExpectedResult::Int(number) => Some(Answer::Number(number)),
+        ExpectedResult::Negative(1, Some(name)) => match error_of(name) {
+            Some(error) => Some(Answer::Error(error)),
+            None => None,
+        },
+        ExpectedResult::Negative(_, _) | ExpectedResult::Hex(_) => None,
+    }
+}
+
+/// The error of a name.
+fn error_of(name: ErrorName) -> Option<Errno>
+    ensures { result ≡ error_of name }
+{
+    match name {
+        ErrorName::Ebadf => Some(Errno::Ebadf),
+        ErrorName::Einval => Some(Errno::Einval),
+        ErrorName::Eagain => Some(Errno::Eagain),
+        ErrorName::Epipe => Some(Errno::Epipe),
+        ErrorName::Unknown => None,
+    }
+}

@@ -1,0 +1,10 @@
+-- What is left has the same end as the whole.
+use Rattle.std.proofs.Common.{◌≡◌, length}
+use Rattle.pd_lex.specs.Pieces.{after_backquote}
+use Rattle.pd_lex.proofs.closing.after_backquote.Given as goal
+
+abbrev pub invariant-loop-rest : goal.invariant-loop-rest
+invariant-loop-rest l = after_backquote l.s ≡ after_backquote l.rest
+
+abbrev pub decreases-loop-rest : goal.decreases-loop-rest
+decreases-loop-rest l = length l.rest

@@ -1,0 +1,124 @@
+//! An event as it stands on its line.
+use crate::replacements::second_column;
+use crate::tokens::{Columns, EventTokens, event_tokens, is_blank, part, rest};
+use pd_script::{Event, Parsed};
+use pd_text::Lines;
+use std::alloc::{AllocError, Global};
+
+/// An event, all of it on one line.
+#[derive(Drop)]
+pub struct EventLine<'a> {
+    pub alloc: Global,
+    /// The text.
+    pub lines: &'a Lines,
+    /// The event.
+    pub event: &'a Event,
+    /// Its line, counted from 1.
+    pub line: usize,
+    /// The octets of that line.
+    pub octets: &'a [u8],
+    /// The tokens of the event.
+    pub tokens: EventTokens,
+}
+
+impl<'a> EventLine<'a> {
+    /// The event after so many others of a text; nothing where not all of it is on one line.
+    ///
+    /// # Errors
+    /// `AllocError` where a growth is refused.
+    pub fn find(
+        alloc: Global,
+        lines: &'a Lines,
+        parsed: &'a Parsed,
+        passed: usize,
+    ) -> Result<Option<EventLine<'a>>, AllocError> {
+        let Some(event) = parsed.events.as_slice().get(passed) else {
+            return Ok(None);
+        };
+        let Some(tokens) = event_tokens(alloc, lines, parsed.header.end(), passed)? else {
+            return Ok(None);
+        };
+        let line = tokens.line;
+        let Some(octets) = lines.line(line) else {
+            return Ok(None);
+        };
+        Ok(Some(EventLine {
+            alloc,
+            lines,
+            event,
+            line,
+            octets,
+            tokens,
+        }))
+    }
+
+    /// Where the event stands on its line.
+    pub fn columns(&self) -> Columns {
+        self.tokens.columns()
+    }
+
+    /// The column of what follows the time, if lines beside this one have one.
+    pub fn column(&self) -> Option<usize> {
+        if self.columns().from == 0 {
+            second_column(self.lines, self.line, self.octets)
+        } else {
+            None
+        }
+    }
+
+    /// What is before the event on its line.
+    pub fn before(&self) -> &'a [u8] {
+        let columns = Columns {
+            from: 0,
+            to: self.columns().from,
+        };
+        part(self.octets, columns)
+    }
+
+    /// What is after it there.
+    pub fn after(&self) -> &'a [u8] {
+        rest(self.octets, self.columns().to)
+    }
+
+    /// Whether nothing but blanks is before it.
+    pub fn is_first(&self) -> bool {
+        is_blank(self.before())
+    }
+
+    /// Whether nothing but blanks is after it.
+    pub fn is_last(&self) -> bool {
+        is_blank(self.after())
+    }
+
+    /// Whether nothing but blanks or a comment is after it.
+    pub fn ends_line(&self) -> bool {
+        self.is_last() || self.after().trim_ascii_start().starts_with(b"//")
+    }
+
+    /// From which octet of its line on it stands, with the blanks before it where it is the first.
+    pub fn from(&self) -> usize {
+        if self.is_first() {
+            0
+        } else {
+            self.columns().from
+        }
+    }
+
+    /// The line up to the end of the event.
+    pub fn up_to_end(&self) -> &'a [u8] {
+        let columns = Columns {
+            from: 0,
+            to: self.columns().to,
+        };
+        part(self.octets, columns)
+    }
+
+    /// The line up to the end of the event, or of the comment that ends the line after it.
+    pub fn with_comment(&self) -> &'a [u8] {
+        if self.ends_line() {
+            self.octets
+        } else {
+            self.up_to_end()
+        }
+    }
+}

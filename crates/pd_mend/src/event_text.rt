@@ -1,0 +1,61 @@
+//! The text of an awaited packet, to be written elsewhere at another time.
+use crate::event_line::EventLine;
+use crate::replacements::FieldEdits;
+use crate::tokens::{Columns, rest};
+use pd_print::write_time;
+use pd_script::{Packet, Time};
+use std::alloc::{AllocError, Global};
+
+/// An awaited packet as a line has it, with the comment that ends that line.
+#[derive(Drop)]
+pub struct EventText {
+    /// What is awaited.
+    pub packet: Packet,
+    /// Its time.
+    line_time: Time,
+    /// The octets, with the blanks before it where it is the first of its line.
+    octets: Vec<u8>,
+    /// Where the time stands in them.
+    time: Columns,
+    /// Where the event ends.
+    end: usize,
+    /// The column of what follows the time, if lines beside it have one.
+    column: Option<usize>,
+}
+
+impl EventText {
+    /// The text of an event that awaits this packet.
+    ///
+    /// # Errors
+    /// `AllocError` where a growth is refused.
+    pub fn of(own: &EventLine<'_>, packet: &Packet) -> Result<EventText, AllocError> {
+        let from = own.from();
+        let time = own.tokens.time();
+        Ok(EventText {
+            packet: packet.copy()?,
+            line_time: own.event.time,
+            octets: Vec::from_slice(own.alloc, rest(own.with_comment(), from))?,
+            time: Columns {
+                from: time.from.saturating_sub(from),
+                to: time.to.saturating_sub(from),
+            },
+            end: own.columns().to.saturating_sub(from),
+            column: own.column(),
+        })
+    }
+
+    /// The kind of its time: that of the line.
+    pub fn line_time(&self) -> Time {
+        self.line_time
+    }
+
+    /// The same at another time.
+    ///
+    /// # Errors
+    /// `AllocError` where a growth is refused.
+    pub fn at_time(&self, alloc: Global, time: Time) -> Result<Vec<u8>, AllocError> {
+        let mut field_edits = FieldEdits::new(alloc, self.octets.as_slice(), self.column);
+        field_edits.replace(self.time, write_time(alloc, time)?.as_slice())?;
+        field_edits.finish(self.end)
+    }
+}

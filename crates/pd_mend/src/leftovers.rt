@@ -1,0 +1,155 @@
+//! The packets that a script leaves which passes.
+ghost use Rattle.std.specs.Prelude.{◌≡◌, ◌⊎◌, ◌≤◌, IfOk, IfSome, length};
+ghost use Rattle.pd_mend.specs.Mending.{IsRetiming};
+
+use crate::event_line::EventLine;
+use crate::failure_site::FailureSite;
+use crate::input_gap::{first_line, gap_of};
+use crate::line_mends::{push_line, text_of};
+use crate::mend::{Mend, MendEffect, Target};
+use crate::mend_state::MendState;
+use crate::retime::retiming;
+use crate::try_mend::{NEVER, with_never_sent};
+use pd_run::{StopReason, find_stop};
+use pd_script::{Action, Parsed, parse};
+use pd_seg::Sent;
+use pd_settings::Settings;
+use pd_text::{LineEdit, LineList, Lines};
+use std::alloc::{AllocError, Global};
+
+/// The edit by which the oldest of the packets that stand untaken at the end of a text's run gets a line. Where there is no room for
+/// one, the edit is one for which there is none either.
+///
+/// # Errors
+/// `AllocError` where a growth is refused.
+pub fn leftover_edit(
+    alloc: Global,
+    text: &Lines,
+    settings: &Settings,
+    mend_state: &mut MendState,
+) -> Result<Option<LineEdit>, AllocError>
+    ensures { IfOk result (λ found. IfSome found (λ edit. (edit.remove ≡ 0) ⊎ IsRetiming text.now edit)) }
+{
+    let line = line_after(alloc, text, &parse(alloc, text)?)?;
+    if let Some(lines) = with_never_sent(alloc, text, line)? {
+        if let Some(mend) = mend_in(alloc, &lines, settings, line, mend_state)? {
+            return Ok(insert_edit(text, mend));
+        }
+    }
+    let mut insert = LineList::new(alloc);
+    push_line(&mut insert, NEVER)?;
+    Ok(Some(LineEdit {
+        from: line,
+        remove: 0,
+        insert,
+    }))
+}
+
+/// The edit of a mend that puts lines in; nothing where it is another one.
+pub fn insert_edit(text: &Lines, mend: Mend) -> Option<LineEdit>
+    ensures { IfSome result (λ edit. (edit.remove ≡ 0) ⊎ IsRetiming text.now edit) }
+{
+    match mend.target {
+        Target::Before(from) => Some(LineEdit {
+            from,
+            remove: 0,
+            insert: mend.lines,
+        }),
+        Target::Retimed(from) => retiming(text, from, mend.lines),
+        Target::Own | Target::Follower => None,
+    }
+}
+
+/// The line after the last event of a text, where no comment that goes over lines is in the way.
+fn line_after(alloc: Global, text: &Lines, parsed: &Parsed) -> Result<usize, AllocError> {
+    let end = text.len().saturating_add(1);
+    let number = parsed.events.len().saturating_sub(1);
+    match EventLine::find(alloc, text, parsed, number)? {
+        Some(last) => Ok(first_line(text, last.line.saturating_add(1), end)),
+        None => Ok(end),
+    }
+}
+
+/// The mend by which the oldest packet gets a line that stands untaken where a text awaits, at its end, one that is never sent.
+fn mend_in(
+    alloc: Global,
+    lines: &Lines,
+    settings: &Settings,
+    line: usize,
+    mend_state: &mut MendState,
+) -> Result<Option<Mend>, AllocError> {
+    let parsed = parse(alloc, lines)?;
+    let Some(stop) = find_stop(alloc, &parsed, settings, line)? else {
+        return Ok(None);
+    };
+    let Some(site) = FailureSite::at(alloc, lines, settings, &parsed, &stop, line)? else {
+        return Ok(None);
+    };
+    let StopReason::Differs(_, sent, run) = &stop.stop_reason else {
+        return Ok(None);
+    };
+    let found = mend_at(&site, sent, run.tolerance(), mend_state)?;
+    if let Some(mend) = &found {
+        mend_state.note(&site, mend)?;
+    }
+    Ok(found)
+}
+
+/// The same at the event that awaits that packet.
+fn mend_at(
+    site: &FailureSite<'_>,
+    sent: &Sent,
+    tolerance: u64,
+    mend_state: &MendState,
+) -> Result<Option<Mend>, AllocError> {
+    match last_expected(site)? {
+        Some(style) => mend_styled(site, &style, sent, tolerance, mend_state),
+        None => mend_styled(site, &site.own, sent, tolerance, mend_state),
+    }
+}
+
+/// The same in the style of an event.
+fn mend_styled(
+    site: &FailureSite<'_>,
+    style: &EventLine<'_>,
+    sent: &Sent,
+    tolerance: u64,
+    mend_state: &MendState,
+) -> Result<Option<Mend>, AllocError> {
+    if let Some(gap) = gap_of(site, sent)? {
+        if let Some(text) = text_of(style, &mend_state.moved_lines, sent, gap.base, tolerance)? {
+            let effect = MendEffect::Inserted(sent.copy()?);
+            return Ok(Some(gap.filled(text.octets.as_slice(), sent.at, effect)?));
+        }
+    }
+    let base = site.stop.before.base();
+    let Some(text) = text_of(style, &mend_state.moved_lines, sent, base, tolerance)? else {
+        return Ok(None);
+    };
+    let mut lines = LineList::new(site.alloc);
+    push_line(&mut lines, text.octets.as_slice())?;
+    Ok(Some(Mend {
+        target: Target::Before(site.line),
+        lines,
+        effect: MendEffect::Inserted(sent.copy()?),
+    }))
+}
+
+/// The last event before a site that awaits a packet, if it is whole on its line.
+fn last_expected<'a>(site: &FailureSite<'a>) -> Result<Option<EventLine<'a>>, AllocError> {
+    let mut number = 0usize;
+    let mut last = None;
+    for event in site.parsed.events.as_slice() {
+        if number >= site.stop.passed {
+            break;
+        }
+        if let Action::Outbound(_) = event.action {
+            last = Some(number);
+        }
+        number = number.saturating_add(1);
+    }
+    match last {
+        Some(number) => EventLine::find(site.alloc, site.lines, site.parsed, number),
+        None => Ok(None),
+    }
+}

@@ -1,0 +1,148 @@
+//! What is known of earlier mends, and what was asked for.
+use crate::displaced::Displaced;
+use crate::event_text::EventText;
+use crate::failure_site::FailureSite;
+use crate::line_mends::Removal;
+use crate::mend::{Mend, MendEffect, Target};
+use crate::moved_lines::{Departure, MoveLog, MovedLines};
+use pd_script::{Action, Packet};
+use pd_seg::Sent;
+use std::alloc::{AllocError, Global};
+
+/// What is known of earlier mends, and what was asked for.
+#[derive(Drop)]
+pub struct MendState {
+    /// Whether a packet that doesn't come is taken away.
+    pub drop: bool,
+    /// The packets that were sent in the places of others.
+    displaced: Displaced,
+    /// The lines that are known to move.
+    pub moved_lines: MovedLines,
+    /// What was taken out and written so far.
+    move_log: MoveLog,
+    /// Whether the event after the one that stops the run was moved, so that this one can be taken out.
+    pub is_shifted: bool,
+    /// The line that was written where its packet leaves, and is to be taken out here.
+    doubled: Option<usize>,
+}
+
+impl MendState {
+    /// Before the first mend, where these lines are known to move.
+    pub fn new(alloc: Global, drop: bool, moved_lines: MovedLines) -> MendState {
+        MendState {
+            drop,
+            displaced: Displaced::new(alloc),
+            moved_lines,
+            move_log: MoveLog::new(alloc),
+            is_shifted: false,
+            doubled: None,
+        }
+    }
+
+    /// The lines that turned out to move.
+    ///
+    /// # Errors
+    /// `AllocError` where a growth is refused.
+    pub fn into_moved_lines(self, alloc: Global) -> Result<MovedLines, AllocError> {
+        let MendState { move_log, .. } = self;
+        move_log.into_moved_lines(alloc)
+    }
+
+    /// Whether the event's line was written where its packet leaves.
+    pub fn is_doubled(&self, site: &FailureSite<'_>) -> bool {
+        self.doubled == Some(site.line)
+    }
+
+    /// Whether the awaited packet was sent in the place of another one.
+    ///
+    /// # Errors
+    /// `AllocError` where a growth is refused.
+    pub fn was_sent(&self, site: &FailureSite<'_>) -> Result<bool, AllocError> {
+        match expected_packet(site) {
+            Some(packet) => Ok(self.displaced.time_of(site.alloc, packet)?.is_some()),
+            None => Ok(false),
+        }
+    }
+
+    /// What is left of the event's line where it is taken out.
+    ///
+    /// # Errors
+    /// `AllocError` where a growth is refused.
+    pub fn removal(&self, site: &FailureSite<'_>) -> Result<Removal, AllocError> {
+        if self.drop || self.is_doubled(site) {
+            return Ok(Removal::Gone);
+        }
+        Ok(match self.departure(site)? {
+            Some(departure) if departure.has_own_line || site.own.is_last() => Removal::Gone,
+            Some(departure) => Removal::LeftAt(departure.at),
+            None => Removal::NotSent,
+        })
+    }
+
+    /// Where the awaited packet leaves, as far as that is known.
+    fn departure(&self, site: &FailureSite<'_>) -> Result<Option<Departure>, AllocError> {
+        let Some(packet) = expected_packet(site) else {
+            return Ok(None);
+        };
+        if let Some(departure) = self.moved_lines.departure(site.alloc, packet)? {
+            return Ok(Some(departure));
+        }
+        match self.displaced.time_of(site.alloc, packet)? {
+            Some(at) => Ok(Some(Departure {
+                at,
+                has_own_line: false,
+            })),
+            None => Ok(None),
+        }
+    }
+
+    /// Notes what counts for later mends.
+    ///
+    /// # Errors
+    /// `AllocError` where a growth is refused.
+    pub fn note(&mut self, site: &FailureSite<'_>, mend: &Mend) -> Result<(), AllocError> {
+        let was_doubled = self.is_doubled(site);
+        self.is_shifted = matches!(mend.target, Target::Follower);
+        if !self.is_shifted {
+            self.doubled = None;
+        }
+        match &mend.effect {
+            MendEffect::Kept => Ok(()),
+            MendEffect::Moved => {
+                self.doubled = Some(site.line.saturating_add(mend.added()));
+                Ok(())
+            }
+            MendEffect::Written(sent) => self.note_written(sent, false),
+            MendEffect::Inserted(sent) => self.note_written(sent, true),
+            MendEffect::Removed if was_doubled => Ok(()),
+            MendEffect::Removed => self.note_removed(site),
+        }
+    }
+
+    fn note_written(&mut self, sent: &Sent, has_own_line: bool) -> Result<(), AllocError> {
+        self.displaced.add(sent.copy()?)?;
+        if has_own_line {
+            self.moved_lines.note_written(sent);
+        }
+        self.move_log.note_written(sent.copy()?, has_own_line)
+    }
+
+    /// The awaited packet has no line any more.
+    fn note_removed(&mut self, site: &FailureSite<'_>) -> Result<(), AllocError> {
+        let Some(packet) = expected_packet(site) else {
+            return Ok(());
+        };
+        self.displaced.remove(site.alloc, packet)?;
+        self.moved_lines.note_removed(site.alloc, packet)?;
+        self.move_log
+            .note_removed(EventText::of(&site.own, packet)?)
+    }
+}
+
+/// The packet that the event awaits.
+fn expected_packet<'a>(site: &FailureSite<'a>) -> Option<&'a Packet> {
+    match &site.own.event.action {
+        Action::Outbound(packet) => Some(packet),
+        _ => None,
+    }
+}

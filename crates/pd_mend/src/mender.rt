@@ -1,0 +1,197 @@
+//! One mend of a text after the other.
+ghost use Rattle.std.specs.Prelude.{◌≡◌, ◌⊎◌, IfOk, IfErr, IfSome};
+ghost use Rattle.pd_run.specs.Run.{verdict_of};
+ghost use Rattle.pd_script.specs.Script.{script_of};
+ghost use Rattle.pd_mend.specs.Mending.{IsPlaced, IsUnfinished};
+ghost use Rattle.pd_mend.specs.Inner.{IsChange, IsNext, IsUnmade};
+
+use crate::failure_site::FailureSite;
+use crate::leftovers::{insert_edit, leftover_edit};
+use crate::line_map::LineMap;
+use crate::lines_of::follower_of;
+use crate::mend::{Mend, Target, mend_of};
+use crate::mend_error::MendError;
+use crate::mend_state::MendState;
+use crate::moved_lines::MovedLines;
+use pd_run::{StopPoint, Verdict, find_stop};
+use pd_script::{Event, Parsed, parse};
+use pd_settings::Settings;
+use pd_text::{LineEdit, LineList, Lines, TextFault};
+use std::alloc::{AllocError, Global};
+
+/// Mends a text, one line after the other.
+#[derive(Drop)]
+pub struct Mender {
+    /// Where the lines come from.
+    line_map: LineMap,
+    /// What is known of the mends before.
+    mend_state: MendState,
+}
+
+impl Mender {
+    /// Before the first mend of a text of so many lines, some of which are known to move. With `drop` a packet that doesn't come is
+    /// taken away.
+    ///
+    /// # Errors
+    /// `AllocError` where a growth is refused.
+    pub fn new(
+        alloc: Global,
+        count: usize,
+        drop: bool,
+        moved_lines: MovedLines,
+    ) -> Result<Mender, AllocError> {
+        Ok(Mender {
+            line_map: LineMap::new(alloc, count)?,
+            mend_state: MendState::new(alloc, drop, moved_lines),
+        })
+    }
+
+    /// The line of the text as it was given from which a line comes.
+    pub fn origin_of(&self, line: usize) -> usize {
+        self.line_map.line_of(line)
+    }
+
+    /// The lines that turned out to move.
+    ///
+    /// # Errors
+    /// `AllocError` where a growth is refused.
+    pub fn into_moved_lines(self, alloc: Global) -> Result<MovedLines, AllocError> {
+        let Mender { mend_state, .. } = self;
+        mend_state.into_moved_lines(alloc)
+    }
+
+    /// The text after one more mend; nothing where none helps against its verdict.
+    ///
+    /// # Errors
+    /// `TooLarge` where it would be over the limits of a text, and `OutOfMemory`.
+    pub fn mended(
+        &mut self,
+        alloc: Global,
+        text: &Lines,
+        settings: &Settings,
+        verdict: Verdict,
+    ) -> Result<Option<Lines>, MendError>
+        requires verdict { verdict ≡ verdict_of text.now settings.now }
+        requires unfinished { IsUnfinished settings.now text.now }
+        ensures next { IfOk result (λ next. IfSome next (IsNext settings.now text.now)) }
+        ensures refused { IfErr result (IsUnmade settings.now text.now) }
+    {
+        let Some(edit) = self.edit(alloc, text, settings, verdict)? else {
+            return Ok(None);
+        };
+        match text.apply(&edit) {
+            Ok(next) => {
+                self.note(alloc, &edit)?;
+                Ok(Some(next))
+            }
+            Err(TextFault::TooLarge) => Err(MendError::TooLarge),
+            Err(TextFault::OutOfMemory) => Err(MendError::OutOfMemory),
+            Err(TextFault::BadRange) => Ok(None),
+        }
+    }
+
+    /// The edit of the next mend of a text: where its run fails, or where it passes and leaves packets.
+    fn edit(
+        &mut self,
+        alloc: Global,
+        text: &Lines,
+        settings: &Settings,
+        verdict: Verdict,
+    ) -> Result<Option<LineEdit>, AllocError>
+        requires { verdict ≡ verdict_of text.now settings.now }
+        ensures { IfOk result (λ found. IfSome found (IsPlaced settings.now text.now)) }
+    {
+        match verdict {
+            Verdict::Fail(line, _) => self.edit_on(alloc, text, settings, line),
+            Verdict::Pass(_) => leftover_edit(alloc, text, settings, &mut self.mend_state),
+            _ => Ok(None),
+        }
+    }
+
+    /// The edit of the next mend of a text whose run fails at a line.
+    fn edit_on(
+        &mut self,
+        alloc: Global,
+        text: &Lines,
+        settings: &Settings,
+        line: usize,
+    ) -> Result<Option<LineEdit>, AllocError>
+        ensures { IfOk result (λ found. IfSome found (IsChange text.now (script_of text.now).events line)) }
+    {
+        let parsed = parse(alloc, text)?;
+        match find_stop(alloc, &parsed, settings, line)? {
+            Some(stop) => self.edit_after(alloc, text, settings, &parsed, &stop, line),
+            None => Ok(None),
+        }
+    }
+
+    /// The same where the run of the text, which was read, stops so.
+    fn edit_after(
+        &mut self,
+        alloc: Global,
+        text: &Lines,
+        settings: &Settings,
+        parsed: &Parsed,
+        stop: &StopPoint,
+        line: usize,
+    ) -> Result<Option<LineEdit>, AllocError>
+        ensures { IfOk result (λ found. IfSome found (IsChange text.now parsed.now.events line)) }
+    {
+        match FailureSite::at(alloc, text, settings, parsed, stop, line)? {
+            Some(site) => self.edit_at(&site),
+            None => Ok(None),
+        }
+    }
+
+    /// The same at the event that stops it.
+    fn edit_at(&mut self, site: &FailureSite<'_>) -> Result<Option<LineEdit>, AllocError>
+        ensures { IfOk result (λ found. IfSome found (IsChange site.now.lines.now site.now.parsed.now.events site.now.line)) }
+    {
+        let Some(mend) = mend_of(site, &self.mend_state)? else {
+            return Ok(None);
+        };
+        self.mend_state.note(site, &mend)?;
+        let events = site.parsed.events.as_slice();
+        Ok(changed(events, site.stop.passed, site.line, site.lines, mend))
+    }
+
+    /// Notes where the lines of an edit come from.
+    fn note(&mut self, alloc: Global, edit: &LineEdit) -> Result<(), AllocError> {
+        self.line_map = self
+            .line_map
+            .after(alloc, edit.from, edit.remove, edit.insert.len())?;
+        Ok(())
+    }
+}
+
+/// The edit that makes a mend; nothing where the text would stay as it is.
+fn changed(
+    events: &[Event],
+    passed: usize,
+    line: usize,
+    text: &Lines,
+    mend: Mend,
+) -> Option<LineEdit>
+    ensures { IfSome result (IsChange text.now events.now line) }
+{
+    match mend.target {
+        Target::Own => replaced(text, line, mend.lines),
+        Target::Follower => replaced(text, follower_of(events, passed, line)?, mend.lines),
+        Target::Before(_) | Target::Retimed(_) => insert_edit(text, mend),
+    }
+}
+
+/// The edit that writes lines in the place of one; nothing where that is the same.
+fn replaced(text: &Lines, from: usize, insert: LineList) -> Option<LineEdit>
+    ensures from { IfSome result (λ edit. edit.from ≡ from) }
+    ensures one { IfSome result (λ edit. edit.remove ≡ 1) }
+{
+    if insert.len() == 1 && insert.get(0) == text.line(from) {
+        return None;
+    }
+    Some(LineEdit {
+        from,
+        remove: 1,
+        insert,
+    })
+}

@@ -1,0 +1,132 @@
+//! Writes the fields of an awaited packet anew.
+use crate::differences::Differences;
+use crate::event_line::EventLine;
+use crate::packet_columns::{PacketColumns, packet_columns};
+use crate::replacements::FieldEdits;
+use crate::tokens::{Columns, rest};
+use itoa::Buffer;
+use pd_print::{PacketParts, sent_packet, write_parts, write_time};
+use pd_script::Time;
+use pd_seg::Segment;
+use std::alloc::AllocError;
+
+/// What is written anew of a packet.
+#[derive(Clone, Copy)]
+pub struct PacketRewrite<'a> {
+    /// The packet that was sent.
+    pub segment: &'a Segment,
+    /// The fields that it has otherwise.
+    pub fields: Differences,
+    /// The time, if it is written anew.
+    pub time: Option<Time>,
+}
+
+/// The first octets of the line of an awaited packet, up to some place, with fields that are written anew; nothing where they
+/// aren't found.
+///
+/// # Errors
+/// `AllocError` where a growth is refused.
+pub fn rewritten(
+    own: &EventLine<'_>,
+    octets: &[u8],
+    change: &PacketRewrite<'_>,
+) -> Result<Option<Vec<u8>>, AllocError> {
+    let Some(field_columns) = packet_columns(&own.tokens, octets) else {
+        return Ok(None);
+    };
+    let column = own.column();
+    let mut field_edits = FieldEdits::new(own.alloc, octets, column);
+    if let Some(time) = change.time {
+        field_edits.replace(field_columns.time, write_time(own.alloc, time)?.as_slice())?;
+    }
+    let actual = sent_packet(own.alloc, change.segment)?;
+    let parts = write_parts(own.alloc, &actual)?;
+    replace_octets(&mut field_edits, &field_columns, change, &parts)?;
+    replace_numbers(&mut field_edits, &field_columns, change)?;
+    if change.fields.options {
+        replace_options(&mut field_edits, &field_columns, parts.options.as_slice())?;
+    }
+    Ok(Some(field_edits.finish(own.columns().to)?))
+}
+
+/// Writes the flags and the sequence numbers anew.
+fn replace_octets(
+    field_edits: &mut FieldEdits<'_>,
+    field_columns: &PacketColumns,
+    change: &PacketRewrite<'_>,
+    parts: &PacketParts,
+) -> Result<(), AllocError> {
+    let segment = change.segment;
+    if change.fields.flags {
+        field_edits.replace(field_columns.flags, parts.flags.as_slice())?;
+    }
+    if change.fields.start {
+        replace_number(field_edits, field_columns.start, segment.start)?;
+    }
+    if change.fields.end {
+        replace_number(field_edits, field_columns.end, segment.end)?;
+    }
+    if change.fields.length {
+        replace_number(field_edits, field_columns.length, segment.len())?;
+    }
+    Ok(())
+}
+
+/// Writes the acknowledgment number and the window anew, where they are written.
+fn replace_numbers(
+    field_edits: &mut FieldEdits<'_>,
+    field_columns: &PacketColumns,
+    change: &PacketRewrite<'_>,
+) -> Result<(), AllocError> {
+    if let Some(columns) = field_columns.ack {
+        if change.fields.ack {
+            replace_number(field_edits, columns, change.segment.ack)?;
+        }
+    }
+    if let Some(columns) = field_columns.win {
+        if change.fields.win {
+            replace_number(field_edits, columns, u32::from(change.segment.win))?;
+        }
+    }
+    Ok(())
+}
+
+fn replace_number(
+    field_edits: &mut FieldEdits<'_>,
+    columns: Columns,
+    number: u32,
+) -> Result<(), AllocError> {
+    let mut digits = Buffer::new();
+    field_edits.replace(columns, digits.format(number).as_bytes())
+}
+
+/// Writes the options anew, which begin with a blank where there are any.
+fn replace_options(
+    field_edits: &mut FieldEdits<'_>,
+    field_columns: &PacketColumns,
+    options: &[u8],
+) -> Result<(), AllocError> {
+    let from = field_columns.before_options;
+    match field_columns.options {
+        Some(columns) if options.is_empty() => field_edits.replace(
+            Columns {
+                from,
+                to: columns.to,
+            },
+            b"",
+        ),
+        Some(columns) => field_edits.replace(columns, rest(options, 1)),
+        None => field_edits.replace(Columns { from, to: from }, options),
+    }
+}
+
+/// The line of an event with its time written anew.
+///
+/// # Errors
+/// `AllocError` where a growth is refused.
+pub fn retimed(own: &EventLine<'_>, time: Time) -> Result<Vec<u8>, AllocError> {
+    let column = own.column();
+    let mut field_edits = FieldEdits::new(own.alloc, own.octets, column);
+    field_edits.replace(own.tokens.time(), write_time(own.alloc, time)?.as_slice())?;
+    field_edits.finish(own.columns().to)
+}

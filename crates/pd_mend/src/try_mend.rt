@@ -1,0 +1,127 @@
+//! Runs of a script as it stands with a mend, or with a packet that is never sent.
+ghost use Rattle.std.specs.Prelude.{◌≤◌, length};
+
+use crate::event_line::EventLine;
+use crate::failure_site::FailureSite;
+use crate::line_mends::push_line;
+use crate::lines_of::line_in;
+use crate::mend::{Mend, Target};
+use pd_run::{StopPoint, Verdict, find_stop, run_all};
+use pd_script::{Parsed, parse};
+use pd_settings::Settings;
+use pd_text::{LineEdit, LineList, Lines, TextFault};
+use std::alloc::{AllocError, Global};
+
+/// A packet that is awaited at any time and never is sent.
+pub const NEVER: &[u8] = b"* > FSRP. 0:0(0)";
+
+/// The text with one more line, which awaits a packet that is never sent; nothing where it would be over the limits of one.
+///
+/// # Errors
+/// `AllocError` where a growth is refused.
+pub fn with_never_sent(
+    alloc: Global,
+    lines: &Lines,
+    line: usize,
+) -> Result<Option<Lines>, AllocError> {
+    let mut insert = LineList::new(alloc);
+    push_line(&mut insert, NEVER)?;
+    let edit = LineEdit {
+        from: line,
+        remove: 0,
+        insert,
+    };
+    edited(lines, &edit)
+}
+
+/// Where the run of a text stops on a line.
+///
+/// # Errors
+/// `AllocError` where a growth is refused.
+pub fn stop_in(
+    alloc: Global,
+    lines: &Lines,
+    settings: &Settings,
+    line: usize,
+) -> Result<Option<StopPoint>, AllocError> {
+    let parsed = parse(alloc, lines)?;
+    find_stop(alloc, &parsed, settings, line)
+}
+
+/// The run of a site's text at an event that is the first on its line, where a packet is awaited before it that is never sent.
+///
+/// # Errors
+/// `AllocError` where a growth is refused.
+pub fn stop_before(site: &FailureSite<'_>, number: usize) -> Result<Option<StopPoint>, AllocError> {
+    let Some(event) = EventLine::find(site.alloc, site.lines, site.parsed, number)? else {
+        return Ok(None);
+    };
+    if !event.is_first() {
+        return Ok(None);
+    }
+    match with_never_sent(site.alloc, site.lines, event.line)? {
+        Some(lines) => stop_in(site.alloc, &lines, site.settings, event.line),
+        None => Ok(None),
+    }
+}
+
+/// The text after an edit; nothing where it would be over the limits of one.
+fn edited(lines: &Lines, edit: &LineEdit) -> Result<Option<Lines>, AllocError> {
+    match lines.apply(edit) {
+        Ok(lines) => Ok(Some(lines)),
+        Err(TextFault::OutOfMemory) => Err(AllocError),
+        Err(_) => Ok(None),
+    }
+}
+
+impl FailureSite<'_> {
+    /// The text with lines in the place of the event's; nothing where it would be over the limits of one.
+    ///
+    /// # Errors
+    /// `AllocError` where a growth is refused.
+    pub fn with_lines(&self, insert: LineList) -> Result<Option<Lines>, AllocError> {
+        let edit = LineEdit {
+            from: self.line,
+            remove: 1,
+            insert,
+        };
+        edited(self.lines, &edit)
+    }
+
+    /// Whether the script gets further with one mend of the event's line than with another one; unknown of any other line.
+    ///
+    /// # Errors
+    /// `AllocError` where a growth is refused.
+    pub fn gets_further(&self, mend: &Mend, other: &Mend) -> Result<bool, AllocError> {
+        match (mend.target, other.target) {
+            (Target::Own, Target::Own) => Ok(self.left_after(mend)? < self.left_after(other)?),
+            _ => Ok(false),
+        }
+    }
+
+    /// How many events are left where the run of the text stops with a mend of the event's line.
+    fn left_after(&self, mend: &Mend) -> Result<usize, AllocError> {
+        match self.with_lines(mend.lines.copy()?)? {
+            Some(lines) => self.left_in(&lines),
+            None => Ok(usize::MAX),
+        }
+    }
+
+    /// How many events are left where the run of a text stops.
+    fn left_in(&self, lines: &Lines) -> Result<usize, AllocError> {
+        match run_all(self.alloc, lines, self.settings)? {
+            Verdict::Pass(_) => Ok(0),
+            verdict => self.left_from(&parse(self.alloc, lines)?, line_in(verdict)),
+        }
+    }
+
+    /// How many events are left where the run of a script stops at a line.
+    fn left_from(&self, parsed: &Parsed, line: usize) -> Result<usize, AllocError>
+        requires { length parsed.now.events ≤ 4096 }
+    {
+        match find_stop(self.alloc, parsed, self.settings, line)? {
+            Some(stop) => Ok(parsed.events.len().saturating_sub(stop.passed)),
+            None => Ok(usize::MAX),
+        }
+    }
+}

@@ -1,0 +1,12 @@
+use Rattle.std.proofs.Common.{rules, ap, Some, pos, ◌≡◌, ◌∙◌}
+use Rattle.clap.specs.declared.builder.value_parser.ValueParser.{ValueParser}
+use Rattle.clap.specs.declared.builder.value_parser.ValueParser.TheVariants as parser
+use Rattle.pd_protocol.proofs.option_table.workers_option.Goals as goal
+
+pub returns-clause-rule : goal.returns-clause-rule
+returns-clause-rule c =
+    let given = c.value_parser-2.ensures.given in
+    let made : c.range.result ≡ parser.Signed (pos 0) (pos 64) = rw c.value_parser.ensures at c.range.ensures in
+    let is : given.0 ≡ parser.Signed (pos 0) (pos 64) = given.2 ∙ made in
+    let parser_is : c.value_parser-2.result.value_parser ≡ Some (parser.Signed (pos 0) (pos 64)) = given.1 ∙ ap (λ (p : ValueParser). Some p) is in
+    search (rules, parser_is)

@@ -1,0 +1,63 @@
+//! How a run ends at a fault, or at words that are refused.
+ghost use Rattle.std.specs.Prelude.{◌≡◌};
+ghost use Rattle.clap.specs.Words.{kind_of};
+ghost use Rattle.pd_protocol.specs.ProgramFaults.{fault_line, line_of};
+ghost use Rattle.pd_protocol.specs.WriterOutput.{WritesTo};
+
+use crate::exit::Exit;
+use crate::faults::ServeFault;
+use crate::output_stream::try_write;
+use crate::program_faults::ProgramFault;
+use clap::Error;
+use clap::error::ErrorKind;
+use std::alloc::Global;
+use std::io::Write;
+
+/// The status at a fault.
+pub const FAULT_STATUS: u8 = 2;
+
+/// Says what `clap` says of words that it refuses to the program of this name.
+pub fn refuse<E: Write>(alloc: Global, program: &str, error: &Error, err: &mut E) -> Exit
+    ensures status { result.status ≡ 2 }
+    ensures memory { let line = fault_line program.now (ProgramFault.Serving ServeFault.OutOfMemory) in
+        kind_of error.now ≡ ErrorKind.OutOfMemory → WritesTo result.stderr_ok (E.contents err.old) (E.contents err.new) line }
+{
+    if error.kind() != ErrorKind::OutOfMemory {
+        if let Ok(text) = format!(in alloc; "{error}") {
+            let stderr_ok = try_write(err, text.as_bytes());
+            return Exit {
+                status: FAULT_STATUS,
+                stderr_ok,
+            };
+        }
+    }
+    fail(program, err, ProgramFault::Serving(ServeFault::OutOfMemory))
+}
+
+/// Ends a run of the program of this name at a fault: says its line.
+pub fn fail<E: Write>(program: &str, err: &mut E, fault: ProgramFault) -> Exit
+    ensures status { result.status ≡ 2 }
+    ensures stderr { WritesTo result.stderr_ok (E.contents err.old) (E.contents err.new) (fault_line program.now fault) }
+{
+    let stderr_ok = try_write_line(program, err, fault.text());
+    Exit {
+        status: FAULT_STATUS,
+        stderr_ok,
+    }
+}
+
+/// Says a text after the name of a program, as a line.
+pub(crate) fn try_write_line<E: Write>(program: &str, err: &mut E, text: &str) -> bool
+    ensures { WritesTo result (E.contents err.old) (E.contents err.new) (line_of program.now text.now) }
+{
+    if !try_write(err, program.as_bytes()) {
+        return false;
+    }
+    if !try_write(err, b": ") {
+        return false;
+    }
+    if !try_write(err, text.as_bytes()) {
+        return false;
+    }
+    try_write(err, b"\n")
+}

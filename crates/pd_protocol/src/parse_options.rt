@@ -1,0 +1,192 @@
+//! The words of the program, read by `clap`.
+ghost use Rattle.std.specs.Prelude.{bytes_eq, codes, ◌≡◌, ◌≢◌, ◌⊎◌, ◌≤◌, ◌||◌, List, [], IfOk, IfErr, IfSome, IsErr, map, option_map, unwrap_or};
+ghost use Rattle.clap.specs.Words.{HasMatchesOf, Text, found_of, kind_of, matched_of, raw_values};
+ghost use Rattle.pd_protocol.specs.ChosenOptions.{names_of, report_options, HasChosen};
+ghost use Rattle.pd_protocol.specs.OptionTable.{pdregress, without_sign, workers_in, cache_in, is_written, has_flag, asks_json, asks_leftovers, are_in_conflict, lack_explain, refusals};
+
+use crate::numbers::number;
+use crate::option_table::{command_with_conflicts, command_without_conflicts};
+use crate::program_options::{ExplainOptions, Options};
+use clap::error::ErrorKind;
+use clap::{ArgMatches, Command, Error};
+use std::alloc::{AllocError, Global};
+use std::convert::AsStr;
+
+/// Reads the words of the program, of which the first is its own name.
+///
+/// # Errors
+/// What `clap` says of the words, the text of `--help` among it.
+pub fn options<'a, S: AsStr>(alloc: Global, words: &'a [S]) -> Result<Options<'a>, Error>
+    ensures chosen { IfOk result (λ options. HasChosen (map S.text words.entry.now) options) }
+    ensures few { IfOk result (λ options. options.workers ≤ 64) }
+    ensures some { IfOk result (λ options. 1 ≤ options.cache) }
+    ensures most { IfOk result (λ options. options.cache ≤ 1024) }
+    ensures taken { IfOk result (λ _. refusals (map S.text words.entry.now) ≡ []) }
+    ensures refused { IfErr result (λ error. (kind_of error ≡ ErrorKind.OutOfMemory) ⊎ (refusals (map S.text words.entry.now) ≢ [])) }
+{
+    let command = command_without_conflicts(alloc)?;
+    let matches = command.try_get_matches_from(words)?;
+    if are_refused_together(&matches) {
+        return refuse_together(alloc, words, is_in_conflict(&matches));
+    }
+    Ok(chosen(alloc, &matches)?)
+}
+
+/// Has `clap` refuse words of which it takes each by itself, for `--workers` among them or for a word that is alone.
+///
+/// # Errors
+/// Always: what `clap` says of the words.
+fn refuse_together<'a, S: AsStr>(
+    alloc: Global,
+    words: &'a [S],
+    are_workers_apart: bool,
+) -> Result<Options<'a>, Error>
+    ensures { IsErr result }
+{
+    match command_with_conflicts(alloc, are_workers_apart) {
+        Ok(mut command) => Err(refusal_by(&mut command, words)),
+        Err(error) => Err(error),
+    }
+}
+
+/// What a command says of words that it refuses, or that are refused all the same.
+fn refusal_by<'a, S: AsStr>(command: &mut Command<'a>, words: &'a [S]) -> Error {
+    match command.try_get_matches_from_mut(words) {
+        Ok(_) => conflict_in(command),
+        Err(error) => error,
+    }
+}
+
+/// That options can't be used together.
+fn conflict_in(command: &mut Command<'_>) -> Error {
+    match command.error(
+        ErrorKind::ArgumentConflict,
+        "these options can't be used together",
+    ) {
+        Ok(error) => error,
+        Err(error) => Error::from(error),
+    }
+}
+
+/// Whether words are refused together of which each may be written.
+fn are_refused_together(matches: &ArgMatches<'_>) -> bool
+    ensures { (words : List Text) → HasMatchesOf pdregress words matches.now → result ≡ (are_in_conflict words || lack_explain words) }
+{
+    is_in_conflict(matches) || lacks_explain(matches)
+}
+
+/// Whether `--workers` is beside an option that goes without workers.
+fn is_in_conflict(matches: &ArgMatches<'_>) -> bool
+    ensures { (words : List Text) → HasMatchesOf pdregress words matches.now → result ≡ are_in_conflict words }
+{
+    is_written(matches, "workers") && (has_flag(matches, "steps") || has_flag(matches, "explain"))
+}
+
+/// Whether an option is without `--explain`, to which it belongs.
+fn lacks_explain(matches: &ArgMatches<'_>) -> bool
+    ensures { (words : List Text) → HasMatchesOf pdregress words matches.now → result ≡ lack_explain words }
+{
+    !has_flag(matches, "explain")
+        && (is_written(matches, "only")
+            || has_flag(matches, "json")
+            || has_flag(matches, "leftovers"))
+}
+
+/// Whether an option without a default value is written.
+fn is_written(matches: &ArgMatches<'_>, name: &str) -> bool
+    ensures { (words : List Text) → HasMatchesOf pdregress words matches.now → result ≡ is_written name.now words }
+{
+    matches.get_str(name).is_some()
+}
+
+/// Whether a flag is written.
+fn has_flag(matches: &ArgMatches<'_>, name: &str) -> bool
+    ensures { (words : List Text) → HasMatchesOf pdregress words matches.now → result ≡ has_flag name.now words }
+{
+    is_true(matches.get_str(name).unwrap_or("").as_bytes())
+}
+
+/// What words choose that aren't refused.
+fn chosen<'a>(alloc: Global, matches: &ArgMatches<'a>) -> Result<Options<'a>, AllocError>
+    ensures chosen { (words : List Text) → HasMatchesOf pdregress words matches.now → IfOk result (λ options. HasChosen words options) }
+    ensures few { IfOk result (λ options. options.workers ≤ 64) }
+    ensures some { IfOk result (λ options. 1 ≤ options.cache) }
+    ensures most { IfOk result (λ options. options.cache ≤ 1024) }
+{
+    let explain = explain_options(alloc, matches)?;
+    Ok(Options {
+        settings: matches.get_str("settings").unwrap_or(""),
+        workers: workers_in(matches.get_str("workers").unwrap_or("").as_bytes()),
+        cache: cache_in(matches.get_str("cache").unwrap_or("").as_bytes()),
+        steps: has_flag(matches, "steps"),
+        explain,
+    })
+}
+
+/// Which scripts words have explained, and how.
+fn explain_options<'a>(
+    alloc: Global,
+    matches: &ArgMatches<'a>,
+) -> Result<Option<ExplainOptions<'a>>, AllocError>
+    ensures only { (words : List Text) → HasMatchesOf pdregress words matches.now → IfOk result (λ explain. option_map (λ e. names_of e.only.items) explain ≡ (report_options words).explain) }
+    ensures how { (words : List Text) → HasMatchesOf pdregress words matches.now → IfOk result (λ explain. IfSome explain (λ e. (e.json ≡ asks_json words) × (e.leftovers ≡ asks_leftovers words))) }
+{
+    if !has_flag(matches, "explain") {
+        return Ok(None);
+    }
+    Ok(Some(ExplainOptions {
+        only: names_in(alloc, matches)?,
+        json: has_flag(matches, "json"),
+        leftovers: has_flag(matches, "leftovers"),
+    }))
+}
+
+/// The names that are singled out.
+fn names_in<'a>(alloc: Global, matches: &ArgMatches<'a>) -> Result<Vec<&'a str>, AllocError>
+    ensures { IfOk result (λ names. names_of names.items ≡ unwrap_or (option_map raw_values (matched_of (found_of matches.now) (codes "only"))) []) }
+{
+    match matches.get_strs("only") {
+        Some(names) => Vec::from_slice(alloc, names),
+        None => Ok(Vec::new(alloc)),
+    }
+}
+
+/// Whether a word is that of a flag which is written.
+pub fn is_true(word: &[u8]) -> bool
+    ensures { result ≡ bytes_eq word.now (codes "true") }
+{
+    word == b"true".as_slice()
+}
+
+/// The number of workers that a word writes, which `clap` let through.
+fn workers_in(word: &[u8]) -> usize
+    ensures count { result ≡ workers_in word.now }
+    ensures few { result ≤ 64 }
+{
+    match number(without_sign(word)) {
+        Some(count) if count <= 64 => count as usize,
+        _ => 0,
+    }
+}
+
+/// The number of tracks that a word writes, which `clap` let through.
+fn cache_in(word: &[u8]) -> usize
+    ensures size { result ≡ cache_in word.now }
+    ensures some { 1 ≤ result }
+    ensures most { result ≤ 1024 }
+{
+    match number(without_sign(word)) {
+        Some(size) if 1 <= size && size <= 1024 => size as usize,
+        _ => 64,
+    }
+}
+
+/// A word without a sign before it.
+fn without_sign(word: &[u8]) -> &[u8]
+    ensures { result.now ≡ without_sign word.now }
+{
+    match word {
+        [b'+' | b'-', digits @ ..] => digits,
+        _ => word,
+    }
+}

@@ -1,0 +1,27 @@
+//! What a program's words choose.
+
+/// What the program's words choose.
+#[derive(Drop)]
+pub struct Options<'a> {
+    /// A TOML text of settings.
+    pub settings: &'a str,
+    /// How many workers run the scripts, at most 64; with none the commands are served alone.
+    pub workers: usize,
+    /// How many tracks the book keeps, 1 to 1,024.
+    pub cache: usize,
+    /// Whether a line on standard error gives each finished job's number of steps.
+    pub steps: bool,
+    /// Which scripts that don't pass are explained on standard error, and how; where it is `None`, none are.
+    pub explain: Option<ExplainOptions<'a>>,
+}
+
+/// Which scripts are explained, and how.
+#[derive(Drop)]
+pub struct ExplainOptions<'a> {
+    /// The names of the scripts that are explained; where there are none, all are.
+    pub only: Vec<&'a str>,
+    /// Whether explanations are JSON.
+    pub json: bool,
+    /// Whether it is also told what scripts that pass leave at their ends.
+    pub leftovers: bool,
+}

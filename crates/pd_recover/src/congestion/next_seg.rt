@@ -1,0 +1,98 @@
+//! What loss recovery sends, and when.
+ghost use Rattle.std.specs.Prelude.{◌≡◌, ◌+◌, ◌≤◌, IfSome};
+ghost use Rattle.std.specs.Bool.{OnTrue};
+ghost use Rattle.pd_board.specs.Board.{IsBoardView};
+ghost use Rattle.pd_recover.specs.NextSeg.{IsSendable, segment_of, first_by_rules, next_send, step_c_segment, limited_segment, new_data, has_room, with_sent_noted};
+
+use super::Cong;
+use super::on_ack::new_segment;
+use crate::next_segment::NextSegment;
+use pd_board::Board;
+use pd_seg::Span;
+
+/// The new segment at `top`, where data is queued and the peer's window in octets takes it.
+fn new_data(board: &Board, rwnd: u32) -> Option<Span>
+    ensures value { result ≡ new_data rwnd board.now }
+    ensures sendable { IfSome result (IsSendable board.now) }
+    ensures known { IsBoardView board.now }
+{
+    new_segment(board.smss(), board.una(), board.top(), board.end(), rwnd)
+}
+
+impl Cong {
+    /// NextSeg: the segment to send next in loss recovery, by the first rule that gives one (RFC 6675, section 4). The
+    /// peer's window is in octets.
+    pub fn next_send(&self, board: &Board, rwnd: u32) -> Option<NextSegment>
+        ensures value { result ≡ next_send rwnd board.now self.now }
+        ensures sendable { IfSome result (λ sent. IsSendable board.now (segment_of sent)) }
+    {
+        let unsent = new_data(board, rwnd);
+        self.first_by_rules(board, unsent)
+    }
+
+    /// The first rule that gives a segment, by what the second one gives.
+    fn first_by_rules(&self, board: &Board, unsent: Option<Span>) -> Option<NextSegment>
+        ensures { result ≡ first_by_rules unsent board.now self.now }
+    {
+        if let Some(start) = board.next_lost(self.high_rxt) {
+            return Some(NextSegment::Lost(board.run_at(start)));
+        }
+        if let Some(segment) = unsent {
+            return Some(NextSegment::New(segment));
+        }
+        if let Some(start) = board.next_hole(self.high_rxt) {
+            return Some(NextSegment::Hole(board.run_at(start)));
+        }
+        if self.rescue_rxt < board.una() {
+            return board.rescue().map(NextSegment::Rescue);
+        }
+        None
+    }
+
+    /// The segment to send next in loss recovery, where cwnd - pipe holds a full one (RFC 6675, section 5, step C).
+    pub fn step_c(&self, board: &Board, rwnd: u32, pipe: u32) -> Option<NextSegment>
+        ensures value { result ≡ step_c_segment rwnd pipe board.now self.now }
+        ensures sendable { IfSome result (λ sent. IsSendable board.now (segment_of sent)) }
+        ensures fits { IfSome result (λ _. pipe + board.now.smss ≤ self.now.cwnd) }
+    {
+        if self.has_room(board, pipe) {
+            return self.next_send(board, rwnd);
+        }
+        None
+    }
+
+    /// The segment that limited transmit sends next with SACK, where cwnd - pipe holds a full one (RFC 6675, section 5,
+    /// step 3).
+    pub fn limited_segment(&self, board: &Board, rwnd: u32, pipe: u32) -> Option<Span>
+        ensures value { result ≡ limited_segment rwnd pipe board.now self.now }
+        ensures sendable { IfSome result (IsSendable board.now) }
+        ensures fits { IfSome result (λ _. pipe + board.now.smss ≤ self.now.cwnd) }
+    {
+        if self.has_room(board, pipe) {
+            return new_data(board, rwnd);
+        }
+        None
+    }
+
+    /// Whether cwnd - pipe holds a full segment (RFC 6675, section 5, step C). The pipe is in octets.
+    pub fn has_room(&self, board: &Board, pipe: u32) -> bool
+        ensures value { result ≡ has_room pipe board.now self.now }
+        ensures fits { OnTrue result (pipe + board.now.smss ≤ self.now.cwnd) }
+    {
+        self.cwnd.saturating_sub(pipe) >= u32::from(board.smss())
+    }
+
+    /// Loss recovery has sent this segment (RFC 6675, section 4, NextSeg).
+    pub fn note_sent(&mut self, sent: &NextSegment)
+        ensures { self.new ≡ with_sent_noted sent.now self.old }
+    {
+        match *sent {
+            NextSegment::Lost(segment) => self.high_rxt = segment.end,
+            NextSegment::New(_) => {}
+            NextSegment::Hole(segment) => self.high_rxt = segment.end,
+            // `una` stays below RecoveryPoint in this recovery, so no second rescue leaves.
+            NextSegment::Rescue(_) => self.rescue_rxt = self.recovery_point,
+        }
+        self.count_prr_out(sent.segment());
+    }
+}

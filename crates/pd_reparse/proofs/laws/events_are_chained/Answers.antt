@@ -1,6 +1,0 @@
--- The law is a lemma over that of the items' places.
-use Rattle.pd_reparse.proofs.Chained.{are_chained}
-use Rattle.pd_reparse.proofs.laws.events_are_chained.Goals as goal
-
-pub returns : goal.returns
-returns c = are_chained c.items_stand_there.ensures

@@ -1,6 +1,0 @@
--- The copies so far.
-use Rattle.std.proofs.Common.{◌≡◌, take}
-use Rattle.pd_reparse.proofs.shared_list.copies.Given as goal
-
-abbrev pub invariant-loop-i : goal.invariant-loop-i
-invariant-loop-i g l = l.copies.items ≡ take l.i l.fn.items

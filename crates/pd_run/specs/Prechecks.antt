@@ -1,0 +1,15 @@
+-- What keeps an event from being run, whatever the sender does.
+use Rattle.std.specs.Prelude.{ℕ, not, Option, Some, None, if◌then◌else◌}
+use Rattle.pd_script.specs.declared.script_events.Event.{Event}
+use Rattle.pd_run.specs.Limits.{is_over_limit}
+use Rattle.pd_run.specs.Supported.{is_run}
+use Rattle.pd_run.specs.Times.{is_backwards}
+use Rattle.pd_run.specs.declared.prechecks.Precheck.{Precheck}
+use Rattle.pd_run.specs.declared.prechecks.Precheck.TheVariants.{OverLimit, NotRun, Backwards}
+
+-- the checks of an event before anything happens, in their order, by the base of its time: the first that it doesn't pass
+abbrev pub failed_precheck : ℕ → Event → Option Precheck
+failed_precheck base e =
+    if is_over_limit e then Some OverLimit
+    else (if not (is_run e) then Some NotRun
+    else (if is_backwards base e.time then Some Backwards else None))

@@ -1,0 +1,52 @@
+//! What keeps an event from being run, whatever the sender does.
+ghost use Rattle.std.specs.Prelude.{◌≡◌};
+ghost use Rattle.pd_run.specs.Prechecks.{failed_precheck};
+ghost use Rattle.pd_run.specs.Verdicts.{precheck_verdict};
+
+use crate::limits::is_over_limit;
+use crate::supported::is_run;
+use crate::times::is_backwards;
+use crate::verdict::Verdict;
+use pd_match::Kind;
+use pd_script::Event;
+
+/// A check that an event doesn't pass.
+#[derive(Clone, Copy, PartialEq, Eq)]
+pub enum Precheck {
+    /// A number of the event is over its limit.
+    OverLimit,
+    /// The event's shape isn't run.
+    NotRun,
+    /// Its time lies before the base.
+    Backwards,
+}
+
+impl Precheck {
+    /// The verdict of an event at this line.
+    pub fn verdict(self, line: usize) -> Verdict
+        ensures { result ≡ precheck_verdict line self }
+    {
+        match self {
+            Precheck::OverLimit => Verdict::Limit(line),
+            Precheck::NotRun => Verdict::Unsupported(line),
+            Precheck::Backwards => Verdict::Fail(line, Kind::Backwards),
+        }
+    }
+}
+
+/// The first check that an event doesn't pass before anything happens, of limits, shapes that aren't run, and absolute times before
+/// the base, in microseconds since the start of the run.
+#[inline(always)]
+pub fn failed_precheck(base: u64, event: &Event) -> Option<Precheck>
+    ensures { result ≡ failed_precheck base event.now }
+{
+    if is_over_limit(event) {
+        Some(Precheck::OverLimit)
+    } else if !is_run(event) {
+        Some(Precheck::NotRun)
+    } else if is_backwards(base, event.time) {
+        Some(Precheck::Backwards)
+    } else {
+        None
+    }
+}

@@ -1,0 +1,93 @@
+//! Whether a seat's acts are those that are noted with its number.
+ghost use Rattle.std.specs.Prelude.{◌≡◌, ◌↔◌, ◌<◌, ◌==◌, IsTrue, All, count_by, length, reverse};
+ghost use Rattle.pd_seat.specs.Seats.{made_by, EachOnce};
+
+use crate::act_equality::is_same;
+use crate::seat::Seat;
+use pd_book::Act;
+
+/// Whether the acts noted with this number are these.
+fn is_made_by(number: usize, notes: &[usize], acts: &[Act], own: &[Act]) -> bool
+    requires { length notes.now ≡ length acts.now }
+    ensures { IsTrue result ↔ (made_by number notes.now acts.now ≡ own.now) }
+{
+    // Both are of one length. Said here, so that one count does for both.
+    if notes.len() != acts.len() {
+        return false;
+    }
+    let mut notes = notes;
+    let mut acts = acts;
+    let mut rest = own;
+    while let Some((note, more_notes)) = notes.split_first() {
+        let Some((act, more_acts)) = acts.split_first() else {
+            return false;
+        };
+        notes = more_notes;
+        acts = more_acts;
+        if *note == number {
+            let Some((first, others)) = rest.split_first() else {
+                return false;
+            };
+            rest = others;
+            if !is_same(first, act) {
+                return false;
+            }
+        }
+    }
+    rest.is_empty()
+}
+
+/// Whether the acts noted with a seat's number are its own.
+pub fn is_own(seat: &Seat, notes: &[usize], acts: &[Act]) -> bool
+    requires { length notes.now ≡ length acts.now }
+    ensures { IsTrue result ↔ (made_by seat.now.number (reverse notes.now) (reverse acts.now) ≡ seat.now.own) }
+{
+    is_made_by(seat.number, notes, acts, seat.own.as_slice())
+}
+
+/// Whether that is so of each of these seats.
+pub fn is_own_of_each(seats: &[Seat], notes: &[usize], acts: &[Act]) -> bool
+    requires { length notes.now ≡ length acts.now }
+    ensures { IsTrue result ↔ All (λ seat. made_by seat.number (reverse notes.now) (reverse acts.now) ≡ seat.own) seats.now }
+{
+    for seat in seats {
+        if !is_own(seat, notes, acts) {
+            return false;
+        }
+    }
+    true
+}
+
+/// Whether the seats' numbers are 0 to the last, each once.
+pub fn is_each_once(seats: &[Seat], count: usize) -> bool
+    ensures { IsTrue result ↔ EachOnce count seats.now }
+{
+    if seats.len() != count {
+        return false;
+    }
+    for number in 0..count {
+        if count_of(seats, number) != 1 {
+            return false;
+        }
+    }
+    true
+}
+
+fn count_of(seats: &[Seat], number: usize) -> usize
+    ensures { result ≡ count_by (λ seat. seat.number == number) seats.now }
+{
+    seats.iter().filter(|seat| seat.number == number).count()
+}
+
+/// Whether all notes are below the count.
+pub fn is_each_below(notes: &[usize], count: usize) -> bool
+    ensures { IsTrue result ↔ All (λ note. note < count) (reverse notes.now) }
+{
+    all_below(notes, count)
+}
+
+fn all_below(notes: &[usize], count: usize) -> bool
+    ensures { IsTrue result ↔ All (λ note. note < count) notes.now }
+{
+    notes.iter().all(|note| *note < count)
+}

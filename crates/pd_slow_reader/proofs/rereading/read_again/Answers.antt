@@ -1,6 +1,0 @@
--- What is read again was read of the text before, and as many first lines are those of the other.
-use Rattle.pd_reparse.proofs.First.{reads_front}
-use Rattle.pd_slow_reader.proofs.rereading.read_again.Goals as goal
-
-pub reread-requires : goal.reread-requires
-reread-requires c = reads_front c.args.old.now c.args.new.now c.args.before.now c.same_front.result c.line.ensures.lines c.requires c.same_front.ensures

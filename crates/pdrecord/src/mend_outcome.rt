@@ -1,0 +1,106 @@
+//! What comes of a script that is recorded by the least change.
+ghost use Rattle.std.specs.Prelude.{◌≡◌, IfOk, IfErr};
+ghost use Rattle.pd_run.specs.Run.{verdict_of};
+ghost use Rattle.pd_explain.specs.BlockLines.{AreIndented};
+ghost use Rattle.pdrecord.specs.RecordProgram.{IsMendedText, IsRefused, IsUnmade, IsReasonText};
+
+use crate::outcome::{Outcome, at_line, refusal_line, refusal_of};
+use crate::script_input::ScriptInput;
+use crate::trace_text::octets_of;
+use pd_explain::{cause_text, explain};
+use pd_mend::{MendError, Mended, Unmendable, mend_script};
+use pd_protocol::{ServeFault, put_verdict};
+use pd_record::{RecordError, Recording};
+use pd_run::Verdict;
+use pd_settings::Settings;
+use pd_text::Lines;
+use std::alloc::{AllocError, Global};
+
+/// What comes of a text that is recorded by the least change.
+///
+/// # Errors
+/// `Differs` and `OutOfMemory`.
+#[tactic(auto, using(crate::proofs::MendedTexts::is_mended_text, crate::proofs::MendedTexts::own_verdict, crate::proofs::MendedTexts::is_stopped_text, crate::proofs::MendedTexts::is_large_text))]
+pub fn mended(
+    alloc: Global,
+    input: &ScriptInput,
+    lines: &Lines,
+    settings: &Settings,
+    drop: bool,
+) -> Result<Outcome, ServeFault>
+    ensures outcome { IfOk result (IsMendedText settings.now lines.now) }
+    ensures only { IfErr result IsUnmade }
+{
+    match mend_script(alloc, lines, settings, drop) {
+        Ok(mended) => {
+            let recording = recording_of(alloc, mended);
+            Ok(Outcome::Recorded(octets_of(alloc, &recording, false)?))
+        }
+        Err(MendError::Stopped(unmendable)) => {
+            let line = input.line_of(unmendable.line);
+            let outcome = refused(alloc, &unmendable, line, settings)?;
+            Ok(outcome)
+        }
+        Err(MendError::TooLarge) => {
+            let outcome = refusal_of(alloc, RecordError::TooLarge, input, settings)?;
+            Ok(outcome)
+        }
+        Err(MendError::OutOfMemory) => Err(ServeFault::OutOfMemory),
+    }
+}
+
+/// A mended text, of which no trace tells.
+fn recording_of(alloc: Global, mended: Mended) -> Recording
+    ensures { result.lines ≡ mended.lines }
+{
+    Recording {
+        lines: mended.lines,
+        events: mended.events,
+        trace_entries: Vec::new(alloc),
+    }
+}
+
+/// What comes of a text at which no mend helps: its verdict at a line, and what explains it.
+#[tactic(auto, using(crate::proofs::Below::is_stopped))]
+fn refused(
+    alloc: Global,
+    unmendable: &Unmendable,
+    line: usize,
+    settings: &Settings,
+) -> Result<Outcome, ServeFault>
+    requires { unmendable.now.verdict ≡ verdict_of unmendable.now.lines settings.now }
+    ensures refused { IfOk result (IsRefused (RecordError.Stopped unmendable.now.verdict)) }
+    ensures only { IfErr result IsUnmade }
+{
+    let reason = reason_text(alloc, unmendable.verdict, line)?;
+    let mut message = refusal_line(alloc, reason.as_slice())?;
+    let below = lines_below(alloc, unmendable, settings)?;
+    message.extend_from_slice(below.as_slice())?;
+    Ok(Outcome::Refused(message))
+}
+
+/// A verdict at a line, in words.
+fn reason_text(alloc: Global, verdict: Verdict, line: usize) -> Result<Vec<u8>, ServeFault>
+    ensures reason_given { IfOk result (λ reason. IsReasonText (RecordError.Stopped verdict) reason.items) }
+    ensures only { IfErr result IsUnmade }
+{
+    let mut row = Vec::new(alloc);
+    put_verdict(&mut row, at_line(verdict, line))?;
+    Ok(row)
+}
+
+/// What explains the verdict of a text at which no mend helps. What let packets go isn't told: its lines are those of the mended text.
+#[tactic(auto, using(crate::proofs::Below::no_lines))]
+fn lines_below(
+    alloc: Global,
+    unmendable: &Unmendable,
+    settings: &Settings,
+) -> Result<Vec<u8>, AllocError>
+    requires { unmendable.now.verdict ≡ verdict_of unmendable.now.lines settings.now }
+    ensures { IfOk result (λ below. AreIndented below.items) }
+{
+    match explain(alloc, &unmendable.lines, settings, unmendable.verdict)? {
+        Some(explanation) => cause_text(alloc, &explanation.cause.without_history(alloc)),
+        None => Ok(Vec::new(alloc)),
+    }
+}

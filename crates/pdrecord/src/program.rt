@@ -1,0 +1,230 @@
+//! The program that records: one script in, its recording out; or the scripts of files, one after the other.
+ghost use Rattle.std.specs.Prelude.{◌≡◌, ◌≢◌, ◌⊎◌, ℕ, List, [], Some, IfOk, IfErr, IfSome, map, take, true};
+ghost use Rattle.std.specs.Io.KnownBytes.{Appends};
+ghost use Rattle.pd_protocol.specs.SettingsText.{settings_in};
+ghost use Rattle.pd_protocol.specs.WriterOutput.{ExitsRefused, WritesTo};
+ghost use Rattle.pd_protocol.specs.OptionTable.{settings_text};
+ghost use Rattle.pdrecord.specs.RecordProgram.{Comes, Ends, FinishesRecording, IsOutcome, IsUnmade, IsWhole};
+ghost use Rattle.pdrecord.specs.RecordArguments.{pdrecord, mode_chosen, files_named, refusals};
+ghost use Rattle.pdrecord.specs.FileSections.{EndsAfter, FinishesFiles, file_fault_line};
+ghost use Rattle.pd_protocol.specs.ChosenOptions.{names_of};
+
+use crate::file_sections::{FileFault, put_sections};
+use crate::file_source::{FileSource, NoFiles};
+use crate::mend_outcome::mended;
+use crate::mode::RecordMode;
+use crate::outcome::{Outcome, refusal_of};
+use crate::record_options::{RecordOptions, record_options};
+use crate::script_input::ScriptInput;
+use crate::trace_text::octets_of;
+use pd_protocol::{
+    Exit, FAULT_STATUS, InputStream, ProgramFault, ServeFault, fail, refuse, settings_of,
+    try_write, write_all,
+};
+use pd_record::{RecordError, record};
+use pd_settings::Settings;
+use pd_text::Lines;
+use std::alloc::Global;
+use std::convert::AsStr;
+use std::io::Write;
+
+/// The program's own name, by which it says its faults.
+pub const PROGRAM: &str = "pdrecord";
+
+/// The status where the script isn't recorded.
+const NOT_RECORDED: u8 = 1;
+
+/// Runs the program that records on its words, of which the first is its own name, where no files are. Words that `clap`
+/// refuses, and `--help`, print its own text on `err`, with the status 2.
+pub fn run_recording<S: AsStr, R: InputStream, W: Write, E: Write>(
+    alloc: Global,
+    arguments: &[S],
+    reader: &mut R,
+    out: &mut W,
+    err: &mut E,
+) -> Exit
+    ensures taken { let arguments = map S.text arguments.now in
+        let input = R.remaining reader.old in
+        refusals arguments ≡ [] → files_named arguments ≡ [] → FinishesRecording (R.has_failed reader.new) result (settings_text pdrecord arguments) (mode_chosen arguments) input (W.contents out.old) (W.contents out.new) (E.contents err.old) (E.contents err.new) }
+    ensures refused { refusals (map S.text arguments.now) ≢ [] → ExitsRefused result (W.contents out.old) (W.contents out.new) }
+{
+    run_with_files(alloc, arguments, reader, &NoFiles, out, err)
+}
+
+/// The same where files are.
+pub fn run_with_files<
+    S: AsStr,
+    R: InputStream,
+    Q: InputStream + Drop,
+    F: FileSource<Q>,
+    W: Write,
+    E: Write,
+>(alloc: Global, arguments: &[S], reader: &mut R, files: &F, out: &mut W, err: &mut E) -> Exit
+    ensures taken { let arguments = map S.text arguments.now in
+        let input = R.remaining reader.old in
+        refusals arguments ≡ [] → files_named arguments ≡ [] → FinishesRecording (R.has_failed reader.new) result (settings_text pdrecord arguments) (mode_chosen arguments) input (W.contents out.old) (W.contents out.new) (E.contents err.old) (E.contents err.new) }
+    ensures files { let arguments = map S.text arguments.now in
+        refusals arguments ≡ [] → files_named arguments ≢ [] → FinishesFiles (settings_in (settings_text pdrecord arguments)) (mode_chosen arguments) (F.octets_in files.now) (files_named arguments) result (W.contents out.old) (W.contents out.new) (E.contents err.old) (E.contents err.new) }
+    ensures refused { refusals (map S.text arguments.now) ≢ [] → ExitsRefused result (W.contents out.old) (W.contents out.new) }
+{
+    match record_options(alloc, arguments) {
+        Ok(options) => run_with_options(alloc, &options, reader, files, out, err),
+        Err(error) => refuse(alloc, PROGRAM, &error, err),
+    }
+}
+
+/// Records what words choose: the scripts of files, or else the input.
+fn run_with_options<R: InputStream, Q: InputStream + Drop, F: FileSource<Q>, W: Write, E: Write>(
+    alloc: Global,
+    options: &RecordOptions<'_>,
+    reader: &mut R,
+    files: &F,
+    out: &mut W,
+    err: &mut E,
+) -> Exit
+    ensures input { let input = R.remaining reader.old in
+        names_of options.now.files.items ≡ [] → FinishesRecording (R.has_failed reader.new) result options.now.settings.now options.now.mode input (W.contents out.old) (W.contents out.new) (E.contents err.old) (E.contents err.new) }
+    ensures files { names_of options.now.files.items ≢ [] → FinishesFiles (settings_in options.now.settings.now) options.now.mode (F.octets_in files.now) (names_of options.now.files.items) result (W.contents out.old) (W.contents out.new) (E.contents err.old) (E.contents err.new) }
+{
+    if options.files.is_empty() {
+        run_on_input(alloc, options, reader, out, err)
+    } else {
+        run_files(alloc, options, files, out, err)
+    }
+}
+
+/// Records the input and writes the recording, or says why there is none.
+fn run_on_input<R: InputStream, W: Write, E: Write>(
+    alloc: Global,
+    options: &RecordOptions<'_>,
+    reader: &mut R,
+    out: &mut W,
+    err: &mut E,
+) -> Exit
+    ensures { let input = R.remaining reader.old in
+        FinishesRecording (R.has_failed reader.new) result options.now.settings.now options.now.mode input (W.contents out.old) (W.contents out.new) (E.contents err.old) (E.contents err.new) }
+{
+    let end = record_input(alloc, options, reader);
+    finish(end, out, err)
+}
+
+/// Records the scripts of files, and writes what came of each.
+fn run_files<R: InputStream + Drop, F: FileSource<R>, W: Write, E: Write>(
+    alloc: Global,
+    options: &RecordOptions<'_>,
+    files: &F,
+    out: &mut W,
+    err: &mut E,
+) -> Exit
+    ensures { FinishesFiles (settings_in options.now.settings.now) options.now.mode (F.octets_in files.now) (names_of options.now.files.items) result (W.contents out.old) (W.contents out.new) (E.contents err.old) (E.contents err.new) }
+{
+    match settings_of(alloc, options.settings) {
+        Ok(settings) => {
+            let names = options.files.as_slice();
+            let end = put_sections(alloc, &settings, options.mode, names, files, out);
+            finish_files(end, err)
+        }
+        Err(fault) => fail(PROGRAM, err, fault),
+    }
+}
+
+/// Ends a run over files.
+fn finish_files<E: Write>(end: Result<bool, FileFault<'_>>, err: &mut E) -> Exit
+    ensures { EndsAfter end.entry result (E.contents err.old) (E.contents err.new) }
+{
+    match end {
+        Ok(are_all_recorded) => Exit {
+            status: if are_all_recorded { 0 } else { NOT_RECORDED },
+            stderr_ok: true,
+        },
+        Err(stop) => fail_with_file(stop, err),
+    }
+}
+
+/// Ends a run at a fault with a file: says its line.
+fn fail_with_file<E: Write>(stop: FileFault<'_>, err: &mut E) -> Exit
+    ensures status { result.status ≡ 2 }
+    ensures stderr { WritesTo result.stderr_ok (E.contents err.old) (E.contents err.new) (file_fault_line stop.entry.name.now stop.entry.fault) }
+{
+    if !try_write(err, b"pdrecord: ") {
+        return Exit {
+            status: FAULT_STATUS,
+            stderr_ok: false,
+        };
+    }
+    fail(stop.name, err, ProgramFault::Serving(stop.fault))
+}
+
+/// Ends a run: writes a recording, or says why there is none.
+fn finish<W: Write, E: Write>(end: Result<Outcome, ProgramFault>, out: &mut W, err: &mut E) -> Exit
+    ensures { Ends end result (W.contents out.old) (W.contents out.new) (E.contents err.old) (E.contents err.new) }
+{
+    match end {
+        Ok(Outcome::Recorded(octets)) => match write_all(out, octets.as_slice()) {
+            Ok(()) => Exit {
+                status: 0,
+                stderr_ok: true,
+            },
+            Err(fault) => fail(PROGRAM, err, ProgramFault::Serving(fault)),
+        },
+        Ok(Outcome::Refused(line)) => Exit {
+            status: NOT_RECORDED,
+            stderr_ok: try_write(err, line.as_slice()),
+        },
+        Err(fault) => fail(PROGRAM, err, fault),
+    }
+}
+
+/// Records the input.
+fn record_input<R: InputStream>(
+    alloc: Global,
+    options: &RecordOptions<'_>,
+    reader: &mut R,
+) -> Result<Outcome, ProgramFault>
+    ensures { IfSome (R.remaining reader.old) (Comes (R.has_failed reader.new) (settings_in options.now.settings.now) options.now.mode result) }
+{
+    let settings = settings_of(alloc, options.settings)?;
+    let input = ScriptInput::read(alloc, reader)?;
+    let outcome = outcome_of(alloc, &input, &settings, options.mode)?;
+    Ok(outcome)
+}
+
+/// What comes of a script that was read.
+///
+/// # Errors
+/// `Differs` and `OutOfMemory`.
+pub fn outcome_of(
+    alloc: Global,
+    input: &ScriptInput,
+    settings: &Settings,
+    mode: RecordMode,
+) -> Result<Outcome, ServeFault>
+    ensures outcome { IfOk result (λ outcome. IsOutcome settings.now mode input.now.lines outcome) }
+    ensures only { IfErr result IsUnmade }
+{
+    let Some(lines) = &input.lines else {
+        return refusal_of(alloc, RecordError::TooLarge, input, settings);
+    };
+    match mode {
+        RecordMode::Whole => record_whole(alloc, input, lines, settings, false),
+        RecordMode::Traced => record_whole(alloc, input, lines, settings, true),
+        RecordMode::Minimal(drop) => mended(alloc, input, lines, settings, drop),
+    }
+}
+
+/// What comes of a text that is recorded whole, with a trace or without.
+fn record_whole(
+    alloc: Global,
+    input: &ScriptInput,
+    lines: &Lines,
+    settings: &Settings,
+    with_trace: bool,
+) -> Result<Outcome, ServeFault>
+    ensures outcome { IfOk result (IsWhole settings.now with_trace lines.now) }
+    ensures only { IfErr result IsUnmade }
+{
+    match record(alloc, lines, settings, with_trace) {
+        Ok(recording) => Ok(Outcome::Recorded(octets_of(alloc, &recording, with_trace)?)),
+        Err(refusal) => refusal_of(alloc, refusal, input, settings),
+    }
+}

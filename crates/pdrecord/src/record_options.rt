@@ -1,0 +1,270 @@
+//! The words of the program that records, read by `clap`.
+ghost use Rattle.std.specs.Prelude.{false, ◌≡◌, ◌≢◌, ◌⊎◌, ◌||◌, List, [], IfOk, IfErr, IsErr, codes, map, option_map, unwrap_or};
+ghost use Rattle.clap.specs.Words.{HasMatchesOf, Text, app_of, found_of, kind_of, matched_of, raw_values, rule_of};
+ghost use Rattle.pd_protocol.specs.ChosenOptions.{names_of};
+ghost use Rattle.pdrecord.specs.RecordArguments.{pdrecord, trace_rule, minimal_rule, drop_missing_rule, file_rule, is_set, is_trace_of_minimal, is_drop_alone, refusals, mode_by, HasRecordOptions};
+
+use crate::mode::RecordMode;
+use clap::error::ErrorKind;
+use clap::{Arg, ArgAction, ArgMatches, Command, Error};
+use pd_protocol::{is_true, settings_option};
+use std::alloc::{AllocError, Global};
+use std::convert::AsStr;
+
+/// What the words of the program that records choose.
+#[derive(Drop)]
+pub struct RecordOptions<'a> {
+    /// A TOML text of settings.
+    pub settings: &'a str,
+    /// How scripts are recorded.
+    pub mode: RecordMode,
+    /// The files whose scripts are recorded; without one it is the input.
+    pub files: Vec<&'a str>,
+}
+
+/// What `--help` says first.
+const ABOUT: &str = "\
+Records packetdrill scripts: from the inputs of a script, a script that passes.";
+
+/// What `--help` says last.
+const AFTER: &str = "\
+One script is read from standard input. The recorded script is written to
+standard output: its inputs with what the sender answers, and each packet that
+the sender puts out, at its moment. The exit status is 0 if the script was
+recorded, 1 if not, and 2 after a fault; standard error says why.
+
+With FILE.. the scripts of files are recorded, one after the other. Each has a
+title, `recorded COUNT FILE` with the COUNT lines of its recording after it, or
+`refused COUNT FILE` with the COUNT lines that say why.
+
+Example:
+  printf '+0 socket(..., SOCK_STREAM, 0) = 0\\n' | pdrecord
+prints
+  +0 socket(..., SOCK_STREAM, 0) = 3";
+
+/// Reads the words of the program that records.
+///
+/// # Errors
+/// What `clap` says of the words, the text of `--help` among it.
+pub fn record_options<'a, S: AsStr>(
+    alloc: Global,
+    arguments: &'a [S],
+) -> Result<RecordOptions<'a>, Error>
+    ensures options_of { IfOk result (λ options. HasRecordOptions (map S.text arguments.entry.now) options) }
+    ensures taken { IfOk result (λ _. refusals (map S.text arguments.entry.now) ≡ []) }
+    ensures refused { IfErr result (λ error. (kind_of error ≡ ErrorKind.OutOfMemory) ⊎ (refusals (map S.text arguments.entry.now) ≢ [])) }
+{
+    let command = command_without_conflicts(alloc)?;
+    let matches = command.try_get_matches_from(arguments)?;
+    if are_refused_together(&matches) {
+        return refuse_together(alloc, arguments, is_trace_of_minimal(&matches));
+    }
+    Ok(options_of(alloc, &matches)?)
+}
+
+/// Has `clap` refuse words of which it takes each by itself, for `--trace` beside `--minimal` or for a `--drop-missing` that is alone.
+///
+/// # Errors
+/// Always: what `clap` says of the words.
+fn refuse_together<'a, S: AsStr>(
+    alloc: Global,
+    arguments: &'a [S],
+    is_trace_apart: bool,
+) -> Result<RecordOptions<'a>, Error>
+    ensures { IsErr result }
+{
+    match command_with_conflicts(alloc, is_trace_apart) {
+        Ok(mut command) => Err(refusal_by(&mut command, arguments)),
+        Err(error) => Err(Error::from(error)),
+    }
+}
+
+/// What a command says of words that it refuses, or that are refused all the same.
+fn refusal_by<'a, S: AsStr>(command: &mut Command<'a>, arguments: &'a [S]) -> Error {
+    match command.try_get_matches_from_mut(arguments) {
+        Ok(_) => conflict_in(command),
+        Err(error) => error,
+    }
+}
+
+/// That options can't be used together.
+fn conflict_in(command: &mut Command<'_>) -> Error {
+    match command.error(
+        ErrorKind::ArgumentConflict,
+        "these options can't be used together",
+    ) {
+        Ok(error) => error,
+        Err(error) => Error::from(error),
+    }
+}
+
+/// Whether words are refused together of which each may be written.
+fn are_refused_together(matches: &ArgMatches<'_>) -> bool
+    ensures { (arguments : List Text) → HasMatchesOf pdrecord arguments matches.now → result ≡ (is_trace_of_minimal arguments || is_drop_alone arguments) }
+{
+    is_trace_of_minimal(matches) || is_drop_alone(matches)
+}
+
+/// Whether `--trace` is beside `--minimal`, of which there is no trace.
+fn is_trace_of_minimal(matches: &ArgMatches<'_>) -> bool
+    ensures { (arguments : List Text) → HasMatchesOf pdrecord arguments matches.now → result ≡ is_trace_of_minimal arguments }
+{
+    is_set(matches, "trace") && is_set(matches, "minimal")
+}
+
+/// Whether `--drop-missing` is without `--minimal`, to which it belongs.
+fn is_drop_alone(matches: &ArgMatches<'_>) -> bool
+    ensures { (arguments : List Text) → HasMatchesOf pdrecord arguments matches.now → result ≡ is_drop_alone arguments }
+{
+    is_set(matches, "drop-missing") && !is_set(matches, "minimal")
+}
+
+/// Whether a flag is written.
+fn is_set(matches: &ArgMatches<'_>, name: &str) -> bool
+    ensures { (arguments : List Text) → HasMatchesOf pdrecord arguments matches.now → result ≡ is_set name.now arguments }
+{
+    is_true(matches.get_str(name).unwrap_or("").as_bytes())
+}
+
+/// What words choose that aren't refused.
+fn options_of<'a>(alloc: Global, matches: &ArgMatches<'a>) -> Result<RecordOptions<'a>, AllocError>
+    ensures { (arguments : List Text) → HasMatchesOf pdrecord arguments matches.now → IfOk result (λ options. HasRecordOptions arguments options) }
+{
+    let files = files_in(alloc, matches)?;
+    let is_minimal = is_set(matches, "minimal");
+    let drops_missing = is_set(matches, "drop-missing");
+    let with_trace = is_set(matches, "trace");
+    Ok(RecordOptions {
+        settings: matches.get_str("settings").unwrap_or(""),
+        mode: mode_by(is_minimal, drops_missing, with_trace),
+        files,
+    })
+}
+
+/// How scripts are recorded, by whether the least change, one without comments, and a trace are asked for.
+fn mode_by(is_minimal: bool, drops_missing: bool, with_trace: bool) -> RecordMode
+    ensures { result ≡ mode_by is_minimal drops_missing with_trace }
+{
+    if is_minimal {
+        RecordMode::Minimal(drops_missing)
+    } else if with_trace {
+        RecordMode::Traced
+    } else {
+        RecordMode::Whole
+    }
+}
+
+/// The files that are named.
+fn files_in<'a>(alloc: Global, matches: &ArgMatches<'a>) -> Result<Vec<&'a str>, AllocError>
+    ensures { IfOk result (λ names. names_of names.items ≡ unwrap_or (option_map raw_values (matched_of (found_of matches.now) (codes "file"))) []) }
+{
+    match matches.get_strs("file") {
+        Some(names) => Vec::from_slice(alloc, names),
+        None => Ok(Vec::new(alloc)),
+    }
+}
+
+/// What each word of the program that records may be, whatever the others are.
+fn command_without_conflicts<'a>(alloc: Global) -> Result<Command<'a>, Error>
+    ensures arguments { IfOk result (λ command. app_of command ≡ pdrecord) }
+    ensures memory { IfErr result (λ error. kind_of error ≡ ErrorKind.OutOfMemory) }
+{
+    Ok(command_with_options(alloc)?)
+}
+
+/// A command that takes each option.
+fn command_with_options<'a>(alloc: Global) -> Result<Command<'a>, AllocError>
+    ensures { IfOk result (λ command. app_of command ≡ pdrecord) }
+{
+    Ok(
+        Command::new(alloc, "pdrecord")
+            .bin_name("pdrecord")?
+            .arg(settings_option(alloc))?
+            .arg(trace_option(alloc))?
+            .arg(minimal_option(alloc))?
+            .arg(drop_missing_option(alloc))?
+            .arg(file_option(alloc))?
+            .about(ABOUT)
+            .after_help(AFTER),
+    )
+}
+
+/// What each word may be beside the others. Where `--trace` may never be beside `--minimal`, `clap` doesn't ask for `--minimal` beside
+/// `--drop-missing` and `--trace`.
+fn command_with_conflicts<'a>(
+    alloc: Global,
+    is_trace_apart: bool,
+) -> Result<Command<'a>, AllocError> {
+    let mut options = Vec::new(alloc);
+    push_options(alloc, &mut options, is_trace_apart)?;
+    let command = Command::new(alloc, "pdrecord")
+        .about(ABOUT)
+        .after_help(AFTER);
+    command.args(options)?.bin_name("pdrecord")
+}
+
+/// Adds each option, with what it may be beside.
+fn push_options<'a>(
+    alloc: Global,
+    options: &mut Vec<Arg<'a>>,
+    is_trace_apart: bool,
+) -> Result<(), AllocError> {
+    options.push(settings_option(alloc))?;
+    options.push(trace_with_conflicts(alloc, is_trace_apart)?)?;
+    options.push(minimal_option(alloc))?;
+    options.push(drop_missing_option(alloc).requires_arg("minimal")?)?;
+    options.push(file_option(alloc))?;
+    Ok(())
+}
+
+/// What `--trace` may be, with what it may be beside.
+fn trace_with_conflicts<'a>(alloc: Global, is_trace_apart: bool) -> Result<Arg<'a>, AllocError> {
+    let trace = trace_option(alloc);
+    if is_trace_apart {
+        trace.conflicts_with("minimal")
+    } else {
+        Ok(trace)
+    }
+}
+
+fn trace_option<'a>(alloc: Global) -> Arg<'a>
+    ensures rule { rule_of result ≡ trace_rule }
+    ensures local { result.global ≡ false }
+{
+    Arg::new(alloc, "trace")
+        .long("trace")
+        .help(
+            "Writes after each event its moment and the state of the sender, in a line that begins with //=",
+        )
+        .action(ArgAction::SetTrue)
+}
+
+fn minimal_option<'a>(alloc: Global) -> Arg<'a>
+    ensures rule { rule_of result ≡ minimal_rule }
+    ensures local { result.global ≡ false }
+{
+    Arg::new(alloc, "minimal")
+        .long("minimal")
+        .help("Changes as little of a script as makes it pass; no trace is written")
+        .action(ArgAction::SetTrue)
+}
+
+fn drop_missing_option<'a>(alloc: Global) -> Arg<'a>
+    ensures rule { rule_of result ≡ drop_missing_rule }
+    ensures local { result.global ≡ false }
+{
+    Arg::new(alloc, "drop-missing")
+        .long("drop-missing")
+        .help("With --minimal, leaves no comments of packets that aren't sent")
+        .action(ArgAction::SetTrue)
+}
+
+fn file_option<'a>(alloc: Global) -> Arg<'a>
+    ensures rule { rule_of result ≡ file_rule }
+    ensures local { result.global ≡ false }
+{
+    Arg::new(alloc, "file")
+        .value_name("FILE")
+        .help("Records the scripts of files, and writes a title before each recording")
+        .action(ArgAction::Append)
+}

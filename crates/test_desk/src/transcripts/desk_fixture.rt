@@ -1,0 +1,120 @@
+//! What a story keeps beside the seats that are here, and its calls of one of these.
+use crate::callers::{DeskCaller, DeskCalls, call_at};
+use crate::transcripts::work_here::work_here;
+use pd_desk::Desk;
+use pd_seat::Seat;
+use pd_settings::Value;
+use std::alloc::Global;
+use std::sync::Wait;
+use test_support::{
+    AnswerText, CallArguments, NO_SUCH_THING, OUT_OF_MEMORY, StartedJob, Texts, move_last,
+    write_steps,
+};
+
+/// The seats that left, the texts that were written, and each job that was started by hand, the first first.
+#[derive(Drop)]
+pub struct DeskFixture {
+    alloc: Global,
+    away: Vec<Seat>,
+    texts: Texts,
+    started_jobs: Vec<StartedJob>,
+}
+
+impl DeskFixture {
+    pub fn new(alloc: Global) -> DeskFixture {
+        DeskFixture {
+            alloc,
+            away: Vec::new(alloc),
+            texts: Texts::new(alloc),
+            started_jobs: Vec::new(alloc),
+        }
+    }
+
+    /// Begins at a desk that gave no job yet.
+    pub fn begin(&mut self) {
+        self.away.clear();
+        self.started_jobs.clear();
+    }
+
+    /// Keeps a text under a word, and says how many lines it has.
+    pub fn write(&mut self, arguments: &mut CallArguments<'_>, out: &mut AnswerText) {
+        let word = arguments.word();
+        if self.texts.define(word, arguments.rest).is_err() {
+            return out.push_str(OUT_OF_MEMORY);
+        }
+        match self.texts.text(arguments.rest) {
+            Ok(lines) => out.count("", lines.len() as u64, " lines"),
+            Err(fault) => out.push_str(fault.text()),
+        }
+    }
+
+    /// Makes a call of the seats that are here, the last of which may leave, and says its answer.
+    pub fn answer<R: Wait>(
+        &mut self,
+        rt: &R,
+        desk: &Desk,
+        seats: &mut Vec<Seat>,
+        word: &str,
+        arguments: &mut CallArguments<'_>,
+        out: &mut AnswerText,
+    ) {
+        match word {
+            "leave" => move_last(seats, &mut self.away, arguments.number(), out),
+            "call-back" => move_last(&mut self.away, seats, arguments.number(), out),
+            "steps" => write_steps(&mut self.started_jobs, &self.texts, arguments.number(), out),
+            _ => self.act(rt, desk, seats.as_mut_slice(), word, arguments, out),
+        }
+    }
+
+    /// Shuts the desk, or makes the call of one of these seats.
+    fn act<R: Wait>(
+        &mut self,
+        rt: &R,
+        desk: &Desk,
+        seats: &mut [Seat],
+        word: &str,
+        arguments: &mut CallArguments<'_>,
+        out: &mut AnswerText,
+    ) {
+        if word == "shut" {
+            desk.shut(rt);
+            return out.push_str("ok");
+        }
+        match seats.get_mut(arguments.number() as usize) {
+            Some(seat) => self.act_at(&mut DeskCaller { rt, desk, seat }, arguments, out),
+            None => out.push_str(NO_SUCH_THING),
+        }
+    }
+
+    /// Makes the call of a seat.
+    pub fn act_at(
+        &mut self,
+        desk_caller: &mut impl DeskCalls,
+        arguments: &mut CallArguments<'_>,
+        out: &mut AnswerText,
+    ) {
+        match arguments.word() {
+            "fill" => out.push_str(fill(desk_caller, arguments.number())),
+            "work" => work_here(desk_caller, self.alloc, arguments.word(), out),
+            word => call_at(
+                desk_caller,
+                &mut self.started_jobs,
+                &self.texts,
+                word,
+                arguments,
+                out,
+            ),
+        }
+    }
+}
+
+/// Makes so many acts that change nothing: `ok`, or the first refusal.
+fn fill(desk_caller: &mut impl DeskCalls, count: u64) -> &'static str {
+    for _act in 0..count {
+        let reply = desk_caller.set(b"mss", Value::Number(1460));
+        if reply != "ok" {
+            return reply;
+        }
+    }
+    "ok"
+}

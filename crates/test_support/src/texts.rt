@@ -1,0 +1,124 @@
+//! Names, texts and edits, and the words that stand for lines.
+ghost use Rattle.std.specs.Prelude.{◌≡◌};
+ghost use Rattle.pd_text.specs.Text.{is_line};
+
+use crate::arguments::CallArguments;
+use pd_text::{LineEdit, LineList, Lines, Name, TextFault};
+use std::alloc::{AllocError, Global};
+
+/// A word, and the lines that it stands for.
+#[derive(Drop)]
+struct Meaning {
+    word: String,
+    lines: LineList,
+}
+
+/// The words that stand for lines, the newest last.
+#[derive(Drop)]
+pub struct Texts {
+    pub alloc: Global,
+    meanings: Vec<Meaning>,
+}
+
+impl Texts {
+    pub fn new(alloc: Global) -> Texts {
+        Texts {
+            alloc,
+            meanings: Vec::new(alloc),
+        }
+    }
+
+    /// From now on a word stands for these lines.
+    pub fn define(&mut self, word: &str, lines: &str) -> Result<(), AllocError> {
+        let word = String::from_str(self.alloc, word)?;
+        let lines = self.list(lines)?;
+        self.meanings
+            .push(Meaning { word, lines })
+            .or(Err(AllocError))
+    }
+
+    /// The lines that a word stands for, if it does.
+    fn meaning(&self, word: &str) -> Option<&LineList> {
+        let mut lines = None;
+        for meaning in self.meanings.iter() {
+            if meaning.word.as_str() == word {
+                lines = Some(&meaning.lines);
+            }
+        }
+        lines
+    }
+
+    /// The list of the lines and words that are written, parted by ` | `.
+    fn list(&self, written: &str) -> Result<LineList, AllocError> {
+        let mut list = LineList::new(self.alloc);
+        let mut is_whole = true;
+        for word in written.split(" | ") {
+            is_whole &= self.add(&mut list, word).is_ok();
+        }
+        if is_whole { Ok(list) } else { Err(AllocError) }
+    }
+
+    /// Adds the lines that a word stands for, or it as a line.
+    fn add(&self, list: &mut LineList, word: &str) -> Result<(), AllocError> {
+        match self.meaning(word) {
+            Some(lines) => list.push_lines(lines, 0, lines.len()),
+            None => self.add_line(list, word),
+        }
+    }
+
+    /// Adds a line, unless nothing is written: `(empty)` is the empty one, `(blanks) N` one of so many blanks.
+    fn add_line(&self, list: &mut LineList, written: &str) -> Result<(), AllocError> {
+        let mut arguments = CallArguments::new(written);
+        match arguments.word() {
+            "" => Ok(()),
+            "(empty)" => push(list, b""),
+            "(blanks)" => self.add_blanks(list, arguments.number() as usize),
+            _ => push(list, written.as_bytes()),
+        }
+    }
+
+    fn add_blanks(&self, list: &mut LineList, count: usize) -> Result<(), AllocError> {
+        let mut blanks = Vec::new(self.alloc);
+        blanks.resize(count, b' ')?;
+        push(list, blanks.as_slice())
+    }
+
+    /// The text that is written.
+    ///
+    /// # Errors
+    /// `TooLarge` where it is over the limits of a text.
+    pub fn text(&self, written: &str) -> Result<Lines, TextFault> {
+        Lines::new(self.list(written)?)
+    }
+
+    /// The edit that is written: its first line, how many lines go, and those that come.
+    pub fn edit(&self, arguments: &mut CallArguments<'_>) -> Result<LineEdit, AllocError> {
+        Ok(LineEdit {
+            from: arguments.number() as usize,
+            remove: arguments.number() as usize,
+            insert: self.list(arguments.rest)?,
+        })
+    }
+
+    /// The name of these octets, valid or not.
+    pub fn name(&self, octets: &[u8]) -> Result<Name, AllocError> {
+        let mut own = Vec::new(self.alloc);
+        own.extend_from_slice(octets)?;
+        Name::new(own)
+    }
+}
+
+/// Adds a line, if it has no newline.
+fn push(list: &mut LineList, octets: &[u8]) -> Result<(), AllocError> {
+    if is_line(octets) {
+        list.push(octets)
+    } else {
+        Ok(())
+    }
+}
+
+fn is_line(octets: &[u8]) -> bool
+    ensures { result ≡ is_line octets.now }
+{
+    octets.iter().all(|octet| *octet != b'\n')
+}
