@@ -107,7 +107,7 @@ pub fn truncated_around(
 }
 
 /// Adds a part of a line.
-#[tactic(auto, using(crate::proofs::ShownLemmas::joined))]
+#[tactic(auto, using(crate::proofs::EscapeLemmas::joined))]
 fn put_part(out: &mut Vec<u8>, part: &[u8]) -> Result<(), AllocError>
     ensures { OnOk result (are_printable out.old.items ≡ true → are_printable part.now ≡ true → are_printable out.new.items ≡ true) }
 {
@@ -125,7 +125,7 @@ fn put_cut(out: &mut Vec<u8>, is_cut: bool) -> Result<(), AllocError>
 }
 
 /// The octets from a place up to another.
-#[tactic(auto, using(crate::proofs::ShownLemmas::ranged))]
+#[tactic(auto, using(crate::proofs::EscapeLemmas::ranged))]
 pub fn part(line: &[u8], start: usize, end: usize) -> &[u8]
     ensures { are_printable line.now ≡ true → are_printable result.now ≡ true }
 {

@@ -67,7 +67,7 @@ fn sacked_of(alloc: Global, host: &Host) -> Result<SackedRanges, AllocError>
 }
 
 /// The lowest of some ranges, and how many more there are.
-#[tactic(auto, using(crate::proofs::ProspectLemmas::first_listed))]
+#[tactic(auto, using(crate::proofs::OutlookLemmas::first_listed))]
 fn sacked_among(alloc: Global, ranges: &[Span]) -> Result<SackedRanges, AllocError>
     ensures listed { IfOk result (λ sacked. sacked.ranges.items ≡ take sacked_limit ranges.now) }
     ensures more { IfOk result (λ sacked. sacked.more ≡ length ranges.now - sacked_limit) }
