@@ -1,4 +1,4 @@
--- What is cut is the longest of all pieces that the text begins with.
+-- The piece that is cut is the longest of all that the text begins with.
 use Rattle.std.proofs.Common.{◌≡◌, ℕ, ◌+◌, ◌<◌, ◌≤◌, List, [], ◌∷◌, length, Option, Some, None, ap, subst, ◌∙◌, arith, length-append}
 use Rattle.pd_lex.specs.declared.token.TokenKind.{TokenKind}
 use Rattle.pd_lex.specs.declared.token.TokenKind.TheVariants.{Symbol}

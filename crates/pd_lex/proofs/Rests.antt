@@ -1,4 +1,4 @@
--- What is left of a text at a place, and that no two places leave the same.
+-- The rest of a text from a place on; no two places leave the same.
 use Rattle.std.proofs.Common.{◌≡◌, ℕ, zero, suc, ◌+◌, ◌-◌, ◌<◌, ◌≤◌, Bool, true, false, ◌==◌, not, ◌&&◌, List, [], ◌∷◌, ◌++◌, length, get_or, drop, min, refl, sym, ap, subst, ◌∙◌, arith, length-append, ◌⊎◌, inl, inr}
 use Rattle.std.proofs.lemmas.List.{drop_more, drop-append-le, drop-drop, length-drop, drop_all, get_or_past}
 use Rattle.std.proofs.lemmas.Bool.{cases_lt}

@@ -1,4 +1,4 @@
--- What is cut is spelled as its kind says.
+-- The piece that is cut is spelled as its kind says.
 use Rattle.std.proofs.Common.{◌≡◌, ◌≢◌, ℕ, suc, ◌+◌, ◌-◌, ◌<◌, ◌≤◌, Bool, true, false, ◌&&◌, cond, nat_lt, nat_eq, eqb, ◌==◌, List, [], ◌∷◌, ◌++◌, length, get_or, take, drop, Option, Some, None, refl, sym, ap, ◌∙◌, arith, add-one, append_assoc, length-append, ◌⊎◌, inl, inr}
 use Rattle.std.specs.List.{prefix_len, list_all, starts_with}
 use Rattle.std.proofs.Math.Numerals.{one-add}

@@ -1,4 +1,4 @@
--- What the items of a text are.
+-- The items of a text.
 use Rattle.std.specs.Prelude.{◌≡◌, ℕ, List, ◌∷◌}
 use Rattle.pd_text.specs.Text.{AreLines}
 use Rattle.pd_lex.specs.declared.token.Place.{Place}

@@ -1,4 +1,4 @@
--- What the lexer answers at a place, in terms of spellings.
+-- The lexer's answer at a place, in terms of spellings.
 use Rattle.std.specs.Prelude.{◌≡◌, ℕ, ◌≤◌, true, List, [], length, Some}
 use Rattle.pd_lex.specs.declared.token.Place.{Place}
 use Rattle.pd_lex.specs.declared.token.Token.{Token}

@@ -1,4 +1,4 @@
--- What is at the front of a text: a blank, a comment or a token.
+-- The front of a text: a blank, a comment or a token.
 use Rattle.std.specs.Prelude.{ℕ, ◌+◌, Bool, ◌&&◌, nat_lt, nat_eq, ◌==◌, List, [], ◌∷◌, length, take, drop, codes, Option, Some, None, if◌then◌else◌}
 use Rattle.std.specs.List.{prefix_len, list_all, starts_with}
 use Rattle.pd_lex.specs.declared.token.TokenKind.{TokenKind}

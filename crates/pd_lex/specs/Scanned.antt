@@ -1,4 +1,4 @@
--- What the steps of the lexer answer, against what is left of the text.
+-- The answers of the lexer's steps, against the rest of the text.
 use Rattle.std.specs.Prelude.{◌≡◌, ℕ, ◌+◌, ◌^◌, ◌<◌, ◌≤◌, Bool, true, false, not, ◌&&◌, nat_eq, List, [], ◌∷◌, length, take, drop, codes, Option, Some, None, if◌then◌else◌, ◌*◌, ◌%◌}
 use Rattle.std.specs.List.{prefix_len, starts_with}
 use Rattle.pd_lex.specs.declared.token.TokenKind.{TokenKind}

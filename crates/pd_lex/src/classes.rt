@@ -4,7 +4,7 @@ ghost use Rattle.pd_lex.specs.Classes.{class_of};
 
 use OctetClass::{Digit, Letter, Other, Point, Symbol};
 
-/// What an octet at the front of a line begins.
+/// The kind of piece that an octet at the front of a line begins.
 #[derive(Clone, Copy)]
 pub enum OctetClass {
     /// A number, or a word that begins with digits.

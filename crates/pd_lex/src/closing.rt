@@ -4,7 +4,7 @@ ghost use Rattle.pd_lex.specs.Pieces.{after_pair, after_quote, after_backquote, 
 
 use crate::scan::Opener;
 
-/// What follows the first pair of these two octets.
+/// The octets after the first pair of these two.
 fn after_pair(s: &[u8], x: u8, y: u8) -> Option<&[u8]>
     ensures after { option_copied result ≡ after_pair x y s.now }
 {
@@ -18,7 +18,7 @@ fn after_pair(s: &[u8], x: u8, y: u8) -> Option<&[u8]>
     }
 }
 
-/// What follows the first backquote.
+/// The octets after the first backquote.
 fn after_backquote(s: &[u8]) -> Option<&[u8]>
     ensures after { option_copied result ≡ after_backquote s.now }
 {
@@ -32,7 +32,7 @@ fn after_backquote(s: &[u8]) -> Option<&[u8]>
     }
 }
 
-/// What follows the first `"` that no backslash takes.
+/// The octets after the first `"` that no backslash takes.
 fn after_quote(s: &[u8]) -> Option<&[u8]>
     ensures after { option_copied result ≡ after_quote s.now }
 {
@@ -47,7 +47,7 @@ fn after_quote(s: &[u8]) -> Option<&[u8]>
     }
 }
 
-/// What follows the end of what was opened.
+/// The octets after the end of the piece that was opened.
 pub fn after_end(opener: Opener, s: &[u8]) -> Option<&[u8]>
     ensures after { option_copied result ≡ after_end opener s.now }
 {

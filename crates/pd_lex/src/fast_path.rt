@@ -16,7 +16,7 @@ use crate::token::TokenKind;
 /// A token of so many octets of the line, with the octet of a Symbol and the number of an Int.
 #[derive(Clone, Copy)]
 pub struct FastToken {
-    /// What the token is.
+    /// The token's kind.
     pub kind: TokenKind,
     /// The octet of a Symbol.
     pub symbol: u8,

@@ -110,7 +110,7 @@ fn read_at<'a>(lines: &'a Lines, from: Place, rest: &'a [u8], lookahead: &mut Lo
     }
 }
 
-/// Reads a token that its first octet doesn't tell for a symbol. It is apart, since a symbol
+/// Reads a token that its first octet doesn't show to be a symbol. It is apart, since a symbol
 /// needs fewer registers.
 #[inline(never)]
 fn read_non_symbol<'a>(lines: &'a Lines, from: Place, rest: &'a [u8], lookahead: &mut Lookahead<'a>)
@@ -128,7 +128,7 @@ fn read_non_symbol<'a>(lines: &'a Lines, from: Place, rest: &'a [u8], lookahead:
     }
 }
 
-/// Reads what begins with a digit. It is apart, since a word needs fewer registers.
+/// Reads a piece that begins with a digit. It is apart, since a word needs fewer registers.
 #[inline(never)]
 fn read_number<'a>(lines: &'a Lines, from: Place, rest: &'a [u8], lookahead: &mut Lookahead<'a>)
     requires left { IsLeftInLine lines.now from rest.now }

@@ -7,7 +7,7 @@ ghost use Rattle.pd_lex.specs.Scanned.{wrapped_digit};
 
 use crate::token::TokenKind;
 
-/// What an octet stands for as a digit in a base up to 36, or 36.
+/// The value of an octet as a digit in a base up to 36, or 36.
 pub fn digit_value(octet: u8) -> u64
     ensures { result ≡ digit_value octet }
 {

@@ -22,7 +22,7 @@ pub fn after_blanks(line: &[u8], at: usize) -> usize
     at
 }
 
-/// What is left of the line of a place; `None` past the last line.
+/// The rest of the line of a place; `None` past the last line.
 pub fn rest_of_line<'a>(lines: &'a Lines, place: Place) -> Option<&'a [u8]>
     requires { IsPlace lines.now place }
     ensures rest { IfSome result (λ r. r.now ≡ drop place.at (line_at lines.now place.line)) }

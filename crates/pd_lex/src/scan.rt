@@ -8,7 +8,7 @@ ghost use Rattle.pd_lex.specs.Scanned.{piece_len, begins_name, run_piece, slash_
 use crate::classes::{OctetClass, class_of};
 use crate::token::TokenKind;
 
-/// What opens a piece that may span lines.
+/// The opening of a piece that may span lines.
 #[derive(Clone, Copy)]
 pub enum Opener {
     /// `/*`

@@ -10,7 +10,7 @@ use crate::scan::{Opener, Piece, piece_at};
 use crate::token::{Place, TokenKind};
 use pd_text::Lines;
 
-/// What is at a place, and the place after it.
+/// The piece at a place, and the place after it.
 #[derive(Clone, Copy)]
 pub enum LexStep<'a> {
     /// A blank or a comment.

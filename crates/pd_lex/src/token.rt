@@ -5,7 +5,7 @@ ghost use Rattle.pd_lex.specs.Numbers.{capped_number};
 ghost use Rattle.pd_lex.specs.Kinds.{stays_in_line};
 ghost use Rattle.pd_lex.specs.Places.{first_place};
 
-/// What a token is, in packetdrill's grammar.
+/// The kind of a token, in packetdrill's grammar.
 #[derive(Clone, Copy)]
 pub enum TokenKind {
     /// One or more digits.
@@ -59,7 +59,7 @@ impl Place {
 /// A token: what it is, its octets, where it begins, and the place after it.
 #[derive(Clone, Copy)]
 pub struct Token<'a> {
-    /// What the token is.
+    /// Its kind.
     pub kind: TokenKind,
     /// The octet of a Symbol.
     pub symbol: u8,
@@ -76,7 +76,7 @@ pub struct Token<'a> {
     ghost in_line: { stays_in_line kind ≡ true → to.line ≡ from.line },
 }
 
-/// What is at a place, once blanks and comments are passed over.
+/// The item at a place, once blanks and comments are passed over.
 #[derive(Clone, Copy)]
 pub enum Lexed<'a> {
     /// A token.
@@ -87,11 +87,11 @@ pub enum Lexed<'a> {
     Bad(usize),
 }
 
-/// What comes next in a text, and the line of the place after it.
+/// The next item of a text, and the line of the place after it.
 #[derive(Clone, Copy)]
 pub struct Lookahead<'a> {
     /// The octets of the line in which the place after a token lies; none past the last line.
     pub line: &'a [u8],
-    /// What comes next.
+    /// The next item.
     pub next: Lexed<'a>,
 }

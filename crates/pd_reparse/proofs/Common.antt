@@ -1,4 +1,4 @@
--- What is before a token that ends in the equal first lines is equal too.
+-- The part before a token that ends in the equal first lines is equal too.
 use Rattle.std.proofs.Common.{◌≡◌, ℕ, ◌≤◌, true, List, [], ◌∷◌, ◌++◌, refl, sym, ap, subst, ◌∙◌, arith, append_assoc}
 use Rattle.std.specs.List.{list_all}
 use Rattle.std.proofs.lemmas.List.Folds.{list_all-append}

@@ -17,7 +17,7 @@ use Rattle.pd_reparse.specs.Steps.{IsStep, in_front}
 use Rattle.pd_script.specs.Next.{next_place, lookahead_line_of, got, next_in}
 use Rattle.pd_reparse.specs.Reading.{with_parsed_event, no_parsed_event, parsed_events_in}
 
--- ---- what the next event tells
+-- ---- the next event decides
 
 pub record IsGot (ts : List Item) (e : Event) (after : Place) (lookahead_line : Option ℕ) : Type 0 where
   pub rest : List Item

@@ -1,4 +1,4 @@
--- What is kept and what is read after it are the reading of the whole text.
+-- The events that are kept and those that are read after them are the reading of the whole text.
 use Rattle.std.proofs.Common.{◌≡◌, ℕ, zero, suc, ◌-◌, ◌<◌, ◌≤◌, List, [], ◌∷◌, ◌++◌, length, take, refl, sym, ap, subst, ◌∙◌, arith, append_assoc}
 use Rattle.std.proofs.lemmas.List.{length-take-le}
 use Rattle.pd_text.specs.Text.{AreLines}

@@ -22,7 +22,7 @@ FirstEventsStay = (lines others : List (List ℕ)) (count : ℕ) → AreLines li
 abbrev pub FirstEventsOfScriptsStay : Type 0
 FirstEventsOfScriptsStay = (lines others : List (List ℕ)) (count : ℕ) → AreLines lines → AreLines others → 0 < count → count ≤ kept_of (common_prefix lines others) (reading_of lines) → ((script_of lines).header ≡ (script_of others).header) × (take count (script_of lines).events ≡ take count (script_of others).events)
 
--- events one after the other from a place on: each is the next event there in the grammar's words, its reach is the line of
+-- events one after the other from a place on: each is the next event there by the grammar, its reach is the line of
 -- the token that follows it, and at that token's place the next one begins
 unfoldable pub AreChained : List (List ℕ) → Place → List ParsedEvent → Type 0
 AreChained lines place [] = Unit {0}

@@ -1,4 +1,4 @@
--- What a text is read as, with what decided each event.
+-- The reading of a text: its script, and which line decides each event.
 use Rattle.std.specs.Prelude.{◌≡◌, ℕ, zero, suc, ◌≤◌, nat_le, Bool, false, List, [], ◌∷◌, take, length, map, count_by, Option, Some, None, Ok, Err, if◌then◌else◌}
 use Rattle.pd_text.specs.Text.{AreLines}
 use Rattle.pd_lex.specs.declared.token.Place.{Place}

@@ -20,7 +20,7 @@ pub fn law_first_events()
 }
 
 /// A law, and no work: the events that a text is read as come one after the other, each spelled in
-/// the grammar's words from the place where the one before ended.
+/// the grammar from the place where the one before ended.
 pub fn law_events_are_chained()
     ensures { EventsAreChained }
 {

@@ -12,13 +12,13 @@
 //!                                  the place after the last kept event, from which it reads on
 //! ```
 //!
-//! What `reread` gives is the reading of the whole new text, and it keeps exactly `kept_of` events
+//! `reread` gives the reading of the whole new text, and keeps exactly `kept_of` events
 //! (specs/Reading.antt). Without what decided its events, a reading is what `pd_script` parses: the
 //! law `law_readings`. If the first lines don't decide an event, they decide none after it:
 //! `ReachesRise`.
 //!
 //! Why it is so:
-//! - The reach of an event counts, and not its own last line. What follows may still belong to it,
+//! - The reach of an event counts, and not its own last line. The next token may still belong to it,
 //!   as a note does, and decides whether it is kept at all.
 //! - If the first lines decide no event, nothing is kept, not even the header, since an edit may
 //!   change the header's last item.

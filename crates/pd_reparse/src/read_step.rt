@@ -1,6 +1,6 @@
-//! What reading finds next.
+//! The next step of reading.
 
-/// What comes next among the events of a text.
+/// The next item among the events of a text.
 #[derive(Clone, Copy)]
 pub enum ReadStep {
     /// An event that is kept, in a place of its own.

@@ -1,4 +1,4 @@
-//! What a text was read as, with what decided each event.
+//! The reading of a text: its script, and which line decides each event.
 ghost use Rattle.std.specs.Prelude.{◌≡◌, ◌≤◌, ◌<◌, length, take, IfOk};
 ghost use Rattle.pd_lex.specs.declared.token.Place.{Place};
 ghost use Rattle.pd_reparse.specs.Reading.{last_place};
@@ -10,11 +10,11 @@ use pd_script::Header;
 use std::alloc::AllocError;
 use std::marker::Model;
 
-/// What a text was read as: its header, its events, each with what decided it, and the line of the
+/// The reading of a text: its header, its events, each with its reach, and the line of the
 /// fault, if the text is refused.
 #[derive(Drop)]
 pub struct Reading {
-    /// What is before the events.
+    /// The part before the events.
     header: Header,
     /// The events in order, each with what decided it; at most 4,096.
     events: SharedList<ParsedEvent>,
@@ -78,7 +78,7 @@ impl Reading {
     }
 }
 
-/// What is kept where the first lines stay.
+/// The part that is kept where the first lines stay.
 impl Reading {
     /// The first events.
     ///

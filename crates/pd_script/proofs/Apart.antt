@@ -159,7 +159,7 @@ end_no_token test (lexeme x) h = absurd cc
 end_no_token test (ending line) h = refl
 end_no_token test (bad line) h = absurd cc
 
--- ---- symbols and words are told apart by their octets
+-- ---- symbols and words differ in their octets
 
 pub and-false-right : (a b : Bool) → b ≡ false → (a && b) ≡ false
 and-false-right true b h = h

@@ -1,4 +1,4 @@
--- What holds of each reader: it looks one item ahead, and where it meets a fault it could have gone on.
+-- Every reader looks one item ahead, and where it meets a fault it could have gone on.
 use Rattle.std.proofs.Common.{◌≡◌, Bool, true, false, cond, List, [], ◌∷◌, ◌++◌, Ok, Err, refl, sym, ap, subst, get_or, ◌∙◌, append_assoc, inl, inr}
 use Rattle.std.specs.Prelude.{◌⊎◌}
 use Rattle.std.specs.List.{list_all}

@@ -1,4 +1,4 @@
--- What holds of a reader of a spelling: its law, what it reads is spelled so, and what is spelled so it reads.
+-- A reader of a spelling keeps its law: it reads exactly the items that are spelled so.
 use Rattle.std.proofs.Common.{◌≡◌, Bool, true, false, cond, List, [], ◌∷◌, ◌++◌, Err, refl, sym, ap, ◌∙◌, inl, inr, append_assoc}
 use Rattle.std.specs.Prelude.{◌||◌}
 use Rattle.std.specs.List.{list_all}

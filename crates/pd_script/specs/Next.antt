@@ -64,7 +64,7 @@ pub record IsEventFault (front : List Item) (t : Item) : Type 0 where
   pub follows : next_is starts_event_or_end after ≡ true
   pub none : (others : List Item) (other : Event) (rest : List Item) → IsEvent other (front ++ t ∷ others) rest → next_is starts_event_or_end rest ≡ false
 
--- the next event from a place on in the grammar's words: it is spelled by the items up to the place after it, there an
+-- the next event from a place on, by the grammar: it is spelled by the items up to the place after it, there an
 -- event or the end stands, and its reach is the line of that; or the end is there; or a fault
 abbrev pub IsNextEvent : List (List ℕ) → Place → NextEvent → Type 0
 IsNextEvent lines place (Got event after lookahead_line) = IsEvent event (items lines place) (items lines after) × (next_is starts_event_or_end (items lines after) ≡ true) × (lookahead_line ≡ lookahead_line_of (items lines after))

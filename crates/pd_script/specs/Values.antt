@@ -1,4 +1,4 @@
--- What the octets of a token stand for.
+-- The values of the octets of a token.
 use Prim.Native.String.{String}
 use Rattle.std.specs.Prelude.{codes, get_or, ℕ, ◌+◌, ◌==◌, ◌||◌, Bool, true, false, not, Option, List, [], ◌∷◌, ◌++◌, take, drop, replicate, find, unwrap_or}
 use Rattle.std.specs.List.{prefix_len, list_any}

@@ -12,7 +12,7 @@ pub struct Call {
     pub function: Function,
     /// The result that the script expects.
     pub result: ExpectedResult,
-    /// What it is called with.
+    /// Its arguments.
     pub arguments: Arguments,
 }
 

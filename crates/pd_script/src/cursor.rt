@@ -18,7 +18,7 @@ use std::marker::Model;
 pub struct Cursor<'a> {
     /// The text.
     lines: &'a Lines,
-    /// What comes next in it.
+    /// The next item in it.
     lookahead: Lookahead<'a>,
 }
 
@@ -91,7 +91,7 @@ impl<'a> Cursor<'a> {
         }
     }
 
-    /// What comes next: a token, the end or a bad place.
+    /// The next item: a token, the end or a bad place.
     #[inline(always)]
     pub fn peek(&self) -> &Lexed<'a>
         ensures { IsPeeked result.now self.now }

@@ -11,7 +11,7 @@ use pd_text::Lines;
 use std::alloc::{AllocError, Global};
 use std::marker::Model;
 
-/// What comes next among the events of a text.
+/// The next item among the events of a text.
 #[derive(Drop)]
 pub enum NextEvent {
     /// An event that another one or the end follows; the place of what follows it, at the end of
@@ -165,7 +165,7 @@ impl<'a> Cursor<'a> {
 pub fn next_event(alloc: Global, lines: &Lines, place: Place) -> Result<NextEvent, AllocError>
     ensures next { IfOk result (λ next. next ≡ next_in (items lines.now place)) }
 
-    // In the grammar's words.
+    // By the grammar.
     ensures spelled { IfOk result (IsNextEvent lines.now place) }
     ensures goes_on { IfOk result (GoesOn lines.now place) }
 {

@@ -1,4 +1,4 @@
-//! What the next token is, before it is taken.
+//! The next token's kind, before it is taken.
 ghost use Rattle.std.specs.Prelude.{◌≡◌};
 ghost use Rattle.pd_script.specs.Items.{is_int, is_named, is_hex, is_num, is_dots, is_word, is_symbol, is_end, starts_event, next_is};
 

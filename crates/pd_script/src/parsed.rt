@@ -2,10 +2,10 @@
 use crate::script_events::Events;
 use crate::script_header::Header;
 
-/// What a text was read as.
+/// The script that a text was read as.
 #[derive(Drop)]
 pub struct Parsed {
-    /// What is before the events.
+    /// The part before the events.
     pub header: Header,
     /// The events in order.
     pub events: Events,

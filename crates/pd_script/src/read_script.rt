@@ -64,7 +64,7 @@ impl<'a> Cursor<'a> {
 pub fn parse(alloc: Global, lines: &Lines) -> Result<Parsed, AllocError>
     ensures script { IfOk result (λ parsed. parsed ≡ script_of lines.now) }
 
-    // What was read is spelled so, or the fault is the first item at which no script goes on.
+    // The items that were read are spelled so, or the fault is the first item at which no script goes on.
     ensures read { IfOk result (IsScriptOf lines.now) }
     ensures limit { IfOk result (λ parsed. length parsed.events ≤ 4096) }
     ensures lines { IfOk result (λ parsed. HasLines lines.now parsed) }

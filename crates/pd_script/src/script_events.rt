@@ -16,11 +16,11 @@ pub struct Event {
     pub time: Time,
     /// The end of a blocking call, if one is written.
     pub blocking_end: Option<BlockingEnd>,
-    /// What happens.
+    /// Its kind, with the parts of that kind.
     pub action: Action,
 }
 
-/// What happens at an event.
+/// The kinds of events, with their parts.
 #[derive(Drop)]
 pub enum Action {
     /// `<`: a packet arrives.

@@ -12,11 +12,11 @@ use std::marker::Model;
 pub struct HeaderItem {
     /// The line of its first octet, counted from 1.
     pub line: usize,
-    /// What it is.
+    /// Its kind.
     pub kind: HeaderKind,
 }
 
-/// What a header item is.
+/// The kinds of header items.
 #[derive(Clone, Copy)]
 pub enum HeaderKind {
     /// `--tolerance_usecs=N` with one or more digits: at most 1,000,000 microseconds.
@@ -47,7 +47,7 @@ impl Model for Header {
 /// The greatest tolerance, in microseconds.
 const MAX_TOLERANCE: u64 = 1_000_000;
 
-/// What is before the number of a tolerance.
+/// The opening of a tolerance, before its number.
 const TOLERANCE: &[u8] = b"--tolerance_usecs=";
 
 impl HeaderKind {

@@ -1,4 +1,4 @@
-//! What a token is by itself.
+//! Tests of a token by itself.
 ghost use Rattle.std.specs.Prelude.{◌≡◌};
 ghost use Rattle.pd_script.specs.Items.{is_any_int, is_word, is_symbol};
 ghost use Rattle.pd_script.specs.Cursor.{shown};

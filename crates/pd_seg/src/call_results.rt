@@ -1,7 +1,7 @@
-//! What a call answers.
+//! Results of calls.
 ghost use Rattle.std.specs.Prelude.{◌≡◌, ◌↔◌, IsTrue};
 
-/// What a call answers.
+/// The result of a call.
 #[derive(Clone, Copy, PartialEq, Eq)]
 pub enum Answer {
     /// A number from 0 on: a descriptor, a count of octets, or 0 for a call that was done.

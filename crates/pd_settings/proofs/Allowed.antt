@@ -1,4 +1,4 @@
--- What a domain's test makes of a value inside and outside.
+-- A domain's test answers for a value inside it and for one outside.
 use Rattle.std.proofs.Common.{◌≡◌, ◌↔◌, Option, Some, None, refl, sym}
 use Rattle.std.specs.Prelude.{IsSome, IfSome}
 use Rattle.std.specs.Coded.{×_prop, le_prop}

@@ -1,4 +1,4 @@
--- What a change by name answers.
+-- A change by name and its answer.
 use Rattle.std.proofs.Common.{◌≡◌, ℕ, List, Option, Some, None, refl, sym, subst}
 use Rattle.std.specs.Prelude.{IsSome, IfSome, IsSomeAnd, MatchResult, ok_or}
 use Rattle.pd_settings.specs.declared.faults.SettingsFault.TheVariants.{BadValue}

@@ -1,4 +1,4 @@
--- What replacing one field does at each key, and that settings are what their values at the keys are: no lemma here names a
+-- Replacing one field gives this at each key, and settings are their values at the keys: no lemma here names a
 -- setting but the first of the table, under which the others fall.
 use Rattle.std.proofs.Common.{◌≡◌, ◌≢◌, ◌↔◌, Bool, true, false, cond, List, [], ◌∷◌, Some, refl, sym, ap, ◌∙◌}
 use Rattle.std.specs.Prelude.{IsSome, IfSome, find, map, if◌then◌else◌}

@@ -1,4 +1,4 @@
--- What laying entries over settings gives at each key, and which fault it gives.
+-- Laying entries over settings gives this value at each key, or this fault.
 use Rattle.std.proofs.Common.{◌≡◌, ℕ, Bool, true, false, List, Option, Some, None, refl, sym, ap, subst, inl, inr, ◌∙◌}
 use Rattle.std.specs.Prelude.{IsSome, IfSome, IsSomeAnd, MatchResult, unwrap_or, ok_or, if◌then◌else◌, Result, Ok, Err}
 use Rattle.std.specs.Option.{option_or}

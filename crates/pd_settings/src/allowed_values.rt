@@ -1,4 +1,4 @@
-//! What a setting takes.
+//! The values that a setting takes.
 ghost use Rattle.std.specs.Prelude.{◌↔◌, IsTrue};
 ghost use Rattle.pd_settings.specs.Keys.{Allows};
 ghost use Rattle.pd_settings.specs.declared.values.Value.TheVariants.{Number};

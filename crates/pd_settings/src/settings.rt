@@ -99,7 +99,7 @@ impl Settings {
         }
     }
 
-    /// What is so of all settings: they lie in their ranges. It does nothing.
+    /// The invariant of settings: they lie in their ranges. It does nothing.
     pub fn law_invariant(&self)
         ensures initial_ssthresh { Allows (allowed_values_of InitialSsthresh) (Number self.now.initial_ssthresh) }
         ensures min_rto_us { Allows (allowed_values_of MinRtoUs) (Number self.now.min_rto_us) }

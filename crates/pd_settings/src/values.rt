@@ -1,4 +1,4 @@
-//! What a setting can be set to.
+//! The values that a setting can be set to.
 ghost use Rattle.std.specs.Prelude.{◌≡◌};
 ghost use Rattle.pd_settings.specs.Table.{value_of};
 ghost use Rattle.pd_settings.specs.Words.{algorithm_word_value, word_value};
@@ -23,7 +23,7 @@ pub enum Value {
 }
 
 impl Value {
-    /// What a word says: the rule that it names, or nothing that a setting takes.
+    /// The value of a word: the rule that it names, or nothing that a setting takes.
     pub fn from_word(word: &[u8]) -> Value
         ensures { result ≡ word_value word.now }
     {
@@ -33,7 +33,7 @@ impl Value {
         }
     }
 
-    /// What a word that names no rule for the initial window says.
+    /// The value of a word that names no rule for the initial window.
     fn from_algorithm_word(word: &[u8]) -> Value
         ensures { result ≡ algorithm_word_value word.now }
     {
@@ -43,7 +43,7 @@ impl Value {
         }
     }
 
-    /// What a TOML value says: a whole number from 0 on, a truth value, a word, or none of these.
+    /// The value of a TOML value: a whole number from 0 on, a truth value, a word, or none of these.
     pub fn from_toml(value: &toml::Value) -> Value
         ensures { result ≡ value_of (view value.now) }
     {

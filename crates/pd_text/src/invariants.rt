@@ -1,4 +1,4 @@
-//! What is so of all lists of lines, texts and edits; the functions do nothing.
+//! The invariants of lists of lines, texts and edits; the functions do nothing.
 ghost use Rattle.pd_text.specs.Text.{AreLines, IsText};
 
 use crate::line_edit::LineEdit;
@@ -10,7 +10,7 @@ impl Lines {
     pub fn law_invariant(&self)
         ensures { AreLines self.now }
     {
-        // A look at a line tells so.
+        // A look at a line shows so.
         let _first = self.line(1);
     }
 }

@@ -3,7 +3,7 @@ ghost use Rattle.std.specs.Prelude.{◌≡◌, IfOk};
 
 use std::alloc::AllocError;
 
-/// What a list copies where sharing doesn't pay.
+/// The items that a list copies where sharing doesn't pay.
 pub trait TryClone: Sized {
     /// An equal value of its own.
     ///

@@ -1,4 +1,4 @@
--- What is left has the same end as the whole.
+-- The rest of the text has the same end as the whole.
 use Rattle.std.proofs.Common.{◌≡◌, length}
 use Rattle.pd_lex.specs.Pieces.{after_quote}
 use Rattle.pd_lex.proofs.closing.after_quote.Given as goal

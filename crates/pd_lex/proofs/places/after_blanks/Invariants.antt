@@ -1,4 +1,4 @@
--- What was passed over are blanks.
+-- The octets that were passed over are blanks.
 use Rattle.std.proofs.Common.{◌≡◌, ◌+◌, ◌-◌, length, drop}
 use Rattle.std.specs.List.{prefix_len}
 use Rattle.pd_lex.specs.Octets.{is_blank}

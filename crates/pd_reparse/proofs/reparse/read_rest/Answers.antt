@@ -1,4 +1,4 @@
--- What was found on the way is what is found from the start.
+-- The events that were found on the way are those that are found from the start.
 use Rattle.std.proofs.Common.{◌∙◌, ◌-◌, ℕ, ap, length, Option, None, arith}
 use Rattle.pd_lex.specs.Lexing.{items}
 use Rattle.pd_script.specs.Header.{HeaderView}

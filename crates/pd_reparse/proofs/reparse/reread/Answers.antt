@@ -1,4 +1,4 @@
--- What is kept is what the first lines decide, and the rest is read after it.
+-- The first lines decide the events that are kept, and the rest is read after them.
 use Rattle.std.proofs.Common.{◌≡◌, ◌∙◌, ℕ, ap, sym, subst, length, take, arith}
 use Rattle.pd_lex.specs.declared.token.Place.{Place}
 use Rattle.std.proofs.lemmas.List.{length-take-le}

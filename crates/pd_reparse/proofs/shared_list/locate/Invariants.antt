@@ -1,4 +1,4 @@
--- What is left after the blocks so far.
+-- The rest of the list after the blocks so far.
 use Rattle.std.proofs.Common.{◌≡◌, ◌+◌, length, take}
 use Rattle.pd_reparse.specs.SharedBlocks.{items_in}
 use Rattle.pd_reparse.proofs.shared_list.locate.Given as goal
