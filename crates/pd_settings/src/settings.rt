@@ -155,7 +155,7 @@ impl Settings {
         }
     }
 
-    #[tactic(auto, using(crate::proofs::Taken::allowed_outside))]
+    #[tactic(auto, using(crate::proofs::Allowed::allowed_outside))]
     fn replace_checked_number(&self, key: Key, number: u64) -> Option<Settings>
         ensures { result ≡ replaced self.now key (Number number) }
     {

@@ -2,7 +2,7 @@
 use Rattle.std.proofs.Common.{◌≡◌, ◌∙◌, suc, ◌+◌, ◌-◌, true, false, is_some, Some, None, sym, ap, arith}
 use Rattle.pd_script.specs.declared.parsed.EventsAndFault.{EventsAndFault}
 use Rattle.pd_script.proofs.Finding.{found_got, found_last, found_over, found_fault, found_zero}
-use Rattle.pd_record.proofs.EventsAndFault.{got_ends, goes_further, none_left, one_longer, stops}
+use Rattle.pd_record.proofs.Found.{got_ends, goes_further, none_left, one_longer, stops}
 use Rattle.pd_record.proofs.placed_script.read_events.Goals as goal
 use Rattle.pd_record.proofs.placed_script.read_events.Goals.{else-i-eq-MAX_EVENTS-via-then-i-eq-MAX_EVENTS+else-is_some, else-i-eq-MAX_EVENTS-via-else-i-eq-MAX_EVENTS}
 
