@@ -1,4 +1,4 @@
--- What an ACK loses and delivers, by the scoreboards before and after it.
+-- The octets that an ACK loses and delivers, by the scoreboards before and after it.
 use Rattle.std.proofs.Common.{◌≡◌, ℕ, zero, suc, ◌+◌, ◌-◌, ◌<◌, ◌≤◌, Bool, true, false, not, ◌&&◌, refl, sym, ap, ◌∙◌, arith}
 use Rattle.pd_board.specs.Board.{BoardView}
 use Rattle.pd_board.specs.Laws.{Follows, EdgeShowsLosses, CountsUndelivered}

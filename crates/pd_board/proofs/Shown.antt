@@ -1,4 +1,4 @@
--- A scoreboard whose SACKed octets are those that pass a test: what the definitions say, said of the test.
+-- A scoreboard whose SACKed octets are those that pass a test: the definitions say the same of the test.
 use Rattle.std.proofs.Common.{◌≡◌, ℕ, ◌+◌, ◌-◌, ◌*◌, ◌<◌, ◌≤◌, max, Bool, true, false, not, ◌&&◌, ◌||◌, refl, sym, ap, ◌∙◌, arith}
 use Rattle.std.specs.Prelude.{nat_le, nat_lt, nat_eq}
 use Rattle.std.specs.List.{list_any}

@@ -1,4 +1,4 @@
--- What a scoreboard holds, and how its calls change it.
+-- The parts of a scoreboard, and how its calls change it.
 use Rattle.std.specs.Prelude.{◌≡◌, ℕ, ◌+◌, ◌^◌, ◌≤◌, ◌<◌, max, Bool, true, false, ◌&&◌, ◌||◌, not, nat_le, nat_lt, [], unwrap_or}
 use Rattle.std.specs.List.{list_any}
 use Rattle.pd_seg.specs.declared.sack_spans.Span.{Span}
@@ -16,7 +16,7 @@ pub record BoardView : Type 0 where
   pub top : ℕ
   -- the number after the last octet queued
   pub end : ℕ
-  -- the octets from una on and below top that SACK blocks told
+  -- the octets from una on and below top that SACK blocks reported
   pub sacked : Octets
   -- whether a call has found no memory
   pub out_of_memory : Bool

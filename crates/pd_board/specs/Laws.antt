@@ -1,4 +1,4 @@
--- What holds of every scoreboard, whatever its octets.
+-- The laws of all scoreboards, whatever their octets.
 use Rattle.std.specs.Prelude.{◌≡◌, ◌↔◌, ℕ, ◌+◌, ◌-◌, ◌*◌, ◌<◌, ◌≤◌, true}
 use Rattle.pd_board.specs.Octets.{contains, size_where}
 use Rattle.pd_board.specs.Loss.{is_lost, is_unsacked, undelivered, lost_edge, pipe}

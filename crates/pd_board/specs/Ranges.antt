@@ -1,4 +1,4 @@
--- What a board keeps of ranges, and what private contracts say of them.
+-- The ranges that a board keeps, and the terms of private contracts about them.
 use Rattle.std.specs.Prelude.{◌≡◌, ℕ, ◌+◌, ◌-◌, ◌^◌, ◌<◌, ◌≤◌, min, max, cond, Bool, ◌&&◌, ◌||◌, nat_le, nat_lt, true, List, [], ◌∷◌, length}
 use Rattle.std.specs.List.{sum_by}
 use Rattle.pd_seg.specs.declared.sack_spans.Span.{Span}

@@ -14,7 +14,7 @@ use pd_seg::Span;
 use std::alloc::{AllocError, Global};
 use std::marker::Model;
 
-/// The numbers that a sender sends by, and the octets that SACK blocks told (RFC 6675, section 3).
+/// The numbers that a sender sends by, and the octets that SACK blocks reported (RFC 6675, section 3).
 ///
 /// Octet numbers are relative to the initial sequence number and stay below 2^31. SMSS is 64 to 65,495 octets.
 /// A scoreboard that has found no memory answers that to each later call that can.
@@ -30,7 +30,7 @@ pub struct Board {
     top: u32,
     /// The sequence number after the last octet queued, below 2^31.
     end: u32,
-    /// The octets from `una` on and below `top` that SACK blocks told (RFC 6675, section 3).
+    /// The octets from `una` on and below `top` that SACK blocks reported (RFC 6675, section 3).
     ranges: Ranges,
     /// Whether a call has found no memory.
     out_of_memory: bool,
@@ -66,7 +66,7 @@ impl Board {
         }
     }
 
-    /// What is so of all scoreboards: their numbers are in order and lie in their ranges. It does nothing.
+    /// The invariant of scoreboards: their numbers are in order and lie in their ranges. It does nothing.
     pub fn law_invariant(&self)
         ensures { IsBoardView self.now }
     {
@@ -124,7 +124,7 @@ impl Board {
     /// A segment was sent that ends at `x`.
     ///
     /// # Errors
-    /// Want of memory, where a call before has found none.
+    /// Out of memory, now or in an earlier call.
     pub fn sent(&mut self, x: u32) -> Result<(), AllocError>
         requires low { self.old.una ≤ x }
         requires high { x ≤ self.old.end }
@@ -155,7 +155,7 @@ impl Board {
     /// count, and where the block's start isn't below its end nothing is.
     ///
     /// # Errors
-    /// Want of memory: nothing more is SACKed then, and later calls answer it too.
+    /// Out of memory: nothing more is SACKed then, and later calls answer it too.
     pub fn mark(&mut self, block: Span) -> Result<bool, AllocError>
         requires { block.end ≤ self.old.top }
         ensures ok { OnOk result (self.new ≡ with_sacked_block block self.old) }
@@ -234,7 +234,7 @@ impl Board {
         count_above(&self.ranges, self.una, x + 1, self.top)
     }
 
-    /// How many octets from `una` on and below `top` SACK blocks told.
+    /// How many octets from `una` on and below `top` SACK blocks reported.
     pub fn sacked_octets(&self) -> u32
         ensures value { result ≡ sacked_octets self.now }
         ensures small { result ≤ 2 ^ 31 }
@@ -307,7 +307,7 @@ impl Board {
     /// The same scoreboard once more.
     ///
     /// # Errors
-    /// Want of memory, also where a call before has found none.
+    /// Out of memory, now or in an earlier call.
     pub fn copy(&self) -> Result<Board, AllocError>
         ensures ok { IfOk result (λ copy. copy ≡ self.now) }
         ensures again { self.now.out_of_memory ≡ true → IsErr result }

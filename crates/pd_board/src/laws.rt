@@ -1,7 +1,7 @@
 //! Laws of the rules: functions without code, whose contracts are the laws.
 ghost use Rattle.pd_board.specs.Laws.{LostIsDownwardClosed, PipeCountsTwiceAtMost, EdgeShowsLosses, CountsUndelivered};
 
-/// What holds of losses and of the pipe, whatever was SACKed.
+/// The laws of losses and of the pipe, whatever was SACKed.
 pub fn law_losses()
     ensures lost { LostIsDownwardClosed }
     ensures pipe { PipeCountsTwiceAtMost }

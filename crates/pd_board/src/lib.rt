@@ -1,6 +1,6 @@
 //! The sender's scoreboard: the numbers that it sends by, and which octets the peer has (RFC 6675, section 3).
 //!
-//! A `Board` has SMSS, the four numbers below, and the octets that SACK blocks told. It answers the
+//! A `Board` has SMSS, the four numbers below, and the octets that SACK blocks reported. It answers the
 //! questions of RFC 6675: whether an octet is lost, how large the pipe is, and which segment to
 //! send again.
 //!
@@ -20,8 +20,8 @@
 //!   next by at least one octet, so that each is a maximal run (`Between`, specs/Runs.antt). So a
 //!   question takes a time that grows with the runs, and not with the octets.
 //! - No octet or segment has a mark that says that it is lost. That is counted from the runs when
-//!   it is asked, so no mark can be out of date; the module `counts` has these passes. What was
-//!   sent again is one number, HighRxt, which the caller keeps.
+//!   it is asked, so no mark can be out of date; the module `counts` has these passes. The octets
+//!   sent again are one number, HighRxt, which the caller keeps.
 //! - What lies below a lost octet is lost, whatever was SACKed (the law `law_losses`). So
 //!   one number, `lost_edge`, says all that is lost.
 //! - A board that finds no memory keeps its numbers and refuses the call, and from then on each

@@ -1,4 +1,4 @@
-//! What is counted and found over ranges, each in one pass.
+//! Octets that are counted or found over ranges, each in one pass.
 ghost use Rattle.std.specs.Prelude.{◌≡◌, ℕ, ◌≤◌, ◌<◌, ◌+◌, ◌-◌, ◌^◌, true, false, cond, nat_lt};
 ghost use Rattle.pd_board.specs.Loss.{shows_loss};
 ghost use Rattle.pd_board.specs.Octets.{size_where};

@@ -1,4 +1,4 @@
--- What holds of a connection that the rules reach, through an ACK.
+-- The invariant of a connection that the rules reach, through an ACK.
 use Rattle.std.proofs.Common.{◌≡◌, ℕ, ◌+◌, ◌-◌, ◌^◌, ◌<◌, ◌≤◌, ◌==◌, ◌&&◌, nat_lt, nat_le, not, Bool, true, false, if◌then◌else◌, Option, Some, None, refl, sym, subst, arith}
 use Rattle.std.specs.Prelude.{is_some, IfSome}
 use Rattle.std.proofs.lemmas.Option.{IfSome_then}

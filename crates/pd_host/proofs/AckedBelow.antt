@@ -1,4 +1,4 @@
--- What an ACK leaves of the numbers of loss recovery, and which octets it names.
+-- The numbers of loss recovery after an ACK, and the octets that it names.
 use Rattle.std.proofs.Common.{◌≡◌, ℕ, ◌+◌, ◌-◌, ◌<◌, ◌≤◌, ◌==◌, ◌&&◌, min, nat_lt, nat_le, Bool, true, false, Option, Some, None, refl, arith}
 use Rattle.std.proofs.lemmas.Bool.Decides.{nat_tests}
 use Rattle.pd_recover.specs.declared.ack.Ack.{Ack}

@@ -1,4 +1,4 @@
--- What an arrival puts out follows the packets that nobody has taken.
+-- The packets that an arrival puts out follow those that nobody has taken.
 use Rattle.std.proofs.Common.{◌≡◌, ℕ, Bool, true, false, if◌then◌else◌, nat_lt, length, List, [], ◌∷◌, ◌++◌, Option, None, Some, Ok, Err, refl, ap, sym, ◌∙◌, append_assoc, append-nil}
 use Rattle.pd_seg.specs.declared.segments.Segment.{Segment}
 use Rattle.pd_seg.specs.declared.segments.Sent.{Sent}

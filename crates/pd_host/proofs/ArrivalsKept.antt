@@ -1,4 +1,4 @@
--- What each rule keeps of a connection, arrivals keep.
+-- Arrivals keep each property of a connection that each rule keeps.
 use Rattle.std.proofs.Common.{◌≡◌, ℕ, ◌&&◌, nat_lt, length, Bool, true, false, if◌then◌else◌, List, Option, Some, None, Result, Ok, Err, refl, sym, subst}
 use Rattle.std.specs.Prelude.{IfSome}
 use Rattle.pd_settings.specs.declared.settings.Settings.{Settings}

@@ -1,4 +1,4 @@
--- What a call puts out follows the packets that nobody has taken.
+-- The packets that a call puts out follow those that nobody has taken.
 use Rattle.std.proofs.Common.{ℕ, ◌==◌, min, Bool, true, false, not, ◌&&◌, if◌then◌else◌, Option, None, Some, is_some, Result, Ok, Err, refl}
 use Rattle.pd_seg.specs.declared.call_results.Answer.{Answer}
 use Rattle.pd_seg.specs.declared.call_results.Answer.TheVariants.{Number, Error}

@@ -1,4 +1,4 @@
--- What each rule keeps of a connection, calls keep.
+-- Calls keep each property of a connection that each rule keeps.
 use Rattle.std.proofs.Common.{◌≡◌, ℕ, ◌==◌, ◌&&◌, min, not, Bool, true, false, if◌then◌else◌, List, Option, Some, None, Result, Ok, Err, refl, ap, subst}
 use Rattle.std.specs.Prelude.{is_some, IfSome}
 use Rattle.pd_script.specs.declared.calls.Call.{Call}

@@ -1,4 +1,4 @@
--- What an RST ends, and in which range the numbers stay.
+-- The connections that an RST ends, and the range in which the numbers stay.
 use Rattle.std.proofs.Common.{◌≡◌, ℕ, zero, suc, ◌&&◌, ◌||◌, nat_lt, not, List, [], ◌∷◌, Bool, true, false, if◌then◌else◌, Option, Some, None, Ok, Err, refl, sym, ap, subst, ◌∙◌, arith}
 use Rattle.std.specs.Prelude.{is_some, IfSome}
 use Rattle.pd_settings.specs.declared.settings.Settings.{Settings}

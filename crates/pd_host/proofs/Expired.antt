@@ -1,4 +1,4 @@
--- What holds of a connection that the rules reach, through expiries and time that passes.
+-- The invariant of a connection that the rules reach, through expiries and time that passes.
 use Rattle.std.proofs.Common.{◌≡◌, ℕ, ◌<◌, ◌≤◌, ◌&&◌, max, nat_lt, not, Bool, true, false, Option, Some, refl, sym, ap, subst, ◌∙◌, arith}
 use Rattle.std.specs.Prelude.{is_some}
 use Rattle.std.proofs.lemmas.Option.{IfSome_then}

@@ -1,4 +1,4 @@
--- What each expiry keeps, all expiries up to a moment keep.
+-- All expiries up to a moment keep each property that each expiry keeps.
 use Rattle.std.proofs.Common.{◌≡◌, ℕ, ◌≤◌, nat_le, Bool, true, false, if◌then◌else◌, List, Option, Some, None, Ok, refl, arith}
 use Rattle.std.specs.Prelude.{IfSome}
 use Rattle.std.proofs.lemmas.Bool.Decides.{nat_tests}

@@ -63,7 +63,7 @@ state_at l (Some c) f h = state_named c ∙ ap named (some_face (face c) f h)
 pub same_state : (c d : ConnectionView) → face d ≡ face c → state_of d ≡ state_of c
 same_state c d h = state_named d ∙ ap named h ∙ sym (state_named c)
 
--- What leaves it
+-- The segments that leave it
 
 rest_peer : (o : Option Established) → peer_of (at_rest o) ≡ peer_of o
 rest_peer None = refl
@@ -81,7 +81,7 @@ still_faces (Some c) = ap (λ (f : Face). Some f) (still_face c)
 pub sent_faces : (now : ℕ) (s t : SenderState) → IsSentOn now s t → faces t.endpoint.connection ≡ faces s.endpoint.connection
 sent_faces now s t h = sym (still_faces t.endpoint.connection) ∙ ap faces h.connection ∙ still_faces s.endpoint.connection
 
--- What an ACK makes of it
+-- Its state after an ACK
 
 ack_peer : (now : ℕ) (segment : Segment) (e : Established) (c : ConnectionView) → (with_ack now segment e c).0.1.peer_fin ≡ e.peer_fin
 ack_peer now segment e c =
@@ -113,7 +113,7 @@ taking_face now segment c (Some x) e =
     ∙ ap (λ (p : Option PeerFin). record { is_reset = c.is_reset; peer = p; fin = c.fin; acked = segment.ack == c.board.end })
     (taking_peer now segment c (Some x) e ∙ sym (ap peer_of e))
 
--- What the peer's FIN makes of it
+-- Its state after the peer's FIN
 
 abbrev pub noted : Bool → Option PeerFin → Option PeerFin
 noted fin None = None

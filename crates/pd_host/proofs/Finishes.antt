@@ -1,4 +1,4 @@
--- What holds of an arrival after the peer's FIN.
+-- The properties of an arrival after the peer's FIN.
 use Rattle.std.proofs.Common.{◌≡◌, ℕ, ◌&&◌, nat_lt, length, Bool, true, false, if◌then◌else◌, [], ◌∷◌, ◌++◌, Option, None, Some, Result, Ok, Err, refl}
 use Rattle.pd_seg.specs.declared.segments.Segment.{Segment}
 use Rattle.pd_host.specs.Arrivals.{check_outcome, goes_on, with_connection, with_peer_fin, finished_on, finished_by, passed_on}

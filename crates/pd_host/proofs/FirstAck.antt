@@ -1,4 +1,4 @@
--- What is known where the check of the handshake rules that an ACK is the first.
+-- The facts that are known where the check of the handshake rules that an ACK is the first.
 use Rattle.std.proofs.Common.{◌≡◌, refl, ℕ, ◌≤◌, ◌&&◌, Bool, true, false, if◌then◌else◌, nat_lt, nat_le, ◌∷◌, [], Option, None, Some, arith}
 use Rattle.std.specs.Prelude.{is_some, IfNone}
 use Rattle.std.proofs.lemmas.Bool.Decides.{nat_tests}

@@ -39,7 +39,7 @@ use Rattle.pd_host.proofs.Kept.{Comes, by_test, came, repeated_holds}
 use Rattle.pd_host.proofs.Rules.{Holds, KeptBySending, KeptByArrivals, first_run}
 use Rattle.pd_host.proofs.SendingKept.{ordinary_holds}
 
--- What an ACK leaves
+-- The state that an ACK leaves
 
 either : (b : Bool) (c d : ConnectionView) (n : ℕ) → c.board.end ≡ n → d.board.end ≡ n → (if b then c else d).board.end ≡ n
 either true c d n hc hd = hc
@@ -82,7 +82,7 @@ taking_end : (now : ℕ) (segment : Segment) (c : ConnectionView) (o : Option Es
 taking_end now segment c None = refl
 taking_end now segment c (Some e) = with_ack_end now segment e c
 
--- What is sent leaves the end
+-- Sending leaves the end
 
 sent_as_end : (now : ℕ) (sent : NextSegment) (c : ConnectionView) → (sent_as now sent c).board.end ≡ c.board.end
 sent_as_end now (Lost segment) c = refl

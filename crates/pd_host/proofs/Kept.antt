@@ -1,4 +1,4 @@
--- What holds of all that comes of a rule, and of a repetition.
+-- Properties of all that comes of a rule, and of a repetition.
 use Rattle.std.proofs.Common.{◌≡◌, ℕ, zero, suc, Bool, true, false, if◌then◌else◌, Option, Some, None, Result, Ok, Err, refl, subst}
 use Rattle.std.specs.Prelude.{is_some}
 use Rattle.pd_host.specs.Host.{then_on}

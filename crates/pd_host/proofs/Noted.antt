@@ -37,7 +37,7 @@ use Rattle.pd_host.proofs.Outcomes.{Leaves, came, leaves_too, either, kept}
 use Rattle.pd_host.proofs.SentOn.{IsSentOn}
 use Rattle.pd_host.proofs.Taken.{taken_sends}
 
--- What is noted
+-- The segment that is noted
 
 all_of : (consulted_settings : SettingSet) → Includes consulted_settings consulted_settings
 all_of consulted_settings key e = e

@@ -1,4 +1,4 @@
--- What holds of all that is done again and again.
+-- Properties of a step that is repeated.
 use Rattle.std.proofs.Common.{◌≡◌, ℕ, zero, suc, Bool, true, false, Option, None, Some, is_some, Result, Ok, Err, if◌then◌else◌, refl, ap, subst, ◌∙◌}
 use Rattle.pd_host.specs.Host.{then_on}
 use Rattle.pd_host.specs.Sending.{repeated, on_found}

@@ -1,4 +1,4 @@
--- What is known of a segment by the check that rules, or by none.
+-- The facts that are known of a segment by the check that rules, or by none.
 use Rattle.std.proofs.Common.{◌≡◌, refl, ◌≤◌, ◌&&◌, ◌||◌, Bool, true, false, if◌then◌else◌, nat_lt, nat_le, ◌∷◌, [], Option, None, Some}
 use Rattle.std.specs.Prelude.{is_some}
 use Rattle.pd_seg.specs.declared.segments.Segment.{Segment}

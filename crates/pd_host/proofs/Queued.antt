@@ -1,4 +1,4 @@
--- What holds of a connection that the rules reach, through calls.
+-- The invariant of a connection that the rules reach, through calls.
 use Rattle.std.proofs.Common.{◌≡◌, ℕ, ◌+◌, ◌&&◌, min, Bool, true, false, Option, Some, None, refl, ap, subst, arith}
 use Rattle.std.specs.Prelude.{is_some, option_map, IfSome, if◌then◌else◌}
 use Rattle.pd_settings.specs.declared.settings.Settings.{Settings}

@@ -1,4 +1,4 @@
--- What is sent doesn't depend on the settings that are held.
+-- Sending doesn't depend on the settings that are held.
 use Rattle.std.proofs.Common.{◌≡◌, ℕ, nat_lt, Option, None, Some, Result, Ok, Err, refl, ap, ◌∙◌}
 use Rattle.pd_board.specs.Retransmit.{run_at}
 use Rattle.pd_recover.specs.declared.ack_action.AckAction.{AckAction}

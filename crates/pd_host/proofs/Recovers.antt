@@ -79,7 +79,7 @@ scored_within segment c =
     by_test (TellsWithin c.board.una c.board.top) c.sack (with_blocks_marked (blocks_of (before_eol segment.options)) (c.board, false)) (c.board, false)
     (λ _. tells_all c.board.una c.board.top (blocks_of (before_eol segment.options)) (c.board, false) none) (λ _. none)
 
--- What an ACK leaves
+-- The state that an ACK leaves
 
 abbrev HasBoard : BoardView → ConnectionView → Type 0
 HasBoard s c = c.board ≡ s
@@ -154,7 +154,7 @@ taking_below now segment c (Some e) h =
     (λ fresh. let out = told_at.fresh fresh in
     moved_within (blocks_marked segment (with_number segment c)).0 after.0.0.board k (omega (arith, out, told_at.low, told_at.high)))
 
--- What else changes congestion control
+-- Other changes of congestion control
 
 recongested : (c : ConnectionView) (e : Established) (w : CongView) → IsBelowPoint c → c.established ≡ Some e
     → w.recovering ≡ e.congestion.recovering → w.recovery_point ≡ e.congestion.recovery_point

@@ -37,7 +37,7 @@ sent_recovers now s t h =
 abbrev Ends : Ack → CongView → Type 0 → Type 0
 Ends ack w X = ((acked ack w).0.recovering ≡ false) ↔ X
 
--- what an ACK tells
+-- the octets that an ACK reports
 record Tells (ack : Ack) (una n : ℕ) (sack_news : Option SackNews) : Type 0 where
   pub number : ack.una ≡ una
   pub octets : ack.acked ≡ n

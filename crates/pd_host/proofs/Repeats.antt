@@ -1,4 +1,4 @@
--- What is done until nothing more is found: once more, at the end, and without a place.
+-- A step that is repeated until nothing more is found: once more, at the end, and without a place.
 use Rattle.std.proofs.Common.{◌≡◌, ℕ, zero, suc, if◌then◌else◌, Option, None, Some, Result, Ok, Err, ap}
 use Rattle.std.specs.Prelude.{is_some}
 use Rattle.pd_host.specs.Sending.{on_found, repeated}

@@ -1,4 +1,4 @@
--- What each rule owes to a property of connections, for every input to keep it.
+-- Each rule owes this to a property of connections, for every input to keep it.
 use Rattle.std.proofs.Common.{◌≡◌, ℕ, ◌≤◌, ◌&&◌, min, nat_lt, Bool, true, false, List, [], ◌∷◌, ◌++◌, Option, Some, None}
 use Rattle.std.specs.Prelude.{is_some, IfSome, option_and_then}
 use Rattle.pd_settings.specs.declared.settings.Settings.{Settings}

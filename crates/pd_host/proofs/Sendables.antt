@@ -1,4 +1,4 @@
--- What each rule that finds a segment gives, on a board in order.
+-- The segment that each rule finds, on a board in order.
 use Rattle.std.proofs.Common.{◌≡◌, ℕ, ◌+◌, ◌-◌, ◌<◌, ◌≤◌, ◌&&◌, max, min, nat_lt, nat_le, Bool, true, false, if◌then◌else◌, Option, Some, None, refl, arith}
 use Rattle.std.specs.Prelude.{option_map}
 use Rattle.pd_seg.specs.declared.sack_spans.Span.{Span}

@@ -1,4 +1,4 @@
--- What ordinary sending keeps segment by segment, it keeps.
+-- Ordinary sending keeps each property that it keeps segment by segment.
 use Rattle.std.proofs.Common.{◌≡◌, ℕ, List, [], ◌∷◌, ◌++◌, Option, Some, None, refl}
 use Rattle.std.specs.Prelude.{IfSome}
 use Rattle.pd_settings.specs.declared.settings.Settings.{Settings}

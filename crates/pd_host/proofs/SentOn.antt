@@ -1,4 +1,4 @@
--- What all sending leaves as it is, and that its packets follow the others.
+-- The state that all sending leaves as it is, and that its packets follow the others.
 use Rattle.std.proofs.Common.{◌≡◌, ℕ, Bool, false, nat_lt, List, [], ◌∷◌, ◌++◌, Option, None, Some, Result, Ok, Err, refl, sym, ap, ◌∙◌, append_assoc, append-nil}
 use Rattle.std.specs.List.{AllByRecursion}
 use Rattle.pd_board.specs.Retransmit.{run_at}
@@ -202,7 +202,7 @@ filled_sends now filling r s h =
     (λ sent t e so_far. then_more now r t.0 (fill_sends now filling sent t).0 so_far (fill_once now filling sent t t.0.endpoint.connection refl))
     (places_left s) (s, pipe_of s.endpoint.connection) h)
 
--- What an ACK leads to
+-- The sending that an ACK leads to
 
 put_sends : (now : ℕ) (segment : Span) (before c : ConnectionView) (s : SenderState) → stills (Some c) ≡ stills s.endpoint.connection
     → Leaves (IsSentOn now s) (put_segment now segment before c s)

@@ -1,4 +1,4 @@
--- What holds of a connection that the rules reach, through the handshake and a reset.
+-- The invariant of a connection that the rules reach, through the handshake and a reset.
 use Rattle.std.proofs.Common.{◌≡◌, ℕ, ◌-◌, ◌≤◌, ◌==◌, ◌&&◌, max, nat_lt, nat_le, not, Bool, true, false, if◌then◌else◌, Option, Some, None, refl, sym, ap, subst, ◌∙◌, arith}
 use Rattle.std.specs.Prelude.{unwrap_or, IfSome}
 use Rattle.std.proofs.lemmas.Bool.Decides.{nat_tests}

@@ -133,7 +133,7 @@ no_delay_moves : (s : SenderState) (set : Bool) (d : Descriptor) → IsOpenOn s 
 no_delay_moves s set Listening unclosed = inl refl
 no_delay_moves s set (Connected c) unclosed = inl (restored s c (with_nagle (not set) c) unclosed.0 (switched (not set) c))
 
--- what an open descriptor 4 tells
+-- an open descriptor 4 shows this
 
 not_open : (d : StreamState) → is_open d ≡ true → d ≡ stream.Closed → ⊥
 not_open d e f = let w : is_open stream.Closed ≡ true = subst (λ x. is_open x ≡ true) f e in absurd cc

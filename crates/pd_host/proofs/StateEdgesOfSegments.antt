@@ -37,7 +37,7 @@ use Rattle.pd_host.proofs.Reached.{at_some}
 use Rattle.pd_host.proofs.SentOn.{IsSentOn}
 use Rattle.pd_host.proofs.Taken.{taken_sends, measured_keeps}
 
--- What the checks tell of a segment that goes on to its FIN
+-- The checks show this of a segment that goes on to its FIN
 
 goes : (bad inside rst here flag shaken sent above below : Bool) → goes_on (checks bad inside rst here flag shaken sent above below) ≡ true
     → (bad ≡ false) × (inside ≡ true)

@@ -1,4 +1,4 @@
--- What an ACK that is taken leaves of a connection.
+-- The connection that an ACK leaves once it is taken.
 use Rattle.std.proofs.Common.{◌≡◌, ℕ, ◌-◌, ◌||◌, Bool, true, false, nat_lt, max, List, [], ◌∷◌, Option, None, Some, if◌then◌else◌, refl, ap, ◌∙◌}
 use Rattle.pd_board.specs.Board.{BoardView, with_sacked_block, has_new}
 use Rattle.pd_recover.specs.declared.ack_action.AckAction.{AckAction}
@@ -65,7 +65,7 @@ window_keeps segment e c =
     same_either (λ (x : ConnectionView × Established). basic x.0) (is_current e segment)
     (record c { max_window = max c.max_window (window_in c segment) }, with_window (window_in c segment) segment e) (c, e) (basic c) refl refl
 
--- the connection after the number, its blocks told
+-- the connection after the number, with the report of its blocks
 abbrev told_to : Segment → ConnectionView → ConnectionView
 told_to segment c = with_blocks segment (with_number segment c)
 

@@ -1,4 +1,4 @@
--- What an acceptable ACK changes: the numbers, the SACKed octets, the timer, the window, and what it leads to.
+-- The effects of an acceptable ACK: on the numbers, the SACKed octets, the timer and the window, and the sending after it.
 use Rattle.std.specs.Prelude.{ℕ, ◌+◌, ◌-◌, ◌==◌, ◌&&◌, ◌||◌, nat_lt, nat_le, Bool, false, max, List, [], ◌∷◌, ◌++◌, Option, Some, None, option_map, Result, Ok, Err, if◌then◌else◌}
 use Rattle.pd_seg.specs.declared.option_list.SegOption.{SegOption}
 use Rattle.pd_seg.specs.declared.option_list.SegOption.TheVariants.{Sack}
@@ -54,7 +54,7 @@ blocks_of (option ∷ options) = blocks_in option ++ blocks_of options
 abbrev pub is_block_sent : BoardView → Span → Bool
 is_block_sent s block = nat_lt block.start block.end && nat_le block.end s.top
 
--- the scoreboard with one block more, and whether a block has told a new octet; one beyond what was sent is left out
+-- the scoreboard with one block more, and whether a block has reported a new octet; one beyond the octets sent is left out
 abbrev pub with_block_marked : Span → BoardView × Bool → BoardView × Bool
 with_block_marked block so_far =
     if is_block_sent so_far.0 block then (with_sacked_block block so_far.0, so_far.1 || has_new block so_far.0) else so_far
@@ -64,8 +64,8 @@ abbrev pub with_blocks_marked : List Span → BoardView × Bool → BoardView ×
 with_blocks_marked [] so_far = so_far
 with_blocks_marked (block ∷ blocks) so_far = with_blocks_marked blocks (with_block_marked block so_far)
 
--- the scoreboard after the blocks of a segment, up to the end of its options, and whether they told a new octet; without
--- SACK they tell nothing
+-- the scoreboard after the blocks of a segment, up to the end of its options, and whether they reported a new octet; without
+-- SACK they report nothing
 abbrev pub blocks_marked : Segment → ConnectionView → BoardView × Bool
 blocks_marked segment c =
     if c.sack then with_blocks_marked (blocks_of (before_eol segment.options)) (c.board, false) else (c.board, false)
@@ -89,9 +89,9 @@ with_new_window segment e c =
     then (record c { max_window = max c.max_window (window_in c segment) }, with_window (window_in c segment) segment e)
     else (c, e)
 
--- What congestion control makes of the ACK
+-- The effect of the ACK on congestion control
 
--- what the blocks tell, where SACK was agreed; fresh says whether they told a new octet
+-- the report of the blocks, where SACK was agreed; fresh says whether they reported a new octet
 abbrev pub sack_news_of : Bool → ConnectionView → Option SackNews
 sack_news_of fresh c = if c.sack then Some (record { fresh = fresh; lost = fresh && is_lost c.board.una c.board }) else None
 
@@ -107,7 +107,7 @@ delivery n before after = record {
   safe_ack = nat_lt 0 n && nat_le (lost_edge after) (lost_edge before);
 }
 
--- what the ACK tells congestion control: where the connection is after it, and the peer's window before it
+-- the ACK as congestion control reads it: where the connection is after it, and the peer's window before it
 abbrev pub ack_of_segment : Segment → ℕ → Delivery → Bool → ℕ → Established → ConnectionView → Ack
 ack_of_segment segment n delivery fresh rwnd e c = record {
   smss = c.board.smss;
@@ -146,7 +146,7 @@ abbrev pub with_blocks : Segment → ConnectionView → ConnectionView
 with_blocks segment c = record c { board = (blocks_marked segment c).0 }
 
 -- the connection after the ack number, the SACK blocks, the timer and the window, with what it has since its establishment,
--- and whether the blocks told a new octet
+-- and whether the blocks reported a new octet
 abbrev pub with_ack : ℕ → Segment → Established → ConnectionView → (ConnectionView × Established) × Bool
 with_ack now segment e c =
     let numbered = with_number segment c in
@@ -162,13 +162,13 @@ taking now segment c (Some e) =
     congestion_updated after.0.0 after.0.1
     (ack_of_segment segment n (delivery n c.board after.0.0.board) after.1 e.rwnd after.0.1 after.0.0)
 
--- What follows
+-- The sending after it
 
 -- the sender, and Pipe: how many octets count as on the way (RFC 6675, section 4, SetPipe)
 abbrev pub OnTheWay : Type 0
 OnTheWay = SenderState × ℕ
 
--- What fills the room that the congestion window has: in loss recovery what NextSeg gives (RFC 6675, section 5, step C), by
+-- The segment that fills the room of the congestion window: in loss recovery by NextSeg (RFC 6675, section 5, step C), by
 -- limited transmit new octets alone (RFC 6675, section 5, step 3; RFC 3042)
 
 -- the segment that is sent next on a connection at this pipe: within the peer's window, while cwnd - pipe is at least SMSS

@@ -139,7 +139,7 @@ opened_by now segment s =
     then answered_syn now (connection_begun now s.settings segment) s
     else Err Unsupported
 
--- the window that a later segment tells, shifted by the peer's count (RFC 7323, section 2.3)
+-- the window in a later segment, shifted by the peer's count (RFC 7323, section 2.3)
 abbrev pub window_in : ConnectionView → Segment → ℕ
 window_in c segment = segment.win * 2 ^ peer_count c.scaling
 

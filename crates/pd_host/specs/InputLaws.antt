@@ -1,4 +1,4 @@
--- What holds of every arrival, call and expiry, whatever the checks and their order.
+-- The laws of every arrival, call and expiry, whatever the checks and their order.
 use Rattle.std.specs.Prelude.{◌≡◌, ℕ, true, false, List, ◌++◌, Some, Ok}
 use Rattle.std.specs.List.{AllByRecursion}
 use Rattle.pd_settings.specs.SettingSets.{Agree, Includes}

@@ -1,4 +1,4 @@
--- What an input of a host answers, and what state it leaves.
+-- The answer of a host to an input, and the state that it leaves.
 use Rattle.std.specs.Prelude.{◌≡◌, Option, Some, None, Result, Ok, Err}
 use Rattle.pd_host.specs.declared.halts.Halt.{Halt}
 use Rattle.pd_host.specs.declared.halts.HostEnd.{HostEnd}
@@ -6,7 +6,7 @@ use Rattle.pd_host.specs.declared.halts.HostEnd.TheVariants.{Halted, OutOfMemory
 use Rattle.pd_host.specs.declared.endpoint.SenderState.{SenderState}
 use Rattle.pd_host.specs.Host.{HostView}
 
--- what the rules give came: the next state, or the halt. Of want of memory nothing is claimed
+-- the rules gave this: the next state, or the halt. Of a host out of memory nothing is claimed
 abbrev pub Gives : {S : Type 0} → Result S Halt → Result (Unit {0}) HostEnd → S → Type 0
 Gives outcome (Ok done) new = outcome ≡ Ok new
 Gives outcome (Err (Halted halt)) new = outcome ≡ Err halt

@@ -1,4 +1,4 @@
--- What holds of every connection that the rules reach.
+-- The invariant of every connection that the rules reach.
 use Rattle.std.specs.Prelude.{◌≡◌, ℕ, ◌+◌, ◌^◌, ◌<◌, ◌≤◌, nat_lt, Bool, true, false, ◌&&◌, not, Option, Some, None, is_some, Ok, Err, IfSome}
 use Rattle.pd_settings.specs.declared.settings.Settings.{Settings}
 use Rattle.pd_script.specs.declared.calls.Call.{Call}

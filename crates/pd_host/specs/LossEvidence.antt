@@ -1,5 +1,5 @@
--- What may lead to sending next: what has come of what shows a loss, and how much has to come; what is SACKed; and what the
--- timer measured.
+-- The evidence that may lead to sending next: the evidence of a loss so far, and how much is needed; the SACKed octets; and the
+-- measurements of the timer.
 use Rattle.std.specs.Prelude.{◌≡◌, ℕ, ◌+◌, ◌-◌, ◌*◌, ◌<◌, ◌≤◌, ◌==◌, nat_lt, nat_le, Bool, true, false, ◌||◌, List, [], Option, Some, None, if◌then◌else◌}
 use Rattle.pd_seg.specs.declared.sack_spans.Span.{Span}
 use Rattle.pd_board.specs.Board.{BoardView}
@@ -88,7 +88,7 @@ pub record Repeats (ack : Ack) (w : CongView) : Type 0 where
   pub nothing : ack.acked ≡ 0
   pub idle : w.recovering ≡ false
 
--- a law: what is said to be needed is exactly what is. A duplicate begins recovery where as many have come with it, or where una
+-- a law: exactly the evidence that is shown is needed. A duplicate begins recovery where as many have come with it, or where una
 -- is lost; and una is lost where as many runs, or more octets, are SACKed above it. Below RecoveryPoint none begins it.
 pub record LossEvidenceIsNeeded : Type 0 where
   pub with_sack :

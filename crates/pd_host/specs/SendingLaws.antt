@@ -1,4 +1,4 @@
--- What holds of all that is sent.
+-- The laws of all that is sent.
 use Rattle.std.specs.Prelude.{◌≡◌, ◌↔◌, ℕ, ◌+◌, ◌-◌, ◌<◌, ◌≤◌, ◌⊎◌, ◌&&◌, nat_lt, min, max, Bool, true, false, List, [], ◌∷◌, ◌++◌, Option, Some, None, Ok, if◌then◌else◌, unwrap_or, option_map, option_and_then}
 use Rattle.std.specs.List.{AllByRecursion}
 use Rattle.pd_board.specs.Retransmit.{run_at}

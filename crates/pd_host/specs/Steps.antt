@@ -15,7 +15,7 @@ use Rattle.pd_seg.specs.declared.segments.Sent.{Sent}
 use Rattle.pd_host.specs.InputResults.{Gives, GivesAnswer}
 use Rattle.pd_host.specs.declared.halts.HostEnd.{HostEnd}
 
--- What is found, and one time of it
+-- The segment that is found, and one time of it
 
 -- a segment that ends among the octets that are queued, and isn't acknowledged beyond
 abbrev pub IsQueued : Span → ConnectionView → Type 0

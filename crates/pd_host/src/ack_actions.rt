@@ -1,4 +1,4 @@
-//! What an acceptable ACK leads to.
+//! The sending that an acceptable ACK leads to.
 ghost use Rattle.std.specs.Prelude.{◌≡◌, ◌<◌, ◌^◌};
 ghost use Rattle.pd_host.specs.AckEffects.{filled, entry, after_ack_action};
 ghost use Rattle.pd_host.specs.Steps.{FollowsQueued, GivesOn};

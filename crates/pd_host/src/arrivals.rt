@@ -18,7 +18,7 @@ use crate::outbox::Outbox;
 use crate::syn_options::{SynOptions, is_mss_run};
 use pd_seg::{Flags, Segment};
 
-/// What stops a segment that isn't run.
+/// The halt at a segment that isn't run.
 const NOT_RUN: HostEnd = HostEnd::Halted(Halt::Unsupported);
 
 impl SenderState {

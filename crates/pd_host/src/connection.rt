@@ -59,7 +59,7 @@ pub struct Connection {
     timer: Rto,
     /// The segment whose round trip is measured, if one is (RFC 6298, section 3).
     rtt_segment: Option<RttSegment>,
-    /// What the connection has from the end of its handshake on.
+    /// Its parts that begin at the end of its handshake.
     established: Option<Established>,
     /// RCV.WND: how many octets the peer may send (RFC 9293, section 3.3.1).
     rcv_wnd: u32,
@@ -225,7 +225,7 @@ impl Connection {
         self.established = Some(established);
     }
 
-    /// What the connection has once this segment has finished the handshake.
+    /// The parts that the connection has once this segment has finished the handshake.
     fn established_with(&self, settings: &Settings, segment: &Segment) -> Established
         ensures { result ≡ established_with settings.now segment.now self.now }
     {
@@ -241,7 +241,7 @@ impl Connection {
         }
     }
 
-    /// The window that a segment tells, in octets.
+    /// The window in a segment, in octets.
     fn window_in(&self, segment: &Segment) -> u32
         ensures { result ≡ window_in self.now segment.now }
     {

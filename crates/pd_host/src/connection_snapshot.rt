@@ -17,7 +17,7 @@ pub struct ConnectionSnapshot {
     pub end: u32,
     /// The retransmission timeout, in microseconds (RFC 6298, section 2).
     pub rto_us: u64,
-    /// What the connection has from the end of its handshake on.
+    /// Its parts that begin at the end of its handshake.
     pub windows: Option<WindowSnapshot>,
     /// Whether an RST has ended the connection.
     pub is_reset: bool,
@@ -36,7 +36,7 @@ pub struct WindowSnapshot {
     pub dup_acks: u32,
     /// Which loss recovery goes on.
     pub recovery: Recovery,
-    /// What PRR keeps of a recovery with SACK, where the setting `recovery_algorithm` is `rfc9937` (RFC 9937, section 6).
+    /// The state of PRR in a recovery with SACK, where the setting `recovery_algorithm` is `rfc9937` (RFC 9937, section 6).
     pub prr: Option<PrrState>,
 }
 

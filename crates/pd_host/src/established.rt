@@ -1,4 +1,4 @@
-//! What a connection has from the end of its handshake on.
+//! The parts of a connection that begin at the end of its handshake.
 ghost use Rattle.std.specs.Prelude.{◌≡◌, ◌≤◌};
 ghost use Rattle.pd_host.specs.Arrivals.{is_awaited};
 ghost use Rattle.pd_host.specs.Connection.{next_from};
@@ -40,7 +40,7 @@ impl PeerFin {
     }
 }
 
-/// What a connection has from the end of its handshake on.
+/// The parts of a connection that begin at the end of its handshake.
 #[derive(Clone, Copy)]
 pub struct Established {
     /// SND.WND: the peer's window, in octets (RFC 9293, section 3.3.1).

@@ -35,7 +35,7 @@ use std::marker::Model;
 /// A host that has halted, or found no memory, answers that to each later input.
 #[derive(Drop)]
 pub struct Host {
-    /// What the rules work on.
+    /// The state that the rules work on.
     state: SenderState,
     /// Why the host has ended, if it has.
     ended: Option<HostEnd>,
@@ -67,7 +67,7 @@ impl Host {
     /// A system call at a moment.
     ///
     /// # Errors
-    /// What ended the host before; else `Halted` for a call that isn't run, and where more than 1,024 packets would stand
+    /// The earlier end of the host; else `Halted` for a call that isn't run, and where more than 1,024 packets would stand
     /// untaken, and `OutOfMemory`.
     #[inline(always)]
     pub fn call(&mut self, call: &Call, now: u64) -> Result<Answer, HostEnd>
@@ -90,7 +90,7 @@ impl Host {
     /// A segment arrives at a moment.
     ///
     /// # Errors
-    /// What ended the host before; else `Halted` for a segment that isn't run, and where more than 1,024 packets would stand
+    /// The earlier end of the host; else `Halted` for a segment that isn't run, and where more than 1,024 packets would stand
     /// untaken, and `OutOfMemory`.
     #[inline(always)]
     pub fn arrive(&mut self, segment: &Segment, now: u64) -> Result<(), HostEnd>
@@ -120,7 +120,7 @@ impl Host {
     /// Performs all expiries up to a moment, in order.
     ///
     /// # Errors
-    /// What ended the host before; else `Halted` where more than 1,024 packets would be untaken, and `OutOfMemory`.
+    /// The earlier end of the host; else `Halted` where more than 1,024 packets would be untaken, and `OutOfMemory`.
     #[inline(always)]
     pub fn advance(&mut self, until: u64) -> Result<(), HostEnd>
         requires early { until < 2 ^ 62 }
@@ -186,7 +186,7 @@ impl Host {
         }
     }
 
-    /// What a duplicate leads to; nothing where no octet is outstanding, loss recovery goes on, or no connection is established.
+    /// The effect of a duplicate; nothing where no octet is outstanding, loss recovery goes on, or no connection is established.
     pub fn dup_ack_status(&self) -> Option<DupAckStatus>
         ensures { result ≡ dup_ack_status_in self.now.state }
     {
@@ -206,7 +206,7 @@ impl Host {
         }
     }
 
-    /// The maximal runs of octets that SACK blocks told, in ascending order; none before a SYN has begun a connection.
+    /// The maximal runs of octets that SACK blocks reported, in ascending order; none before a SYN has begun a connection.
     pub fn sacked_runs(&self) -> &[Span]
         ensures { AreSacked self.now.state result.now }
     {
@@ -263,8 +263,8 @@ impl Host {
         self.ended
     }
 
-    /// No memory was found for what was to come in: the host answers that from now on, unless it has ended already.
-    /// What it answers is returned.
+    /// No memory was found for the next input: the host answers that from now on, unless it has ended already.
+    /// The result is its answer.
     pub fn fail_out_of_memory(&mut self) -> HostEnd
         ensures ending { result ≡ end_of self.old }
         ensures ended { self.new ≡ ended_out_of_memory self.old }
@@ -276,7 +276,7 @@ impl Host {
     /// The same host once more.
     ///
     /// # Errors
-    /// Want of memory, also where the host has ended by it.
+    /// Out of memory, also where the host has ended by it.
     pub fn copy(&self) -> Result<Host, AllocError>
         ensures ok { IfOk result (λ copy. copy ≡ self.now) }
         ensures again { self.now.ended ≡ Some OutOfMemory → IsErr result }
@@ -288,7 +288,7 @@ impl Host {
     /// Copies of what of it takes memory.
     ///
     /// # Errors
-    /// Want of memory, also where the host has ended by it.
+    /// Out of memory, also where the host has ended by it.
     #[inline(always)]
     pub fn cloned_parts(&self) -> Result<ClonedParts, AllocError>
         ensures board { IfOk result (λ cloned_parts. cloned_parts.board ≡ option_map (λ c. c.board) self.now.state.endpoint.connection) }

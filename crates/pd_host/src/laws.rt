@@ -11,7 +11,7 @@ ghost use Rattle.pd_host.specs.SendingLaws.{ControlsFlow, StaysInWindow, Control
 use pd_recover::law_recovery;
 use pd_timer::law_timers;
 
-/// What holds of every segment that arrives, whatever the checks and their order.
+/// The laws of every segment that arrives, whatever the checks and their order.
 pub fn law_arrivals()
     ensures outside { OutsideIsHarmless }
     ensures resets { OnlyAnExactRstResets }
@@ -20,21 +20,21 @@ pub fn law_arrivals()
     ensures consulted_settings { ArrivalsNote }
 {}
 
-/// What holds of every call, whatever it asks.
+/// The laws of every call, whatever it asks.
 pub fn law_calls()
     ensures packets { CallsPutOutAfter }
     ensures settings { CallsOnlyUse }
     ensures consulted_settings { CallsNote }
 {}
 
-/// What holds of all expiries up to a moment.
+/// The laws of all expiries up to a moment.
 pub fn law_advances()
     ensures packets { AdvancesPutOutAfter }
     ensures settings { AdvancesUseNone }
     ensures consulted_settings { AdvancesNote }
 {}
 
-/// What holds of all that is sent, whatever came in.
+/// The laws of all that is sent, whatever came in.
 pub fn law_sending()
     ensures flow { ControlsFlow }
     ensures window { StaysInWindow }
@@ -68,7 +68,7 @@ pub fn law_times()
     law_timers();
 }
 
-/// What holds of every state that the rules reach, whatever came in.
+/// The laws of every state that the rules reach, whatever came in.
 pub fn law_states()
     ensures start { StartsLawful }
     ensures advances { AdvancesStayLawful }
@@ -89,7 +89,7 @@ pub fn law_send_blockers()
     ensures { SendsWhereNothingBlocks }
 {}
 
-/// What is said to begin loss recovery begins it, and nothing less does.
+/// Loss recovery begins where the shown evidence is complete, and nowhere else.
 pub fn law_loss_evidence()
     ensures { LossEvidenceIsNeeded }
 {}

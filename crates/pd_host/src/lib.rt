@@ -1,7 +1,7 @@
 //! The TCP sender: what it answers to calls and to segments that arrive, and which packets it puts out when.
 //!
 //! A `Host` has three inputs, each with its time: `call`, `arrive`, and `advance`, which performs
-//! the expiries up to a time. What it puts out stands in its `Outbox`, until somebody takes it. In
+//! the expiries up to a time. The packets that it puts out stand in its `Outbox`, until somebody takes them. In
 //! a host are the settings, which of them were consulted, descriptor 3, the connection, and, if it
 //! has ended, why (`HostEnd`). A connection has a scoreboard (`pd_board`), a timer (`pd_timer`), and
 //! from the establishment on congestion control (`pd_recover`, which draws the states of recovery).

@@ -124,7 +124,7 @@ impl Outbox {
         Ok(Outbox { packets })
     }
 
-    /// What the outbox allocates by.
+    /// The allocator of the outbox.
     pub fn allocator(&self) -> Global {
         *self.packets.allocator()
     }

@@ -1,4 +1,4 @@
-//! What the options of a SYN offer. Options after `eol` aren't looked at; of a repeated one the first counts.
+//! The offers of a SYN's options. Options after `eol` aren't looked at; of a repeated one the first counts.
 ghost use Rattle.std.specs.Prelude.{◌≡◌};
 ghost use Rattle.pd_host.specs.Handshake.{syn_options_of, is_mss_run};
 ghost use Rattle.pd_host.specs.Steps.{with_option};
@@ -8,7 +8,7 @@ use pd_seg::SegOption;
 /// The least MSS of a peer that is run, in octets.
 const MIN_PEER_MSS: u16 = 64;
 
-/// What the options of a SYN offer.
+/// The offers of a SYN's options.
 #[derive(Clone, Copy, PartialEq, Eq)]
 pub struct SynOptions {
     /// The peer's MSS in octets, if it names one.
@@ -20,7 +20,7 @@ pub struct SynOptions {
 }
 
 impl SynOptions {
-    /// What these options offer.
+    /// The offers of these options.
     pub fn of(options: &[SegOption]) -> SynOptions
         ensures { result ≡ syn_options_of options.now }
     {
@@ -38,7 +38,7 @@ impl SynOptions {
         syn_options
     }
 
-    /// What is offered with one more option.
+    /// The offers with one more option.
     fn with(self, option: &SegOption) -> SynOptions
         ensures { result ≡ with_option self option.now }
     {

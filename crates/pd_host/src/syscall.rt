@@ -1,10 +1,10 @@
-//! What a call asks, where its name and shape are run.
+//! Requests of calls, where their names and shapes are run.
 ghost use Rattle.std.specs.Prelude.{◌≡◌, is_some};
 ghost use Rattle.pd_host.specs.Syscalls.{is_tcp, is_tcp_level, socket_syscall, no_delay, option_syscall, flags_syscall, address_syscall, listen_syscall, write_syscall, close_syscall, syscall_of};
 
 use pd_script::{Argument, Call, Constant, Function};
 
-/// What a call asks of the sender.
+/// A request of a call to the sender.
 #[derive(Clone, Copy, PartialEq, Eq)]
 pub enum Syscall {
     Socket,
@@ -12,7 +12,7 @@ pub enum Syscall {
     On(u64, SocketOperation),
 }
 
-/// What is asked of a descriptor.
+/// A request to a descriptor.
 #[derive(Clone, Copy, PartialEq, Eq)]
 pub enum SocketOperation {
     Bind,
@@ -29,7 +29,7 @@ pub enum SocketOperation {
     Close,
 }
 
-/// Whether a call's name and shape are run. What depends on the sender's state isn't looked at.
+/// Whether a call's name and shape are run. The sender's state isn't looked at.
 pub fn is_run(call: &Call) -> bool
     ensures { result ≡ is_some (syscall_of call.now) }
 {
@@ -37,7 +37,7 @@ pub fn is_run(call: &Call) -> bool
 }
 
 impl Syscall {
-    /// What a call asks, or `None` for a call whose name or shape isn't run.
+    /// The request of a call, or `None` for a call whose name or shape isn't run.
     #[inline(always)]
     pub fn of(call: &Call) -> Option<Syscall>
         ensures { result ≡ syscall_of call.now }

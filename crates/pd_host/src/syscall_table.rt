@@ -24,7 +24,7 @@ const CONNECTION: u32 = 4;
 /// The answer of a call that is done.
 const DONE: Answer = Answer::Number(0);
 
-/// What stops a call that isn't run.
+/// The halt at a call that isn't run.
 const NOT_RUN: HostEnd = HostEnd::Halted(Halt::Unsupported);
 
 impl Endpoint {

@@ -1,4 +1,4 @@
--- What the grammar says of pairs of brackets, in terms of how many are open.
+-- The grammar of pairs of brackets, in terms of how many are open.
 use Rattle.std.proofs.Common.{◌≡◌, ◌≢◌, ◌∙◌, ℕ, ◌+◌, ◌-◌, ◌==◌, ◌&&◌, ◌||◌, Bool, true, false, List, [], ◌∷◌, ◌++◌, length, Option, Some, None, if◌then◌else◌, nat_lt, refl, sym, ap, arith}
 use Rattle.pd_lex.specs.Tokens.{Item, lexeme, ending, bad}
 use Rattle.pd_script.specs.Arguments.{Balances, IsArgument, IsSomeArguments, IsArguments, IsNote}

@@ -127,7 +127,7 @@ abbrev pub begins_word : List ℕ → Bool
 begins_word [] = false
 begins_word (b ∷ s) = is_ascii_alphanumeric b || b == 95
 
--- a call in some lines of a text: what begins a word, and its answer at the first equals sign that is outside of brackets
+-- a call in some lines of a text: a word begins it, and its answer is at the first equals sign that is outside of brackets
 abbrev pub call_octets : List ℕ → List (List ℕ) → ℕ → ℕ → List ℕ → Bool
 call_octets answer text from until rest =
     begins_word rest

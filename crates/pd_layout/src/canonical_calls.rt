@@ -23,7 +23,7 @@ pub fn has_gap_after(octets: &[u8], line: &[u8], lines: LineCursor<'_>) -> bool
     }
 }
 
-/// What is left of a line after so many octets.
+/// The rest of a line after so many octets.
 fn left_after(line: &[u8], at: usize) -> &[u8]
     ensures { result.now ≡ drop at line.now }
 {

@@ -90,7 +90,7 @@ fn trail(line: &[u8]) -> Option<bool>
     }
 }
 
-/// What follows the end of a comment_opened_by in a line; nothing where the comment goes on in the next line.
+/// The octets after the end of a comment in a line; nothing where the comment goes on in the next line.
 fn after_end(line: &[u8]) -> Option<&[u8]>
     ensures what { option_copied result ≡ after_end line.now }
     ensures shorter { IfSome result (λ rest. length rest.now ≤ length line.now) }

@@ -20,7 +20,7 @@ pub struct EventParts {
     depth: usize,
 }
 
-/// What of an event was read last.
+/// The part of an event that was read last.
 #[derive(Clone, Copy, PartialEq, Eq)]
 pub(crate) enum TextPart {
     /// Its time, or a header item.
@@ -68,7 +68,7 @@ impl EventParts {
         }
     }
 
-    /// What was read last.
+    /// The part that was read last.
     pub(crate) fn current(&self) -> TextPart {
         self.current
     }

@@ -58,7 +58,7 @@ pub struct LayoutReader<'a> {
     lines: &'a Lines,
     /// Where the next part begins.
     next: Place,
-    /// What is before it.
+    /// The comments and blank lines before it.
     leading: Vec<TriviaPart>,
 }
 
@@ -132,7 +132,7 @@ impl<'a> LayoutReader<'a> {
         Ok(layout)
     }
 
-    /// What is after the last part.
+    /// The comments and blank lines after the last part.
     pub fn rest(self) -> Vec<TriviaPart> {
         self.leading
     }
@@ -164,7 +164,7 @@ fn gap_after(lines: &Lines, place: Place) -> TextSpan {
     TextSpan { from: place, to }
 }
 
-/// What tells of a token: a symbol's octet, a letter of a word, 0 of any other.
+/// The octet by which a token is read: a symbol's octet, a letter of a word, 0 of any other.
 fn octet_of(token: &Token<'_>) -> u8 {
     match token.kind {
         TokenKind::Symbol => token.symbol,

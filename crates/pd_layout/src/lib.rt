@@ -4,7 +4,7 @@
 //! A `LayoutReader` goes through a text part by part, and gives the `Layout` of each header item
 //! and event: where its parts stand (`EventParts`), and the comments and blank lines before, within and
 //! after it (`TriviaPart`). `is_canonical_script` says whether a text is read as some script, and has the
-//! layout that recordings have. `is_trace` tells the lines of a trace from comments.
+//! layout that recordings have. `is_trace` distinguishes the lines of a trace from comments.
 //!
 //! A text has the layout of recordings if it `IsCanonical` (specs/Canonical.antt), whatever wrote it. That
 //! the answer of a call follows the first equals sign outside of brackets is the law

@@ -12,7 +12,7 @@ use pd_text::Lines;
 pub fn find_outside(lines: &Lines, from: Place, octet: u8) -> Option<Place>
     ensures { result ≡ first_outside (is_symbol octet) 0 (items lines.now from) }
 {
-    // A look at a line tells that a text has few octets, and so few brackets.
+    // A look at a line shows that a text has few octets, and so few brackets.
     let _first = lines.line(1);
     let mut lookahead = look_ahead(lines, from);
     let mut depth = 0;

@@ -1,4 +1,4 @@
-//! Events that are alone on their lines, without comments: their parts by octets, as their tokens would tell them.
+//! Events that are alone on their lines, without comments: their parts by octets, the same as their tokens give.
 use crate::event_parts::{EventParts, TextPart, is_letter};
 use crate::spans::TextSpan;
 use pd_lex::Place;

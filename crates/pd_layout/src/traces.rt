@@ -1,8 +1,8 @@
-//! The lines of a trace, which tell of events when they happened and how the sender stood then.
+//! The lines of a trace, which say when events happened and in which state the sender was then.
 ghost use Rattle.std.specs.Prelude.{◌≡◌, ◌<◌, length, IfSome};
 ghost use Rattle.pd_layout.specs.Traces.{is_trace, is_trace_body_at, is_state_and_facts_at, first_space, is_fixed_seconds, is_fraction, are_digits, is_state, is_fact, is_octet_fact, is_count_fact, is_course_fact, are_facts, is_named_value, is_value, are_letters};
 
-/// What a line of a trace begins with.
+/// The opening of a line of a trace.
 const OPENING: &[u8] = b"//= at ";
 
 /// Whether a line is one of a trace: `//= at`, seconds with six decimals, the name of a state, and facts, each with a
@@ -10,7 +10,7 @@ const OPENING: &[u8] = b"//= at ";
 pub fn is_trace(line: &[u8]) -> bool
     ensures { result ≡ is_trace line.now }
 {
-    // The first octet tells of most lines that they are none.
+    // The first octet shows of most lines that they are none.
     let [b'/', ..] = line else {
         return false;
     };

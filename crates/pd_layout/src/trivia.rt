@@ -1,10 +1,10 @@
-//! What is between the tokens of a text: comments and blank lines.
+//! The trivia between the tokens of a text: comments and blank lines.
 use crate::spans::{TextSpan, is_before};
 use pd_lex::Place;
 use pd_text::{Lines, MAX_OCTETS};
 use std::alloc::AllocError;
 
-/// What is in a gap between tokens.
+/// A part of a gap between tokens.
 #[derive(Clone, Copy)]
 pub enum TriviaPart {
     /// A comment.

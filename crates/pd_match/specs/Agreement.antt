@@ -1,4 +1,4 @@
--- What it says of a packet and of a result that they agree with what a script expects.
+-- Packets and results that agree with those that a script expects.
 use Rattle.std.specs.Prelude.{◌≡◌, ℕ, ◌+◌, ◌-◌, ◌≤◌, List, [], ◌∷◌, ◌++◌, map, Option, Some, None, ⊤}
 use Rattle.std.specs.List.{AllByRecursion}
 use Rattle.pd_script.specs.declared.calls.ErrorName.{ErrorName}

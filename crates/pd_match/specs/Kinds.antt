@@ -1,4 +1,4 @@
--- The words of a report for what a script failed at.
+-- The words of a report for the kinds of failures.
 use Rattle.std.specs.Prelude.{ℕ, List, codes}
 use Rattle.pd_match.specs.declared.kinds.Kind.{Kind}
 use Rattle.pd_match.specs.declared.kinds.Kind.TheVariants.{Time, Flags, Seq, Ack, Win, Options, Result, Missing, Backwards}

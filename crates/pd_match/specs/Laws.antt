@@ -1,4 +1,4 @@
--- What it says that a packet, or the answer of a call, differs in nothing or in a field.
+-- The meaning of a packet, or an answer of a call, that differs in nothing or in a field.
 use Rattle.std.specs.Prelude.{◌≡◌, ℕ, Option, None}
 use Rattle.pd_script.specs.declared.calls.ExpectedResult.{ExpectedResult}
 use Rattle.pd_script.specs.declared.packets.Packet.{Packet}

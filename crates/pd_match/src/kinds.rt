@@ -2,7 +2,7 @@
 ghost use Rattle.std.specs.Prelude.{◌≡◌};
 ghost use Rattle.pd_match.specs.Kinds.{kind_word};
 
-/// What failed in an event.
+/// The kind of a failure.
 #[derive(Clone, Copy, PartialEq, Eq)]
 pub enum Kind {
     /// The packet was sent too early or too late.

@@ -1,7 +1,7 @@
 //! Laws of comparisons: a function without code, whose contract is the laws.
 ghost use Rattle.pd_match.specs.Laws.{MismatchIsFirst, MatchIsResult};
 
-/// What it says that a packet, or the answer of a call, differs in nothing or in a field.
+/// The meaning of a packet, or an answer of a call, that differs in nothing or in a field.
 pub fn law_comparisons()
     ensures packets { MismatchIsFirst }
     ensures calls { MatchIsResult }

@@ -1,4 +1,4 @@
--- What is written of an event has no newline.
+-- The text that is written of an event has no newline.
 use Rattle.std.proofs.Common.{◌≡◌, ℕ, ◌/◌, ◌%◌, ◌^◌, ◌<◌, Bool, true, false, cond, not, ◌==◌, List, [], ◌∷◌, ◌++◌, Option, Some, None, refl, ap, ◌∙◌, arith}
 use Rattle.std.specs.Prelude.{codes, flat_map, IfSome, ◌||◌}
 use Rattle.std.specs.List.{AllByRecursion}

@@ -1,4 +1,4 @@
--- What holds of what is written.
+-- The laws of the text that is written.
 use Rattle.std.specs.Prelude.{◌≡◌, ℕ, List, [], ◌∷◌, None, IsTrue}
 use Rattle.pd_text.specs.Text.{is_line}
 use Rattle.pd_lex.specs.Places.{first_place}

@@ -1,4 +1,4 @@
--- What it says that the grammar reads just one thing from octets, and of what times and packets that can be said.
+-- The meaning of octets that the grammar reads in one way alone, and the times and packets of which that is so.
 use Rattle.std.specs.Prelude.{◌≡◌, ◌≢◌, ℕ, ◌+◌, ◌-◌, ◌<◌, ◌≤◌, false, List, drop, length, IfSome, None}
 use Rattle.std.specs.List.{AllByRecursion}
 use Rattle.pd_text.specs.Text.{AreLines}

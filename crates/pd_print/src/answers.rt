@@ -1,4 +1,4 @@
-//! What calls answer.
+//! The answers of calls.
 ghost use Rattle.std.specs.Prelude.{◌≡◌, ◌++◌, IfOk, OnOk};
 ghost use Rattle.pd_script.specs.Grammar.{IsExpectedResult};
 ghost use Rattle.pd_script.specs.Values.{error_name};

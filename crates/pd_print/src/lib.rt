@@ -3,10 +3,10 @@
 //! `write_event` writes an event in which a packet arrives or leaves (`Direction`), and
 //! `write_sent` one of a segment that was sent, with every field written (`sent_packet`).
 //! `write_answer` writes the result of a call, `write_time` and `write_fixed_seconds` times. `PacketParts` has
-//! the parts of a packet apart, for a caller that puts each into a column. What begins with `put_`
+//! the parts of a packet apart, for a caller that puts each into a column. A function that begins with `put_`
 //! adds octets to others.
 //!
-//! What is written is read as what was meant. Wherever the octets are the rest of a line of a text,
+//! The text that is written is read as it was meant. Wherever the octets are the rest of a line of a text,
 //! the grammar reads just that value: `IsReadAs` (specs/RoundTrip.antt), for all that the language
 //! can write (`FitsTime`, `FitsPacket`, `FitsSegment`). A segment agrees in each field with the
 //! packet that is written of it: the law `law_sent_packets_agree`.

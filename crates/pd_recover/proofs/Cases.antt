@@ -1,4 +1,4 @@
--- What an ACK makes of congestion control, case by case: what holds of each case holds of the rule.
+-- The effect of an ACK on congestion control, case by case: a property of each case holds of the rule.
 use Rattle.std.proofs.Common.{◌≡◌, ◌-◌, ◌==◌, ◌&&◌, Bool, true, false, if◌then◌else◌, Option, Some, None, refl}
 use Rattle.pd_seg.specs.declared.sack_spans.Span.{Span}
 use Rattle.pd_recover.specs.declared.ack.Ack.{Ack}

@@ -1,4 +1,4 @@
--- What holds of a value that is chosen among others.
+-- Properties of a value that is chosen among others.
 use Rattle.std.proofs.Common.{◌≡◌, Option, Some, None, Bool, true, false, if◌then◌else◌, refl, subst, ap}
 use Rattle.std.specs.Prelude.{unwrap_or, option_map, IfSome}
 use Rattle.std.specs.Option.{option_or}

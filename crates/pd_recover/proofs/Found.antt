@@ -1,4 +1,4 @@
--- What is found among octet numbers: the least and the greatest that passes a test.
+-- Octet numbers that are found: the least and the greatest that passes a test.
 use Rattle.std.proofs.Common.{◌≡◌, ℕ, zero, suc, ◌+◌, ◌-◌, ◌<◌, ◌≤◌, [], ◌∷◌, ◌++◌, Some, None, Bool, true, false, cond, reverse, refl, sym, subst, ap, ◌∙◌, arith}
 use Rattle.std.specs.Prelude.{unwrap_or, nat_eq}
 use Rattle.std.specs.List.{range_with_len, find}

@@ -17,7 +17,7 @@ use Rattle.pd_recover.specs.Laws.{forces, SendsInProportion, CountsRecovery, Rfc
 use Rattle.pd_recover.specs.Prr.{uses_prr, no_prr, begun_with, delivery_counted, with_sent, proportion, limit, unforced_sndcnt}
 use Rattle.pd_recover.proofs.Cases.{either, selective_cases, plain_cases, sack_cases, number_cases}
 
--- What is let out
+-- The octets that are let out
 
 below : (a b : ℕ) → a < b → nat_lt a b ≡ true
 below a b h = grind (arith, nat_tests)
@@ -83,7 +83,7 @@ lets_out_in_proportion = record {
   );
 }
 
--- What is counted
+-- The octets that are counted
 
 -- the rate and what PRR keeps stay
 abbrev Same : CongView → CongView → Type 0

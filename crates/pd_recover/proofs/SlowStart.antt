@@ -37,7 +37,7 @@ counts_octets = record {
   after_expiry = λ smss una top w. refl;
 }
 
--- What ACKs leave
+-- The state that ACKs leave
 
 module _ (v : CongView) (ack : Ack) where
   abbrev Kept : CongView → Type 0

@@ -1,4 +1,4 @@
--- What is SACKed isn't sent again.
+-- SACKed octets aren't sent again.
 use Rattle.std.proofs.Common.{◌≡◌, ℕ, ◌+◌, ◌-◌, ◌<◌, ◌≤◌, max, Option, Some, None, Bool, true, false, not, refl, arith}
 use Rattle.std.specs.Prelude.{unwrap_or, option_map}
 use Rattle.pd_board.specs.Retransmit.{run_at, next_lost, next_hole, rescue, segment_to, most_from}

@@ -1,4 +1,4 @@
--- What an ACK makes of the congestion window and of loss recovery, and what it leads to.
+-- The effect of an ACK on the congestion window and on loss recovery, and the sending that it leads to.
 use Rattle.std.specs.Prelude.{⊤, ◌≡◌, ℕ, ◌+◌, ◌-◌, ◌*◌, ◌^◌, ◌<◌, ◌≤◌, ◌==◌, nat_lt, nat_le, not, min, Bool, true, false, ◌&&◌, ◌||◌, Option, Some, None, if◌then◌else◌}
 use Rattle.pd_board.specs.Loss.{dup_thresh}
 use Rattle.pd_seg.specs.declared.sack_spans.Span.{Span}
@@ -79,8 +79,8 @@ entered ack w = record w {
   prr = prr_begun ack w;
 }
 
--- a duplicate that told a new octet: below RecoveryPoint it begins nothing; DupThresh of them, or one that shows una to be lost,
--- begin recovery; another puts HighRxt at HighACK and leads to limited transmit, where that is on (steps 1 to 3)
+-- a duplicate that reported a new octet: below RecoveryPoint it begins nothing; DupThresh of them, or one that shows una to be
+-- lost, begin recovery; another puts HighRxt at HighACK and leads to limited transmit, where that is on (steps 1 to 3)
 abbrev pub selective_duplicate : Ack → Bool → CongView → CongView × AckAction
 selective_duplicate ack lost w =
     if nat_lt ack.una w.recovery_point then (w, Ordinary)
@@ -150,7 +150,7 @@ acked_without_sack ack w =
     else if is_duplicate ack && nat_le w.recovery_point ack.una then plain_duplicate ack (dup_ack_counted w)
     else (w, Ordinary)
 
--- an ACK by what it tells
+-- an ACK by the octets that it reports
 abbrev pub acked_by : Ack → Option SackNews → CongView → CongView × AckAction
 acked_by ack (Some sack_news) w = acked_with_sack ack sack_news w
 acked_by ack None w = acked_without_sack ack w

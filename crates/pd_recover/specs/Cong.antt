@@ -15,8 +15,8 @@ pub record CongView : Type 0 where
   -- the congestion window and the slow start threshold
   pub cwnd : ℕ
   pub ssthresh : ℕ
-  -- DupAcks: how many duplicates came since the last ACK of new octets; no rule tells apart more than DupThresh
-  -- and one
+  -- DupAcks: how many duplicates came since the last ACK of new octets; to every rule all counts above DupThresh are the
+  -- same
   pub dup_acks : ℕ
   -- whether duplicates before DupThresh send new data: limited transmit (RFC 3042)
   pub limited_transmit : Bool

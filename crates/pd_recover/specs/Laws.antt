@@ -1,4 +1,4 @@
--- What holds of every state that the rules reach.
+-- The laws of every state that the rules reach.
 use Rattle.std.specs.Prelude.{◌≡◌, ◌≢◌, ◌↔◌, Some, ℕ, ◌+◌, ◌-◌, ◌*◌, ◌^◌, ◌<◌, ◌≤◌, min, max, Bool, true, false, Option, None, IsSome}
 use Rattle.pd_seg.specs.declared.sack_spans.Span.{Span}
 use Rattle.pd_settings.specs.declared.settings.Settings.{Settings}
@@ -68,7 +68,7 @@ pub record CountsOctets : Type 0 where
   pub all : (smss n : ℕ) (w : CongView) → w.cwnd < w.ssthresh → n ≤ limit_of w * smss → growth smss n w ≡ n
   pub after_expiry : (smss una top : ℕ) (w : CongView) → limit_of (timed_out smss una top w) ≡ 1
 
--- what the settings said of slow start, and whether it began at an expiry last
+-- the setting of slow start, and whether it began at an expiry last
 abbrev pub slow_start_of : CongView → ℕ × (Option InitialWindow × Bool)
 slow_start_of w = (w.abc_limit, (w.restart_rule, w.follows_expiry))
 
@@ -126,7 +126,7 @@ pub record SendsInProportion : Type 0 where
       (smss pipe : ℕ) (w : CongView) → forces smss pipe w ≡ true
       → (w.prr.prr_out ≡ 0) × (sndcnt smss pipe w ≡ smss)
 
--- recovery by PRR counts from its entry on: what the ACK that enters tells, and no octet that was sent before, or sent again;
+-- recovery by PRR counts from its entry on: the octets that the ACK that enters reports, and none that was sent before, or again;
 -- an ACK that delivers nothing changes nothing (own). At its end ssthresh is the window, and there and at an expiry nothing of it is left
 -- (own)
 pub record CountsRecovery : Type 0 where

@@ -1,4 +1,4 @@
--- What loss recovery sends next (RFC 6675, section 4, NextSeg), and when (section 5, step C).
+-- The segment that loss recovery sends next (RFC 6675, section 4, NextSeg), and when (section 5, step C).
 use Rattle.std.specs.Prelude.{ℕ, ◌+◌, ◌-◌, ◌<◌, ◌≤◌, nat_le, nat_lt, Bool, Option, None, option_map, if◌then◌else◌}
 use Rattle.std.specs.Option.{option_or}
 use Rattle.pd_seg.specs.declared.sack_spans.Span.{Span}

@@ -1,4 +1,4 @@
-//! What an ACK tells.
+//! An ACK, as congestion control reads it.
 
 /// An ACK that was taken, and where the sender stands since. Numbers are those of octets, relative to the initial
 /// sequence number.
@@ -16,18 +16,18 @@ pub struct Ack {
     pub rwnd: u32,
     /// How many octets the ACK acknowledges that weren't acknowledged.
     pub acked: u32,
-    /// What it tells to have reached the peer.
+    /// The octets that it reports to have reached the peer.
     pub delivery: Delivery,
     /// Whether its window is the one before it.
     pub same_window: bool,
     /// Whether a FIN came with it.
     pub fin: bool,
-    /// What its blocks tell, where SACK was agreed.
+    /// The report of its blocks, where SACK was agreed.
     pub sack: Option<SackNews>,
 }
 
-/// What an ACK tells to have reached the peer, as Proportional Rate Reduction counts it (RFC 9937, section 6). Sizes are in
-/// octets.
+/// The octets that an ACK reports to have reached the peer, as Proportional Rate Reduction counts them (RFC 9937, section 6).
+/// Sizes are in octets.
 #[derive(Clone, Copy)]
 pub struct Delivery {
     /// DeliveredData: how many octets are acknowledged or SACKed that weren't before it.
@@ -38,7 +38,7 @@ pub struct Delivery {
     pub safe_ack: bool,
 }
 
-/// What the SACK blocks of an ACK tell.
+/// The report of the SACK blocks of an ACK.
 #[derive(Clone, Copy)]
 pub struct SackNews {
     /// Whether one has an octet that wasn't SACKed.

@@ -1,17 +1,17 @@
-//! What an ACK leads to.
+//! The sending that an ACK leads to.
 use pd_seg::Span;
 
-/// What is sent after an ACK.
+/// The segments that are sent after an ACK.
 #[derive(Clone, Copy)]
 pub enum AckAction {
-    /// What the windows and Nagle's algorithm allow.
+    /// Those that the windows and Nagle's algorithm allow.
     Ordinary,
     /// Segments by NextSeg, as long as cwnd - pipe allows one (RFC 6675, section 5, step C).
     StepC,
-    /// Loss recovery begins (RFC 6675, section 5, step 4): the segment at SND.UNA again, which `Cong::enter_recovery` is told
-    /// of, then as `StepC`.
+    /// Loss recovery begins (RFC 6675, section 5, step 4): the segment at SND.UNA again, which `Cong::enter_recovery`
+    /// counts, then as `StepC`.
     Entry,
-    /// New segments, as long as cwnd - pipe allows one, which `Cong::count_limited` is told of (RFC 6675, section 5,
+    /// New segments, as long as cwnd - pipe allows one, which `Cong::count_limited` counts (RFC 6675, section 5,
     /// step 3).
     LimitedTransmit,
     /// One new segment (RFC 3042).

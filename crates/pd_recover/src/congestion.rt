@@ -52,7 +52,7 @@ pub struct Cong {
     restart_rule: Option<InitialWindow>,
     /// The algorithm of recovery with SACK (RFC 6675, section 5; RFC 9937, section 6).
     recovery_algorithm: RecoveryAlgorithm,
-    /// What PRR keeps of a recovery with SACK (RFC 9937, section 6).
+    /// The state of PRR in a recovery with SACK (RFC 9937, section 6).
     prr: PrrState,
 }
 
@@ -166,7 +166,7 @@ impl Cong {
         }
     }
 
-    /// What is always so: windows and counts lie in their ranges. It does nothing.
+    /// The invariant: windows and counts lie in their ranges. It does nothing.
     pub fn law_invariant(&self)
         ensures { IsCongView self.now }
     {
@@ -264,7 +264,7 @@ impl Cong {
         self.recovery_algorithm
     }
 
-    /// What PRR keeps of a recovery with SACK.
+    /// The state of PRR in a recovery with SACK.
     pub fn prr(&self) -> PrrState
         ensures { result ≡ self.now.prr }
     {

@@ -1,7 +1,7 @@
 //! Laws of congestion control and loss recovery: a function without code, whose contract is the laws.
 ghost use Rattle.pd_recover.specs.Laws.{StaysWithin, BeginsByUses, CountsOctets, KeepsSlowStart, RestartsWhenIdle, DefaultsAreRfc5681, SendsInProportion, CountsRecovery, Rfc6675IgnoresPrr, EndsInTime, AcksKeepRecovery, RescuesOnce, KeepsWindow, SparesSacked, ChoosesSendable};
 
-/// What holds of congestion control and loss recovery, whatever happens.
+/// The laws of congestion control and loss recovery, whatever happens.
 pub fn law_recovery()
     ensures windows { StaysWithin }
     ensures consulted_settings { BeginsByUses }

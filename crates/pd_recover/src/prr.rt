@@ -1,4 +1,4 @@
-//! What Proportional Rate Reduction keeps of a recovery.
+//! The state of Proportional Rate Reduction in a recovery.
 ghost use Rattle.std.specs.Prelude.{◌≡◌, ◌<◌, ◌≤◌, ◌^◌};
 ghost use Rattle.pd_recover.specs.Prr.{IsPrrState, no_prr, begun_with, delivery_counted, with_sent, proportion, limit};
 
@@ -16,7 +16,7 @@ pub struct PrrState {
     pub prr_out: u32,
     /// RecoverFS: how many octets can reach the peer from the ACK on that it began with.
     pub recover_fs: u32,
-    /// DeliveredData: how many octets the last ACK told to have reached the peer.
+    /// DeliveredData: how many octets the last ACK reported to have reached the peer.
     pub delivered_data: u32,
     /// SafeACK: whether that ACK made SND.UNA advance and showed no further loss.
     pub safe_ack: bool,
@@ -44,7 +44,7 @@ impl PrrState {
         }
     }
 
-    /// An ACK tells what has reached the peer.
+    /// An ACK reports octets to have reached the peer.
     pub fn count_delivery(self, delivery: Delivery) -> PrrState
         requires { IsPrrState self }
         ensures value { result ≡ delivery_counted delivery self }
@@ -83,7 +83,8 @@ impl PrrState {
         (delivered * u64::from(ssthresh) + (recover_fs - 1)) / recover_fs
     }
 
-    /// What the last ACK lets out where the pipe isn't above ssthresh and ssthresh leaves room for it, with this SMSS in octets.
+    /// How many octets the last ACK lets out where the pipe isn't above ssthresh and ssthresh leaves room for them, with this
+    /// SMSS in octets.
     pub fn limit(self, smss: u16) -> u64
         requires { IsPrrState self }
         ensures { result ≡ limit smss self }

@@ -90,7 +90,7 @@ pub both : {A B : Type 0} (next : A → Result B Halt) (came : Result A Halt) (t
 both next (Ok s) t h = (s, refl, h)
 both next (Err halt) t h = absurd cc
 
--- of a host that hasn't ended an input tells
+-- an input to a host that hasn't ended shows this
 goes_on : (old new : HostView) (rule : SenderState → Result SenderState Halt) (u : Unit {0}) → old.ended ≡ None → Goes old rule (Ok u) new → rule old.state ≡ Ok new.state
 goes_on old new rule u live h = let told : GoesFrom None old rule (Ok u) new = subst (λ o. GoesFrom o old rule (Ok u) new) live h in told.0
 

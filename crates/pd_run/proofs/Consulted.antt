@@ -91,7 +91,7 @@ more_together u v a b h more key e = go (elsewhere u a key)
         subst (λ (k : Key). has (with_tolerance u a) k ≡ true → has (with_tolerance v b) k ≡ true) (sym is)
         (or_more u.tolerance_us a v.tolerance_us b (h ToleranceUs) more) e
 
--- What a step keeps
+-- A step keeps these
 
 -- settings and the header's tolerance stay, and what the sender noted stays noted
 record Keeps (r s : RunStateView) : Type 0 where

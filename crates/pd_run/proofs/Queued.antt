@@ -35,7 +35,7 @@ use Rattle.pd_run.specs.Times.{time_range_of, base_after, may_be_in_time}
 use Rattle.pd_run.specs.declared.stop_reason.StopReason.{StopReason}
 use Rattle.pd_run.proofs.Bounds.{given, agreed, both, action_within, in_reach, step_performs, step_unlimited}
 
--- What a call asks for
+-- The request of a call
 
 -- at most what one `write` may name
 abbrev IsSmall : ℕ → Type 0
@@ -107,7 +107,7 @@ asks sndbuf WriteCall arguments h = write_asks sndbuf arguments h
 asks sndbuf CloseCall arguments h = close_asks sndbuf arguments
 asks sndbuf UnknownCall arguments h = nothing
 
--- What a step queues
+-- The octets that a step queues
 
 -- after the expiries up to a moment there is room for what a call asks for
 pub room_for : ExpiriesQueueNothing → CallsAskFew → (until : ℕ) (call : Call) (old new : HostView) (u : Unit {0}) → Goes old (advanced until) (Ok u) new

@@ -6,7 +6,7 @@ use Rattle.pd_run.specs.Step.{RunStateView, on_step, step, IsStepEnd, StepsFrom,
 use Rattle.pd_run.specs.declared.stepper.StepEnd.{StepEnd}
 use Rattle.pd_run.specs.declared.verdict.Verdict.{Verdict}
 
--- of a run whose host hasn't ended a step tells
+-- a step of a run whose host hasn't ended shows this
 pub tells : (old new : RunStateView) (e : Event) (end : StepEnd) → old.host.ended ≡ None → Steps old e end new → IsStepEnd (step old e) end new
 tells old new e end live h = subst (λ o. StepsFrom o old e end new) live h
 

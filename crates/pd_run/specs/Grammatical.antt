@@ -1,4 +1,4 @@
--- Verdicts in the words of the grammar.
+-- Verdicts by the grammar.
 use Rattle.std.specs.Prelude.{◌≡◌, ℕ, List}
 use Rattle.pd_settings.specs.declared.settings.Settings.{Settings}
 use Rattle.pd_script.specs.Faults.{IsScriptOf}

@@ -1,4 +1,4 @@
--- What holds of every step that goes on, whatever the checks and their order.
+-- The laws of every step that goes on, whatever the checks and their order.
 use Rattle.std.specs.Prelude.{◌≡◌, ◌⊎◌, ℕ, ◌+◌, ◌*◌, ◌≤◌, List, [], ◌∷◌, slice_get, Some, None, Ok}
 use Rattle.std.specs.List.{AllByRecursion}
 use Rattle.pd_settings.specs.declared.settings.Settings.{Settings}

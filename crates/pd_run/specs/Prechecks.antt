@@ -1,4 +1,4 @@
--- What keeps an event from being run, whatever the sender does.
+-- The reasons for which an event isn't run, whatever the sender does.
 use Rattle.std.specs.Prelude.{ℕ, not, Option, Some, None, if◌then◌else◌}
 use Rattle.pd_script.specs.declared.script_events.Event.{Event}
 use Rattle.pd_run.specs.Limits.{is_over_limit}

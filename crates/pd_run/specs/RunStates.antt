@@ -1,4 +1,4 @@
--- What a run holds between two events.
+-- The state of a run between two events.
 use Rattle.std.specs.Prelude.{◌≡◌, ℕ, Bool, Option, None}
 use Rattle.pd_settings.specs.declared.settings.Settings.{Settings}
 use Rattle.pd_host.specs.Host.{HostView}

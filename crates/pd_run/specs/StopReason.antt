@@ -1,4 +1,4 @@
--- What holds of the reasons for which runs stop.
+-- The laws of the reasons for which runs stop.
 use Rattle.std.specs.Prelude.{◌≡◌, slice_get, Option, Some, None, option_map, Result, Ok, Err}
 use Rattle.pd_script.specs.declared.packets.Packet.{Packet}
 use Rattle.pd_script.specs.declared.script_events.Action.TheVariants.{Outbound}

@@ -1,4 +1,4 @@
-//! What an event asks of the host, after all expiries up to its moment.
+//! The input of an event to the host, after all expiries up to its moment.
 ghost use Rattle.std.specs.Prelude.{◌≡◌, ◌<◌, ◌^◌, false, IfOk};
 ghost use Rattle.pd_host.specs.Arrivals.{arrived, failed_check_in};
 ghost use Rattle.pd_host.specs.Calls.{called};

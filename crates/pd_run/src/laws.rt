@@ -10,7 +10,7 @@ use pd_host::{law_advances, law_arrivals, law_calls, law_growth, law_times};
 use pd_match::law_comparisons;
 use pd_script::law_scripts_are_grammatical;
 
-/// What runs rest on: what the sender keeps, whatever comes in.
+/// The laws of the sender that runs rest on, whatever comes in.
 pub(crate) fn law_sender()
     ensures { SenderIsLawful }
 {
@@ -18,7 +18,7 @@ pub(crate) fn law_sender()
     law_growth();
 }
 
-/// What holds of every step that goes on, whatever the checks and their order.
+/// The laws of every step that goes on, whatever the checks and their order.
 pub fn law_steps()
     ensures packets { PassedPacketsAgree }
     ensures taken { PassedPacketsAreTaken }
@@ -51,7 +51,7 @@ pub fn law_verdicts_are_grammatical()
     law_scripts_are_grammatical();
 }
 
-/// A run that stops has a reason for it, with the verdict of that reason: looking into a stop and running to it tell the same.
+/// A run that stops has a reason for it, with the verdict of that reason: looking into a stop and running to it agree.
 pub fn law_verdicts_have_reasons()
     ensures reasons { ReasonsGiveVerdicts }
     ensures verdicts { VerdictsHaveReasons }
@@ -60,7 +60,7 @@ pub fn law_verdicts_have_reasons()
     law_comparisons();
 }
 
-/// What runs rest on: that the sender consults no settings but those that it notes.
+/// Runs rest on this: the sender consults no settings but those that it notes.
 pub(crate) fn law_inputs_only_use()
     ensures { InputsOnlyUse }
 {

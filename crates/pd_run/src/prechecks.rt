@@ -1,4 +1,4 @@
-//! What keeps an event from being run, whatever the sender does.
+//! Reasons for which an event isn't run, whatever the sender does.
 ghost use Rattle.std.specs.Prelude.{◌≡◌};
 ghost use Rattle.pd_run.specs.Prechecks.{failed_precheck};
 ghost use Rattle.pd_run.specs.Verdicts.{precheck_verdict};

@@ -20,7 +20,7 @@ use pd_settings::{SettingSet, Settings};
 use std::alloc::{AllocError, Global};
 use std::marker::Model;
 
-/// What a run holds between two events: the host, in microseconds the clock, the base of relative times and the tolerance
+/// The state of a run between two events: the host, in microseconds the clock, the base of relative times and the tolerance
 /// that the header sets, if it does, and whether a packet was expected without one.
 ///
 /// A run that has found no memory answers that to each further step.
@@ -95,7 +95,7 @@ impl RunState {
     /// The same run once more.
     ///
     /// # Errors
-    /// Want of memory, also where a step before has found none.
+    /// Out of memory, now or in an earlier step.
     #[inline(always)]
     pub fn copy(&self) -> Result<RunState, AllocError>
         ensures ok { IfOk result (λ copy. copy ≡ self.now) }

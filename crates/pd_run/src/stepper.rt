@@ -27,7 +27,7 @@ pub trait Stepper {
     /// which no memory was found takes no further step.
     ///
     /// # Errors
-    /// `AllocError` for want of memory, also where a step before has found none.
+    /// `AllocError` if out of memory, now or in an earlier step.
     fn step(
         &mut self,
         state: &mut RunState,

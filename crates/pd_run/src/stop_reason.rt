@@ -31,7 +31,7 @@ pub(crate) enum StopKind {
     FailedPrecheck(Precheck),
     Halted(Halt),
     Missing,
-    /// What of the oldest untaken packet differs first.
+    /// The first thing of the oldest untaken packet that differs.
     Differs(Kind),
     Answered(Answer),
 }
@@ -40,7 +40,7 @@ impl StopKind {
     /// How an event stops a run whose sender has ended.
     ///
     /// # Errors
-    /// `AllocError` where it ended for want of memory.
+    /// `AllocError` where it ended out of memory.
     pub fn by(ending: HostEnd) -> Result<StopKind, AllocError>
         ensures { result ≡ ended_by ending }
     {

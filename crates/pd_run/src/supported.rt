@@ -5,7 +5,7 @@ ghost use Rattle.pd_run.specs.Supported.{is_action_run, is_run};
 use crate::times::is_single;
 use pd_script::{Action, Event, Time};
 
-/// Whether the shape of an event is run. What depends on the sender's state isn't looked at.
+/// Whether the shape of an event is run. The sender's state isn't looked at.
 pub fn is_run(event: &Event) -> bool
     ensures { result ≡ is_run event.now }
 {

@@ -1,4 +1,4 @@
-//! What a run comes to.
+//! The verdict of a run.
 use pd_match::Kind;
 
 /// The verdict of a script. Lines are counted from 1: that of the first token of the event that stopped the run, or

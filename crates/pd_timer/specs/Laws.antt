@@ -1,4 +1,4 @@
--- What holds of every timer that the rules reach.
+-- The laws of every timer that the rules reach.
 use Rattle.std.specs.Prelude.{◌≡◌, ℕ, ◌+◌, ◌≤◌, None, IsSomeAnd}
 use Rattle.pd_settings.specs.declared.settings.Settings.{Settings}
 use Rattle.pd_timer.specs.Rto.{RtoView, initial, sampled, started, restarted, stopped, expired_rto, reinitialized}

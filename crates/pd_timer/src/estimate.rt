@@ -1,4 +1,4 @@
-//! What was measured of the round trip.
+//! Estimates of the round-trip time.
 ghost use Rattle.std.specs.Prelude.{◌≡◌, ◌<◌, ◌^◌};
 ghost use Rattle.pd_timer.specs.Rto.{IsEstimate, first_estimate, next_estimate, timeout_of, replacing_granularity};
 

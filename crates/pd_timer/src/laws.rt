@@ -1,7 +1,7 @@
 //! Laws of the timer's rules: a function without code, whose contract is the laws.
 ghost use Rattle.pd_timer.specs.Laws.{StaysWithin, ExpiresInTime, BacksOff};
 
-/// What holds of the timer, whatever happens.
+/// The laws of the timer, whatever happens.
 pub fn law_timers()
     ensures bounds { StaysWithin }
     ensures deadlines { ExpiresInTime }

@@ -11,9 +11,9 @@ use std::marker::Model;
 /// A script's text to be run under settings, with the job's number, and perhaps what an earlier run left.
 #[derive(Drop)]
 pub struct Job {
-    /// What is to be run.
+    /// Its text, and the settings to run it under.
     task: Task,
-    /// What an earlier run left, if that is kept.
+    /// The track that an earlier run left, if it is kept.
     track: Option<Track>,
     /// With how many lines the text begins as the track's does; 0 without a track.
     same: usize,
@@ -58,7 +58,7 @@ impl Job {
         Job { task, track, same }
     }
 
-    /// What is to be run.
+    /// Its text, and the settings to run it under.
     pub fn task(&self) -> &Task
         ensures { result.now ≡ self.now.task }
     {
@@ -93,7 +93,7 @@ impl Job {
         self.task.settings
     }
 
-    /// What an earlier run left.
+    /// The track that an earlier run left.
     pub fn track(&self) -> Option<&Track>
         ensures { option_copied result ≡ self.now.track }
     {

@@ -15,12 +15,12 @@ use pd_reparse::{Reading, Reread, SharedList, law_readings};
 use pd_run::{RunState, Stepper, Verdict, law_runs_only_use};
 use std::alloc::{AllocError, Global};
 
-/// What a run came to, what was read, and the states on its way.
+/// The verdict of a run, the reading of its text, and the states on its way.
 #[derive(Drop)]
 struct JobOutcome {
     /// The verdict of the text under the settings.
     verdict: Verdict,
-    /// What the text was read as.
+    /// The reading of the text.
     reading: Reading,
     /// The states after each fourth event that passed, in order.
     checkpoints: SharedList<Checkpoint>,
@@ -30,7 +30,7 @@ struct JobOutcome {
 /// serves, else before its first event, and takes one step for each event from there up to the stop, the stop's included.
 ///
 /// # Errors
-/// `Unfinished` for want of memory.
+/// `Unfinished` if out of memory.
 pub fn run_job<S: Stepper>(alloc: Global, job: Job, stepper: &mut S) -> Result<Done, Unfinished>
     requires room { S.counted stepper.old + 4096 < 2 ^ 64 }
     ensures done { IfOk result (λ done. done ≡ job.task) }

@@ -22,7 +22,7 @@ pub struct Progress {
     pub checkpoints: SharedList<Checkpoint>,
 }
 
-/// What a run came to, and its states on the way.
+/// The verdict of a run, and its states on the way.
 #[derive(Drop)]
 pub struct FinishedRun {
     /// The verdict.

@@ -10,14 +10,14 @@ use pd_settings::Settings;
 use pd_text::{Name, Text};
 use std::marker::Model;
 
-/// What a job came to. `run_job` alone makes one: its verdict is the run of its text under its settings.
+/// The result of a job. `run_job` alone makes one: its verdict is the run of its text under its settings.
 #[derive(Drop)]
 pub struct Done {
-    /// What was run.
+    /// The text that was run, and its settings.
     task: Task,
     /// The verdict of its text under its settings.
     verdict: Verdict,
-    /// What the run left.
+    /// The track that the run left.
     track: Track,
 }
 
@@ -85,7 +85,7 @@ impl Done {
         self.verdict
     }
 
-    /// What the run left: a track of that text and these settings.
+    /// The track that the run left: one of that text and these settings.
     pub fn track(&self) -> &Track
         ensures text { result.now.text ≡ self.now.text }
         ensures settings { result.now.settings ≡ self.now.settings }
@@ -93,7 +93,7 @@ impl Done {
         &self.track
     }
 
-    /// What was run.
+    /// The text that was run, and its settings.
     pub fn task(&self) -> &Task
         ensures { result.now ≡ self.now }
     {
@@ -101,7 +101,7 @@ impl Done {
     }
 }
 
-/// A job that ended without a verdict, for want of memory.
+/// A job that ended without a verdict, out of memory.
 #[derive(Clone, Copy, PartialEq, Eq)]
 pub struct Unfinished {
     /// The job's number.

@@ -173,7 +173,7 @@ fn is_agreed(track: &Track, count: usize, settings: &Settings) -> bool
         .agrees(settings, &consulted_settings_at(track, count))
 }
 
-/// What was consulted up to one of the track's states.
+/// The settings that were consulted up to one of the track's states.
 fn consulted_settings_at(track: &Track, count: usize) -> SettingSet
     requires some { 0 < count }
     requires within { count ≤ length (every_fourth 3 (states_of track.now.text track.now.settings)) }

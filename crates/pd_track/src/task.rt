@@ -5,7 +5,7 @@ use pd_settings::Settings;
 use pd_text::{Name, Text};
 use std::alloc::AllocError;
 
-/// What a job is to run: the text of a script under the settings, both as at the job's start.
+/// The task of a job: to run the text of a script under the settings, both as at the job's start.
 #[derive(Drop)]
 pub struct Task {
     /// The number of the job, in a book from 1 on.

@@ -19,7 +19,7 @@ use std::sync::Arc;
 /// owners keep them. A text that is no script, or that stops in its header, has no states.
 #[derive(Drop)]
 pub struct Track {
-    /// What the run left, which each owner of the track shares.
+    /// The data that the run left, which each owner of the track shares.
     track_data: Arc<TrackData>,
 }
 
@@ -81,7 +81,7 @@ impl Track {
         self.track_data.settings()
     }
 
-    /// What was read of the text.
+    /// The reading of the text.
     pub fn reading(&self) -> &Reading
         ensures { result.now ≡ reading_of self.now.text }
     {

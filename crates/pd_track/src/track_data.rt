@@ -1,4 +1,4 @@
-//! What a run leaves behind.
+//! A run leaves its text, its settings, its reading and its checkpoints.
 ghost use Rattle.std.specs.Prelude.{◌≡◌, ◌≤◌, ◌-◌, map, ◌<◌, ℕ, length, slice_get, option_copied, Some, take, IfOk};
 ghost use Rattle.pd_reparse.specs.Reading.{reading_of};
 ghost use Rattle.pd_run.specs.Consulted.{run_with_settings};
@@ -19,7 +19,7 @@ pub struct TrackData {
     text: Text,
     /// The settings that it was run under.
     settings: Settings,
-    /// What the text was read as.
+    /// The reading of the text.
     reading: Reading,
     /// The states after each fourth event that passed, in order, but for the settings held in them.
     checkpoints: SharedList<Checkpoint>,
@@ -38,7 +38,7 @@ impl Model for TrackData {
 impl TrackData {
     ghost use Rattle.pd_track.specs.Reuse.{IsTrack};
 
-    /// What a run of this text under these settings left.
+    /// The data that a run of this text under these settings left.
     pub fn new(
         text: Text,
         settings: Settings,
@@ -70,7 +70,7 @@ impl TrackData {
         &self.settings
     }
 
-    /// What the text was read as.
+    /// The reading of the text.
     pub fn reading(&self) -> &Reading
         ensures { result.now ≡ reading_of self.now.text }
     {

@@ -1,4 +1,4 @@
-//! What an acceptable ACK changes on a connection.
+//! The changes of a connection by an acceptable ACK.
 ghost use Rattle.std.specs.Prelude.{◌≡◌, ◌+◌, ◌-◌, ◌≤◌, ◌<◌, ◌^◌, ◌&&◌, nat_lt, nat_le, false, Some, IfOk, OnOk, IfSome};
 ghost use Rattle.pd_board.specs.Retransmit.{run_at};
 ghost use Rattle.pd_board.specs.Loss.{sacked_octets, undelivered, lost_edge};
@@ -23,7 +23,7 @@ pub enum WindowFill {
     NewData,
 }
 
-/// What the scoreboard says before an ACK, by which PRR counts what the ACK delivers (RFC 9937, section 6).
+/// The scoreboard's counts before an ACK, by which PRR counts the octets that the ACK delivers (RFC 9937, section 6).
 #[derive(Clone, Copy)]
 struct BoardBeforeAck {
     /// How many octets are SACKed.
@@ -45,7 +45,7 @@ impl BoardBeforeAck {
         }
     }
 
-    /// What the ACK delivers, by the scoreboard after it and how many octets it acknowledges.
+    /// The octets that the ACK delivers, by the scoreboard after it and how many octets it acknowledges.
     fn delivery(self, acked: u32, board: &Board) -> Delivery
         requires { acked < 2 ^ 31 }
         ensures { result ≡ record { delivered_data = acked + sacked_octets board.now - self.sacked; recover_fs = self.undelivered; safe_ack = nat_lt 0 acked && nat_le (lost_edge board.now) self.lost_edge } }
@@ -58,8 +58,8 @@ impl BoardBeforeAck {
     }
 }
 
-/// One block more is SACKed, if all its octets were sent: whether a block told a new octet, as far as `so_far` says it of
-/// those before.
+/// Marks one block more, if all its octets were sent. The answer says whether a block reported a new octet: `so_far` says it
+/// of those before.
 fn mark_block(board: &mut Board, block: Span, so_far: bool) -> Result<bool, AllocError>
     ensures ok { IfOk result (λ fresh. (board.new, fresh) ≡ with_block_marked block (board.old, so_far)) }
     ensures una { board.new.una ≡ board.old.una }
@@ -92,7 +92,7 @@ fn mark_option(board: &mut Board, option: &SegOption, so_far: bool) -> Result<bo
     }
 }
 
-/// The blocks before the end of the options are SACKed: whether they told a new octet.
+/// Marks the blocks before the end of the options. The answer says whether they reported a new octet.
 fn mark_options(board: &mut Board, options: &[SegOption]) -> Result<bool, AllocError>
     ensures ok { IfOk result (λ fresh. (board.new, fresh) ≡ with_blocks_marked (blocks_of (before_eol options.now)) (board.old, false)) }
     ensures una { board.new.una ≡ board.old.una }
@@ -147,7 +147,8 @@ impl Connection {
         Ok(self.update_congestion(segment, acked, delivery, fresh, rwnd, established))
     }
 
-    /// The number, the blocks, the timer and the window of a segment are taken: whether the blocks told a new octet.
+    /// Takes the number, the blocks, the timer and the window of a segment. The answer says whether the blocks reported a new
+    /// octet.
     fn take_ack(
         &mut self,
         segment: &Segment,
@@ -169,7 +170,7 @@ impl Connection {
         Ok(fresh)
     }
 
-    /// Marks the octets of the blocks, where SACK was agreed: whether they told a new octet.
+    /// Marks the octets of the blocks, where SACK was agreed. The answer says whether they reported a new octet.
     fn mark_sacked(&mut self, segment: &Segment) -> Result<bool, AllocError>
         ensures marked { OnOk result (self.new ≡ with_blocks segment.now self.old) }
         ensures fresh { IfOk result (λ fresh. fresh ≡ (blocks_marked segment.now self.old).1) }
@@ -205,7 +206,7 @@ impl Connection {
         }
     }
 
-    /// What the blocks tell, where SACK was agreed.
+    /// The report of the blocks, where SACK was agreed.
     fn sack_news(&self, fresh: bool) -> Option<SackNews>
         ensures { result ≡ sack_news_of fresh self.now }
     {

@@ -1,4 +1,4 @@
-//! What an expiry of its timer does to a connection.
+//! The effect of an expiry of its timer on a connection.
 ghost use Rattle.std.specs.Prelude.{◌≡◌, ◌<◌, ◌≤◌, ◌^◌, IfOk, IfSome};
 ghost use Rattle.pd_host.specs.Expiries.{due_by, segment_again, connection_expired};
 

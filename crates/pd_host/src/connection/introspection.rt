@@ -1,4 +1,4 @@
-//! What those who observe a connection see: its numbers, and why it sends nothing by itself.
+//! The view of those who observe a connection: its numbers, and why it sends nothing by itself.
 ghost use Rattle.std.specs.Prelude.{◌≡◌, ◌+◌, nat_le, IfOk};
 ghost use Rattle.pd_host.specs.ConnectionSnapshot.{recovery_of, reduction_of, windows_of, connection_snapshot_of};
 ghost use Rattle.pd_host.specs.SendBlockers.{wanted, is_worth_sending, blocker_of_new, blocker_at, blocker_in_recovery, blocker_since, blocker_of};
@@ -39,7 +39,7 @@ pub enum SendBlocker {
     Open,
 }
 
-/// What PRR keeps, where recovery goes by it.
+/// The state of PRR, where recovery goes by it.
 fn prr(congestion: &Cong) -> Option<PrrState>
     ensures { result ≡ reduction_of congestion.now }
 {

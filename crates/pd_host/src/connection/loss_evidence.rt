@@ -1,4 +1,4 @@
-//! What may lead to sending next: duplicates, and what the timer measured.
+//! Evidence that may lead to sending next: duplicates, and the measurements of the timer.
 ghost use Rattle.std.specs.Prelude.{◌≡◌};
 ghost use Rattle.pd_board.specs.Runs.{AreRuns};
 ghost use Rattle.pd_host.specs.LossEvidence.{sack_evidence_of, loss_evidence_of, dup_ack_status_since, dup_ack_status_of, timeout_of};
@@ -10,7 +10,7 @@ use pd_recover::Cong;
 use pd_seg::Span;
 use pd_timer::Timeout;
 
-/// What a duplicate leads to, where octets are outstanding and no loss recovery goes on.
+/// The effect of a duplicate, where octets are outstanding and no loss recovery goes on.
 #[derive(Clone, Copy)]
 pub enum DupAckStatus {
     /// To no recovery while SND.UNA is below this number, the one after RecoveryPoint (RFC 6675, sections 5 and 5.1).
@@ -19,18 +19,18 @@ pub enum DupAckStatus {
     Counted(LossEvidence),
 }
 
-/// What has come of what shows a loss, and how much has to come.
+/// The evidence of a loss so far, and how much is needed.
 #[derive(Clone, Copy)]
 pub struct LossEvidence {
     /// DupAcks: how many duplicates came since the last ACK of new octets or expiry (RFC 6675, section 5).
     pub dup_acks: u32,
     /// How many begin recovery: DupThresh (RFC 6675, section 5; RFC 5681, section 3.2).
     pub needed: u32,
-    /// What is SACKed above SND.UNA, where SACK was agreed.
+    /// The octets SACKed above SND.UNA, where SACK was agreed.
     pub sacked: Option<SackEvidence>,
 }
 
-/// What is SACKed above SND.UNA, and how much of it shows that octet to be lost (RFC 6675, section 4, IsLost).
+/// The octets SACKed above SND.UNA, and how many of them show that octet to be lost (RFC 6675, section 4, IsLost).
 #[derive(Clone, Copy)]
 pub struct SackEvidence {
     /// How many octets.
@@ -44,7 +44,7 @@ pub struct SackEvidence {
 }
 
 impl Connection {
-    /// What a duplicate leads to; nothing where no octet is outstanding, recovery goes on, or none is looked at.
+    /// The effect of a duplicate; nothing where no octet is outstanding, recovery goes on, or none is looked at.
     pub fn dup_ack_status(&self) -> Option<DupAckStatus>
         ensures { result ≡ dup_ack_status_of self.now }
     {

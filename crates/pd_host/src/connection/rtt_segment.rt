@@ -35,7 +35,7 @@ fn rtt_segment_after(
             sent_at: now,
         }),
         Some(timing) if !overlaps(timing.segment, segment) => Some(timing),
-        // What was sent twice isn't measured: its ACK may be of either time (Karn's algorithm).
+        // Octets that were sent twice aren't measured: their ACK may be of either time (Karn's algorithm).
         _ => None,
     }
 }

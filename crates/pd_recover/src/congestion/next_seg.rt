@@ -1,4 +1,4 @@
-//! What loss recovery sends, and when.
+//! The segments that loss recovery sends, and when.
 ghost use Rattle.std.specs.Prelude.{◌≡◌, ◌+◌, ◌≤◌, IfSome};
 ghost use Rattle.std.specs.Bool.{OnTrue};
 ghost use Rattle.pd_board.specs.Board.{IsBoardView};

@@ -1,4 +1,4 @@
-//! What an ACK does to the congestion window and to loss recovery, and what it leads to.
+//! The effect of an ACK on the congestion window and on loss recovery, and the sending that it leads to.
 ghost use Rattle.std.specs.Prelude.{◌≡◌, false, ◌+◌, ◌<◌, ◌≤◌, ◌^◌, IfSome};
 ghost use Rattle.std.specs.Bool.{OnTrue};
 ghost use Rattle.pd_recover.specs.Acks.{IsAck, IsNamed, acked, is_duplicate, grown_by, half_of, dup_ack_counted, recovery_ended, prr_begun, with_delivered, recovery_continued, new_segment, first_outstanding, acked_with_sack, acked_without_sack, selective_duplicate, plain_duplicate, limited_transmit, new_octets_acked};
@@ -120,7 +120,7 @@ impl Cong {
         AckAction::StepC
     }
 
-    /// An ACK in recovery with SACK has told what reached the peer.
+    /// An ACK in recovery with SACK has reported the octets that reached the peer.
     fn count_delivered(&mut self, ack: Ack)
         ensures { self.new ≡ with_delivered ack self.old }
     {
@@ -129,7 +129,7 @@ impl Cong {
         }
     }
 
-    /// What PRR keeps where recovery with SACK begins.
+    /// The state of PRR where recovery with SACK begins.
     fn begun_prr(&self, ack: Ack) -> PrrState
         ensures value { result ≡ prr_begun ack self.now }
         ensures known { IsPrrState result }

@@ -23,7 +23,7 @@ impl RunState {
     /// One event. One that stops the run leaves it in a state of which nothing is claimed.
     ///
     /// # Errors
-    /// Want of memory, also where a step before has found none.
+    /// Out of memory, now or in an earlier step.
     #[inline(always)]
     pub(crate) fn step(&mut self, event: &Event) -> Result<StepEnd, AllocError>
         requires clock { self.old.clock < 2 ^ 61 }

@@ -1,4 +1,4 @@
--- What is counted so far and what the rest has are all.
+-- The count so far and that of the rest are the whole.
 use Rattle.std.proofs.Common.{◌≡◌, ◌+◌, ◌-◌, max, drop, nat_le}
 use Rattle.std.specs.List.{sum_by, count_by}
 use Rattle.pd_board.proofs.queries.count_above.Given as goal

@@ -1,4 +1,4 @@
--- What is counted so far and what is on the way from the place on are all.
+-- The count so far and the octets on the way from the place on are the whole.
 use Rattle.std.proofs.Common.{◌≡◌, ◌+◌, ◌≤◌, drop, length}
 use Rattle.pd_board.specs.Runs.{Between}
 use Rattle.pd_board.specs.Ranges.{octets_in, pipe_over}

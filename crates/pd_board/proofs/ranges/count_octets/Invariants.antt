@@ -1,4 +1,4 @@
--- What is counted so far and what the rest has are all.
+-- The count so far and that of the rest are the whole.
 use Rattle.std.proofs.Common.{◌≡◌, ◌+◌, drop}
 use Rattle.pd_board.specs.Ranges.{octets_in}
 use Rattle.pd_board.proofs.ranges.count_octets.Given as goal

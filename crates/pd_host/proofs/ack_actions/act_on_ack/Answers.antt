@@ -1,4 +1,4 @@
--- What an entry and a fast retransmit go on with.
+-- An entry and a fast retransmit go on with this sending.
 use Rattle.std.proofs.Common.{rules}
 use Rattle.pd_host.proofs.ack_actions.act_on_ack.Goals as goal
 

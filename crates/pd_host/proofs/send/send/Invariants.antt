@@ -1,4 +1,4 @@
--- What is sent from here on is what is sent from the start on.
+-- The segments sent from here on are those sent from the start on.
 use Rattle.std.proofs.Common.{◌≡◌, ◌-◌, length}
 use Rattle.pd_host.specs.OutboxLimit.{most_packets}
 use Rattle.pd_host.specs.Sending.{sent_until_done, ordinary}

@@ -1,4 +1,4 @@
--- What is sent leaves the rest of the state.
+-- Sending leaves the rest of the state.
 use Rattle.std.proofs.Common.{rules}
 use Rattle.pd_host.proofs.syscall_table.close.Goals as goal
 

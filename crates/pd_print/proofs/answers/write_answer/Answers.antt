@@ -1,4 +1,4 @@
--- What was written is read back.
+-- The octets that were written are read back.
 use Rattle.std.proofs.Common.{rules, ◌≡◌, ℕ, List, sym, subst}
 use Rattle.pd_script.specs.Grammar.{IsExpectedResult}
 use Rattle.pd_print.specs.Answers.{answer_text, expected_result_of}

@@ -1,4 +1,4 @@
--- What was written is read back.
+-- The octets that were written are read back.
 use Rattle.std.proofs.Common.{rules, ◌≡◌, List, ℕ, sym, ap, ◌∙◌, subst}
 use Rattle.pd_script.specs.Grammar.{IsEvent}
 use Rattle.pd_print.specs.Packets.{event_text, action_of}

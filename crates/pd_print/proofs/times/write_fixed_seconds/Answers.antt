@@ -1,4 +1,4 @@
--- What was written stands for the moment.
+-- The octets that were written stand for the moment.
 use Rattle.std.proofs.Common.{rules, ◌≡◌, ◌<◌, ◌^◌, ap, ◌∙◌, arith}
 use Rattle.pd_script.specs.Values.{microseconds}
 use Rattle.pd_print.specs.Numbers.{fixed_seconds_text}

@@ -1,4 +1,4 @@
--- What was written is read back.
+-- The octets that were written are read back.
 use Rattle.std.proofs.Common.{rules, ◌≡◌, List, ℕ, sym, subst}
 use Rattle.pd_script.specs.Grammar.{IsTime}
 use Rattle.pd_print.specs.Numbers.{time_text}

@@ -1,4 +1,4 @@
--- What runs rest on is what the sender's laws say.
+-- Runs rest on the sender's laws.
 use Rattle.pd_run.proofs.laws.law_inputs_only_use.Goals as goal
 
 pub returns : goal.returns

@@ -1,4 +1,4 @@
--- What was consulted in the state.
+-- The settings that were consulted in the state.
 use Rattle.std.proofs.Common.{◌∙◌}
 use Rattle.pd_track.proofs.Resume.{uses_are}
 use Rattle.pd_track.proofs.start_point.consulted_settings_at.Goals as goal

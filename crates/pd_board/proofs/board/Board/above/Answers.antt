@@ -1,4 +1,4 @@
--- What is counted over the ranges is what is SACKed above an octet.
+-- The count over the ranges is the number of octets SACKed above an octet.
 use Rattle.std.proofs.Common.{◌≡◌, ◌+◌, refl, sym, ap, ◌∙◌, arith}
 use Rattle.pd_board.specs.contracts.board.Board.{the_view}
 use Rattle.pd_board.specs.Loss.{sacked_above, runs_above}

@@ -1,4 +1,4 @@
--- What is counted over the ranges says whether an octet is lost.
+-- The count over the ranges says whether an octet is lost.
 use Rattle.std.proofs.Common.{◌≡◌, ◌+◌, max, refl, sym, ap, ◌∙◌, arith}
 use Rattle.pd_board.specs.contracts.board.Board.{the_view}
 use Rattle.pd_board.specs.Loss.{is_lost, shows_loss}

@@ -1,4 +1,4 @@
--- What is inserted is SACKed too.
+-- The octets that are inserted are SACKed too.
 use Rattle.std.proofs.Common.{◌≡◌, ◌≤◌, ℕ, Bool, ◌||◌, ◌&&◌, refl, sym, ap, ◌∙◌, arith, ◌+◌, ◌^◌}
 use Rattle.std.specs.Prelude.{nat_le, nat_lt, Result, Ok, Err, OnOk, IfOk}
 use Rattle.std.proofs.lemmas.Bool.Decides.{nat_tests}

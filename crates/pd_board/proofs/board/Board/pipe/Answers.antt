@@ -1,4 +1,4 @@
--- What is counted over the ranges is the pipe.
+-- The count over the ranges is the pipe.
 use Rattle.std.proofs.Common.{refl, sym, ap, ◌∙◌}
 use Rattle.pd_board.specs.contracts.board.Board.{the_view}
 use Rattle.pd_board.specs.Loss.{pipe}

@@ -1,4 +1,4 @@
--- What is kept of the fields is known of the value.
+-- The invariant of the fields is known of the value.
 use Rattle.std.proofs.Common.{subst, refl}
 use Rattle.pd_board.specs.contracts.board.Board.{the_view}
 use Rattle.pd_board.specs.Board.{IsBoardView}

@@ -1,4 +1,4 @@
--- What is left is the ranges from the start on.
+-- The ranges from the start on are left.
 use Rattle.std.proofs.Common.{◌^◌, List, sym, ap, ◌∙◌, subst, arith}
 use Rattle.pd_seg.specs.declared.sack_spans.Span.{Span}
 use Rattle.pd_board.specs.Runs.{among, Between}

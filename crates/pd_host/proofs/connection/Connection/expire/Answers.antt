@@ -1,4 +1,4 @@
--- What is sent again ends among the octets that were sent.
+-- The segment that is sent again ends among the octets that were sent.
 use Rattle.pd_host.proofs.Runs.{again_within}
 use Rattle.pd_host.proofs.connection.Connection.expire.Goals as goal
 

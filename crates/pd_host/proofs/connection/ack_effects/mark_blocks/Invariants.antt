@@ -1,4 +1,4 @@
--- What was told so far, and what is left tells, is all.
+-- The blocks so far and those that are left report all.
 use Rattle.std.proofs.Common.{◌≡◌, drop}
 use Rattle.pd_host.specs.AckEffects.{with_blocks_marked}
 use Rattle.pd_host.proofs.connection.ack_effects.mark_blocks.Given as goal

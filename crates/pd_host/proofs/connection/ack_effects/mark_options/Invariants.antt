@@ -1,4 +1,4 @@
--- What was told so far, and what is left tells, is all.
+-- The options so far and those that are left report all.
 use Rattle.std.proofs.Common.{◌≡◌, drop, false}
 use Rattle.pd_host.specs.AckEffects.{with_blocks_marked, blocks_of}
 use Rattle.pd_host.specs.Handshake.{before_eol}

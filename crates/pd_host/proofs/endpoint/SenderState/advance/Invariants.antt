@@ -1,4 +1,4 @@
--- What expires from here on is what expires from the start on.
+-- The expiries from here on are those from the start on.
 use Rattle.std.proofs.Common.{◌≡◌, ◌-◌, length}
 use Rattle.pd_host.specs.Expiries.{advanced}
 use Rattle.pd_host.specs.OutboxLimit.{most_packets}

@@ -1,4 +1,4 @@
--- What is sent, and the answer to a FIN, leave the settings that were consulted.
+-- Sending, and the answer to a FIN, leave the settings that were consulted.
 use Rattle.std.proofs.Common.{rules}
 use Rattle.pd_host.proofs.endpoint.SenderState.arrive.Goals as goal
 

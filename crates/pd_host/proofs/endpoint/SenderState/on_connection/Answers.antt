@@ -1,4 +1,4 @@
--- What is written leaves the rest of the state, beside the setting that was consulted.
+-- A write leaves the rest of the state, beside the setting that was consulted.
 use Rattle.std.proofs.Common.{rules}
 use Rattle.pd_host.proofs.endpoint.SenderState.on_connection.Goals as goal
 

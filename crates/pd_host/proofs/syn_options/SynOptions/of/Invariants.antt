@@ -1,4 +1,4 @@
--- What was offered so far, and what is left offers, is all.
+-- The options so far and those that are left offer all.
 use Rattle.std.proofs.Common.{◌≡◌, drop}
 use Rattle.pd_host.specs.Handshake.{syn_options_of}
 use Rattle.pd_host.proofs.OptionLists.{in_all}

@@ -1,4 +1,4 @@
--- What is sent again lies among what was sent.
+-- The octets that are sent again lie among those that were sent.
 use Rattle.std.proofs.Common.{◌≡◌, ℕ, ◌≤◌, sym, Some, arith}
 use Rattle.pd_board.specs.Retransmit.{next_lost, next_hole}
 use Rattle.pd_board.specs.Board.{BoardView}

@@ -1,4 +1,4 @@
--- What is chosen can be sent.
+-- The segment that is chosen can be sent.
 use Rattle.std.proofs.Common.{◌≡◌, Option, sym, subst, ap, ◌∙◌}
 use Rattle.std.specs.Prelude.{IfSome}
 use Rattle.pd_recover.specs.declared.next_segment.NextSegment.{NextSegment}

@@ -1,4 +1,4 @@
--- What is left from here, and what was done, make the whole run.
+-- The steps left from here, and those that were taken, make the whole run.
 use Rattle.std.proofs.Common.{◌≡◌, ◌+◌, ◌-◌, ◌%◌, ◌++◌}
 use Rattle.pd_reparse.specs.Steps.{events_after}
 use Rattle.pd_run.specs.Laws.{IsUnderway}
