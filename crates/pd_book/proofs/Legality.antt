@@ -1,4 +1,4 @@
--- Calls that aren't refused, and turns of settling, keep a story legal.
+-- Calls that aren't refused, and turns of settling, keep a history legal.
 use Rattle.std.proofs.Common.{◌≡◌, ◌↔◌, ℕ, ◌==◌, ◌+◌, ◌≤◌, ◌<◌, List, [], ◌∷◌, length, length-append, Option, Some, None, is_some, is_none, Bool, true, false, not, cond, unwrap_or, refl, ap, sym, subst, ◌∙◌, arith}
 use Rattle.std.specs.Prelude.{nat_le}
 use Rattle.std.specs.Option.{option_map}

@@ -1,4 +1,4 @@
--- The headline: what is answered and taken, said by positions in the acts.
+-- The headline: answers and takings, by positions in the acts.
 use Rattle.std.proofs.Common.{◌≡◌, ◌↔◌, ◌⊎◌, inl, inr, ℕ, ◌==◌, List, [], ◌∷◌, ◌++◌, append_assoc, map, Option, Some, None, is_some, Bool, true, false, ◌&&◌, ◌||◌, cond, refl, ap, sym, subst, ◌∙◌, arith}
 use Rattle.std.specs.Prelude.{IsSome, IfSome}
 use Rattle.std.specs.List.{AllByRecursion, All, list_any}
@@ -280,7 +280,7 @@ from_scratch opening past h = ap (λ (rows : List Row). record { settings = now 
         let head : row opening past x ≡ scratch_row (now opening past) x = ap (λ (v : Option Verdict). record { name = x.0; text = x.1; verdict = v }) (one x (answered past x.0) k.0) in
         let rest = each xs k.1 in cc
 
--- ---- in the grammar's words
+-- ---- by the grammar
 
 -- each verdict that is shown is a run
 pub rows_grammars : VerdictsAreGrammatical → (opening : Settings) (past : List Act) → VerdictsAreGrammars opening past (shown opening past)

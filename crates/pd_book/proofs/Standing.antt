@@ -1,4 +1,4 @@
--- What the acts say of each script that a book keeps, and that acts on other scripts leave it.
+-- Each script that a book keeps, by the acts; acts on other scripts leave it.
 use Rattle.std.proofs.Common.{◌≡◌, ℕ, ◌+◌, ◌==◌, List, [], ◌∷◌, map, Option, Some, None, Bool, true, false, not, ◌&&◌, cond, unwrap_or, refl, ap, sym, ◌∙◌, arith}
 use Rattle.std.specs.List.{list_any}
 use Rattle.std.specs.Option.{option_map}

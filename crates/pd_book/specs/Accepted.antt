@@ -1,4 +1,4 @@
--- Which acts may come after a legal story: exactly those of calls that aren't refused.
+-- Which acts may come after a legal history: exactly those of calls that aren't refused.
 use Rattle.std.specs.Prelude.{◌≡◌, ◌↔◌, ℕ, List, ◌∷◌, Some, None, IsSome}
 use Rattle.pd_text.specs.Text.{AreLines, IsText}
 use Rattle.pd_text.specs.declared.line_edit.LineEdit.{LineEdit}
@@ -14,7 +14,7 @@ use Rattle.pd_book.specs.Legal.{Legal}
 use Rattle.pd_book.specs.History.{History}
 use Rattle.pd_book.specs.Refusals.{add_refusal, edit_refusal, remove_refusal, set_refusal, next_job, start_refusal}
 
--- the story with this act is legal
+-- the history with this act is legal
 abbrev pub IsLegalWith : History → Act → Type 0
 IsLegalWith history act = Legal history.opening (act ∷ history.past)
 

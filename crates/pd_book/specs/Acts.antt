@@ -1,4 +1,4 @@
--- What a list of acts says of scripts, settings and jobs. The newest act comes first.
+-- Scripts, settings and jobs, by a list of acts. The newest act comes first.
 use Rattle.std.specs.Prelude.{ℕ, ◌+◌, ◌==◌, Bool, true, false, not, ◌&&◌, List, [], ◌∷◌, ◌++◌, map, filter, find, if◌then◌else◌, Option, is_some, unwrap_or}
 use Rattle.std.specs.List.{list_any}
 use Rattle.std.specs.Map.{lookup}

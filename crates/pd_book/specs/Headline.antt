@@ -1,4 +1,4 @@
--- The headline, said by positions in the list of acts. The newest act comes first.
+-- The headline, by positions in the list of acts. The newest act comes first.
 use Rattle.std.specs.Prelude.{◌≡◌, ◌↔◌, ◌⊎◌, ℕ, false, List, [], ◌∷◌, ◌++◌, map, All, Some, None, IsSome}
 use Rattle.pd_settings.specs.declared.settings.Settings.{Settings}
 use Rattle.pd_book.specs.declared.act.Act.{Act}
@@ -46,7 +46,7 @@ RowsAreScripts past report = map (λ (row : Row). (row.name, row.text)) report.r
 abbrev pub VerdictsAreRuns : Settings → List Act → ReportView → Type 0
 VerdictsAreRuns opening past report = All (IsRunUnder (now opening past)) report.rows
 
--- the same in the grammar's words
+-- the same by the grammar
 abbrev pub VerdictsAreGrammars : Settings → List Act → ReportView → Type 0
 VerdictsAreGrammars opening past report = All (IsGrammarsRun (now opening past)) report.rows
 
@@ -70,7 +70,7 @@ AreOrPending (row ∷ rows) (whole ∷ wholes) = ((row ≡ whole) ⊎ (row ≡ p
 abbrev pub RowsAreOfScratch : Settings → List Act → ReportView → Type 0
 RowsAreOfScratch opening past report = AreOrPending report.rows (scratch (texts past) (now opening past)).rows
 
--- both in the grammar's words
+-- both by the grammar
 abbrev pub WholeWhenAllAnswered : Settings → List Act → ReportView → Type 0
 WholeWhenAllAnswered opening past report =
     All (λ (row : Row). IsSome row.verdict) report.rows → IsFromScratch (texts past) (now opening past) report
@@ -78,7 +78,7 @@ WholeWhenAllAnswered opening past report =
 abbrev pub RowsAreOfWhole : Settings → List Act → ReportView → Type 0
 RowsAreOfWhole opening past report = (whole : ReportView) × IsFromScratch (texts past) (now opening past) whole × AreOrPending report.rows whole.rows
 
--- of the same scripts under the same settings there is one report from scratch in the grammar's words, and no other
+-- of the same scripts under the same settings there is one report from scratch by the grammar, and no other
 abbrev pub ScratchIsOne : List NamedText → Settings → Type 0
 ScratchIsOne scripts settings =
     IsFromScratch scripts settings (scratch scripts settings) × ((report : ReportView) → IsFromScratch scripts settings report → report ≡ scratch scripts settings)

@@ -1,4 +1,4 @@
--- What a book and a job are to their callers.
+-- Books and jobs, as their callers see them.
 use Rattle.std.specs.Prelude.{List, ◌∷◌, Option, Some, None}
 pub use Rattle.pd_track.specs.Reuse.{JobView}
 use Rattle.std.specs.Option.{option_map}
@@ -13,7 +13,7 @@ pub record History : Type 0 where
   pub opening : Settings
   pub past : List Act
 
--- what a book is: its story, and beside that the tracks that it keeps to spare steps
+-- a book: its history, and beside that the tracks that it keeps to spare steps
 pub record BookView : Type 0 where
   pub history : History
   pub tracks : TrackCacheView
@@ -22,11 +22,11 @@ pub record BookView : Type 0 where
 abbrev pub handed_task : Option JobView → Option Task
 handed_task job = option_map (λ (handed : JobView). handed.task) job
 
--- the story with one more act
+-- the history with one more act
 abbrev pub after_act : History → Act → History
 after_act history act = record { opening = history.opening; past = act ∷ history.past }
 
--- the story after a start: with its act where it gave a job
+-- the history after a start: with its act where it gave a job
 abbrev pub after_start : History → Option Task → History
 after_start history None = history
 after_start history (Some task) = after_act history (Start task.number task.name)

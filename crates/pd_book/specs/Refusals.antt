@@ -74,7 +74,7 @@ set_refusal history name value = or_else (value_refusal (now history.opening his
 abbrev pub start_refusal : History → Option BookFault
 start_refusal history = if is_some (next history.past) then full 2 history else None
 
--- the fault of a call that failed: its refusal, or else want of memory
+-- the fault of a call that failed: its refusal, or else out of memory
 abbrev pub fault_of : Option BookFault → BookFault
 fault_of refusal = unwrap_or refusal OutOfMemory
 

@@ -1,4 +1,4 @@
--- What each call gives: its reply, and the story after it.
+-- The reply of each call, and the history after it.
 use Rattle.std.specs.Prelude.{◌≡◌, ◌≢◌, ℕ, List, Option, Some, None, IsSome, IsSomeAnd, Result, MatchResult}
 use Rattle.pd_text.specs.declared.line_edit.LineEdit.{LineEdit}
 use Rattle.pd_settings.specs.Keys.{key_named}
@@ -14,7 +14,7 @@ use Rattle.pd_track.specs.Reuse.{JobView}
 use Rattle.pd_book.specs.History.{History, handed_task, after_act, after_start}
 use Rattle.pd_book.specs.Refusals.{add_refusal, edit_refusal, remove_refusal, set_refusal, start_refusal, next_job, fault_of, finish_fault}
 
--- a change: where it isn't refused its act is recorded, else the reply is the refusal, or want of memory
+-- a change: where it isn't refused its act is recorded, else the reply is the refusal, or out of memory
 abbrev pub GivesChange : Option BookFault → History → Result (Unit {0}) BookFault → Type 0 → History → Type 0
 GivesChange refusal old reply Recorded new =
     MatchResult reply (λ _. (refusal ≡ None) × Recorded) (λ fault. (fault ≡ fault_of refusal) × (new ≡ old))

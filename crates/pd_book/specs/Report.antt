@@ -1,4 +1,4 @@
--- What a report shows.
+-- The rows of a report.
 use Rattle.std.specs.Prelude.{◌≡◌, ℕ, List, map, count_by, if◌then◌else◌, All, Some, None, is_none, IfSome, IsSome}
 use Rattle.pd_settings.specs.declared.settings.Settings.{Settings}
 use Rattle.pd_run.specs.Grammatical.{IsVerdictOf}
@@ -16,11 +16,11 @@ pub record ReportView : Type 0 where
 abbrev pub IsRunUnder : Settings → Row → Type 0
 IsRunUnder settings entry = IfSome entry.verdict (λ verdict. verdict ≡ verdict_of entry.text settings)
 
--- the same in the grammar's words
+-- the same by the grammar
 abbrev pub IsGrammarsRun : Settings → Row → Type 0
 IsGrammarsRun settings entry = IfSome entry.verdict (IsVerdictOf entry.text settings)
 
--- a report from scratch of these scripts under these settings, in the grammar's words: a row for each, in order, each with
+-- a report from scratch of these scripts under these settings, by the grammar: a row for each, in order, each with
 -- the verdict of its run
 pub record IsFromScratch (scripts : List NamedText) (settings : Settings) (report : ReportView) : Type 0 where
   pub under : report.settings ≡ settings

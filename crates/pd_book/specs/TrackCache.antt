@@ -1,4 +1,4 @@
--- The tracks that a book keeps beside its story.
+-- The tracks that a book keeps beside its history.
 use Rattle.std.specs.Prelude.{◌≡◌, ◌⊎◌, ℕ, nat_lt, Bool, true, false, List, Option, None, Some, if◌then◌else◌}
 use Rattle.std.specs.Map.{lookup, remove_entry}
 use Rattle.std.specs.Str.{bytes_eq}

@@ -17,7 +17,7 @@ turned past task =
     let begun = Start task.number task.name ∷ past in
     Finish task.number (ruling begun task) ∷ begun
 
--- the story after a start of this job and its finish
+-- the history after a start of this job and its finish
 abbrev pub after_turn : History → Task → History
 after_turn history task = record { opening = history.opening; past = turned history.past task }
 
@@ -36,7 +36,7 @@ settled_in (suc turns) history = turn history (next_job history) (start_refusal 
 abbrev pub settled : History → Result History BookFault
 settled history = settled_in (owed history.opening history.past) history
 
--- a legal story in which no job is outstanding
+-- a legal history in which no job is outstanding
 pub record IsAtRest (history : History) : Type 0 where
   pub legal : Legal history.opening history.past
   pub none : jobs history.opening history.past ≡ []
@@ -56,7 +56,7 @@ StartsAreOutstanding history =
 abbrev pub NoneOwedWhenNoneWaits : Settings → List Act → Type 0
 NoneOwedWhenNoneWaits opening past = jobs opening past ≡ [] → next past ≡ None → owed opening past ≡ 0
 
--- a start that isn't refused and its finish leave a legal story without an outstanding job
+-- a start that isn't refused and its finish leave a legal history without an outstanding job
 abbrev pub TurnsAreLegal : History → Type 0
 TurnsAreLegal history = (task : Task) → next_job history ≡ Some task → start_refusal history ≡ None → IsAtRest (after_turn history task)
 

@@ -6,7 +6,7 @@ use pd_settings::{Key, Value};
 use pd_text::{Name, Text};
 use std::alloc::AllocError;
 
-/// What a finish of a job came to.
+/// The ruling on a finish of a job.
 #[derive(Clone, Copy, PartialEq, Eq)]
 pub enum Ruling {
     /// The job's script is unchanged since the job's start: its verdict is shown.

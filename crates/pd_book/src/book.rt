@@ -45,7 +45,7 @@ pub struct Book {
     last_number: u64,
     /// Its acts, scripts and outstanding jobs.
     records: Records,
-    /// What earlier runs left.
+    /// The tracks that earlier runs left.
     pub(crate) tracks: TrackCache,
 }
 
@@ -79,7 +79,7 @@ impl Book {
         }
     }
 
-    /// What is so of all books: the rules allow their acts. It does nothing.
+    /// The invariant of books: the rules allow their acts. It does nothing.
     pub fn law_invariant(&self)
         ensures { Legal self.now.history.opening self.now.history.past }
     {
@@ -153,7 +153,7 @@ impl Book {
         self.add_text(name, Some(text))
     }
 
-    /// Adds a script of this text; `None` for want of memory.
+    /// Adds a script of this text; `None` if out of memory.
     fn add_text(&mut self, name: Name, text: Option<Text>) -> Result<(), BookFault>
         ensures ok { OnOk result (IsSomeAnd text (λ text. self.new.history ≡ after_act self.old.history (Act.Add name text))) }
         ensures allowed { OnOk result (add_refusal self.old.history name ≡ None) }
@@ -251,7 +251,7 @@ impl Book {
         Ok(())
     }
 
-    /// The text of a script after an edit; `None` for want of memory.
+    /// The text of a script after an edit; `None` if out of memory.
     pub(crate) fn edited(&self, name: &Name, edit: &LineEdit) -> Result<Option<Lines>, BookFault>
         ensures ok { IfOk result (λ lines. IfSome lines (λ lines. lines ≡ edited (text_of self.now.history.past name.now) edit.now)) }
         ensures allowed { OnOk result (text_refusal (present_text self.now.history.past name.now) edit.now ≡ None) }
@@ -383,7 +383,7 @@ impl Book {
         Ok(())
     }
 
-    /// What the scripts that are kept show.
+    /// The report of the scripts that are kept.
     fn report(&self) -> Result<Report, AllocError>
         ensures { IfOk result (λ report. report ≡ shown self.now.history.opening self.now.history.past) }
     {
@@ -394,7 +394,7 @@ impl Book {
     /// The report as it stands.
     ///
     /// # Errors
-    /// `AllocError` for want of memory.
+    /// `AllocError` if out of memory.
     pub fn show(&self) -> Result<Report, AllocError>
         ensures shown { IfOk result (λ report. report ≡ shown self.now.history.opening self.now.history.past) }
         ensures current { IfOk result (λ report. CurrentWhenAnswered self.now.history.past report) }

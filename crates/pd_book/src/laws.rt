@@ -1,4 +1,4 @@
-//! What the definitions say of each legal history; the functions do nothing.
+//! The laws of each legal history; the functions do nothing.
 ghost use Rattle.std.specs.Prelude.{List};
 ghost use Rattle.pd_settings.specs.declared.settings.Settings.{Settings};
 ghost use Rattle.pd_book.specs.declared.act.Act.{Act};
@@ -32,7 +32,7 @@ pub fn law_headline()
     law_verdicts_are_grammatical();
 }
 
-/// After a legal story, exactly the acts of calls that aren't refused leave a legal one.
+/// After a legal history, exactly the acts of calls that aren't refused leave a legal one.
 pub fn law_accepting()
     ensures adds { (history : History) → Legal history.opening history.past → AddsAreLegal history }
     ensures edits { (history : History) → Legal history.opening history.past → EditsAreLegal history }
@@ -48,7 +48,7 @@ pub fn law_accepting()
 {}
 
 /// Starts and finishes by turns, with no other job between, come to an end: each turn leaves one row fewer
-/// pending and a legal story, where no script waits none is pending, and a settling that isn't refused a start
+/// pending and a legal history, where no script waits none is pending, and a settling that isn't refused a start
 /// leaves the report from scratch of the same scripts and settings. More turns give nothing more. A job that is handed
 /// out is outstanding then.
 pub fn law_settling()

@@ -3,7 +3,7 @@
 //! A `Book` holds scripts and settings, which its callers change. `start` hands out a `Job`,
 //! `run_job` makes a `Done` of it, whenever and wherever, and `finish` takes it or rules it stale.
 //! `show` gives a `Report` with a `Row` for each script. What a book shows is defined on the list
-//! of its accepted calls alone (`Book::history`, a list of `Act`s), and `law_headline` says it in words
+//! of its accepted calls alone (`Book::history`, a list of `Act`s), and `law_headline` says it in terms
 //! of positions in that list.
 //!
 //! ```text
@@ -23,9 +23,9 @@
 //! Why it is so:
 //! - The report is a function of the acts (`shown`, specs/Report.antt), and not of what the book
 //!   keeps. So nobody has to know what it keeps to see what a report promises.
-//! - Callers see a book as its story (`History`: the opening settings and the acts) and, apart from
+//! - Callers see a book as its history (`History`: the opening settings and the acts) and, apart from
 //!   that, its tracks; they see a job as its task and, apart from that, its track. So no clause
-//!   about a story or a task is about tracks, which spare steps and change no verdict.
+//!   about a history or a task is about tracks, which spare steps and change no verdict.
 //! - Any edit, and any `set`, makes a script pending, even if nothing differs: so the rule has no
 //!   case. With its track, a job that runs nothing new takes few steps.
 //! - Memory is asked for before anything is recorded. Out of memory is the last refusal of each

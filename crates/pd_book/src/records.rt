@@ -1,4 +1,4 @@
-//! What a book keeps, and what a call leaves in it, for which there is room.
+//! The records of a book, and the changes that a call makes in them, for which there is room.
 ghost use Rattle.std.specs.Prelude.{◌≡◌, ◌+◌, ◌^◌, ◌≤◌, ◌<◌, ◌==◌, ◌++◌, ◌∷◌, [], reverse, find, filter, not, Some, OnOk, option_copied, vec_len, vec_capacity};
 ghost use Rattle.std.specs.Str.{bytes_eq};
 ghost use Rattle.pd_book.specs.Acts.{without};
@@ -16,18 +16,18 @@ use std::alloc::{AllocError, Global};
 pub struct PendingStart {
     /// The job to hand out.
     pub job: Job,
-    /// What it runs, to be kept until the job ends.
+    /// Its task, to be kept until the job ends.
     pub task: Task,
     /// The start to record.
     pub act: Act,
 }
 
-/// What a book keeps: the acts, the oldest first, the tasks of the outstanding jobs, and the scripts.
+/// The records of a book: the acts, the oldest first, the tasks of the outstanding jobs, and the scripts.
 #[derive(Drop)]
 pub struct Records {
     /// The accepted calls, the oldest first; they have room for the end of each outstanding job.
     pub acts: Vec<Act>,
-    /// What the outstanding jobs run, in the order of their starts.
+    /// The tasks of the outstanding jobs, in the order of their starts.
     pub tasks: Vec<Task>,
     /// The scripts that stand, in order of adding.
     pub scripts: Scripts,

@@ -1,4 +1,4 @@
--- What was written so far beside workers, and what is still to come.
+-- The octets written so far beside workers, and those still to come.
 use Rattle.std.proofs.Common.{◌≡◌, ◌⊎◌, inl, inr, ℕ, Bool, true, List, [], ◌∷◌, ◌++◌, map, Option, Some, None, option_map, Result, Ok, Err, refl, sym, ap, subst, ◌∙◌, append_assoc, append-nil, IfSome, IfErr, IfOk, IsOk, IsErrAnd, OnOk, OnErr, take, drop}
 use Rattle.std.specs.List.{All}
 use Rattle.std.specs.Prelude.{IsSome, IsSomeAnd, is_some}
@@ -190,7 +190,7 @@ serves_beside one prints fails passes r a last input before after h history may 
       (λ octets k. (subst (λ (s : History). MayAnswer r h.0 s (commands octets)) e (beside_ends one prints fails passes history may fails_so passed r h.0 a last (commands octets) k), ends_beside prints fails passes fails_so r h.0 a last (commands octets) k)) h.2,
 )
 
--- want of memory before anything is read
+-- out of memory before anything is read
 none_yet : (opening : History) (all : Option (List ℕ)) → IfSome all (λ input. MayAnswer (Err OutOfMemory) [] opening (commands input) × EndsBeside (Err OutOfMemory))
 none_yet opening None = tt
 none_yet opening (Some input) = (([], commands input, opening, refl, (refl, refl), tt), tt)

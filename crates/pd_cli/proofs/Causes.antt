@@ -65,7 +65,7 @@ pub serves_with_cause : {S : Type 0} (prints : S → Command → List ℕ → S 
     → (failed : Type 0) → ReadsBy fails r failed input → ((a b : S) → (command : Command) → fails Read a command b → ⊥) → HasCause r failed input
 serves_with_cause prints fails passes r a last input before after h failed reads f = has_cause fails r failed input reads f
 
--- want of memory is no read
+-- out of memory is no read
 pub memory_caused : {V : Type 0} (r : Result V ServeFault) (failed : Type 0) (all : Option (List ℕ)) → IsErrAnd r (λ x. x ≡ OutOfMemory) → HasCause r failed all
 memory_caused (Ok v) failed all i = absurd i
 memory_caused (Err x) failed all i = rw i tt

@@ -29,7 +29,7 @@ pub settings_out : (failed : Type 0) (workers : ℕ) (fault : ProgramFault) (s :
 settings_out failed workers fault s None h = tt
 settings_out failed workers fault s (Some input) h = settings_runs failed workers fault fault s input refl h
 
--- want of memory before anything is read
+-- out of memory before anything is read
 pub memory_runs : (failed : Type 0) (workers : ℕ) (s : Result Settings ProgramFault) (all : Option (List ℕ)) → IfSome all (Runs failed workers s (Err (Serving OutOfMemory)) [])
 memory_runs failed workers s None = tt
 memory_runs failed workers s (Some input) = settings_runs failed workers (Serving OutOfMemory) (Serving OutOfMemory) s input refl (inr refl)

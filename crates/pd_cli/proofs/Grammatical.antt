@@ -1,4 +1,4 @@
--- What is written in the words of the grammar is just the output.
+-- The octets that are written by the grammar are just the output.
 use Rattle.std.proofs.Common.{◌≡◌, ◌⊎◌, inl, inr, ℕ, ◌+◌, ◌≤◌, Bool, true, false, cond, List, [], ◌∷◌, ◌++◌, map, Option, Some, None, is_some, option_map, Result, Ok, Err, refl, sym, ap, subst, ◌∙◌, append_assoc, append-nil, arith, zero, suc}
 use Rattle.std.specs.List.{AllByRecursion, All}
 use Rattle.std.specs.Str.Lines.{lines}

@@ -1,4 +1,4 @@
--- What a listener is told while serving.
+-- The jobs that an observer is given while serving.
 use Rattle.std.proofs.Common.{◌≡◌, inl, inr, ℕ, ◌+◌, Bool, List, [], ◌∷◌, ◌++◌, length, true, false, Option, Some, None, option_map, Result, Ok, Err, OnOk, IfOk, IfErr, IsErrAnd, refl, sym, ap, subst, ◌∙◌, arith}
 use Rattle.pd_settings.specs.declared.settings.Settings.{Settings}
 use Rattle.pd_settings.specs.declared.keys.Key.{Key}
@@ -108,7 +108,7 @@ settled_heard observes r history after old new h =
 pub stopped_heard : {S V : Type 0} (observes : S → S → FinishedJob → Type 0) (r : Result V ServeFault) (fault : ServeFault) (history after : History) (old new : S) → IsErrAnd r (λ x. x ≡ fault) → ObservesSettling observes (Err fault) history after old new → ObservesNumbered observes r history after old new
 stopped_heard observes r fault history after old new i h = (h.0, (turns_numbered history h.1 h.0 h.2).0, h.3, on_err r fault _ i)
 
--- what was heard, whatever came after it
+-- jobs that were observed, whatever came after them
 pub passed_heard : {S V W : Type 0} (observes : S → S → FinishedJob → Type 0) (v : V) (r : Result W ServeFault) (history after : History) (old new : S) → ObservesNumbered {V = V} observes (Ok v) history after old new → ObservesNumbered observes r history after old new
 passed_heard observes v r history after old new h = (h.0, h.1, h.2, on_ok r _ h.3)
 
@@ -192,7 +192,7 @@ all_last observes r history next old now new h k =
     let same = h.3 in
     (h.0 ++ k.0, numbered_then 0 (started history.past) h.0 k.0 h.1 (omega (arith, same)) k.1, hears_then observes old now new h.0 k.0 h.2 k.2)
 
--- whoever answers tells its listener of the jobs of each command
+-- a handler gives its observer the jobs of each command
 abbrev pub TellsOf : {S L : Type 0} → (S → Command → List ℕ → S → Type 0) → (S → History) → (S → L) → (L → L → FinishedJob → Type 0) → Type 0
 TellsOf {S = S} prints history observer observes = (a b : S) → (command : Command) → (octets : List ℕ) → prints a command octets b → ObservesNumbered {V = Unit {0}} observes (Ok tt) (history a) (history b) (observer a) (observer b)
 
@@ -207,7 +207,7 @@ printed_heard prints history observer observes tells a b (does command ∷ items
     let (printed, rest, next, p, q, e) = h in
     printed_heard prints history observer observes tells next b items rest old q (all_more {V = Unit {0}} observes tt (history a) (history next) old (observer a) (observer next) k (tells a next command printed p))
 
--- a listener of a session was told of jobs that are numbered from 1 on
+-- the observer of a session was given jobs that are numbered from 1 on
 pub session_heard : {S L : Type 0} (prints : S → Command → List ℕ → S → Type 0) (fails : ServeFault → S → Command → S → Type 0) (passes : S → Bool) (r : Result Bool ServeFault) (a last : S) (input before after : Option (List ℕ)) → ServesBy prints fails passes r input before after a last → HasAnswered prints fails a last
     → (history : S → History) (observer : S → L) (observes : L → L → FinishedJob → Type 0) → TellsOf prints history observer observes → TellsAtFault fails history observer observes → (settings : Settings) → history a ≡ record { opening = settings; past = [] }
     → (jobs : List FinishedJob) × AreNumbered 0 jobs × ObservesAll observes (observer a) (observer last) jobs

@@ -1,4 +1,4 @@
--- The stories that serving goes through.
+-- The histories that serving goes through.
 use Rattle.std.proofs.Common.{◌≡◌, ℕ, ◌-◌, ◌==◌, nat_le, Bool, true, false, not, ◌&&◌, List, [], ◌∷◌, ◌++◌, length, take, Option, Some, None, option_map, Result, Ok, Err, cond, refl, sym, ap, subst, ◌∙◌, arith, suc, zero, slice_index}
 use Rattle.std.specs.List.{list_all, slice_split, onto_first}
 use Rattle.std.specs.Str.Lines.{lines, lines_of_parts, strip_carriage_return}
@@ -165,16 +165,16 @@ items_fit (line ∷ ls) zero h =
     at_fit (command_line_of line) ls (λ n. items n ls) both.1 (λ n. items_fit ls n both.1)
 items_fit (line ∷ ls) (suc n) h = items_fit ls n (and_parts (is_line line) (list_all is_line ls) h).1
 
--- ---- the stories
+-- ---- the histories
 
--- an accepted act keeps a story at rest, a refused one leaves it
+-- an accepted act keeps a history at rest, a refused one leaves it
 acted_rest : (history next : History) (refusal : Option BookFault) (a : Option Act) (octets : List ℕ) → IsAtRest history
     → (refusal ≡ None → (x : Act) → a ≡ Some x → IsAtRest (after_act history x)) → acted history refusal a ≡ (octets, next) → IsAtRest next
 acted_rest history next (Some fault) a octets q f e = subst IsAtRest (ap (λ (p : List ℕ × History). p.1) e) q
 acted_rest history next None None octets q f e = subst IsAtRest (ap (λ (p : List ℕ × History). p.1) e) q
 acted_rest history next None (Some x) octets q f e = subst IsAtRest (ap (λ (p : List ℕ × History). p.1) e) (f refl x refl)
 
--- the laws of the book that the stories rest on
+-- the laws of the book that the histories rest on
 pub record BookLaws : Type 0 where
   pub adds : (history : History) → Legal history.opening history.past → AddsAreLegal history
   pub edits : (history : History) → Legal history.opening history.past → EditsAreLegal history

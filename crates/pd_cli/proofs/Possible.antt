@@ -1,4 +1,4 @@
--- What is printed without workers may be printed beside them.
+-- The octets that are printed without workers may be printed beside them.
 use Rattle.std.proofs.Common.{◌≡◌, inl, inr, ℕ, ◌+◌, nat_le, Bool, true, false, not, cond, List, [], ◌∷◌, ◌++◌, map, filter, Option, Some, None, option_map, is_some, Ok, refl, sym, ap, subst, ◌∙◌, append_assoc}
 use Rattle.std.specs.Str.{bytes_eq}
 use Rattle.pd_settings.specs.declared.settings.Settings.{Settings}

@@ -1,4 +1,4 @@
--- What is reported of jobs, and how a run ends that tells it.
+-- The reports of jobs, and the end of a run that prints them.
 use Rattle.std.proofs.Common.{◌≡◌, ◌⊎◌, ◌==◌, ◌||◌, ℕ, Bool, true, false, List, [], ◌∷◌, ◌++◌, length, bytes_eq, codes, Bor, Option, Some, None, if◌then◌else◌, Result, Err, IfSome, refl, sym, ap, subst, ◌∙◌, append_assoc, append-nil}
 use Rattle.std.specs.Io.KnownBytes.{Appends}
 use Rattle.std.specs.List.{list_any}
@@ -45,7 +45,7 @@ looked_among only name among e h =
     let some : (length (names_of only) == 0) ≡ false = ap (λ (n : ℕ). n == 0) (length-map only (λ (each : Bor (List ℕ)). each.now)) ∙ e in
     h ∙ (any_name only name ∙ sym (ap (λ (b : Bool). b || list_any (λ (each : List ℕ). bytes_eq each name) (names_of only)) some))
 
--- a job may be told in octets that aren't said
+-- a job may be reported in no octets
 explains_none : (explain : Option (List (List ℕ))) (job : FinishedJob) → MayExplain explain job []
 explains_none None job = refl
 explains_none (Some only) job = λ e. refl
@@ -59,7 +59,7 @@ says_still stderr_ok w line e = rw e (refl, refl)
 pub says_now : (before stderr_ok : Bool) (w w1 : Option (List ℕ)) (line : List ℕ) → before ≡ true → WritesTo stderr_ok w w1 line → WritesMore before stderr_ok w w1 line
 says_now before stderr_ok w w1 line e s = rw e s
 
--- what is reported of jobs, by a listener that tells it where it hears of each
+-- the reports of jobs, by an observer that prints each where it is given the job
 pub told_said : {S N : Type 0} (observes : S → S → FinishedJob → Type 0) (report_options : ReportOptions) (old new : S) (jobs : List FinishedJob) → ObservesAll observes old new jobs → (name : S → N) (asks : S → ReportOptions) (stderr_ok : S → Bool) (content : S → Option (List ℕ))
     → ((a b : S) (job : FinishedJob) → observes a b job → (name b ≡ name a) × (asks b ≡ asks a) × (one : List ℕ) × MayReport (asks a) job one × WritesMore (stderr_ok a) (stderr_ok b) (content a) (content b) one)
     → asks old ≡ report_options → (before : List ℕ) (w : Option (List ℕ)) → WritesTo (stderr_ok old) w (content old) before
@@ -100,7 +100,7 @@ pub tells_end : (failed : Type 0) (exit : Exit) (stderr_ok : Bool) (end : Result
     → WritesMore stderr_ok exit.stderr_ok err1 err2 (stderr_of end) → (octets : List ℕ) × Appends out out1 octets × IfSome all (Runs failed 0 (settings_in text) end octets) → Finishes failed exit 0 report_options text all out out1 err err2
 tells_end failed exit stderr_ok end report_options text all out out1 err err1 err2 e s m h = (end, e, (s.0, s.1, s.2, s.3, says_more stderr_ok exit.stderr_ok err err1 err2 s.1 (stderr_of end) s.4 m), h)
 
--- of no job is anything told
+-- no job is reported
 pub quiet_end : (failed : Type 0) (exit : Exit) (end : Result Bool ProgramFault) (workers : ℕ) (report_options : ReportOptions) (text : List ℕ) (all out out1 err err1 : Option (List ℕ)) → exit.status ≡ status_of end → WritesTo exit.stderr_ok err err1 (stderr_of end)
     → (octets : List ℕ) × Appends out out1 octets × IfSome all (Runs failed workers (settings_in text) end octets) → Finishes failed exit workers report_options text all out out1 err err1
 quiet_end failed exit end workers report_options text all out out1 err err1 e m h = (end, e, ([], [], tt, refl, m), h)
@@ -110,11 +110,11 @@ pub settings_end : (failed : Type 0) (exit : Exit) (fault : ProgramFault) (worke
     → Finishes failed exit workers report_options text all out out err err1
 settings_end failed exit fault workers report_options text all out err err1 e m h = quiet_end failed exit (Err fault) workers report_options text all out out err err1 e m ([], appends_none out, settings_out failed workers fault (settings_in text) all h)
 
--- want of memory before anything is read
+-- out of memory before anything is read
 pub memory_ends : (failed : Type 0) (exit : Exit) (workers : ℕ) (report_options : ReportOptions) (text : List ℕ) (all out err err1 : Option (List ℕ)) → exit.status ≡ 2 → WritesTo exit.stderr_ok err err1 (fault_line (codes "pdregress") (Serving OutOfMemory)) → Finishes failed exit workers report_options text all out out err err1
 memory_ends failed exit workers report_options text all out err err1 e h = (Err (Serving OutOfMemory), e, ([], [], tt, refl, h), ([], appends_none out, memory_runs failed workers (settings_in text) all))
 
--- the same run, by equal words
+-- the same run, by equal arguments
 pub finishes_by : (failed : Type 0) (exit : Exit) (n m : ℕ) (a b : ReportOptions) (t u : List ℕ) (all out out1 err err1 : Option (List ℕ)) → n ≡ m → a ≡ b → t ≡ u → Finishes failed exit n a t all out out1 err err1 → Finishes failed exit m b u all out out1 err err1
 finishes_by failed exit n m a b t u all out out1 err err1 e f g h =
     subst (λ (x : ℕ). Finishes failed exit x b u all out out1 err err1) e (subst (λ (x : ReportOptions). Finishes failed exit n x u all out out1 err err1) f (subst (λ (x : List ℕ). Finishes failed exit n a x all out out1 err err1) g h))

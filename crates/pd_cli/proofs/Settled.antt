@@ -19,7 +19,7 @@ use Rattle.pd_protocol.specs.declared.faults.ServeFault.TheVariants.{HistoryFull
 use Rattle.pd_cli.specs.Output.{acted}
 use Rattle.pd_cli.specs.Steps.{RepliesTo, IsQuiet, Turns, SettlesTo}
 
--- the settling of a first story goes on from this one, with enough turns
+-- the settling of a first history goes on from this one, with enough turns
 abbrev pub GoesOn : History → History → Type 0
 GoesOn first history = (turns : ℕ) × (owed history.opening history.past ≤ turns) × (settled first ≡ settled_in turns history)
 

@@ -1,4 +1,4 @@
--- What a book writes that serves alone.
+-- The octets that are written of a book that serves alone.
 use Rattle.std.proofs.Common.{◌≡◌, inl, inr, ℕ, Bool, List, [], ◌∷◌, ◌++◌, Option, Some, None, option_map, Result, Ok, Err, refl, sym, ap, subst, ◌∙◌, append_assoc, append-nil, IfSome}
 use Rattle.pd_settings.specs.declared.settings.Settings.{Settings}
 use Rattle.pd_settings.specs.declared.keys.Key.{Key}

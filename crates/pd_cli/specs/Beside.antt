@@ -1,5 +1,5 @@
--- What serving writes, with workers or without. Which rows of a `show` are pending and when the history is full depends on
--- the workers; all else on the commands accepted so far alone, told as a story in which no job is started.
+-- The octets that serving writes, with workers or without. Which rows of a `show` are pending and when the history is full
+-- depends on the workers; all else on the commands accepted so far alone, as a history in which no job is started.
 use Rattle.std.specs.Prelude.{◌≡◌, ◌⊎◌, ℕ, Bool, List, [], ◌∷◌, ◌++◌, Option, Some, None, option_map, Result, Ok, Err, IfSome}
 use Rattle.std.specs.Io.KnownBytes.{Appends}
 use Rattle.pd_settings.specs.declared.settings.Settings.{Settings}
@@ -26,7 +26,7 @@ use Rattle.pd_cli.specs.Sessions.{PrintsAll}
 abbrev pub from_scratch : History → ReportView
 from_scratch history = scratch (texts history.past) (now history.opening history.past)
 
--- it is the report from scratch, in the grammar's words
+-- it is the report from scratch, by the grammar
 abbrev pub IsScratchOf : History → ReportView → Type 0
 IsScratchOf history = IsFromScratch (texts history.past) (now history.opening history.past)
 
@@ -34,14 +34,14 @@ IsScratchOf history = IsFromScratch (texts history.past) (now history.opening hi
 abbrev pub IsPartOf : History → ReportView → Type 0
 IsPartOf history report = (report.settings ≡ now history.opening history.past) × RowsAreOfWhole history.opening history.past report
 
--- what an act prints, and the story after it: where there is a reason to refuse it, a full history apart, that refusal;
+-- what an act prints, and the history after it: where there is a reason to refuse it, a full history apart, that refusal;
 -- else it is accepted, or refused for a full history
 abbrev pub MayAct : History → Option BookFault → Option Act → List ℕ → History → Type 0
 MayAct history (Some fault) act octets next = (octets ≡ refused fault) × (next ≡ history)
 MayAct history None (Some act) octets next = ((octets ≡ []) × (next ≡ after_act history act)) ⊎ ((octets ≡ refused book.HistoryFull) × (next ≡ history))
 MayAct history None None octets next = ⊥
 
--- what a command may print, and the story after it; lines that alone are over the limits of a text are refused before
+-- what a command may print, and the history after it; lines that alone are over the limits of a text are refused before
 -- all else
 abbrev pub MayPrint : History → Command → List ℕ → History → Type 0
 MayPrint history (Add name None) octets next = MayAct history (Some book.TooLarge) None octets next
@@ -54,7 +54,7 @@ MayPrint history (Set key value) octets next =
 MayPrint history Show octets next = ((report : ReportView) × IsPartOf history report × (octets ≡ rendered report)) × (next ≡ history)
 MayPrint history Settle octets next = ((report : ReportView) × IsScratchOf history report × (octets ≡ rendered report)) × (next ≡ history)
 
--- what items may print, one after another, and the story after them
+-- what items may print, one after another, and the history after them
 abbrev pub MayPrintAll : History → List InputItem → List ℕ → History → Type 0
 MayPrintAll = PrintsAll MayPrint
 

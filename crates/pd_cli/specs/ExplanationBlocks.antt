@@ -1,4 +1,4 @@
--- What is written of jobs that are looked into.
+-- The blocks that are written of jobs that are looked into.
 use Rattle.std.specs.Prelude.{◌≡◌, ℕ, ◌==◌, ◌||◌, Bool, false, List, [], ◌∷◌, ◌++◌, length, bytes_eq}
 use Rattle.std.specs.List.{list_any}
 use Rattle.pd_cli.specs.StepLines.{FinishedJob}

@@ -1,4 +1,4 @@
--- What serving writes without workers, in the words of the grammar; a law says that the output is it.
+-- The octets that serving writes without workers, by the grammar; a law says that they are the output.
 use Rattle.std.specs.Prelude.{◌≡◌, ◌⊎◌, ℕ, Bool, List, [], ◌∷◌, ◌++◌, All, is_some, Option, None, Result, Ok, Err, IfSome}
 use Rattle.std.specs.Io.KnownBytes.{Appends}
 use Rattle.pd_settings.specs.declared.settings.Settings.{Settings}
@@ -23,7 +23,7 @@ use Rattle.pd_cli.specs.Sessions.{PrintsAll, PrintsFirst}
 abbrev pub IsReportOf : History → ReportView → Type 0
 IsReportOf history report = IsPartOf history report × All (λ (row : Row). is_some row.verdict ≡ answered history.past row.name) report.rows
 
--- starts and their finishes by turns lead to a story after which no script waits
+-- starts and their finishes by turns lead to a history after which no script waits
 abbrev pub SettlesTo : History → History → Type 0
 SettlesTo history after = (turns : ℕ) × (settled_in turns history ≡ Ok after) × (next_job after ≡ None)
 
@@ -31,7 +31,7 @@ SettlesTo history after = (turns : ℕ) × (settled_in turns history ≡ Ok afte
 abbrev pub IsRefusedStart : History → Type 0
 IsRefusedStart history = (turns : ℕ) × (fault : BookFault) × (settled_in turns history ≡ Err fault)
 
--- what a command prints, and the story after it
+-- what a command prints, and the history after it
 abbrev pub Prints : History → Command → List ℕ → History → Type 0
 Prints history Show octets next = ((report : ReportView) × IsReportOf history report × (octets ≡ rendered report)) × (next ≡ history)
 Prints history Settle octets next = ((report : ReportView) × IsScratchOf history report × (octets ≡ rendered report)) × SettlesTo history next
@@ -50,7 +50,7 @@ WritesUpTo fault octets history items = (now : History) × (left : List InputIte
 abbrev pub WritesPart : List ℕ → History → List InputItem → Type 0
 WritesPart octets history items = (more : List ℕ) × (now : History) × (left : List InputItem) × PrintsFirst Prints history items (octets ++ more) now left
 
--- these octets are written for items after a story, and this is how it ends
+-- these octets are written for items after a history, and this is how it ends
 abbrev pub Writes : Result Bool ServeFault → List ℕ → History → List InputItem → Type 0
 Writes (Ok passed) octets history items =
     (after : History) × (report : ReportView) × PrintsAll Prints history items octets after × IsReportOf after report × (passed ≡ all_pass report)

@@ -1,4 +1,4 @@
--- What holds of each story that serving goes through, and of each report that it prints.
+-- The laws of each history that serving goes through, and of each report that it prints.
 use Rattle.std.specs.Prelude.{◌≡◌, ◌↔◌, ℕ, Bool, List, [], ◌∷◌, Result, Ok}
 use Rattle.pd_settings.specs.declared.settings.Settings.{Settings}
 use Rattle.pd_book.specs.Acts.{texts, now}
@@ -15,17 +15,17 @@ use Rattle.pd_cli.specs.Grammatical.{Writes}
 use Rattle.pd_cli.specs.Sessions.{PrintsFirst}
 use Rattle.pd_cli.specs.Beside.{from_scratch, MayPrint}
 
--- serving this input comes to a story, with these octets written and these items still to come
+-- serving this input comes to a history, with these octets written and these items still to come
 abbrev pub Reaches : Settings → List ℕ → List ℕ → History → List InputItem → Type 0
 Reaches settings input octets history rest = PrintsFirst PrintsAlone (record { opening = settings; past = [] }) (commands input) octets history rest
 
--- the output is what was written up to a story, then the outcome of what is still to come
+-- the output is what was written up to a history, then the outcome of what is still to come
 abbrev pub OutputGoesOn : Type 0
 OutputGoesOn =
     (settings : Settings) → (input octets : List ℕ) → (history : History) → (rest : List InputItem) → Reaches settings input octets history rest
     → output settings input ≡ ahead octets (outcome history rest)
 
--- each story that serving comes to is legal, with no job outstanding
+-- each history that serving comes to is legal, with no job outstanding
 abbrev pub StoriesAreLegal : Type 0
 StoriesAreLegal =
     (settings : Settings) → (input octets : List ℕ) → (history : History) → (rest : List InputItem) → Reaches settings input octets history rest
@@ -44,7 +44,7 @@ abbrev pub ShowsPrintPart : Type 0
 ShowsPrintPart =
     (history : History) → (effect history Show ≡ Ok (rendered (report history), history)) × RowsAreOfScratch history.opening history.past (report history)
 
--- both stories have the same scripts under the same settings
+-- both histories have the same scripts under the same settings
 abbrev pub HaveSame : History → History → Type 0
 HaveSame history other = (texts history.past ≡ texts other.past) × (now history.opening history.past ≡ now other.opening other.past)
 
@@ -62,7 +62,7 @@ SessionsArePossibleBeside =
     (settings : Settings) → (input octets : List ℕ) → (history : History) → (rest : List InputItem) → Reaches settings input octets history rest
     → (accepted : History) × PrintsFirst MayPrint (record { opening = settings; past = [] }) (commands input) octets accepted rest × HaveSame history accepted
 
--- what is written in the words of the grammar is just the output of the input
+-- the octets that are written by the grammar are just the output of the input
 abbrev pub WritesAreOutput : Type 0
 WritesAreOutput =
     (settings : Settings) → (input octets : List ℕ) → (end : Result Bool ServeFault)

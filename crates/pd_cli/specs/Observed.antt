@@ -18,29 +18,29 @@ IsOfJob handed job = (job.number ≡ handed.task.number) × (job.name ≡ handed
 abbrev pub IsOfTurn : History → FinishedJob → Type 0
 IsOfTurn history job = (handed : JobView) × (next_job history ≡ Some handed.task) × IsOfJob handed job
 
--- they are the jobs of the turns from one story to another, one each
+-- they are the jobs of the turns from one history to another, one each
 abbrev pub AreOfTurns : History → List FinishedJob → History → Type 0
 AreOfTurns history [] after = after ≡ history
 AreOfTurns history (job ∷ jobs) after =
     (handed : JobView) × (next_job history ≡ Some handed.task) × IsOfJob handed job × AreOfTurns (after_turn history handed.task) jobs after
 
--- a listener was told of these jobs, one after another, and of no others
+-- an observer was given these jobs, one after another, and no others
 abbrev pub ObservesAll : {S : Type 0} → (S → S → FinishedJob → Type 0) → S → S → List FinishedJob → Type 0
 ObservesAll observes old new [] = new ≡ old
 ObservesAll {S = S} observes old new (job ∷ jobs) = (next : S) × observes old next job × ObservesAll observes next new jobs
 
--- a listener was told of the job of a turn where there was one
+-- an observer was given the job of a turn where there was one
 abbrev pub ObservesTurn : {S : Type 0} → (S → S → FinishedJob → Type 0) → Result Bool ServeFault → History → S → S → Type 0
 ObservesTurn observes (Ok true) history old new = (job : FinishedJob) × IsOfTurn history job × observes old new job
 ObservesTurn observes (Ok false) history old new = new ≡ old
 ObservesTurn observes (Err fault) history old new = new ≡ old
 
--- a listener was told of the job of each turn of settling
+-- an observer was given the job of each turn of settling
 abbrev pub ObservesSettling : {S : Type 0} → (S → S → FinishedJob → Type 0) → Result (Unit {0}) ServeFault → History → History → S → S → Type 0
 ObservesSettling observes result history after old new =
     (jobs : List FinishedJob) × (reached : History) × AreOfTurns history jobs reached × ObservesAll observes old new jobs × OnOk result (reached ≡ after)
 
--- a listener was told of jobs that are numbered from the last job of the story before on, and, where all went well, of as
+-- an observer was given jobs that are numbered from the last job of the history before on, and, where all went well, as
 -- many as were started
 abbrev pub ObservesNumbered : {S V : Type 0} → (S → S → FinishedJob → Type 0) → Result V ServeFault → History → History → S → S → Type 0
 ObservesNumbered observes result history after old new =

@@ -1,4 +1,4 @@
--- What serving writes, and how it ends.
+-- The octets that serving writes, and how it ends.
 use Rattle.std.specs.Prelude.{◌≡◌, ℕ, Bool, List, [], ◌∷◌, ◌++◌, codes, Option, Some, None, option_map, Result, Ok, Err}
 use Rattle.std.specs.List.{list_all}
 use Rattle.pd_settings.specs.declared.settings.Settings.{Settings}
@@ -25,7 +25,7 @@ use Rattle.pd_cli.specs.declared.report_text.RowKind.TheVariants as row_kind
 abbrev pub refused : BookFault → List ℕ
 refused fault = codes "refused " ++ fault_text fault ++ codes "\n"
 
--- the report as it stands after a story
+-- the report as it stands after a history
 abbrev pub report : History → ReportView
 report history = shown history.opening history.past
 
@@ -33,18 +33,18 @@ report history = shown history.opening history.past
 abbrev pub all_pass : ReportView → Bool
 all_pass printed = list_all (λ (row : Row). is_of row_kind.Pass row.verdict) printed.rows
 
--- what an act prints, and the story after it: nothing is printed for an accepted one, which is told
+-- an act prints these octets, with the history after it: none for an accepted one, which is recorded
 abbrev pub acted : History → Option BookFault → Option Act → List ℕ × History
 acted history (Some fault) act = (refused fault, history)
 acted history None (Some act) = ([], after_act history act)
 acted history None None = ([], history)
 
--- the report of a story that was settled, with the story; a start without room ends the run
+-- the report of a history that was settled, with the history; a start without room ends the run
 abbrev pub reported : Result History BookFault → Result (List ℕ × History) ServeFault
 reported (Ok history) = Ok (rendered (report history), history)
 reported (Err fault) = Err HistoryFull
 
--- what an act prints that a command asks for, and the story after it; lines that alone are over the limits of a text are
+-- what an act prints that a command asks for, and the history after it; lines that alone are over the limits of a text are
 -- refused before all else
 abbrev pub done : History → Command → List ℕ × History
 done history (Add name None) = acted history (Some book.TooLarge) None
@@ -55,13 +55,13 @@ done history (Remove name) = acted history (remove_refusal history name) (Some (
 done history (Set key value) = acted history (set_refusal history key value) (option_map (λ k. act.Set k value) (key_named key))
 done history command = ([], history)
 
--- what a command prints, and the story after it, or the fault that ends the run
+-- what a command prints, and the history after it, or the fault that ends the run
 abbrev pub effect : History → Command → Result (List ℕ × History) ServeFault
 effect history Show = Ok (rendered (report history), history)
 effect history Settle = reported (settled history)
 effect history command = Ok (done history command)
 
--- what a command prints, and the story after it, where no fault ends the run
+-- what a command prints, and the history after it, where no fault ends the run
 abbrev pub PrintsAlone : History → Command → List ℕ → History → Type 0
 PrintsAlone history command octets next = effect history command ≡ Ok (octets, next)
 
@@ -79,7 +79,7 @@ abbrev pub follow : Result (List ℕ × History) ServeFault → (History → Ses
 follow (Ok done) rest = ahead done.0 (rest done.1)
 follow (Err fault) rest = record { written = []; end = Err fault }
 
--- the session that an input gives, after a story
+-- the session that an input gives, after a history
 abbrev pub outcome : History → List InputItem → Session
 outcome history [] = record { written = []; end = Ok (all_pass (report history)) }
 outcome history (stops fault ∷ items) = record { written = []; end = Err fault }

@@ -1,4 +1,4 @@
--- What the program writes, and its status.
+-- The output of the program, and its status.
 use Rattle.std.specs.Prelude.{◌≡◌, ℕ, suc, zero, Bool, true, false, ◌⊎◌, List, [], ◌++◌, codes, Option, Some, Result, Ok, Err, IfSome}
 use Rattle.std.specs.Io.KnownBytes.{Appends}
 use Rattle.pd_settings.specs.declared.settings.Settings.{Settings}
@@ -18,7 +18,7 @@ use Rattle.pd_cli.specs.Grammatical.{Writes}
 use Rattle.pd_cli.specs.StepLines.{FinishedJob, AreNumbered}
 use Rattle.pd_cli.specs.Reported.{AreReported}
 
--- what the number of workers adds: without any just the output of the input is written, in the grammar's words; beside some no
+-- the number of workers adds this: without any just the output of the input is written, by the grammar; beside some no
 -- settle ends for a full history
 abbrev pub ServedBy : ℕ → Settings → Result Bool ServeFault → List ℕ → List ℕ → Type 0
 ServedBy zero settings end octets input = Writes end octets (record { opening = settings; past = [] }) (commands input)
@@ -30,7 +30,7 @@ Served failed workers settings end octets input =
     MayAnswer end octets (record { opening = settings; past = [] }) (commands input) × ServedBy workers settings end octets input × HasCause end failed (Some input)
 
 -- where the settings are good the input is served with them and so many workers; where they are not, nothing is written,
--- and the run ends with their fault or for want of memory
+-- and the run ends with their fault or out of memory
 abbrev pub Runs : Type 0 → ℕ → Result Settings ProgramFault → Result Bool ProgramFault → List ℕ → List ℕ → Type 0
 Runs failed workers (Ok settings) (Ok passed) octets input = Served failed workers settings (Ok passed) octets input
 Runs failed workers (Ok settings) (Err (Serving fault)) octets input = Served failed workers settings (Err fault) octets input
@@ -53,8 +53,8 @@ abbrev pub stderr_of : Result Bool ProgramFault → List ℕ
 stderr_of (Ok passed) = []
 stderr_of (Err fault) = fault_line (codes "pdregress") fault
 
--- a run with so many workers and this settings text came to an end with its status, told what was asked of some jobs, which
--- are numbered from 1 on, then said what the end has to say, and wrote what belongs to it, where a read failed or none did
+-- a run with so many workers and this settings text came to an end with its status, reported some jobs as it was asked, which
+-- are numbered from 1 on, then wrote the line of its end, and the output that belongs to it, where a read failed or none did
 abbrev pub Finishes : Type 0 → Exit → ℕ → ReportOptions → List ℕ → Option (List ℕ) → Option (List ℕ) → Option (List ℕ) → Option (List ℕ) → Option (List ℕ) → Type 0
 Finishes failed exit workers report_options text input out_before out_after err_before err_after =
     (end : Result Bool ProgramFault) × (exit.status ≡ status_of end)

@@ -1,4 +1,4 @@
--- What is reported of finished jobs, as it is asked for.
+-- The reports of finished jobs, as they are asked for.
 use Rattle.std.specs.Prelude.{◌≡◌, ℕ, true, false, List, [], ◌∷◌, ◌++◌, Option, Some, None, if◌then◌else◌}
 use Rattle.pd_protocol.specs.ChosenOptions.{ReportOptions}
 use Rattle.pd_cli.specs.StepLines.{FinishedJob, step_line, step_lines}

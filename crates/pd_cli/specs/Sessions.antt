@@ -1,5 +1,5 @@
--- A session: the commands of an input are answered one after another. What a command may print, why it may have no reply, and
--- whether each row of the last report passes, is handed in, from state to state of whoever answers.
+-- A session: the commands of an input are answered one after another. The octets that a command may print, why it may have no
+-- reply, and whether each row of the last report passes, are handed in, from state to state of the handler.
 use Rattle.std.specs.Prelude.{◌≡◌, ◌⊎◌, ℕ, Bool, List, [], ◌∷◌, ◌++◌, Option, Result, Ok, Err, IfSome}
 use Rattle.std.specs.Io.KnownBytes.{Appends}
 use Rattle.pd_protocol.specs.Commands.{InputItem, does, stops, commands}

@@ -1,4 +1,4 @@
--- The jobs that serving finishes, as they are told one by one.
+-- The jobs that serving finishes, as they are reported one by one.
 use Rattle.std.specs.Prelude.{◌≡◌, ℕ, ◌+◌, List, [], ◌∷◌, ◌++◌, codes}
 use Rattle.std.specs.Fmt.{decimal}
 

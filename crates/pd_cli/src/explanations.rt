@@ -15,8 +15,8 @@ use pd_run::Verdict;
 use pd_text::Name;
 use std::alloc::{AllocError, Global};
 
-/// What is written of a job: nothing where its script isn't among those that are looked into, or where it passes and ends
-/// aren't asked for.
+/// The block that is written of a job: nothing where its script isn't among those that are looked into, or where it passes
+/// and ends aren't asked for.
 ///
 /// # Errors
 /// `AllocError` where a growth is refused.
@@ -52,7 +52,7 @@ fn reason_of(alloc: Global, json: bool, done: &Done) -> Result<Vec<u8>, AllocErr
     }
 }
 
-/// What a job that passes leaves at its end, where that is asked for.
+/// The leftovers at the end of a job that passes, where they are asked for.
 fn leftovers_of(
     alloc: Global,
     explain_options: &ExplainOptions<'_>,

@@ -1,4 +1,4 @@
-//! Who answers commands: a book, or a seat at a desk.
+//! Handlers of commands: a book, or a seat at a desk.
 use pd_protocol::{Command, ServeFault};
 use pd_settings::Value;
 use pd_text::{LineEdit, Lines, Name};
@@ -13,7 +13,7 @@ pub(crate) trait CommandHandler {
     /// It may be given a command.
     ghost is_ready: { Self → Type 0 };
 
-    /// What a command may print, and how it stands then.
+    /// The octets that a command may print, and the state after it.
     ghost prints: { Self → Command → List ℕ → Self → Type 0 };
 
     /// Why a command may have no reply, and how it stands then.
@@ -22,7 +22,7 @@ pub(crate) trait CommandHandler {
     /// Each row of the report passes that a settle has printed.
     ghost passes: { Self → Bool };
 
-    /// What it allocates by.
+    /// The allocator.
     fn alloc(&self) -> Global;
 
     /// Adds a script.

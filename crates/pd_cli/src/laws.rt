@@ -1,13 +1,13 @@
-//! What the definitions say of each story that serving goes through and of each report that it prints; the functions
+//! The laws of each history that serving goes through and of each report that it prints; the functions
 //! do nothing.
 ghost use Rattle.pd_cli.specs.Reported.{NothingIsReported, StepsAreReported, BlocksAreReported};
 ghost use Rattle.pd_cli.specs.Laws.{OutputGoesOn, StoriesAreLegal, SettlesPrintScratch, ShowsPrintPart, AloneIsPossibleBeside, SessionsArePossibleBeside, WritesAreOutput};
 
 use pd_book::{law_accepting, law_headline, law_settling};
 
-/// Each story that serving comes to is legal. A settle leaves nothing pending and the same scripts and settings, and
-/// prints their report from scratch; in a report that a show prints each row is pending or that from scratch. What
-/// commands print they may print beside workers too. What is written in the words of the grammar is just the output.
+/// Each history that serving comes to is legal. A settle leaves nothing pending and the same scripts and settings, and
+/// prints their report from scratch; in a report that a show prints each row is pending or that from scratch. The octets
+/// that commands print they may print beside workers too. The octets that are written by the grammar are just the output.
 pub fn law_reports()
     ensures output { OutputGoesOn }
     ensures legal { StoriesAreLegal }

@@ -12,14 +12,14 @@ use pd_settings::Value;
 use pd_text::{LineEdit, Lines, Name};
 use std::alloc::{AllocError, Global};
 
-/// A book, with who hears of its jobs.
+/// A book, with the observer of its jobs.
 #[derive(Drop)]
 pub(crate) struct LocalHandler<L> {
-    /// What it allocates by.
+    /// The allocator.
     pub alloc: Global,
     /// The book.
     pub book: Book,
-    /// Who hears of each job as it is finished.
+    /// It is given each job as it is finished.
     pub observer: L,
 }
 
@@ -75,7 +75,7 @@ impl<L: JobObserver> CommandHandler for LocalHandler<L> {
     }
 }
 
-/// What an answer of the book prints: nothing, or the line of a refusal.
+/// The reply to an answer of the book: nothing, or the line of a refusal.
 fn reply(alloc: Global, answer: Result<(), BookFault>) -> Result<Vec<u8>, ServeFault>
     ensures reply { IfOk result (λ octets. RepliesTo answer octets.items) }
     ensures only { IfErr result (λ fault. fault ≡ ServeFault.OutOfMemory) }

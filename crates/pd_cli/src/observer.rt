@@ -1,10 +1,10 @@
-//! Who hears of each job as it is finished.
+//! Observers of each job as it is finished.
 ghost use Rattle.std.specs.Prelude.{◌≡◌};
 
 use pd_book::Done;
 use std::alloc::AllocError;
 
-/// Is told of each job as it is finished.
+/// Is given each job as it is finished.
 pub(crate) trait JobObserver {
     ghost use Rattle.std.specs.Prelude.{◌≡◌, OnOk, OnErr};
     ghost use Rattle.pd_cli.specs.StepLines.{FinishedJob};

@@ -1,4 +1,4 @@
-//! The whole program, over words, a reader and two writers.
+//! The whole program, over arguments, a reader and two writers.
 ghost use Rattle.std.specs.Prelude.{◌≡◌, ◌≢◌, ◌≤◌, ℕ, List, [], map};
 ghost use Rattle.pd_protocol.specs.ChosenOptions.{ReportOptions, report_options, report_options_of};
 ghost use Rattle.pd_protocol.specs.OptionTable.{pdregress, settings_text, worker_count, refusals};
@@ -31,8 +31,9 @@ use std::thread::Threads;
 /// The program's own name, by which it says its faults.
 pub const PROGRAM: &str = "pdregress";
 
-/// Runs the program on its words, of which the first is its own name. Words that `clap` refuses, and `--help`, print
-/// its own text on `err`, with the status 2. It starts threads where the words ask for workers, and no others.
+/// Runs the program on its arguments, of which the first is its own name. For arguments that `clap` refuses, and for
+/// `--help`, it prints `clap`'s own text on `err`, with the status 2. It starts threads where the arguments ask for
+/// workers, and no others.
 pub fn run<H: Threads + Wait + Sync, S: AsStr, R: InputStream, W: Write, E: Write>(
     rt: &H,
     alloc: Global,
@@ -56,8 +57,8 @@ pub fn run<H: Threads + Wait + Sync, S: AsStr, R: InputStream, W: Write, E: Writ
     run_beside(rt, alloc, &chosen, reader, out, err)
 }
 
-/// Runs the program without workers: it serves the input, tells what the options ask for, and says at the end why it doesn't
-/// go on. After what can't be written nothing more is. It starts no thread.
+/// Runs the program without workers: it serves the input, reports what the options ask for, and prints at the end why it
+/// doesn't go on. After a failed write it writes nothing more. It starts no thread.
 pub fn run_alone<R: InputStream, W: Write, E: Write>(
     alloc: Global,
     options: &Options<'_>,
@@ -81,8 +82,8 @@ pub fn run_alone<R: InputStream, W: Write, E: Write>(
     }
 }
 
-/// Serves the input alone and tells on a writer what the options ask for. It hands the writer back, with whether all was
-/// said.
+/// Serves the input alone and reports on a writer what the options ask for. It hands the writer back, with whether all was
+/// written.
 fn serve_and_report<'a, R: InputStream, W: Write, E: Write>(
     alloc: Global,
     options: &Options<'_>,

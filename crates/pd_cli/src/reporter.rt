@@ -1,4 +1,4 @@
-//! A writer that hears of each finished job what the options ask for: its steps, and why it doesn't pass.
+//! A writer that reports of each finished job what the options ask for: its steps, and why it doesn't pass.
 ghost use Rattle.std.specs.Prelude.{◌≡◌, ◌++◌, IfOk, OnOk};
 ghost use Rattle.pd_protocol.specs.ChosenOptions.{report_options_of};
 ghost use Rattle.pd_cli.specs.StepLines.{FinishedJob, step_line};
@@ -12,16 +12,16 @@ use pd_text::Name;
 use std::alloc::{AllocError, Global};
 use std::io::Write;
 
-/// A writer that hears of each job.
+/// A writer that reports each job.
 #[derive(Drop)]
 pub(crate) struct Reporter<'a, 'b, E> {
-    /// What is reported is allocated by this.
+    /// The allocator of the reports.
     pub alloc: Global,
     /// Where it is written.
     pub err: &'a mut E,
-    /// What is reported of each job.
+    /// The options, which say what to report of each job.
     pub options: &'b Options<'b>,
-    /// Whether all that was told is on the writer. After what couldn't be written nothing more is reported.
+    /// Whether all reports are on the writer. After a failed write nothing more is reported.
     pub stderr_ok: bool,
 }
 
@@ -42,7 +42,7 @@ impl<'a, 'b, E: Write> JobObserver for Reporter<'a, 'b, E> {
     }
 }
 
-/// What is reported of a job: its line of steps where these are asked for, then its block where explanations are.
+/// The report of a job: its line of steps where these are asked for, then its block where explanations are.
 fn report_of(
     alloc: Global,
     options: &Options<'_>,

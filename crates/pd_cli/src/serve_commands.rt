@@ -22,7 +22,7 @@ use std::sync::Wait;
 
 /// Serves the commands of a reader, to its end, with a book that begins with these settings and keeps at most `cache`
 /// tracks: 1 to 1,024.
-/// It writes the output of what it reads, and tells whether each row of the last report passes.
+/// It writes the output of the commands that it reads, and returns whether each row of the last report passes.
 ///
 /// # Errors
 /// `BadCommand` and `Truncated` where they are in the input, `HistoryFull` where a settling has no
@@ -51,10 +51,10 @@ pub fn serve_alone<R: InputStream, W: Write>(
 }
 
 /// Serves the commands of a reader, to its end, at a seat of a new desk that was opened with these settings. A `settle`
-/// waits until nothing is owed. It tells whether each row of the last report passes.
+/// waits until nothing is owed. It returns whether each row of the last report passes.
 ///
 /// It keeps a copy of the scripts and the settings, as the accepted commands make them, and compares it with each reply of
-/// the desk (a full history and want of memory apart) and with each report.
+/// the desk (unless that is a full history or out of memory) and with each report.
 ///
 /// # Errors
 /// `BadCommand` and `Truncated` where they are in the input, `NoWorkers` where a script is owed its verdict and all
@@ -86,7 +86,7 @@ pub fn serve_seat<H: Wait, R: InputStream, W: Write>(
 /// Serves to the end of the input: takes a command, asks for its reply, writes it.
 ///
 /// # Errors
-/// What the input, the answerer or the writer stops at. What was written before stays.
+/// The fault of the input, the handler or the writer. The octets that were written before it stay.
 pub(crate) fn serve_all<A: CommandHandler, R: InputStream, W: Write>(
     handler: &mut A,
     reader: &mut R,

@@ -13,7 +13,7 @@ use pd_protocol::{Command, ServeFault};
 use pd_run::{Plain, Stepper};
 use std::alloc::{AllocError, Global};
 
-/// What the book's laws say of settling it; the function does nothing.
+/// The book's laws of settling it; the function does nothing.
 fn law_at_rest(book: &Book)
     requires { IsQuiet book.now.history }
     ensures turns { TurnsSettle book.now.history.opening book.now.history.past }
@@ -23,7 +23,7 @@ fn law_at_rest(book: &Book)
     law_settling();
 }
 
-/// Starts and finishes one job, of which a listener is told; false says that nothing is owed.
+/// Starts and finishes one job, and gives it to an observer; false says that nothing is owed.
 fn turn<L: JobObserver>(
     alloc: Global,
     book: &mut Book,
@@ -51,7 +51,7 @@ fn turn<L: JobObserver>(
     }
 }
 
-/// Settles a book; a listener hears of the job of each turn.
+/// Settles a book, and gives an observer the job of each turn.
 fn settle<L: JobObserver>(
     alloc: Global,
     book: &mut Book,
@@ -79,10 +79,10 @@ pub fn show(alloc: Global, book: &Book) -> Result<(Vec<u8>, bool), AllocError>
     Ok((octets, all_pass(&report)))
 }
 
-/// Settles a book, and gives its report as `show` does; a listener hears of each job.
+/// Settles a book, and gives its report as `show` does, and an observer each job.
 ///
 /// # Errors
-/// `HistoryFull` where the history has no room for a start; `OutOfMemory` where a start, a job, the listener or the report
+/// `HistoryFull` where the history has no room for a start; `OutOfMemory` where a start, a job, the observer or the report
 /// finds no memory.
 pub fn settle_and_show<L: JobObserver>(
     alloc: Global,

@@ -23,9 +23,9 @@ use std::sync::Wait;
 /// A seat at a desk, with its own copy.
 #[derive(Drop)]
 pub(crate) struct SharedHandler<'a, H> {
-    /// What it waits by.
+    /// It waits by this.
     pub rt: &'a H,
-    /// What it allocates by.
+    /// The allocator.
     pub alloc: Global,
     /// The desk.
     pub desk: &'a Desk,
@@ -129,7 +129,7 @@ fn last_edit(seat: &Seat) -> Result<(Name, SharedEdit), ServeFault>
     }
 }
 
-/// What an act prints that the desk accepted: nothing, where the own copy accepts it too.
+/// The reply to an act that the desk accepted: nothing, where the own copy accepts it too.
 fn accepted(alloc: Global, own: Result<(), BookFault>) -> Result<Vec<u8>, ServeFault>
     ensures none { IfOk result (λ octets. octets.items ≡ []) }
     ensures too { IfOk result (λ _. IsOk own) }

@@ -59,8 +59,8 @@ fn law_returned<R, W>(reader: &mut R, writer: &mut W)
     ensures { (reader.new ≡ reader.old) × (writer.new ≡ writer.old) }
 {}
 
-/// What is done beside workers. Of what a closure wrote into its captures a scope says nothing, but it says what is
-/// returned, and so what this gives.
+/// A task that is done beside workers. A scope says nothing of the values that a closure wrote into its captures, but it
+/// says what is returned, and so what this gives.
 trait ScopedTask {
     type Output;
 
@@ -77,9 +77,9 @@ trait ScopedTask {
 /// Serving at a seat.
 #[derive(Drop)]
 struct SeatServing<'a, H, R, W> {
-    /// What it waits by.
+    /// It waits by this.
     rt: &'a H,
-    /// What it allocates by.
+    /// The allocator.
     alloc: Global,
     /// The desk.
     desk: &'a Desk,

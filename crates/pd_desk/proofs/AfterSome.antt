@@ -1,4 +1,4 @@
--- What holds of a story and the one after it holds of some.
+-- A property of a history and the one after it is one of some such two.
 use Rattle.std.proofs.Common.{◌≡◌, Bool, true, false, refl, subst, Result, Ok, Err, OnErr}
 use Rattle.std.specs.Prelude.{◌≢◌, ◌↔◌, IsTrue, is_ok}
 use Rattle.pd_book.specs.Legal.{Legal}
@@ -9,7 +9,7 @@ use Rattle.pd_desk.specs.Internal.{Compared}
 use Rattle.pd_book.specs.declared.faults.FinishFault.{FinishFault}
 use Rattle.pd_book.specs.declared.faults.FinishFault.TheVariants as finish
 
--- unless the reply is want of memory, as it holds of these two
+-- unless the reply is out of memory, as it holds of these two
 pub after_some : {T Fault : Type 0} → (want : Fault) → (reply : Result T Fault) → (P : History → History → Type 0) → (before after : History)
     → Legal before.opening before.past → Unless want reply (P before after) → Unless want reply (AfterSome P)
 after_some want (Ok x) P before after legal holds = (before, after, legal, holds)

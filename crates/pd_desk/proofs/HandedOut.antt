@@ -1,4 +1,4 @@
--- What a start hands out.
+-- The job that a start hands out.
 use Rattle.std.proofs.Common.{Option, Some, None, Result, Ok, Err, IfOk, IfSome, sym}
 use Rattle.pd_book.specs.declared.faults.BookFault.{BookFault}
 use Rattle.pd_book.specs.declared.faults.BookFault.TheVariants.{OutOfMemory}

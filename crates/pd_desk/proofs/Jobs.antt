@@ -119,7 +119,7 @@ worked_on s m s' w e = record { acts = w.acts; jobs = w.jobs; now = e ∙ w.now 
 pub left_of : (s s' : SeatView) → Worked s s' → Left s s'
 left_of s s' w = record { acts = w.acts; jobs = begun w.acts w.jobs; now = w.now }
 
--- a worker that leaves for want of room or memory, with no job at hand
+-- a worker that leaves out of room or memory, with no job at hand
 pub works_want : (s s' : SeatView) (fault : DeskFault) → IsWant fault → Worked s s' → Works s (Err fault) s'
 works_want s s' fault (inl e) w = subst (λ (f : DeskFault). Works s (Err f) s') (sym e) w
 works_want s s' fault (inr e) w = subst (λ (f : DeskFault). Works s (Err f) s') (sym e) (left_of s s' w)

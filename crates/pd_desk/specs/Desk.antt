@@ -1,4 +1,4 @@
--- What a desk tells those at its seats.
+-- The replies of a desk to those at its seats.
 use Rattle.std.specs.Prelude.{◌≡◌, List, length, Some, All, IsSome}
 use Rattle.pd_book.specs.declared.row.Row.{Row}
 use Rattle.pd_track.specs.declared.task.Task.{Task}
@@ -21,7 +21,7 @@ IsCurrent report = All (λ (row : Row). IsSome row.verdict) report.rows
 abbrev pub IsHandedOut : Task → Type 0
 IsHandedOut task = (history : History) × Legal history.opening history.past × (next_job history ≡ Some task)
 
--- P holds of some legal story and one after it
+-- P holds of some legal history and one after it
 abbrev pub AfterSome : (History → History → Type 0) → Type 0
 AfterSome P = (before after : History) × Legal before.opening before.past × P before after
 
@@ -30,7 +30,7 @@ pub record IsKept (held : HeldView) : Type 0 where
   pub legal : Legal held.book.history.opening held.book.history.past
   pub noted : length held.notes ≡ length held.book.history.past
 
--- P holds of some legal story that agrees with the seat and one after it
+-- P holds of some legal history that agrees with the seat and one after it
 abbrev pub AfterOwn : SeatView → (History → History → Type 0) → Type 0
 AfterOwn seat P = (held : HeldView) × (after : History) × IsKept held × Agrees held seat × P held.book.history after
 

@@ -1,4 +1,4 @@
--- What it takes that the end of a job is refused.
+-- The conditions under which the end of a job is refused.
 use Rattle.std.specs.Prelude.{◌≡◌, ◌≢◌, ℕ, true, List}
 use Rattle.pd_book.specs.declared.act.Act.{Act}
 use Rattle.pd_book.specs.declared.faults.FinishFault.TheVariants.{NoSuchJob}

@@ -1,4 +1,4 @@
--- What a worker leaves in its seat.
+-- The acts that a worker leaves in its seat.
 use Rattle.std.specs.Prelude.{◌≡◌, ℕ, List, [], ◌∷◌, ◌++◌, Result, Ok, Err}
 use Rattle.pd_book.specs.declared.act.Act.{Act}
 use Rattle.pd_book.specs.declared.act.Act.TheVariants.{Start, Finish, Abandon}

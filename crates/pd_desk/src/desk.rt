@@ -26,12 +26,12 @@ pub struct Desk {
 }
 
 impl Desk {
-    /// A desk for so many workers, with a book without acts, which keeps 1 to 1,024 tracks, and its seats. No clause tells
+    /// A desk for so many workers, with a book without acts, which keeps 1 to 1,024 tracks, and its seats. No clause speaks
     /// of the book, its settings and tracks, or of the workers: all of them are under the lock, and of a lock that is
     /// made nothing is known but its type's facts.
     ///
     /// # Errors
-    /// For want of memory.
+    /// Out of memory.
     pub fn open(
         alloc: Global,
         cache: usize,

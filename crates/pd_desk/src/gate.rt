@@ -1,4 +1,4 @@
-//! What is round each job of a worker.
+//! Gates, which a worker passes before and after each of its jobs.
 
 /// Is called by a worker round each job that it runs, with the job's number, while the desk isn't locked.
 pub trait Gate {

@@ -1,4 +1,4 @@
-//! What it takes that the end of a job is refused; the function does nothing.
+//! The conditions under which the end of a job is refused; the function does nothing.
 ghost use Rattle.pd_desk.specs.Laws.{FinishedByAnother, AbandonedByAnother};
 
 /// Where a worker's end of a job is refused since no such job is outstanding, acts noted with another seat's number ended it.

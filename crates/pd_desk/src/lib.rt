@@ -19,8 +19,8 @@
 //!                '--> finish, under the lock ------------------------------------'
 //! ```
 //!
-//! What a reply, a job or a report is: that of some legal history (`AfterSome`, `IsHandedOut`,
-//! specs/Desk.antt). What a worker leaves in its seat: `Works` (specs/Work.antt).
+//! A reply, a job or a report is that of some legal history (`AfterSome`, `IsHandedOut`,
+//! specs/Desk.antt). A worker leaves acts in its seat: `Works` (specs/Work.antt).
 //!
 //! Why it is so:
 //! - This crate alone, and the serving with workers above it, has threads and waits; crates.txt

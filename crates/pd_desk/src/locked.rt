@@ -1,4 +1,4 @@
-//! What lies under the lock of a desk.
+//! The data under the lock of a desk.
 ghost use Rattle.std.specs.Prelude.{◌≡◌, ◌≢◌, ◌↔◌, ◌<◌, true, false, is_some, IsTrue, IfOk, OnOk, OnErr, Err};
 ghost use Rattle.pd_book.specs.Acts.{next};
 ghost use Rattle.pd_book.specs.Replies.{GivesFinish, GivesAbandon};
@@ -11,7 +11,7 @@ use crate::worker_counts::WorkerCounts;
 use pd_book::{Act, Done, FinishFault, Ruling};
 use pd_seat::{Held, Seat};
 
-/// What callers share, and the workers.
+/// The book that callers share, and the workers.
 #[derive(Drop)]
 pub struct Locked {
     /// The book, and who made each of its acts.

@@ -19,13 +19,13 @@ trait ThreadTask {
 /// A worker at its seat.
 #[derive(Drop)]
 struct Worker<'a, 'b, R, G> {
-    /// What it waits by.
+    /// It waits by this.
     rt: &'a R,
-    /// What it allocates by.
+    /// The allocator.
     alloc: Global,
     /// The desk that it works at.
     desk: &'a Desk,
-    /// What is round each of its jobs.
+    /// It passes this before and after each of its jobs.
     gate: &'a G,
     /// Its seat.
     seat: &'b mut Seat,
@@ -46,7 +46,7 @@ impl<'a, 'b, R: Wait, G: Gate> ThreadTask for Worker<'a, 'b, R, G> {
 
 impl Desk {
     /// Runs a worker with the product's stepper on each of these seats, each in a thread of its own, until all have left.
-    /// One that can't be started counts as one that left for want of memory.
+    /// One that can't be started counts as one that left out of memory.
     ///
     /// # Errors
     /// Of those with which workers left, that of the first in the order of the seats.

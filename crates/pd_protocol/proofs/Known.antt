@@ -1,4 +1,4 @@
--- What holds of the octets to come, and of those written, where they are known.
+-- Properties of the octets to come, and of those written, where they are known.
 use Rattle.std.proofs.Common.{ℕ, List, [], ◌++◌, Option, Some, None, IfSome, append_assoc, append-nil, ap, sym, ◌∙◌}
 use Rattle.std.specs.Io.KnownBytes.{Appends}
 use Rattle.pd_protocol.specs.Input.{IfKnown}

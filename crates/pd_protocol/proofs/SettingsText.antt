@@ -1,4 +1,4 @@
--- The texts of the options among the program's words.
+-- The texts of the options among the program's arguments.
 use Rattle.std.proofs.Common.{◌≡◌, ◌≢◌, ◌⊎◌, inl, inr, ℕ, List, [], ◌∷◌, Result, Ok, Err, IfErr, IfOk, IsErrAnd, sym, subst, Option, Some, None, option_map, unwrap_or, true, Bor, refl, ap, ◌∙◌}
 use Rattle.clap.specs.Words.{all_of, matched_of, raw_values, App, HasKind, IsAmong, Kinds, is_simple_and_free, kind_of, Text, first_of, first_value, found_of, is_simple, matches_of, HasMatchesOf}
 use Rattle.clap.specs.declared.parser.matches.ArgMatches.{ArgMatches}

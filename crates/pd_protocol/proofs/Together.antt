@@ -1,4 +1,4 @@
--- Words that are refused together, and what else is read off the matches of words.
+-- Arguments that are refused together, and what else is read off the matches of arguments.
 use Rattle.std.proofs.Common.{◌≡◌, ◌≢◌, ◌⊎◌, ◌||◌, inl, inr, if◌then◌else◌, Bool, true, false, ℕ, List, [], ◌∷◌, Result, Ok, Err, IfErr, Option, Some, None, is_some, option_map, Bor, refl, ap, ◌∙◌}
 use Rattle.clap.specs.Kinds.{or_else}
 use Rattle.clap.specs.Words.{HasMatchesOf, Kinds, Text, first_of, first_value, found_of, matches_of}
@@ -44,17 +44,17 @@ first_is (kind ∷ kinds) b h = one_kind kind kinds
 none_is : (a b : Kinds) → a ≡ [] → b ≡ [] → or_else a b ≡ []
 none_is a b e f = rw (e, f) refl
 
--- words that are refused together are refused
+-- arguments that are refused together are refused
 pub refused_together : (words : List Text) → (are_in_conflict words || lack_explain words) ≡ true → refusals words ≢ []
 refused_together words t =
     second_is (word_faults pdregress words) (together_faults words)
     (by_both (are_in_conflict words) (lack_explain words) (ArgumentConflict ∷ []) (MissingRequiredArgument ∷ []) (one_kind ArgumentConflict []) (one_kind MissingRequiredArgument []) t)
 
--- words that are refused one by one are refused
+-- arguments that are refused one by one are refused
 pub refused_alone : (words : List Text) → word_faults pdregress words ≢ [] → refusals words ≢ []
 refused_alone words h = first_is (word_faults pdregress words) (together_faults words) h
 
--- words that are refused neither one by one nor together are taken
+-- arguments that are refused neither one by one nor together are taken
 pub not_refused : (words : List Text) → word_faults pdregress words ≡ [] → (are_in_conflict words || lack_explain words) ≡ false → refusals words ≡ []
 not_refused words e t = none_is (word_faults pdregress words) (together_faults words) e (by_none (are_in_conflict words) (lack_explain words) (ArgumentConflict ∷ []) (MissingRequiredArgument ∷ []) t)
 

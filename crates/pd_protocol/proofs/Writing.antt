@@ -1,4 +1,4 @@
--- What is written of lines, and why nothing was.
+-- The octets that are written of lines, and why there were none.
 use Rattle.std.proofs.Common.{◌≡◌, ◌≢◌, ◌∙◌, ◌∷◌, ◌++◌, zero, suc, true, false, ℕ, Bool, is_ok, ◌⊎◌, inl, inr, List, [], take, Option, Result, Ok, Err, OnOk, OnErr, refl, ap}
 use Rattle.std.specs.Io.KnownBytes.{Appends}
 use Rattle.clap.specs.Words.{Kinds}
@@ -32,7 +32,7 @@ says_then false w w1 w2 a b s t =
     let part = part_after a t.2.0 b in
     (s.0 ++ t.0, appends_then w w1 w2 s.0 t.0 s.1 t.1, (part.0, rw (s.2, t.2.1) part.1))
 
--- words that aren't refused met want of memory
+-- arguments that aren't refused ended out of memory
 pub wanted : (kinds : Kinds) (memory : Type 0) → memory ⊎ (kinds ≢ []) → kinds ≡ [] → memory
 wanted kinds memory (inl k) e = k
 wanted kinds memory (inr n) e = absurd (n e)

@@ -1,4 +1,4 @@
--- What the line of a command asks for.
+-- The lines of commands.
 use Rattle.std.specs.Prelude.{ℕ, ◌&&◌, nat_le, List, [], ◌∷◌, length, if◌then◌else◌, codes}
 use Rattle.std.specs.Str.{bytes_eq}
 use Rattle.pd_protocol.specs.Words.{words_of, is_count, number_of, value_of}
@@ -31,7 +31,7 @@ abbrev pub without_arguments : CommandLine → List (List ℕ) → CommandLine
 without_arguments command_line [] = command_line
 without_arguments command_line words = Bad
 
--- what the words of a line ask for
+-- the command of a line with these words
 abbrev pub command_line_by : List (List ℕ) → CommandLine
 command_line_by [] = Empty
 command_line_by (word ∷ words) =

@@ -4,7 +4,7 @@ use Rattle.pd_protocol.specs.declared.faults.ServeFault.{ServeFault}
 use Rattle.pd_protocol.specs.declared.faults.ServeFault.TheVariants.{Read}
 use Rattle.std.specs.Io.KnownBytes.{prepend_known}
 
--- a relation of the octets to come before and after a call, for a reader that tells them
+-- a relation of the octets to come before and after a call, for a reader of which they are known
 abbrev pub IfKnown : (List ℕ → List ℕ → Type 0) → Option (List ℕ) → Option (List ℕ) → Type 0
 IfKnown P None new = Unit {0}
 IfKnown P (Some old) None = ⊥

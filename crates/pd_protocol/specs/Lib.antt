@@ -1,4 +1,4 @@
--- The definitions of the words of the programs, of their input and commands, and of what is written.
+-- The definitions of the programs' arguments, of their input and commands, and of the text that is written.
 pub mod ChosenOptions
 pub mod Commands
 pub mod Input

@@ -1,4 +1,4 @@
--- The words of the programs, in the definitions of `clap`.
+-- The options of the programs, in the definitions of `clap`.
 use Rattle.std.specs.Prelude.{ℕ, nat_le, Bool, not, ◌==◌, ◌&&◌, ◌||◌, List, [], ◌∷◌, bytes_eq, codes, if◌then◌else◌, Some, is_some, unwrap_or, pos}
 use Rattle.clap.specs.Kinds.{or_else}
 use Rattle.clap.specs.Words.{App, Kinds, Rule, Text, all_of, fault_of, first_of, matches_of, new_app, new_rule, with_rule}
@@ -77,46 +77,46 @@ pdregress =
     with_rule (with_rule (with_rule (with_rule (with_rule (with_rule (with_rule (with_rule (new_app (codes "pdregress"))
     settings_rule) cache_rule) workers_rule) steps_rule) explain_rule) only_rule) json_rule) leftovers_rule
 
--- the text of an option among the words of a program, of which the first is its own name; an empty one where the program
+-- the text of an option among the arguments of a program, of which the first is its own name; an empty one where the program
 -- hasn't this option
 abbrev pub option_text : App → List ℕ → List Text → Text
 option_text program name words = unwrap_or (first_of name (matches_of program words)) []
 
--- the settings text among words
+-- the settings text among arguments
 abbrev pub settings_text : App → List Text → Text
 settings_text program words = option_text program (codes "settings") words
 
--- why a program refuses words, each by itself, the request for help among it: the kinds of the first fault, or none
+-- why a program refuses arguments, each by itself, the request for help among it: the kinds of the first fault, or none
 abbrev pub word_faults : App → List Text → Kinds
 word_faults program words = fault_of program words
 
--- a word without a sign before it
+-- an argument without a sign before it
 abbrev pub without_sign : List ℕ → List ℕ
 without_sign [] = []
 without_sign (octet ∷ word) = if octet == 43 || octet == 45 then word else octet ∷ word
 
--- the number that a word writes; 0 where that is no number up to 64, which `clap` doesn't let through
+-- the number that an argument writes; 0 where that is no number up to 64, which `clap` doesn't let through
 abbrev pub workers_in : List ℕ → ℕ
 workers_in word =
     let digits = without_sign word in
     if are_digits digits && nat_le (number_of digits) 64 then number_of digits else 0
 
--- how many workers words ask for: none where `--workers` isn't written
+-- how many workers arguments ask for: none where `--workers` isn't written
 abbrev pub worker_count : List Text → ℕ
 worker_count words = workers_in (option_text pdregress (codes "workers") words)
 
--- the number that a word writes; 64 where that is no number from 1 to 1,024, which `clap` doesn't let through
+-- the number that an argument writes; 64 where that is no number from 1 to 1,024, which `clap` doesn't let through
 abbrev pub cache_in : List ℕ → ℕ
 cache_in word =
     let digits = without_sign word in
     let number = number_of digits in
     if are_digits digits && nat_le 1 number && nat_le number 1024 then number else 64
 
--- how many tracks words ask for
+-- how many tracks arguments ask for
 abbrev pub cache_size : List Text → ℕ
 cache_size words = cache_in (option_text pdregress (codes "cache") words)
 
--- the names of scripts that words single out
+-- the names of scripts that arguments single out
 abbrev pub only_names : List Text → List Text
 only_names words = unwrap_or (all_of (codes "only") (matches_of pdregress words)) []
 
@@ -128,7 +128,7 @@ is_written name words = is_some (first_of name (matches_of pdregress words))
 abbrev pub has_flag : List ℕ → List Text → Bool
 has_flag name words = bytes_eq (option_text pdregress name words) (codes "true")
 
--- words ask for each job's steps, for explanations, for these as JSON, and for what scripts that pass leave
+-- arguments ask for each job's steps, for explanations, for these as JSON, and for what scripts that pass leave
 abbrev pub asks_steps : List Text → Bool
 asks_steps words = has_flag (codes "steps") words
 
@@ -149,10 +149,10 @@ are_in_conflict words = is_written (codes "workers") words && (asks_steps words 
 abbrev pub lack_explain : List Text → Bool
 lack_explain words = not (asks_explain words) && (is_written (codes "only") words || asks_json words || asks_leftovers words)
 
--- why words are refused together of which each may be written
+-- why arguments are refused together of which each may be written
 abbrev pub together_faults : List Text → Kinds
 together_faults words = if are_in_conflict words then ArgumentConflict ∷ [] else (if lack_explain words then MissingRequiredArgument ∷ [] else [])
 
--- why the program refuses words: the first fault of one by itself, or else of some together
+-- why the program refuses arguments: the first fault of one by itself, or else of some together
 abbrev pub refusals : List Text → Kinds
 refusals words = or_else (word_faults pdregress words) (together_faults words)

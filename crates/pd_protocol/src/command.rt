@@ -85,7 +85,7 @@ fn next_command_line<R: InputStream>(
     }
 }
 
-/// What a line that was taken asks for, or none at the end.
+/// The command of a line that was taken, or none at the end.
 fn parse_line(
     alloc: Global,
     line_reader: &mut LineReader,

@@ -1,4 +1,4 @@
-//! What the line of a command asks for.
+//! The lines of commands.
 ghost use Rattle.std.specs.Prelude.{◌≡◌, ◌&&◌, ℕ, Some, None, IfOk, if◌then◌else◌, map};
 ghost use Rattle.pd_protocol.specs.Words.{words_of, is_count, number_of};
 ghost use Rattle.pd_protocol.specs.CommandLines.{command_line_of, command_line_by, adds, edits, removes, sets, without_arguments};
@@ -12,7 +12,7 @@ use std::alloc::{AllocError, Global};
 /// The greatest length of a command's line, in octets.
 pub(crate) const MAX_COMMAND_LINE: usize = 256;
 
-/// What a line asks for. A count is the number of lines that follow.
+/// The line of a command. A count is the number of lines that follow.
 #[derive(Drop)]
 pub enum CommandLine {
     /// It has no words.
@@ -29,7 +29,7 @@ pub enum CommandLine {
 }
 
 impl CommandLine {
-    /// What a line asks for.
+    /// The command of a line.
     ///
     /// # Errors
     /// `AllocError` where a growth is refused.

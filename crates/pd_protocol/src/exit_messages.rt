@@ -1,4 +1,4 @@
-//! How a run ends at a fault, or at words that are refused.
+//! How a run ends at a fault, or at arguments that are refused.
 ghost use Rattle.std.specs.Prelude.{◌≡◌};
 ghost use Rattle.clap.specs.Words.{kind_of};
 ghost use Rattle.pd_protocol.specs.ProgramFaults.{fault_line, line_of};
@@ -16,7 +16,7 @@ use std::io::Write;
 /// The status at a fault.
 pub const FAULT_STATUS: u8 = 2;
 
-/// Says what `clap` says of words that it refuses to the program of this name.
+/// Writes `clap`'s message on arguments that it refuses to the program of this name.
 pub fn refuse<E: Write>(alloc: Global, program: &str, error: &Error, err: &mut E) -> Exit
     ensures status { result.status ≡ 2 }
     ensures memory { let line = fault_line program.now (ProgramFault.Serving ServeFault.OutOfMemory) in

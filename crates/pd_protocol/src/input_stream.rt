@@ -1,4 +1,4 @@
-//! Readers that tell whether a read of theirs has failed.
+//! Readers of which it is known whether a read has failed.
 use std::fs::File;
 use std::io;
 use std::io::{Read, Stdin};

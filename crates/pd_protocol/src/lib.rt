@@ -1,12 +1,12 @@
-//! The words of the programs and of their input: options, lines, commands, faults, and what is written of them.
+//! The arguments of the programs and their input: options, lines, commands, faults, and the text that is written of them.
 //!
-//! `arguments` gives the words of a call, and `options` reads those of `pdregress` into `Options`.
+//! `arguments` gives the arguments of a call, and `options` reads those of `pdregress` into `Options`.
 //! `settings_of` reads the text of the settings. An `LineReader` takes lines off a reader
 //! (`InputStream`) block by block, and `next_command` takes the next `Command`. A `ServeFault` or a
 //! `ProgramFault` says why a program stops; `fail` and `refuse` write it and give the `Exit`.
 //!
-//! What an input asks for is defined on its octets alone, however its reader cuts them: `commands`
-//! (specs/Commands.antt). Words are taken exactly as `clap`'s own clauses take them: `HasChosen`
+//! The commands of an input are defined on its octets alone, however its reader cuts them: `commands`
+//! (specs/Commands.antt). Arguments are taken exactly as `clap`'s own clauses take them: `HasChosen`
 //! (specs/ChosenOptions.antt).
 //!
 //! Why it is so:

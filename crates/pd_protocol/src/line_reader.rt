@@ -30,10 +30,10 @@ pub enum NextLine {
     End,
 }
 
-/// What was read and not yet used, and how many reads are left.
+/// The octets that were read and not yet used, and how many reads are left.
 #[derive(Drop)]
 pub struct LineReader {
-    /// What the last read gave, at most 4,096 octets.
+    /// The octets of the last read, at most 4,096.
     block: Vec<u8>,
     /// How many octets of it were used.
     used: usize,
@@ -227,7 +227,7 @@ fn extend_capped(line: &mut Vec<u8>, piece: &[u8], cap: usize) -> Result<(), All
     }
 }
 
-/// What was taken, where these first octets were kept of a line, or of the last one.
+/// The line that was taken, where these first octets were kept of it, or of the last one.
 fn next_line_of(line: Vec<u8>, found: bool, limit: usize) -> NextLine
     ensures line { (whole old new : List ℕ) → NoNewline whole → line.items ≡ take (limit + 2) whole → Cuts whole found old new → TakesLine limit result old new }
     ensures octets { NoNewline line.items → IsOfLine result }

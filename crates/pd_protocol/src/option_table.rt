@@ -1,4 +1,4 @@
-//! What the words of the program may be, and what `--help` says of them.
+//! The options that the program takes, and the text of its `--help`.
 ghost use Rattle.std.specs.Prelude.{false, codes, ◌≡◌, IfOk, IfErr};
 ghost use Rattle.clap.specs.Words.{app_of, kind_of, new_app, rule_of, with_rule};
 ghost use Rattle.pd_protocol.specs.OptionTable.{pdregress, settings_rule, cache_rule, workers_rule, steps_rule, explain_rule, only_rule, json_rule, leftovers_rule};
@@ -7,11 +7,11 @@ use clap::error::ErrorKind;
 use clap::{Arg, ArgAction, Command, Error, value_parser};
 use std::alloc::{AllocError, Global};
 
-/// What `--help` says first.
+/// The beginning of `--help`.
 const ABOUT: &str =
     "Runs packetdrill scripts against a verified TCP sender and prints their verdicts.";
 
-/// What `--help` says last.
+/// The end of `--help`.
 const COMMANDS: &str = "\
 Commands are read from standard input, one a line, words separated by spaces:
   add NAME COUNT               adds a script; the next COUNT lines are its text
@@ -33,7 +33,7 @@ prints
   a pass 1
   total 1 pass 1 fail 0 syntax 0 unsupported 0 limit 0 pending 0";
 
-/// What each word may be, whatever the others are.
+/// The options that may be written, each whatever the others are.
 pub(crate) fn command_without_conflicts<'a>(alloc: Global) -> Result<Command<'a>, Error>
     ensures words { IfOk result (λ command. app_of command ≡ pdregress) }
     ensures memory { IfErr result (λ error. kind_of error ≡ ErrorKind.OutOfMemory) }
@@ -56,7 +56,7 @@ fn with_options<'a>(alloc: Global, command: Command<'a>) -> Result<Command<'a>, 
         .arg(leftovers_option(alloc))
 }
 
-/// What each word may be beside the others. Where `--workers` may be beside all of them, `clap` asks for `--explain` beside
+/// The options that may be written together. Where `--workers` may be beside all of them, `clap` asks for `--explain` beside
 /// it too.
 pub(crate) fn command_with_conflicts<'a>(
     alloc: Global,
@@ -83,7 +83,7 @@ fn push_options<'a>(
     Ok(())
 }
 
-/// What `--workers N` may be, with what it may be beside.
+/// `--workers N`, with the options that may be beside it.
 fn workers_with_conflicts<'a>(
     alloc: Global,
     are_workers_apart: bool,
@@ -111,7 +111,7 @@ fn base_command<'a>(alloc: Global) -> Result<Command<'a>, Error>
     )
 }
 
-/// What `--settings TEXT` may be: one text, empty where it isn't written.
+/// `--settings TEXT`: one text, empty where it isn't written.
 pub fn settings_option<'a>(alloc: Global) -> Arg<'a>
     ensures rule { rule_of result ≡ settings_rule }
     ensures local { result.global ≡ false }
@@ -137,7 +137,7 @@ fn cache_option<'a>(alloc: Global) -> Arg<'a>
         .action(ArgAction::Set)
 }
 
-/// It has no default value, so that `clap` tells whether it is written.
+/// It has no default value, so that `clap` says whether it is written.
 fn workers_option<'a>(alloc: Global) -> Arg<'a>
     ensures rule { rule_of result ≡ workers_rule }
     ensures local { result.global ≡ false }

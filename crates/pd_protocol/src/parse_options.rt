@@ -1,4 +1,4 @@
-//! The words of the program, read by `clap`.
+//! The arguments of the program, read by `clap`.
 ghost use Rattle.std.specs.Prelude.{bytes_eq, codes, ◌≡◌, ◌≢◌, ◌⊎◌, ◌≤◌, ◌||◌, List, [], IfOk, IfErr, IfSome, IsErr, map, option_map, unwrap_or};
 ghost use Rattle.clap.specs.Words.{HasMatchesOf, Text, found_of, kind_of, matched_of, raw_values};
 ghost use Rattle.pd_protocol.specs.ChosenOptions.{names_of, report_options, HasChosen};
@@ -12,10 +12,10 @@ use clap::{ArgMatches, Command, Error};
 use std::alloc::{AllocError, Global};
 use std::convert::AsStr;
 
-/// Reads the words of the program, of which the first is its own name.
+/// Reads the arguments of the program, of which the first is its own name.
 ///
 /// # Errors
-/// What `clap` says of the words, the text of `--help` among it.
+/// `clap`'s message on the arguments, the text of `--help` among it.
 pub fn options<'a, S: AsStr>(alloc: Global, words: &'a [S]) -> Result<Options<'a>, Error>
     ensures chosen { IfOk result (λ options. HasChosen (map S.text words.entry.now) options) }
     ensures few { IfOk result (λ options. options.workers ≤ 64) }
@@ -32,10 +32,10 @@ pub fn options<'a, S: AsStr>(alloc: Global, words: &'a [S]) -> Result<Options<'a
     Ok(chosen(alloc, &matches)?)
 }
 
-/// Has `clap` refuse words of which it takes each by itself, for `--workers` among them or for a word that is alone.
+/// Has `clap` refuse arguments of which it takes each by itself, for `--workers` among them or for one that is alone.
 ///
 /// # Errors
-/// Always: what `clap` says of the words.
+/// Always: `clap`'s message on the arguments.
 fn refuse_together<'a, S: AsStr>(
     alloc: Global,
     words: &'a [S],
@@ -49,7 +49,7 @@ fn refuse_together<'a, S: AsStr>(
     }
 }
 
-/// What a command says of words that it refuses, or that are refused all the same.
+/// The message of a command on arguments that it refuses, or that are refused all the same.
 fn refusal_by<'a, S: AsStr>(command: &mut Command<'a>, words: &'a [S]) -> Error {
     match command.try_get_matches_from_mut(words) {
         Ok(_) => conflict_in(command),
@@ -68,7 +68,7 @@ fn conflict_in(command: &mut Command<'_>) -> Error {
     }
 }
 
-/// Whether words are refused together of which each may be written.
+/// Whether arguments are refused together of which each may be written.
 fn are_refused_together(matches: &ArgMatches<'_>) -> bool
     ensures { (words : List Text) → HasMatchesOf pdregress words matches.now → result ≡ (are_in_conflict words || lack_explain words) }
 {
@@ -106,7 +106,7 @@ fn has_flag(matches: &ArgMatches<'_>, name: &str) -> bool
     is_true(matches.get_str(name).unwrap_or("").as_bytes())
 }
 
-/// What words choose that aren't refused.
+/// The options that arguments choose which aren't refused.
 fn chosen<'a>(alloc: Global, matches: &ArgMatches<'a>) -> Result<Options<'a>, AllocError>
     ensures chosen { (words : List Text) → HasMatchesOf pdregress words matches.now → IfOk result (λ options. HasChosen words options) }
     ensures few { IfOk result (λ options. options.workers ≤ 64) }
@@ -123,7 +123,7 @@ fn chosen<'a>(alloc: Global, matches: &ArgMatches<'a>) -> Result<Options<'a>, Al
     })
 }
 
-/// Which scripts words have explained, and how.
+/// The scripts that arguments have explained, and how.
 fn explain_options<'a>(
     alloc: Global,
     matches: &ArgMatches<'a>,
@@ -151,14 +151,14 @@ fn names_in<'a>(alloc: Global, matches: &ArgMatches<'a>) -> Result<Vec<&'a str>,
     }
 }
 
-/// Whether a word is that of a flag which is written.
+/// Whether an argument is that of a flag which is written.
 pub fn is_true(word: &[u8]) -> bool
     ensures { result ≡ bytes_eq word.now (codes "true") }
 {
     word == b"true".as_slice()
 }
 
-/// The number of workers that a word writes, which `clap` let through.
+/// The number of workers that an argument writes, which `clap` let through.
 fn workers_in(word: &[u8]) -> usize
     ensures count { result ≡ workers_in word.now }
     ensures few { result ≤ 64 }
@@ -169,7 +169,7 @@ fn workers_in(word: &[u8]) -> usize
     }
 }
 
-/// The number of tracks that a word writes, which `clap` let through.
+/// The number of tracks that an argument writes, which `clap` let through.
 fn cache_in(word: &[u8]) -> usize
     ensures size { result ≡ cache_in word.now }
     ensures some { 1 ≤ result }
@@ -181,7 +181,7 @@ fn cache_in(word: &[u8]) -> usize
     }
 }
 
-/// A word without a sign before it.
+/// An argument without a sign before it.
 fn without_sign(word: &[u8]) -> &[u8]
     ensures { result.now ≡ without_sign word.now }
 {

@@ -1,4 +1,4 @@
-//! The words with which a program is called.
+//! The arguments with which a program is called.
 ghost use Rattle.std.specs.Prelude.{◌≡◌, ◌≢◌, codes};
 ghost use Rattle.std.specs.IoError.{error_kind};
 ghost use Rattle.pd_protocol.specs.ProgramFaults.{fault_line, line_of};
@@ -12,16 +12,16 @@ use std::env::Env;
 use std::io::{ErrorKind, Write};
 use std::{env, io};
 
-/// The words of a call, of which the first is the program's own name.
+/// The arguments of a call, of which the first is the program's own name.
 ///
 /// # Errors
-/// One of the kind `OutOfMemory` where a growth is refused; else why the words can't be read as text.
+/// One of the kind `OutOfMemory` where a growth is refused; else why the arguments can't be read as text.
 pub fn arguments<H: Env + AllocGlobal>(rt: &H) -> io::Result<Vec<String>> {
     let args = env::args(rt)?;
     Ok(args.collect::<Vec<String>>(rt.alloc())?)
 }
 
-/// Says why the words of a call of the program of this name could not be read.
+/// Writes why the arguments of a call of the program of this name could not be read.
 pub fn refuse_arguments<E: Write>(program: &str, error: &io::Error, err: &mut E) -> Exit
     ensures status { result.status ≡ 2 }
     ensures memory { let line = fault_line program.now (ProgramFault.Serving ServeFault.OutOfMemory) in

@@ -1,6 +1,6 @@
-//! What a program's words choose.
+//! The options that a program's arguments choose.
 
-/// What the program's words choose.
+/// The options that the program's arguments choose.
 #[derive(Drop)]
 pub struct Options<'a> {
     /// A TOML text of settings.
@@ -22,6 +22,6 @@ pub struct ExplainOptions<'a> {
     pub only: Vec<&'a str>,
     /// Whether explanations are JSON.
     pub json: bool,
-    /// Whether it is also told what scripts that pass leave at their ends.
+    /// Whether the leftovers at the ends of scripts that pass are reported too.
     pub leftovers: bool,
 }

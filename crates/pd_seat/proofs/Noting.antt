@@ -1,4 +1,4 @@
--- What is kept beside a book and by a seat, after one act more.
+-- The notes beside a book and those of a seat, after one act more.
 use Rattle.std.proofs.Common.{◌≡◌, ℕ, ◌+◌, ◌≤◌, List, ◌∷◌, length, reverse, Option, Some, None, IsSome, subst, sym, ap, ◌∙◌, arith}
 use Rattle.std.specs.Option.{IsSomeAnd}
 use Rattle.std.proofs.lemmas.List.{length-reverse}

@@ -1,4 +1,4 @@
--- What a closing gives back.
+-- The book that a closing gives back.
 use Rattle.std.specs.Prelude.{◌≡◌, List, length}
 use Rattle.pd_book.specs.Legal.{Legal}
 use Rattle.pd_book.specs.History.{BookView}

@@ -1,4 +1,4 @@
--- What is kept beside a book and by a seat, with room for the ends of jobs; cited by private contracts alone.
+-- The lists beside a book and of a seat, with room for the ends of jobs; cited by private contracts alone.
 use Rattle.std.specs.Prelude.{◌≡◌, ◌+◌, ◌≤◌, ℕ, List, length, reverse}
 use Rattle.pd_book.specs.declared.act.Act.{Act}
 use Rattle.pd_book.specs.Acts.{jobs}

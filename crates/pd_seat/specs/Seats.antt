@@ -53,7 +53,7 @@ pub record RecordsAct (held : HeldView) (seat : SeatView) (act : Act) (held' : H
   pub seats : held'.seats ≡ held.seats
   pub own : seat' ≡ with_act seat act
 
--- P, unless the reply is want of memory
+-- P, unless the reply is out of memory
 abbrev pub Unless : {T Fault : Type 0} → Fault → Result T Fault → Type 0 → Type 0
 Unless want reply P = MatchResult reply (λ _. P) (λ fault. fault ≢ want → P)
 

@@ -1,7 +1,7 @@
 //! A book whose acts are noted with the seats that made them.
 //!
 //! A `Held` is what callers of a book share; each of them has a `Seat`, which remembers the acts
-//! that it made and how long a history it was shown. So a caller can tell whether what it did is in
+//! that it made and how long a history it was shown. So a caller can check that its acts are in
 //! the book, once and in its order, whatever the others did between.
 //!
 //! ```text

@@ -1,4 +1,4 @@
-//! What a call leaves in the lists of a seat, and beside a book, for which there is room.
+//! The lists of a seat and those beside a book, in which a call leaves its act, for which there is room.
 ghost use Rattle.std.specs.Prelude.{◌≡◌, ◌≤◌, ◌<◌, ◌+◌, ◌==◌, ◌∷◌, false, not, length, filter, reverse, OnOk, OnErr, vec_len, vec_capacity};
 ghost use Rattle.std.specs.List.{list_any};
 

@@ -1,4 +1,4 @@
-//! What callers share: a book, and the seat that made each of its acts.
+//! The book that callers share, and the seat that made each of its acts.
 ghost use Rattle.std.specs.Prelude.{◌≡◌, ◌≢◌, ◌↔◌, ◌≤◌, true, [], length, is_some, option_map, IsTrue, IfOk, IfSome, IfNone, OnOk, OnErr, IsSomeAnd, Err, None};
 ghost use Rattle.pd_settings.specs.Keys.{key_named};
 ghost use Rattle.pd_book.specs.Acts.{next, job, present_text};
@@ -20,7 +20,7 @@ use pd_track::Track;
 use std::alloc::{AllocError, Global};
 use std::marker::Model;
 
-/// A book, and the number of the seat that made each act. Want of memory apart, each call that takes a seat answers as
+/// A book, and the number of the seat that made each act. Unless it is out of memory, each call that takes a seat answers as
 /// the book does, and `show` only where the history agrees with the seat; an act that is recorded is noted with the
 /// seat's number and is then the seat's last. A refused call changes nothing.
 #[derive(Drop)]
@@ -247,7 +247,7 @@ impl Held {
         Ok(ruling)
     }
 
-    /// Hands out a track that is kept no longer, as `Book::take_evicted` does. No clause tells which it is, or whether there is
+    /// Hands out a track that is kept no longer, as `Book::take_evicted` does. No clause says which it is, or whether there is
     /// one: the value of a `Held` has the tracks that are kept, and not those that are to be freed.
     pub fn take_evicted(&mut self) -> Option<Track>
         ensures { self.new ≡ self.old }

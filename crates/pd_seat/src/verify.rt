@@ -11,7 +11,7 @@ fn is_made_by(number: usize, notes: &[usize], acts: &[Act], own: &[Act]) -> bool
     requires { length notes.now ≡ length acts.now }
     ensures { IsTrue result ↔ (made_by number notes.now acts.now ≡ own.now) }
 {
-    // Both are of one length. Said here, so that one count does for both.
+    // Both are of one length. The check is here, so that one count does for both.
     if notes.len() != acts.len() {
         return false;
     }

@@ -1,12 +1,12 @@
-//! The program: hands the real words and streams to the whole program of `pd_cli`.
+//! The program: hands the real arguments and streams to the whole program of `pd_cli`.
 //!
-//! All else is in `pd_cli`, over any words, reader and writers, where contracts say what is written
+//! All else is in `pd_cli`, over any arguments, reader and writers, where contracts say what is written
 //! and with which status it ends. This is the one place where the program meets its process: the
-//! words of the call, standard input, output and error, the threads, and the exit status.
+//! arguments of the call, standard input, output and error, the threads, and the exit status.
 //!
 //! Why it is so:
 //! - Of the streams of a process a contract can say little, so nothing is decided here. `main`
-//!   promises nothing; runs of the built program (tests/cases/runs) show that it hands in its words
+//!   promises nothing; runs of the built program (tests/cases/runs) show that it hands in its arguments
 //!   and streams and gives the status.
 //! - `pdrecord` is a program of its own, since it has no book and no threads. What both need is in
 //!   `pd_protocol`.

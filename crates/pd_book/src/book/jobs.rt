@@ -45,7 +45,7 @@ impl Book {
         self.last_number + 1
     }
 
-    /// What a start hands out, keeps and records.
+    /// The parts of a start: the job to hand out, the task to keep and the act to record.
     fn prepare(&self) -> Result<Option<PendingStart>, BookFault>
         ensures none { IfOk result (λ p. p ≡ None → next self.now.history.past ≡ None) }
         ensures some { IfOk result (λ p. IfSome p (λ p. IsReady self.now.history.opening self.now.history.past p.job.task p.task p.act)) }
@@ -75,7 +75,7 @@ impl Book {
         Ok(PendingStart { job, task, act })
     }
 
-    /// What the next job runs where it runs this script.
+    /// The task of the next job where it runs this script.
     fn next_task(&self, name: &Name, text: &Text) -> Result<Task, AllocError>
         ensures number { IfOk result (λ task. task.number ≡ started self.now.history.past + 1) }
         ensures name { IfOk result (λ task. task.name ≡ name.now) }
@@ -170,7 +170,7 @@ impl Book {
         self.records.scripts.runs(done.name(), done.number())
     }
 
-    /// What a finish of this job is.
+    /// The ruling on a finish of this job.
     fn ruling(&self, done: &Done) -> Ruling
         requires { job self.now.history.opening self.now.history.past done.now.number ≡ Some done.now }
         ensures { result ≡ ruling self.now.history.past done.now }

@@ -1,4 +1,4 @@
--- Exactly accepted calls keep a story legal.
+-- Exactly accepted calls keep a history legal.
 use Rattle.pd_book.proofs.Legality.{adds_legal, edits_legal, removes_legal, sets_legal, adds_accepted, edits_accepted, removes_accepted, sets_accepted, starts_legal, finishes_legal, abandons_legal}
 use Rattle.pd_book.proofs.laws.law_accepting.Goals as goal
 

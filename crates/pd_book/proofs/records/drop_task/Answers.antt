@@ -1,4 +1,4 @@
--- What `retain` leaves is the tasks but the one.
+-- `retain` leaves the tasks but the one.
 use Rattle.std.proofs.Common.{rules, not, ◌==◌}
 use Rattle.pd_track.specs.declared.task.Task.{Task}
 use Rattle.pd_book.proofs.Retained.{filter_from_captured}

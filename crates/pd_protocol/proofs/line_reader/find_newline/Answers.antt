@@ -1,4 +1,4 @@
--- What the search finds, or doesn't find, is the first newline.
+-- The search finds the first newline, or there is none.
 use Rattle.pd_protocol.proofs.Newlines.{first_newline, no_newline}
 use Rattle.pd_protocol.proofs.line_reader.find_newline.Goals as goal
 

@@ -1,4 +1,4 @@
--- What `retain` leaves is the jobs but the one.
+-- `retain` leaves the jobs but the one.
 use Rattle.std.proofs.Common.{rules}
 use Rattle.std.proofs.lemmas.Fn.{filter_same}
 use Rattle.pd_seat.proofs.seat_lists.drop_job.Goals as goal

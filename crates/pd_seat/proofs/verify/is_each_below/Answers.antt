@@ -1,4 +1,4 @@
--- What holds of each note holds of each the other way round.
+-- A property of each note is one of each the other way round.
 use Rattle.std.proofs.Common.{◌<◌, ℕ}
 use Rattle.pd_seat.proofs.Made.{all_turned}
 use Rattle.pd_seat.proofs.verify.is_each_below.Goals as goal

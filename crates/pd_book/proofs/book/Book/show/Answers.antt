@@ -1,4 +1,4 @@
--- What holds of what a legal history shows.
+-- Properties of the report that a legal history shows.
 use Rattle.std.proofs.Common.{◌≡◌, Result, Ok, Err, IfOk, sym, subst}
 use Rattle.pd_book.specs.Report.{ReportView}
 use Rattle.pd_book.proofs.Rows.{rows_run}

@@ -1,4 +1,4 @@
--- What the reply says of the job, by the history that was compared with the seat.
+-- The reply's report of the job, by the history that was compared with the seat.
 use Rattle.pd_desk.proofs.Jobs.{abandon_ends, leaves_job}
 use Rattle.pd_desk.proofs.desk.Desk.abandon_job.Goals as goal
 

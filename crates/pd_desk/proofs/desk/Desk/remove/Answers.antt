@@ -1,4 +1,4 @@
--- What the book gave, after the story that was held.
+-- The book's reply, after the history that was held.
 use Rattle.pd_book.specs.declared.faults.BookFault.TheVariants.{OutOfMemory}
 use Rattle.pd_book.specs.Replies.{GivesRemove}
 use Rattle.pd_desk.proofs.AfterSome.{after_some}

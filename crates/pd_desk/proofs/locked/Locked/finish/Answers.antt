@@ -1,4 +1,4 @@
--- What the book gave, and whether the history that was held agrees with the seat.
+-- The book's reply, and whether the history that was held agrees with the seat.
 use Rattle.std.proofs.Common.{◌∙◌, sym}
 use Rattle.pd_book.specs.declared.act.Ruling.{Ruling}
 use Rattle.pd_book.specs.declared.faults.FinishFault.TheVariants.{OutOfMemory}

@@ -1,4 +1,4 @@
--- What is kept of the edit is equal to it.
+-- The copy that is kept of the edit is equal to it.
 use Rattle.std.proofs.Common.{subst}
 use Rattle.pd_text.specs.declared.line_edit.LineEdit.{LineEdit}
 use Rattle.pd_book.specs.Replies.{GivesEdit}
