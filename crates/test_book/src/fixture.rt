@@ -2,7 +2,7 @@
 use std::alloc::Global;
 use test_support::{AnswerText, BookCalls, CallArguments, OUT_OF_MEMORY, StartedJob, Texts, call};
 
-/// How many tracks a book keeps where a story doesn't say.
+/// How many tracks a book keeps where a transcript doesn't say.
 const CACHE: usize = 64;
 
 /// A book, and the jobs that it gave.

@@ -1,4 +1,4 @@
-//! The texts and the settings that a story is at below any book, and their calls.
+//! The texts and the settings that a transcript has below any book, and their calls.
 use crate::scripts::{script, tokens, write_plain_verdict, write_verdict_and_steps};
 use crate::settings;
 use pd_settings::Settings;

@@ -1,9 +1,9 @@
-//! Tells stories of a book, alone and as seats share it, and of the parts below it: makes the call of each row and compares
-//! its answer with the one that is written after it. Tells those of the input, of the file
-//! `random_lists.txt`, and once more of its own. With the word `transcripts` it tells the first alone,
-//! with the word `memory` the last; a status of 2 says that not all were told.
+//! Runs transcripts of a book, alone and as seats share it, and of the parts below it: makes the call of each row and compares
+//! its answer with the one that is written after it. Runs those of the input, of the file
+//! `random_lists.txt`, and once more of its own. With the argument `stories` it runs the first alone,
+//! with the argument `memory` the last; a status of 2 says that not all were run.
 //!
-//! A story begins with its title, and from nothing: each has books and texts of its own. `TranscriptTables`
+//! A transcript begins with its title, and from nothing: each has books and texts of its own. `TranscriptTables`
 //! reads the rows, the module `transcript` finds out which call a row makes, and `test_support` makes the
 //! calls of a book and compares the answers. The other modules have the calls that `test_support`
 //! doesn't have: of books that seats share, of settings, of tokens, scripts and runs.
@@ -11,10 +11,10 @@
 //! Why it is so:
 //! - The promises of a book are about any list of calls. The rows say by examples what that means,
 //!   and the random lists compare it with a plain model (tests/model/book.py).
-//! - The rows for want of memory (`ROWS`) can be told by themselves: outside of the gate each
+//! - The rows that run out of memory (`ROWS`) can be run by themselves: outside of the gate each
 //!   allocation is refused in turn, and then a call must change nothing and give its answer when it
 //!   is made again.
-//! - A desk has a program of its own, `test_desk`, since its stories need threads and `pd_cli`.
+//! - A desk has a program of its own, `test_desk`, since its transcripts need threads and `pd_cli`.
 #![tactic(auto)]
 
 mod fixture;
@@ -36,10 +36,10 @@ use std::{env, fs, io};
 /// The random lists of calls, as `tools/random_lists.py` writes them.
 const LISTS: &str = "random_lists.txt";
 
-/// The status where the input or the output failed, or what tells the stories found no memory.
+/// The status where the input or the output failed, or the program was out of memory.
 const NOT_RUN: u8 = 2;
 
-/// What is reported.
+/// The rows that are run.
 #[derive(Clone, Copy)]
 enum RowSelection {
     All,
@@ -62,7 +62,7 @@ fn main(rt: HostRuntime) -> ExitCode {
     }
 }
 
-/// What the word after the program's name asks for.
+/// The selection of the program's argument.
 fn read_word(rt: &(impl Env + AllocGlobal)) -> io::Result<RowSelection> {
     let arguments = env::args(rt)?.collect::<Vec<String>>(rt.alloc())?;
     Ok(selection_of(arguments.get(1)))
@@ -76,7 +76,7 @@ fn selection_of(word: Option<&String>) -> RowSelection {
     }
 }
 
-/// Whether all rows that are told are answered as they are written.
+/// Runs the rows, and returns whether all are answered as they are written.
 fn run_rows(
     rt: &(impl Input + Print + Files + AllocGlobal),
     selection: RowSelection,
@@ -103,7 +103,7 @@ fn run_selection(
     Ok(tables.runner.agrees)
 }
 
-/// The stories of the input.
+/// The transcripts of the input.
 fn read_transcripts(rt: &(impl Input + AllocGlobal)) -> io::Result<String> {
     io::read_to_string(rt.alloc(), rt.reader())
 }

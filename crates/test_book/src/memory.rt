@@ -1,5 +1,5 @@
-//! Rows for want of memory: a call that finds none leaves its value as it was, and made again gives its answer. In the gate
-//! there is memory; outside it they are told with each allocation refused in turn.
+//! Rows that run out of memory: a call that finds none leaves its value as it was, and made again gives its answer. In the gate
+//! there is memory; outside it they are run with each allocation refused in turn.
 
 /// A book, and then the parts below it.
 pub const ROWS: &str = "== a book and its parts, where each allocation may be refused

@@ -1,10 +1,10 @@
-//! Tables of rows as they are read. A story begins with its title, a line that begins `# `, and a table with a line that
+//! Tables of rows as they are read. A transcript begins with its title, a line that begins `# `, and a table with a line that
 //! begins `== `. Empty lines are passed over.
 use crate::transcript::BookTranscript;
 use std::alloc::{AllocError, Global};
 use test_support::{AnswerForm, RowRunner, call_of};
 
-/// The story that is told, and what is reported of its table.
+/// The transcript that runs, and the report of its table.
 #[derive(Drop)]
 pub struct TranscriptTables {
     pub runner: RowRunner,

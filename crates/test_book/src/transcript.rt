@@ -1,12 +1,12 @@
-//! The calls of a story: of a book, of another, of two that seats share, and of the parts below.
+//! The calls of a transcript: of a book, of another, of two that seats share, and of the parts below.
 use crate::fixture::{self, Fixture};
 use crate::lower_calls::LowerCalls;
 use crate::shared_fixture::{self, SharedFixture};
 use std::alloc::{AllocError, Global};
 use test_support::{AnswerText, CallArguments, OUT_OF_MEMORY, Texts};
 
-/// What a story tells of, and the words that stand for lines, which outlast it. Of books, alone or shared, the last is the
-/// one that is called.
+/// The books of a transcript and the parts below, and the words that stand for lines, which outlast it. Of books, alone or
+/// shared, the last is the one that is called.
 #[derive(Drop)]
 pub struct BookTranscript {
     texts: Texts,
@@ -90,7 +90,7 @@ fn call_at(
     call
 }
 
-/// From now on a word stands for lines; whether that is the call.
+/// Has a word stand for lines from now on; returns whether that is the call.
 fn define(
     texts: &mut Texts,
     word: &str,

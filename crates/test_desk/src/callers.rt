@@ -1,4 +1,4 @@
-//! Seats at a desk, as rows call them, and what is said there.
+//! Seats at a desk, as rows call them, and the answers there.
 use crate::tracing_worker::{JobTrace, ShutsDesk, TracingStepper, WorkerMode};
 use pd_book::{Act, Book, Done, Report};
 use pd_desk::{Desk, Gate};
@@ -72,7 +72,7 @@ impl<'a, 'b, R: Wait> Calls for DeskCaller<'a, 'b, R> {
     }
 }
 
-/// What else is done at a seat of a desk.
+/// Other calls at a seat of a desk.
 pub trait DeskCalls: Calls {
     fn number(&self) -> usize;
     /// The report that a settling shows, or why there is none.

@@ -1,4 +1,4 @@
-//! What is done at one seat of a desk while a pool of workers runs at the others.
+//! Calls at one seat of a desk while a pool of workers runs at the others.
 use crate::callers::{DeskCaller, DeskCalls, pool, write_shown};
 use crate::progress::{SLEEP, await_count, give_way};
 use crate::schedules::SlowReader;
@@ -12,7 +12,7 @@ use std::thread;
 use std::thread::Threads;
 use test_support::AnswerText;
 
-/// What is done there: a settling, and what is said of it; or what is written is served, by a reader that delays by a seed.
+/// A settling, with its answer; or commands that are served, by a reader that delays by a seed.
 #[derive(Clone, Copy)]
 pub enum DuringPool<'a> {
     Settle(&'a Mutex<AnswerText>),

@@ -1,10 +1,10 @@
-//! Tries a desk, and the program on streams that fail: tells the stories of the input, serves beside two workers that
-//! overlap, and on random schedules, and compares what is written with what is written without
-//! threads; and makes calls in all orders in which threads may hand the turn on. With a word,
-//! `transcripts`, `two_workers`, `schedules` or `interleavings`, it does that alone; a status of 2 says that it
+//! Tries a desk, and the program on streams that fail: runs the transcripts of the input, serves beside two workers that
+//! overlap, and on random schedules, and compares the output with that of serving without
+//! threads; and makes calls in all orders in which threads may hand the turn on. With an argument,
+//! `stories`, `overlap`, `schedules` or `orders`, it does that alone; a status of 2 says that it
 //! wasn't tried to the end.
 //!
-//! A story is a list of rows, each a call of a desk with its answer, some beside threads that wait
+//! A transcript is a list of rows, each a call of a desk with its answer, some beside threads that wait
 //! (`transcripts`). `two_workers` holds one worker at its job until another has begun. `schedules` serves
 //! random commands beside workers that are delayed at random. `interleavings` lets one thread at a time go
 //! on, and goes through all orders of turns. `streams` runs the whole program on streams that give
@@ -58,7 +58,7 @@ fn main(rt: HostRuntime) -> ExitCode {
     }
 }
 
-/// What is tried.
+/// The parts that are tried.
 #[derive(Clone, Copy)]
 struct TestSelection {
     transcripts: bool,
@@ -83,7 +83,7 @@ fn is_named(name: &str, part: &str) -> bool {
     name.is_empty() || name == part
 }
 
-/// What the program's word asks for.
+/// The selection of the program's argument.
 fn selection_asked(rt: &(impl Env + AllocGlobal)) -> io::Result<TestSelection> {
     let arguments = env::args(rt)?.collect::<Vec<String>>(rt.alloc())?;
     Ok(match arguments.get(1) {

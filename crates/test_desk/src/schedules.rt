@@ -1,5 +1,5 @@
-//! Commands that are served while workers run, on random schedules. What is written is compared with what is written
-//! without threads, and at the end the report of the history with what a book makes of it.
+//! Commands that are served while workers run, on random schedules. The output is compared with that of serving
+//! without threads, and at the end the report of the history with the one that a book makes of it.
 mod compare;
 mod delays;
 mod inputs;

@@ -11,7 +11,7 @@ use std::sync::Wait;
 use std::thread::Threads;
 use test_support::{AnswerForm, AnswerText};
 
-/// What was written, and whether the last report passes; `None` where serving stopped at a fault. At most so many octets are
+/// The output, and whether the last report passes; `None` where serving stopped at a fault. At most so many octets are
 /// taken a call, and the call of number `fails_at`, from 1, fails.
 #[derive(Drop)]
 pub struct ServedOutput {

@@ -23,7 +23,7 @@ pub fn check_streams(alloc: Global, arguments: &mut CallArguments<'_>, out: &mut
     }
 }
 
-/// What came of the last run, and how many there were.
+/// The result of the last run, and how many there were.
 #[derive(Drop)]
 struct StreamRuns {
     alloc: Global,
@@ -89,7 +89,7 @@ impl StreamRuns {
         }
     }
 
-    /// Whether the last run said this.
+    /// Whether the last run printed this.
     fn says(&self, output: &str, errors: &str, status: u8) -> bool {
         self.output.out.as_str() == output
             && self.errors.out.as_str() == errors

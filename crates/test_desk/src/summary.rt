@@ -24,7 +24,7 @@ impl Summary {
         self.run = self.run.wrapping_add(1);
     }
 
-    /// Counts what doesn't hold, and tells of it.
+    /// Counts and reports a condition that doesn't hold.
     pub fn must(&mut self, holds: bool, what: &str) {
         if !holds {
             self.differing = self.differing.wrapping_add(1);

@@ -19,7 +19,7 @@ pub struct StepCounts {
     pub after: AtomicU64,
 }
 
-/// What a worker meets.
+/// The event that a worker meets.
 #[derive(Clone, Copy)]
 pub enum WorkerMode<'a> {
     /// Nothing.
@@ -34,7 +34,7 @@ pub enum WorkerMode<'a> {
     Turns(&'a Turnstile, usize),
 }
 
-/// What shuts a desk.
+/// Something that shuts a desk.
 pub trait ShutsDesk {
     fn shut(&self);
 }

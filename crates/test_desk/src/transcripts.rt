@@ -1,4 +1,4 @@
-//! Stories of a desk, and of the program on streams that fail: rows of calls with the answers that are wanted.
+//! Transcripts of a desk, and of the program on streams that fail: rows of calls with the answers that are wanted.
 //! A line that begins `# ` or `== ` is a title.
 mod caller_thread;
 mod changes;
@@ -14,7 +14,7 @@ use std::sync::Wait;
 use std::thread::Threads;
 use test_support::{AnswerForm, RowRunner, call_of};
 
-/// Tells the stories of the input; prints the rows that are answered otherwise, and counts. Whether no row differs.
+/// Runs the transcripts of the input; prints the rows that are answered otherwise, and counts. Returns whether no row differs.
 pub fn run_transcripts<R: Input + Print + AllocGlobal + Threads + Wait + Sync>(
     rt: &R,
 ) -> io::Result<bool> {
@@ -25,7 +25,7 @@ pub fn run_transcripts<R: Input + Print + AllocGlobal + Threads + Wait + Sync>(
     Ok(runner.agrees)
 }
 
-/// Tells each row of the input.
+/// Runs each row of the input.
 fn run_rows<R: Input + Print + AllocGlobal + Threads + Wait + Sync>(
     rt: &R,
     runner: &mut RowRunner,

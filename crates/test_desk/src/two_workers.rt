@@ -9,7 +9,7 @@ use std::sync::Wait;
 use std::sync::atomic::{AtomicU64, Ordering};
 use std::thread::Threads;
 
-/// What comes before job 1 is begun.
+/// The commands before job 1 is begun.
 const ADD: &[u8] = b"add a 9
 0 socket(..., SOCK_STREAM, IPPROTO_TCP) = 3
 +0 bind(3, ..., ...) = 0
@@ -22,23 +22,23 @@ const ADD: &[u8] = b"add a 9
 +0 > P. 1:1001(1000) ack 1
 ";
 
-/// What comes then.
+/// The commands after it is begun.
 const EDIT: &[u8] = b"edit a 9 1 1
 +0 > P. 1:2001(2000) ack 1
 settle
 ";
 
-/// What is to be written.
+/// The output that is wanted.
 const WANTED: &str = "a fail 9 seq
 total 1 pass 0 fail 1 syntax 0 unsupported 0 limit 0 pending 0
 a fail 9 seq
 total 1 pass 0 fail 1 syntax 0 unsupported 0 limit 0 pending 0
 ";
 
-/// What is printed where all is as wanted.
+/// The text that is printed where all is as wanted.
 const OVERLAP: &str = "two workers overlap\n";
 
-/// Serves beside two workers that overlap; prints and tells whether both began and what was written is as wanted.
+/// Serves beside two workers that overlap; prints and returns whether both began and the output is the wanted one.
 pub fn run_two_workers(
     rt: &(impl Print + AllocGlobal + Threads + Wait + Sync),
 ) -> io::Result<bool> {
@@ -50,7 +50,7 @@ pub fn run_two_workers(
     Ok(found == OVERLAP)
 }
 
-/// What is printed of it.
+/// The text that is printed of it.
 fn found(gate: &HeldGate, served: &ServedOutput) -> &'static str {
     if gate.late.load(Ordering::SeqCst) != 0 {
         "job 2 didn't begin while job 1 was held\n"

@@ -1,4 +1,4 @@
-//! The lines of the input: each a case, which is said again with what is found.
+//! The lines of the input: each a case, which is printed again with its result.
 use crate::comparison::Comparison;
 use crate::damage::change_everywhere;
 use crate::make_text::{line_list, text};

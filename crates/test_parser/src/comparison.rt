@@ -7,17 +7,17 @@ use crate::stepwise_parse::StepwiseParse;
 use pd_text::Lines;
 use std::alloc::Global;
 
-/// How many octets of differences are said, roughly.
+/// How many octets of differences are printed, roughly.
 const MAX_DIFFERENCES: usize = 5_000;
 
-/// The status where something couldn't be read or said.
+/// The status where something couldn't be read or printed.
 pub const STOPPED: u8 = 2;
 
-/// What was read last, how much was compared, how much of it differs, and what is to be printed.
+/// The last reading, how much was compared, how much of it differs, and the text to print.
 #[derive(Drop)]
 pub struct Comparison {
     pub alloc: Global,
-    /// What the slow reader read, and the product whole and event by event.
+    /// The readings of the slow reader, and of the product whole and event by event.
     reference_parser: ReferenceParser,
     whole: ParsedLines,
     steps: StepwiseParse,

@@ -2,7 +2,7 @@
 use crate::octet_buffer::OctetBuffer;
 use pd_text::Lines;
 
-/// What is put into a text: openers and ends of what may go over lines, header items, events and parts of events.
+/// The pieces that are put into a text: openers and ends of what may go over lines, header items, events and parts of events.
 const PIECES: &[&[u8]] = &[
     b"/*",
     b"*/",

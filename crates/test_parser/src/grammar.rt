@@ -4,7 +4,7 @@ use Bound::*;
 use GrammarPart::*;
 use Nonterminal::*;
 
-/// What is written by none, one or more tokens.
+/// A part of a script that none, one or more tokens write.
 #[derive(Clone, Copy)]
 pub enum Nonterminal {
     Script,
@@ -35,7 +35,7 @@ pub enum Nonterminal {
     Note,
 }
 
-/// What a number has to be.
+/// The condition on a number.
 #[derive(Clone, Copy)]
 pub enum Bound {
     Free,
@@ -50,7 +50,7 @@ pub enum Bound {
 /// A part of the grammar: the beginning of a way, all of one name, or what one token has to be.
 #[derive(Clone, Copy)]
 pub enum GrammarPart {
-    /// What follows, up to the next such part, is a way to write what has this name.
+    /// The parts after it, up to the next such part, are a way to write this name.
     Alternative(Nonterminal),
     Of(Nonterminal),
     /// Any token of this kind.

@@ -59,7 +59,7 @@ fn compare_all(rt: &(impl Input + Print + Files + AllocGlobal), comparison: &mut
     }
 }
 
-/// Prints what was said since the last time.
+/// Prints the output since the last time.
 fn print(rt: &impl Print, comparison: &mut Comparison) {
     if rt.write_all(comparison.output.octets.as_slice()).is_err() {
         comparison.is_stopped = true;

@@ -32,7 +32,7 @@ impl OctetBuffer {
         }
     }
 
-    /// Adds words, a blank and a number.
+    /// Adds a text, a blank and a number.
     pub fn add_number(&mut self, words: &[u8], number: usize) {
         self.add(words);
         self.add(b" ");
@@ -47,7 +47,7 @@ impl OctetBuffer {
     }
 }
 
-/// What is before the first mark and after it.
+/// The octets before the first mark, and those after it.
 pub fn split_at_mark(octets: &[u8], mark: u8) -> (&[u8], &[u8]) {
     for at in 0..octets.len() {
         if octets[at] == mark {

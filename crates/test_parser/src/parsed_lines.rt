@@ -1,4 +1,4 @@
-//! What a text is read as, by the lines in which its parts begin.
+//! The reading of a text, by the lines in which its parts begin.
 use pd_script::{Header, Parsed, parse};
 use pd_text::Lines;
 use std::alloc::Global;

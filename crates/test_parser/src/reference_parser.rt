@@ -51,7 +51,7 @@ pub struct ReferenceParser {
     is_whole: bool,
     /// How many events have begun with the last token.
     events_begun: usize,
-    /// What was read.
+    /// The reading so far.
     pub reading: ParsedLines,
     /// Whether no memory was found, or there were too many parts before one token.
     pub is_short: bool,

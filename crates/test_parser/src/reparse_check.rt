@@ -110,7 +110,7 @@ fn read_again(
     requires { before.now ≡ reading_of old.now }
     ensures { IfOk result (λ again. again.reading ≡ reading_of new.now) }
 {
-    // A look at a line tells that no line holds a newline.
+    // A look at a line shows that no line holds a newline.
     let _ = old.line(1);
     reread(alloc, before, new, old.same_front(new))
 }

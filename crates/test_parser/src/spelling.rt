@@ -52,7 +52,7 @@ pub enum OctetSet {
     Solid,
     /// Any but a newline.
     InLine,
-    /// What prints, but `_`, and what has to be closed.
+    /// An octet that prints, but `_`, and those that open something to be closed.
     Mark,
 }
 

@@ -1,4 +1,4 @@
-//! What the product reads in a text event by event.
+//! The product's reading of a text, event by event.
 use crate::parsed_lines::ParsedLines;
 use pd_lex::Place;
 use pd_script::{Event, Header, MAX_EVENTS, NextEvent, next_event, read_header};
@@ -65,7 +65,7 @@ impl StepwiseParse {
         self.expected = None;
     }
 
-    /// Reads what comes next, and tells whether to go on.
+    /// Reads the next item, and returns whether to go on.
     fn read_next(&mut self, alloc: Global, lines: &Lines) -> bool {
         match next_event(alloc, lines, self.place) {
             Ok(NextEvent::Got(event, after, lookahead_line)) => {
@@ -87,7 +87,7 @@ impl StepwiseParse {
         }
     }
 
-    /// Takes an event, by a copy of it, and tells whether to go on.
+    /// Takes an event, by a copy of it, and returns whether to go on.
     fn take(&mut self, event: &Event, after: Place, lookahead_line: Option<usize>) -> bool {
         match event.copy() {
             Ok(event) => self.add(event.line, after, lookahead_line),

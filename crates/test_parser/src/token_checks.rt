@@ -6,7 +6,7 @@ use crate::token_reader::ReferenceToken;
 /// The greatest number of pairs of brackets inside one another.
 const MAX_PAIRS: usize = 16;
 
-/// What was read so far that later tokens are compared with.
+/// The facts of earlier tokens that later ones are compared with.
 #[derive(Clone, Copy)]
 pub struct TokenChecks {
     /// How many events have begun.
@@ -19,7 +19,7 @@ pub struct TokenChecks {
 }
 
 impl TokenChecks {
-    /// Takes a token, and tells whether it is what this part asks for.
+    /// Takes a token, and returns whether this part asks for it.
     pub fn take(&mut self, part: GrammarPart, token: ReferenceToken<'_>) -> bool {
         match part {
             GrammarPart::Seconds(bound) => {
@@ -42,7 +42,7 @@ impl TokenChecks {
         }
     }
 
-    /// Notes a number that later ones are compared with, and tells whether it fits those before it.
+    /// Notes a number that later ones are compared with, and returns whether it fits those before it.
     fn fits(&mut self, bound: Bound, number: u64) -> bool {
         match bound {
             Bound::Free => true,

@@ -13,7 +13,7 @@ pub struct ReferenceToken<'a> {
     pub line: usize,
 }
 
-/// What is left of a text, and the line in which it begins.
+/// The rest of a text, and the line in which it begins.
 #[derive(Clone, Copy)]
 pub struct TokenReader<'a> {
     pub rest: &'a [u8],

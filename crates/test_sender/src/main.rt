@@ -1,10 +1,10 @@
-//! Tries what the sender is made of: packets as octets, the scoreboard with loss recovery, and the states that scripts lead to.
-//! Tells the tables of the files of `data`, and then the scripts of the input.
+//! Tries the parts of the sender: packets as octets, the scoreboard with loss recovery, and the states that scripts lead to.
+//! Runs the tables of the files of `data`, and then the scripts of the input.
 //!
 //! A `ScoreboardCalls` is a scoreboard with its congestion control, and the calls that rows make on them.
 //! `SenderTables` reads the tables of a file and compares each answer with the row's. Then come the
 //! scripts, each in one line: a stepper of its own notes the states through which the run leads,
-//! and lets it go on with a copy after each event. What is said is the program's output, which has
+//! and lets it go on with a copy after each event. The program prints its results, which have
 //! to be the stored one.
 //!
 //! Why it is so:
@@ -39,7 +39,7 @@ fn main(rt: HostRuntime) -> io::Result<()> {
     tables.output.print(&rt)
 }
 
-/// Tells the tables and the scripts.
+/// Runs the tables and the scripts.
 fn run_tables(rt: &(impl Input + Files + AllocGlobal), tables: &mut SenderTables) {
     tables.run_tables(rt, "worked.txt");
     write_answers(rt.alloc(), &mut tables.output);

@@ -1,12 +1,12 @@
-//! What is to be printed.
+//! The text to print.
 use std::alloc::{AllocError, Global};
 use std::{io, str};
 
-/// What is said so far.
+/// The text so far.
 #[derive(Drop)]
 pub struct OutputText {
     text: String,
-    /// Whether all that was to be said was read and found room.
+    /// Whether everything to print was read and found room.
     pub is_whole: bool,
 }
 
@@ -46,10 +46,10 @@ impl OutputText {
         }
     }
 
-    /// Prints all that was said.
+    /// Prints the text.
     ///
     /// # Errors
-    /// Where the output fails, or something that was to be said wasn't read or found no room.
+    /// Where the output fails, or something to print wasn't read or found no room.
     pub fn print(&self, rt: &impl Print) -> io::Result<()> {
         if self.is_whole {
             rt.print(self.as_str())

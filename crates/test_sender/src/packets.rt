@@ -7,7 +7,7 @@ use pd_script::Time;
 use pd_seg::{Flags, SackSpans, SegOption, SegOptions, Segment, Sent, Span};
 use std::alloc::Global;
 
-/// Writes a packet, reads it back and copies it. What is written is the rest of the row; where the row has none, it is said.
+/// Writes a packet, reads it back and copies it. The text is the rest of the row; where the row has none, it is printed.
 pub fn run_packet(alloc: Global, row: &mut RowReader<'_>, output: &mut OutputText) {
     let time = read_time(row);
     let sent = Sent {

@@ -1,4 +1,4 @@
-//! What a printed event is read back as.
+//! Printed events, as they are read back.
 use crate::lines::one_line;
 use pd_match::{Expect, check_packet};
 use pd_script::{Action, Event, Packet, Parsed, Time, parse};

@@ -1,10 +1,10 @@
-//! Rows of words, parted by single blanks: a call with what it takes, and then what it is to answer.
+//! Rows of words, parted by single blanks: a call with its arguments, and then its wanted answer.
 use pd_seg::Span;
 
-/// What a row says where a call found no memory.
+/// The answer in a row where a call found no memory.
 pub const NO_MEMORY: &str = "memory";
 
-/// The words of a row that aren't read yet, and what differed first from its words.
+/// The words of a row that aren't read yet, and the first difference from its words.
 #[derive(Drop)]
 pub struct RowReader<'a> {
     rest: &'a str,

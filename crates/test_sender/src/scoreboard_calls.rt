@@ -47,7 +47,7 @@ fn settings(ssthresh: u64, limit: u64, algorithm: &str) -> Settings {
     )
 }
 
-/// What an ACK leads to in a word, and its segment if it has one.
+/// The sending that an ACK leads to, in a word, and its segment if it has one.
 fn named(then: AckAction) -> (&'static str, Option<Span>) {
     match then {
         AckAction::Ordinary => ("ordinary", None),
@@ -172,7 +172,7 @@ impl ScoreboardCalls {
         row.expect("a new octet", u32::from(is_new));
     }
 
-    /// An ACK is heard, once its number and its blocks are noted.
+    /// An ACK arrives, once its number and its blocks are noted.
     fn receive_ack(&mut self, row: &mut RowReader<'_>) {
         let ack = self.ack(row);
         let (word, segment) = named(self.window.on_ack(ack));
@@ -180,7 +180,7 @@ impl ScoreboardCalls {
         row.expect_segment("the segment that an ACK leads to", segment);
     }
 
-    /// What an ACK tells.
+    /// The ACK that a row writes.
     fn ack(&self, row: &mut RowReader<'_>) -> Ack
         ensures { IsAck result }
     {
@@ -201,7 +201,7 @@ impl ScoreboardCalls {
         }
     }
 
-    /// What an ACK of so many octets delivered, by the scoreboard before it.
+    /// The octets that an ACK of so many delivered, by the scoreboard before it.
     fn delivery(&self, acked: u32) -> Delivery {
         Delivery {
             delivered_data: acked
@@ -212,7 +212,7 @@ impl ScoreboardCalls {
         }
     }
 
-    /// What the blocks of an ACK tell, where SACK was agreed.
+    /// The report of the blocks of an ACK, where SACK was agreed.
     fn sack_news(&self, word: &str) -> Option<SackNews> {
         if word == "-" {
             return None;

@@ -7,7 +7,7 @@ use pd_settings::Settings;
 use pd_text::Lines;
 use std::alloc::Global;
 
-/// What comes before a script that begins with a `+`.
+/// The opening before a script that begins with a `+`.
 const OPENING: &str =
     "0 socket(..., SOCK_STREAM, 0) = 3 +0 bind(3, ..., ...) = 0 +0 listen(3, 1) = 0 +0.1 < S 0:0(0) win 32792 <mss 1000,sackOK,nop,nop,nop,wscale 7> +0 > S. 0:0(0) ack 1 <...> +0.1 < . 1:1(0) ack 1 win 257 +0 accept(3, ..., ...) = 4 ";
 

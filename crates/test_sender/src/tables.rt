@@ -8,7 +8,7 @@ use std::alloc::Global;
 use std::fs;
 use std::rt::Files;
 
-/// What the rows are told to, what is said of them, and how many packets or lists the present table has so far.
+/// The calls of the rows, the output, and how many packets or lists the present table has so far.
 #[derive(Drop)]
 pub struct SenderTables {
     alloc: Global,
@@ -32,7 +32,7 @@ impl SenderTables {
         }
     }
 
-    /// Tells the tables of a file.
+    /// Runs the tables of a file.
     pub fn run_tables(&mut self, rt: &(impl Files + AllocGlobal), name: &str) {
         match fs::read_to_string(rt, name) {
             Ok(rows) => self.run_rows(rows.as_str()),
@@ -79,7 +79,7 @@ impl SenderTables {
         self.differs = false;
     }
 
-    /// Notes what differs in a row. The first difference of a list is said, and no later one.
+    /// Notes a difference in a row. The first difference of a list is printed, and no later one.
     fn note(&mut self, what: &str, row: &str) {
         if self.differs {
             return;

@@ -1,4 +1,4 @@
-//! Acts as they are said.
+//! Acts as they are written in answers.
 use crate::output::{AnswerText, OUT_OF_MEMORY};
 use crate::results::{write_line, write_lines};
 use crate::values::write_setting;

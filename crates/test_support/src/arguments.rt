@@ -1,7 +1,7 @@
-//! The words of a call.
+//! The arguments of a call.
 use pd_settings::Value;
 
-/// The words of a call that aren't read yet, parted by single blanks.
+/// The arguments of a call that aren't read yet, parted by single blanks.
 #[derive(Drop)]
 pub struct CallArguments<'a> {
     pub rest: &'a str,
@@ -17,14 +17,14 @@ impl<'a> CallArguments<'a> {
         }
     }
 
-    /// The next word; empty where there is none.
+    /// The next argument; empty where there is none.
     pub fn word(&mut self) -> &'a str {
         let (word, rest) = self.rest.split_once(" ").unwrap_or((self.rest, ""));
         self.rest = rest;
         word
     }
 
-    /// The next word as a number; 0 where it is none.
+    /// The next argument as a number; 0 where it is none.
     pub fn number(&mut self) -> u64 {
         match self.word().parse::<u64>() {
             Ok(number) => number,
@@ -35,7 +35,7 @@ impl<'a> CallArguments<'a> {
         }
     }
 
-    /// The next word as a script's name: `(nothing)` is the empty one, `(spaced)` one with a blank in it.
+    /// The next argument as a script's name: `(nothing)` is the empty one, `(spaced)` one with a blank in it.
     pub fn name(&mut self) -> &'a [u8] {
         match self.word() {
             "(nothing)" => b"",
@@ -44,7 +44,7 @@ impl<'a> CallArguments<'a> {
         }
     }
 
-    /// The next word as a value of a setting.
+    /// The next argument as a value of a setting.
     pub fn value(&mut self) -> Value {
         match self.word() {
             "true" => Value::Boolean(true),

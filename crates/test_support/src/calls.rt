@@ -10,7 +10,7 @@ use pd_book::{Act, Done, Report};
 use pd_settings::Value;
 use pd_text::{LineEdit, Lines, Name};
 
-/// A book as rows call it. What has no other result is answered in words.
+/// A book as rows call it. A call without another result answers with a text.
 pub trait Calls {
     fn add(&mut self, name: Name, lines: Lines) -> &'static str;
 
@@ -27,7 +27,7 @@ pub trait Calls {
     fn abandon(&mut self, number: u64, seat: Option<usize>) -> &'static str;
     /// The report, or why there is none.
     fn show(&mut self) -> Result<Report, &'static str>;
-    /// How many verdicts are owed, if that is told.
+    /// How many verdicts are owed, if that is known.
     fn owed(&self) -> Option<usize>;
     /// The acts that were made by these calls, from the oldest on.
     fn acts(&self) -> &[Act];

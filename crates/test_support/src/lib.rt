@@ -1,20 +1,20 @@
-//! The small language of rows that test programs read: the words of a call, the calls of a book, how answers are said and
-//! compared with those that are written, and what is printed of a row that differs.
+//! The small language of rows that test programs read: the arguments of a call, the calls of a book, how answers are written and
+//! compared with the wanted ones, and the report of a row that differs.
 //!
 //! A row is a call, ` -> ` and the answer that it must have. A `RowRunner` takes a call's answer,
-//! compares it with the row's, and keeps what is to be printed: a row that differs is printed with
+//! compares it with the row's, and keeps the text to print: a row that differs is printed with
 //! the answer that was given. `call` makes a call of whatever has `Calls`: a book alone (`BookCalls`),
-//! or a book by one of its seats, which the programs bring along. `CallArguments` reads the words of a
-//! call, `Texts` has the words that stand for lines, and `AnswerText` the answer as far as it is said.
+//! or a book by one of its seats, which the programs bring along. `CallArguments` reads the arguments of a
+//! call, `Texts` has the words that stand for lines, and `AnswerText` the answer so far.
 //! README.md has the language.
 //!
 //! Why it is so:
-//! - This crate promises nothing: a wrong answer shows as a row that differs. What it calls has
+//! - This crate promises nothing: a wrong answer shows as a row that differs. The functions that it calls have
 //!   long contracts; `BookCalls` and the module `values` keep these in, so that the code above is
 //!   proved in less time.
 //! - A call that found no memory must have changed nothing, and is made once more. So the same rows
-//!   are told with each allocation refused in turn.
-//! - `AnswerText` remembers if there was no room for what was said, so that what says answers has no
+//!   are run with each allocation refused in turn.
+//! - `AnswerText` remembers if there was no room for its text, so that a function that writes answers has no
 //!   error to hand on.
 #![tactic(auto)]
 

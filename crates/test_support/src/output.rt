@@ -1,17 +1,17 @@
-//! Answers in words.
+//! Answers as texts.
 use std::alloc::{AllocError, Global};
 use std::str;
 
 /// The answer of a call that found no memory and changed nothing.
 pub const OUT_OF_MEMORY: &str = "19 OutOfMemory";
 
-/// The answer of a call that a story has no such thing for.
+/// The answer of a call for which a transcript has no such thing.
 pub const NO_SUCH_THING: &str = "(the story has no such thing)";
 
 /// How many octets have room before a call is made.
 const ROOM: usize = 4096;
 
-/// What is multiplied where octets are summed up (Fowler, Noll and Vo's hash of 32 bits, FNV-1a), and what it begins with.
+/// The factor where octets are summed up (Fowler, Noll and Vo's hash of 32 bits, FNV-1a), and the beginning of the sum.
 const PRIME: u32 = 16_777_619;
 
 const BASIS: u32 = 2_166_136_261;
@@ -21,7 +21,7 @@ const DIGITS: usize = 20;
 
 const FIRST: u64 = 10_000_000_000_000_000_000;
 
-/// How much is said of verdicts and jobs.
+/// How much is written of verdicts and jobs.
 #[derive(Clone, Copy)]
 pub enum AnswerForm {
     /// The class of a verdict and its number, as `fail 3`.
@@ -30,7 +30,7 @@ pub enum AnswerForm {
     Full,
 }
 
-/// What is said so far.
+/// The answer so far.
 #[derive(Drop)]
 pub struct AnswerText {
     text: String,
@@ -52,7 +52,7 @@ impl AnswerText {
         self.text.as_str()
     }
 
-    /// What is said so far.
+    /// The answer so far.
     ///
     /// # Errors
     /// Where something that was to be kept found no room.
@@ -105,7 +105,7 @@ impl AnswerText {
         self.as_str() == OUT_OF_MEMORY
     }
 
-    /// Says the sum of what was said, in its place.
+    /// Puts the sum of the answer in its place.
     pub fn replace_by_sum(&mut self) {
         let mut sum = BASIS;
         for octet in self.text.as_bytes() {

@@ -1,4 +1,4 @@
-//! The replies of a book in words.
+//! The replies of a book as texts.
 use crate::started_jobs::StartedJob;
 use pd_book::{BookFault, FinishFault, Job, Ruling};
 
@@ -22,7 +22,7 @@ pub fn started(
     }
 }
 
-/// The ruling, or the refusal of a result. Whether the job is the caller's own is told too.
+/// The ruling, or the refusal of a result. The refusal also says whether the job is the caller's own.
 pub fn finished(reply: Result<Ruling, FinishFault>, is_own: bool) -> &'static str {
     match reply {
         Ok(Ruling::Taken) => "Taken",

@@ -1,11 +1,11 @@
-//! Verdicts, jobs and reports as they are said.
+//! Verdicts, jobs and reports as they are written in answers.
 use crate::output::{AnswerForm, AnswerText};
 use crate::values::write_settings;
 use pd_book::{Job, Report, Row};
 use pd_run::{Kind, Verdict};
 use pd_text::Lines;
 
-/// What follows the line of an event that failed.
+/// The text after the line of an event that failed.
 fn failed(kind: Kind) -> &'static str {
     match kind {
         Kind::Time => ", Time)",
@@ -85,7 +85,7 @@ fn write_task(output: &mut AnswerText, job: &Job) {
     output.push_str(", ");
 }
 
-/// Says a job's number, script and lines, and its tolerance unless that is said in short.
+/// Writes a job's number, script and lines, and its tolerance unless the form is short.
 pub fn write_start(output: &mut AnswerText, job: &Job) {
     write_task(output, job);
     output.count("", job.text().lines().len() as u64, " lines");

@@ -1,15 +1,15 @@
-//! Rows as they are told: a call, ` -> ` and its answer, or several that are parted by ` or `, the first of which is given
-//! where no call found want of memory.
+//! Rows as they are run: a call, ` -> ` and its answer, or several that are parted by ` or `, the first of which is given
+//! where no call was out of memory.
 use crate::output::{AnswerForm, AnswerText, OUT_OF_MEMORY};
 use std::alloc::{AllocError, Global};
 use std::io;
 
-/// What parts a call from its answers, and one of these from the next.
+/// The mark between a call and its answers, and the one between one of these and the next.
 const GIVES: &str = " -> ";
 
 const OR: &str = " or ";
 
-/// What is before a mark, and what after it: nothing where there is no mark.
+/// The text before a mark, and the text after it: nothing where there is no mark.
 fn halves<'a>(text: &'a str, mark: &str) -> (&'a str, &'a str) {
     text.split_once(mark).unwrap_or((text, ""))
 }
@@ -33,12 +33,12 @@ fn is_among(answer: &str, written: &str) -> bool {
     is_there
 }
 
-/// How many stories and rows a table has so far, and what is to be printed of it.
+/// How many transcripts and rows a table has so far, and the text to print of it.
 #[derive(Drop)]
 pub struct RowRunner {
     /// The answer of a row.
     output: AnswerText,
-    /// What is to be printed.
+    /// The text to print.
     report: AnswerText,
     transcripts: u64,
     rows: u64,
@@ -74,12 +74,12 @@ impl RowRunner {
         self.report.push_str("\n");
     }
 
-    /// Counts a story.
+    /// Counts a transcript.
     pub fn begin_transcript(&mut self) {
         self.transcripts = self.transcripts.wrapping_add(1);
     }
 
-    /// Where the answer of a row is to be said, from nothing.
+    /// The answer of a row, cleared.
     pub fn begin_answer(&mut self) -> &mut AnswerText {
         self.output.clear();
         &mut self.output
@@ -106,7 +106,7 @@ impl RowRunner {
         }
     }
 
-    /// Tells a row that got another answer.
+    /// Reports a row that got another answer.
     fn differ(&mut self, row: &str) {
         self.differing = self.differing.wrapping_add(1);
         self.agrees = false;
@@ -116,7 +116,7 @@ impl RowRunner {
         self.report.push_str("\n");
     }
 
-    /// Tells the counts of the table that ends, if it had a row, and begins with the next one.
+    /// Reports the counts of the table that ends, if it had a row, and begins with the next one.
     fn close(&mut self) {
         if self.rows != 0 {
             self.write_counts();
@@ -126,7 +126,7 @@ impl RowRunner {
         self.differing = 0;
     }
 
-    /// Says how many rows there are and how many of them differ, and how many stories where these are counted.
+    /// Writes how many rows there are and how many of them differ, and how many transcripts where these are counted.
     fn write_counts(&mut self) {
         if self.transcripts != 0 {
             self.report.count("", self.transcripts, " stories, ");
@@ -150,7 +150,7 @@ impl RowRunner {
     /// Prints what is to be printed.
     ///
     /// # Errors
-    /// Where the output fails, or something that was to be said found no room.
+    /// Where the output fails, or something to print found no room.
     pub fn print(&mut self, rt: &impl Print) -> io::Result<()> {
         if !(self.output.is_whole && self.report.is_whole) {
             return Err(AllocError.into());

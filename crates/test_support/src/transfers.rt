@@ -1,4 +1,4 @@
-//! What a story has here and what it has elsewhere.
+//! The things that a transcript has here, and those that it has elsewhere.
 use crate::output::{AnswerText, NO_SUCH_THING};
 
 /// Moves so many of the last items, the last first, and says `ok`, or that there are fewer.

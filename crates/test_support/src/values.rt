@@ -1,4 +1,4 @@
-//! Settings and their values as they are said.
+//! Settings and their values as they are written in answers.
 use crate::output::AnswerText;
 use pd_settings::{Key, Settings, SettingsFault, Value};
 

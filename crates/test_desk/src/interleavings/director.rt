@@ -1,4 +1,4 @@
-//! Who gives the turns: one player at a time goes on, and the next once nothing moves any more.
+//! The director gives the turns: one player at a time goes on, and the next once nothing moves any more.
 use crate::callers::{DeskCalls, free, write_shown};
 use crate::interleavings::choices::Choices;
 use crate::interleavings::turnstile::{PlayerPosition, TurnOrder, Turnstile};
@@ -14,7 +14,7 @@ use test_support::{AnswerForm, AnswerText, Calls};
 /// The most turns of an order.
 const MOVES: usize = 200;
 
-/// A caller: the calls that it has left, and of a settling whose answer it hasn't told how many calls were made before it.
+/// A caller: the calls that it has left, and how many calls were made before a settling that it hasn't answered yet.
 #[derive(Clone, Copy)]
 struct Caller<'a> {
     left: &'a str,
@@ -33,7 +33,7 @@ pub struct Director<'a> {
     busy: usize,
     /// Whether all answers were right.
     is_right: bool,
-    /// What was answered by hand to the last call, the report that is wanted, and the one that is shown.
+    /// The answer by hand to the last call, the report that is wanted, and the one that is shown.
     answer: AnswerText,
     wanted: AnswerText,
     shown: AnswerText,
@@ -219,7 +219,7 @@ impl<'a> Director<'a> {
         are_right
     }
 
-    /// Whether what was said, if anything was, is right as the answer to a caller's last call.
+    /// Whether the output, if there is any, is right as the answer to a caller's last call.
     fn is_right(&mut self, who: usize, out: &str) -> bool {
         let law_settling = match self.callers.get_mut(who) {
             Some(caller) => caller.settling.take(),
@@ -231,7 +231,7 @@ impl<'a> Director<'a> {
         }
     }
 
-    /// Whether what was said is the report from scratch of so many calls or more.
+    /// Whether the output is the report from scratch of so many calls or more.
     fn is_report(&mut self, before: usize, out: &str) -> bool {
         for count in before..=self.made.len() {
             self.write_scratch(count);

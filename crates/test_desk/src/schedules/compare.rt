@@ -1,4 +1,4 @@
-//! What is served beside workers, compared with what is served without.
+//! The output of serving beside workers, compared with that of serving without.
 use crate::serving::ServedOutput;
 
 /// Whether what was served beside workers is what was served without, where each report was settled: each line of a
@@ -34,7 +34,7 @@ fn is_pending(line: &str, other: &str) -> bool {
     name == wanted && (standing == "pending" || is_count)
 }
 
-/// What is before the first blank, and after it.
+/// The text before the first blank, and the text after it.
 fn halves(line: &str) -> (&str, &str) {
     line.split_once(" ").unwrap_or((line, ""))
 }

@@ -13,7 +13,7 @@ const READS: u64 = 1_048_576;
 
 impl StreamRuns {
     /// Fails each read in turn, of readers that give so many octets a call, and then one that is never made: there is a
-    /// call for each piece of the input, and one that tells the end.
+    /// call for each piece of the input, and one that reports the end.
     pub fn check_reads(&mut self, most: usize) {
         let mut pace = STEADY;
         pace.given = most;
@@ -46,7 +46,7 @@ impl StreamRuns {
         }
     }
 
-    /// Runs the program on streams that fail at this call, and checks that it tells this fault and stops.
+    /// Runs the program on streams that fail at this call, and checks that it reports this fault and stops.
     fn check_fault(&mut self, pace: Pace, fault: &str, call: u64) {
         self.run("", INPUT, pace);
         let out = self.output.out.as_str();
@@ -65,7 +65,7 @@ impl StreamRuns {
         self.note(is_right, 0);
     }
 
-    /// Newlines for ever are read up to the limit on reads, and the read that tells the end counts too.
+    /// Newlines for ever are read up to the limit on reads, and the read that reports the end counts too.
     pub fn check_newlines(&mut self) {
         let mut pace = STEADY;
         pace.given = 1;

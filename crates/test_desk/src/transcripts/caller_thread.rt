@@ -1,4 +1,4 @@
-//! What a thread does at a seat of its own.
+//! A thread at a seat of its own.
 use crate::callers::{DeskCalls, write_shown};
 use crate::progress::{ThreadProgress, give_way};
 use crate::tracing_worker::WorkerMode;

@@ -12,7 +12,7 @@ use std::thread;
 use std::thread::Threads;
 use test_support::{AnswerText, CallArguments, NO_SUCH_THING};
 
-/// What is done at the seats of a desk at the same time: calls at the first, parted by `; `, and at each other one what its
+/// The calls at the seats of a desk at the same time: those at the first, parted by `; `, and at each other one the call of its
 /// letter says.
 #[derive(Drop)]
 struct ConcurrentCalls<'a, R> {

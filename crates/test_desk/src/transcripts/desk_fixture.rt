@@ -1,4 +1,4 @@
-//! What a story keeps beside the seats that are here, and its calls of one of these.
+//! The things that a transcript keeps beside the seats that are here, and its calls of one of these.
 use crate::callers::{DeskCaller, DeskCalls, call_at};
 use crate::transcripts::work_here::work_here;
 use pd_desk::Desk;
@@ -36,7 +36,7 @@ impl DeskFixture {
         self.started_jobs.clear();
     }
 
-    /// Keeps a text under a word, and says how many lines it has.
+    /// Keeps a text under a word, and writes how many lines it has.
     pub fn write(&mut self, arguments: &mut CallArguments<'_>, out: &mut AnswerText) {
         let word = arguments.word();
         if self.texts.define(word, arguments.rest).is_err() {

@@ -1,4 +1,4 @@
-//! Pools of workers at the seats of a story.
+//! Pools of workers at the seats of a transcript.
 use crate::callers::pool;
 use crate::during_pool::{DuringPool, run_during_pool};
 use pd_desk::{Desk, OpenGate};
@@ -8,7 +8,7 @@ use std::sync::{Mutex, Wait};
 use std::thread::Threads;
 use test_support::{AnswerForm, AnswerText, NO_SUCH_THING};
 
-/// Runs a worker at each of these seats, of which one isn't let in and another finds a full history, and tells whether the
+/// Runs a worker at each of these seats, of which one isn't let in and another finds a full history, and writes whether the
 /// pool ends with the fault of the first in the order of the seats.
 pub fn first_of_pool<R: Threads + Wait + Sync>(
     rt: &R,

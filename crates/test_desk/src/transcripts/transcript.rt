@@ -1,4 +1,4 @@
-//! A desk and those at it, as a story tells of them.
+//! A desk and its seats, as a transcript has them.
 use crate::callers::CACHE;
 use crate::streams::check_streams;
 use crate::transcripts::concurrent_calls::answer_beside;
@@ -13,7 +13,7 @@ use std::sync::{Mutex, Wait};
 use std::thread::Threads;
 use test_support::{AnswerText, CallArguments, NO_SUCH_THING, OUT_OF_MEMORY, with, write_acts};
 
-/// A desk, the seats that are here, and what else a story keeps.
+/// A desk, the seats that are here, and the other things that a transcript keeps.
 #[derive(Drop)]
 pub struct DeskTranscript {
     alloc: Global,
@@ -84,7 +84,7 @@ impl DeskTranscript {
         }
     }
 
-    /// Closes the desk with the seats that are here, and says the book's acts. What comes back is kept.
+    /// Closes the desk with the seats that are here, and writes the book's acts. Seats that come back are kept.
     fn close(&mut self, out: &mut AnswerText) {
         match self.desk.take() {
             Some(desk) => self.close_desk(desk, out),

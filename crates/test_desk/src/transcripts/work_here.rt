@@ -14,7 +14,7 @@ pub fn work_here(desk_caller: &mut impl DeskCalls, alloc: Global, how: &str, out
     }
 }
 
-/// Works at one job, and tells how many steps were taken before it and after it, if that is asked for.
+/// Works at one job, and writes how many steps were taken before it and after it, if that is asked for.
 fn work_once(
     desk_caller: &mut impl DeskCalls,
     alloc: Global,

@@ -1,4 +1,4 @@
--- What is read again was read of the text before, and as many first lines are those of the other.
+-- The earlier reading is that of the text before, and as many first lines are those of the other text.
 use Rattle.pd_reparse.proofs.First.{reads_front}
 use Rattle.test_parser.proofs.reparse_check.read_again.Goals as goal
 
