@@ -18,8 +18,8 @@ use Rattle.pd_explain.specs.declared.causes.Cause.{Cause}
 use Rattle.pd_explain.specs.declared.causes.Cause.TheVariants as cause
 use Rattle.pd_explain.specs.Inner.{PacketsAppend, origin_by, AreTriggers, AreOriginsOf, unmatched_at}
 use Rattle.pd_explain.specs.Origins.{stages, matched_count, taken_by, after_input, IsLetGo, IsSentBy, AreOrigins, OriginsAreUnique}
-use Rattle.pd_explain.specs.declared.causes.origin.Origin.{Origin}
-use Rattle.pd_explain.specs.declared.causes.origin.Origin.TheVariants as origin
+use Rattle.pd_explain.specs.declared.origins.Origin.{Origin}
+use Rattle.pd_explain.specs.declared.origins.Origin.TheVariants as origin
 use Rattle.pd_explain.specs.declared.dropped.DroppedSegment.{DroppedSegment}
 use Rattle.pd_explain.specs.declared.origins.Trigger.{Trigger}
 use Rattle.pd_explain.proofs.TriggerLemmas.{passes, timer_grows, input_grows}

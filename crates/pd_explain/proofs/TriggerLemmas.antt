@@ -34,7 +34,7 @@ use Rattle.pd_run.specs.declared.stop_reason.StopReason.TheVariants.{Answered}
 use Rattle.pd_run.proofs.Bounds.{given, agreed, unbarred, goes, step_performs}
 use Rattle.pd_explain.specs.Inner.{PacketsAppend, origin_by, triggers_of, triggers_at, AreTriggers}
 use Rattle.pd_explain.specs.Origins.{stages, is_awaited, matched_count, taken_by, packets_in, packets_after, put_out_by_timer, put_out_by_input, after_timer, after_input, IsReached, IsSentBy}
-use Rattle.pd_explain.specs.declared.causes.origin.Origin.TheVariants as origin
+use Rattle.pd_explain.specs.declared.origins.Origin.TheVariants as origin
 use Rattle.pd_explain.specs.declared.origins.Trigger.{Trigger}
 use Rattle.pd_explain.specs.declared.origins.Trigger.TheVariants.{Timer, Line}
 

@@ -10,7 +10,7 @@ use Rattle.pd_explain.specs.RuleViolations.{IsRuleViolation}
 use Rattle.pd_explain.specs.declared.causes.Cause.{Cause}
 use Rattle.pd_explain.specs.declared.causes.Cause.TheVariants as cause
 use Rattle.pd_explain.specs.declared.causes.failure.Failure.{Failure}
-use Rattle.pd_explain.specs.declared.causes.origin.Origin.{Origin}
+use Rattle.pd_explain.specs.declared.origins.Origin.{Origin}
 use Rattle.pd_explain.specs.declared.dropped.DroppedSegment.{DroppedSegment}
 
 -- what is reported of an event that stopped a run, and stands at a place of its text: what didn't happen as written, with the time

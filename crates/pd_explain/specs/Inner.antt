@@ -21,8 +21,8 @@ use Rattle.pd_run.specs.declared.stop_reason.StopReason.TheVariants as stop_reas
 use Rattle.pd_explain.specs.Origins.{stages, taken_by, after_timer, after_input, listed_packets, IsSentBy}
 use Rattle.pd_explain.specs.Failures.{sender_at}
 use Rattle.pd_explain.specs.declared.causes.failure.ExpectedTime.{ExpectedTime}
-use Rattle.pd_explain.specs.declared.causes.origin.Origin.{Origin}
-use Rattle.pd_explain.specs.declared.causes.origin.Origin.TheVariants as origin
+use Rattle.pd_explain.specs.declared.origins.Origin.{Origin}
+use Rattle.pd_explain.specs.declared.origins.Origin.TheVariants as origin
 use Rattle.pd_explain.specs.declared.origins.Trigger.{Trigger}
 use Rattle.pd_explain.specs.declared.origins.Trigger.TheVariants.{Timer, Line}
 

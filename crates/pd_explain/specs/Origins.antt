@@ -14,8 +14,8 @@ use Rattle.pd_run.specs.Prechecks.{failed_precheck}
 use Rattle.pd_run.specs.Laws.{unmatched}
 use Rattle.pd_run.specs.Run.{start_of, states_from}
 use Rattle.pd_run.specs.Step.{RunStateView, on_step, comparison_noted, action_time, arrives, answers, awaited}
-use Rattle.pd_explain.specs.declared.causes.origin.Origin.{Origin}
-use Rattle.pd_explain.specs.declared.causes.origin.Origin.TheVariants.{Line, Timer}
+use Rattle.pd_explain.specs.declared.origins.Origin.{Origin}
+use Rattle.pd_explain.specs.declared.origins.Origin.TheVariants.{Line, Timer}
 
 -- the runs of a script before its first, second, .. event, up to the stop
 abbrev pub stages : Settings → Parsed → List RunStateView

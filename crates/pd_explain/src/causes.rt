@@ -6,14 +6,10 @@ mod aligned_packets;
 mod failure;
 mod find_failure;
 mod not_sent_reason;
-mod origin;
 mod outlook;
-mod pasted_laws;
 pub(crate) mod sentences;
 mod source_text;
-mod unexpected;
 mod unmatched;
-mod window_laws;
 
 pub use self::failure::{
     ExpectedTime, Failed, Failure, MissingPacket, SenderSnapshot, TimeBackwards, Unmatched,
@@ -22,14 +18,12 @@ pub use self::failure::{
 use self::find_failure::failure_of;
 pub(crate) use self::find_failure::{run_at, sender};
 pub use self::not_sent_reason::NotSentReason;
-pub use self::origin::Origin;
 pub use self::outlook::{Outlook, SackedRanges};
 pub(crate) use self::outlook::{bound_of, computed_us, span_text};
-pub use self::pasted_laws::law_actual_packets_pass;
 use self::source_text::source_text_at;
 pub(crate) use self::unmatched::list_unmatched;
-pub use self::window_laws::law_named_windows_hold;
 use crate::dropped::DroppedSegment;
+use crate::origins::Origin;
 use crate::refusals::Refusal;
 use crate::rule_violation::{RuleViolation, violation_at};
 use crate::rules::event_rule;

@@ -11,7 +11,6 @@ ghost use Rattle.pd_explain.specs.Inner.{IsResumed, IsTraced, knows_all_origins}
 
 use crate::causes::{Cause, cause_at, with_history};
 use crate::dropped::{DroppedSegment, dropped_before_stop};
-use crate::explanation::Explanation;
 use crate::parts::event_place;
 use crate::refusals::find_refusal;
 use crate::resume::{ResumedRun, TracedStop, resume_before, resume_early, trace_stop};
@@ -24,6 +23,17 @@ use pd_settings::Settings;
 use pd_text::Lines;
 use pd_track::Done;
 use std::alloc::{AllocError, Global};
+
+/// Why a row isn't `pass`.
+#[derive(Drop)]
+pub struct Explanation {
+    /// The row's line.
+    pub line: usize,
+    /// The row's verdict.
+    pub verdict: Verdict,
+    /// Why it came to that.
+    pub cause: Cause,
+}
 
 /// Explains the verdict that a run of a text under settings came to; nothing for a pass. The text is read and run again, up to the
 /// stop.

@@ -2,13 +2,14 @@
 ghost use Rattle.std.specs.Prelude.{◌≡◌, ◌≤◌, IfOk, IfSome, Ok, length, option_map};
 ghost use Rattle.pd_run.specs.Laws.{unmatched};
 ghost use Rattle.pd_run.specs.Run.{start_of};
-ghost use Rattle.pd_explain.specs.Leftovers.{awaits_any, end_from, end_in, last_line, IsLeftovers, IsLeftoversOf, PassesHaveEnds};
+ghost use Rattle.pd_explain.specs.Leftovers.{awaits_any, end_from, end_in, last_line, IsLeftovers, IsLeftoversOf};
 ghost use Rattle.pd_explain.specs.Inner.{AreOriginsOf, HasTriggersToEnd};
 ghost use Rattle.pd_explain.specs.Origins.{AreOrigins};
 
-use crate::causes::{Origin, SenderSnapshot, Unmatched, list_unmatched, sender};
-use crate::origins::{Trigger, is_awaited, law_packets_append, origins_of, step_with_triggers};
-use pd_run::{Plain, RunState, StepEnd, law_runs_are_bounded, law_verdicts_have_reasons};
+use crate::causes::{SenderSnapshot, Unmatched, list_unmatched, sender};
+use crate::laws::law_packets_append;
+use crate::origins::{Origin, Trigger, is_awaited, origins_of, step_with_triggers};
+use pd_run::{Plain, RunState, StepEnd, law_runs_are_bounded};
 use pd_script::{Event, Parsed, parse};
 use pd_settings::Settings;
 use pd_text::Lines;
@@ -165,11 +166,4 @@ fn last_line(events: &[Event]) -> usize
         Some(event) => event.line,
         None => 1,
     }
-}
-
-/// A law: a script passes exactly where its run comes to its end.
-pub fn law_passes_have_ends()
-    ensures { PassesHaveEnds }
-{
-    law_verdicts_have_reasons();
 }

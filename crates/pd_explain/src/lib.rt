@@ -37,12 +37,9 @@ mod alternatives;
 mod causes;
 mod dropped;
 mod escape;
-mod escape_laws;
-mod event_end;
 mod explain_verdict;
-mod explanation;
+mod laws;
 mod leftovers;
-mod origin_laws;
 mod origins;
 mod parts;
 mod refusals;
@@ -52,23 +49,22 @@ mod rule_violation;
 mod rules;
 
 pub use causes::{
-    Cause, ExpectedTime, Failed, Failure, MissingPacket, NotSentReason, Origin, Outlook,
-    SackedRanges, SenderSnapshot, TimeBackwards, Unmatched, WrongPacket, WrongResult, cause_at,
-    law_actual_packets_pass, law_named_windows_hold,
+    Cause, ExpectedTime, Failed, Failure, MissingPacket, NotSentReason, Outlook, SackedRanges,
+    SenderSnapshot, TimeBackwards, Unmatched, WrongPacket, WrongResult, cause_at,
 };
 pub use dropped::DroppedSegment;
 pub use escape::{escaped, put_escaped, truncated, truncated_around};
-pub use escape_laws::law_escaped_is_printable;
-pub use explain_verdict::{explain, explain_job};
-pub use explanation::Explanation;
-pub use leftovers::{Leftovers, find_leftovers, law_passes_have_ends};
-pub use origin_laws::law_origins_are_unique;
+pub use explain_verdict::{Explanation, explain, explain_job};
+pub use laws::{
+    law_actual_packets_pass, law_escaped_is_printable, law_named_windows_hold,
+    law_origins_are_unique, law_passes_have_ends, law_rules,
+};
+pub use leftovers::{Leftovers, find_leftovers};
+pub use origins::Origin;
 pub use parts::{ShownPart, event_place};
 pub use refusals::{Refusal, find_refusal};
 pub use render::{
     cause_text, explanation_json, explanation_text, leftovers_json, leftovers_text, write_sender,
 };
 pub use rule_violation::RuleViolation;
-pub use rules::{
-    LimitedNumber, Rule, UnsupportedInput, UnsupportedShape, event_rule, header_rule, law_rules,
-};
+pub use rules::{LimitedNumber, Rule, UnsupportedInput, UnsupportedShape, event_rule, header_rule};

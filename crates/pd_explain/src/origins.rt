@@ -1,4 +1,4 @@
-//! Runs of which it is noted who let each packet go.
+//! Runs with a note of what let each packet go: the input of a line, or the timer.
 ghost use Rattle.std.specs.Prelude.{◌≡◌, ◌-◌, ◌++◌, ◌<◌, ◌≤◌, ◌^◌, ◌+◌, false, is_some, None, Some, IfOk, OnOk, length, replicate, if◌then◌else◌};
 ghost use Rattle.std.specs.List.{list_any};
 ghost use Rattle.pd_host.specs.Expiries.{advanced, deadline_of, due_by};
@@ -9,13 +9,11 @@ ghost use Rattle.pd_run.specs.Limits.{is_long, written_times};
 ghost use Rattle.pd_run.specs.Step.{action_time, step, IsStepEnd, stop_reason};
 ghost use Rattle.pd_run.specs.declared.stepper.StepEnd.TheVariants.{Go};
 ghost use Rattle.pd_explain.specs.Origins.{is_awaited, matched_count, packets_in, after_timer, after_input};
-ghost use Rattle.pd_explain.specs.Inner.{AreOriginsOf, PacketsAppend, origin_by, triggers_at, triggers_by, triggers_of};
+ghost use Rattle.pd_explain.specs.Inner.{AreOriginsOf, origin_by, triggers_at, triggers_by, triggers_of};
 
-use crate::causes::Origin;
-use pd_host::{Host, HostEnd, Outbox, law_advances, law_arrivals, law_calls};
-use pd_run::{
-    Plain, RunState, StepEnd, Stepper, StopPoint, StopReason, failed_precheck, law_steps, time_of,
-};
+use crate::laws::law_packets_append;
+use pd_host::{Host, HostEnd, Outbox};
+use pd_run::{Plain, RunState, StepEnd, Stepper, StopPoint, StopReason, failed_precheck, time_of};
 use pd_script::{Action, Event};
 use pd_seg::Sent;
 use pd_settings::Settings;
@@ -24,6 +22,15 @@ use std::alloc::{AllocError, Global};
 /// How many packets are told of at most: the one compared, and ten others.
 const MAX_REPORTED: usize = 11;
 
+/// What let a packet go.
+#[derive(Clone, Copy, PartialEq, Eq)]
+pub enum Origin {
+    /// The input at this line: a packet that arrived, or a call.
+    Line(usize),
+    /// The timer, which expired at this moment, in microseconds since the start of the run.
+    Timer(u64),
+}
+
 /// Who let a packet go.
 #[derive(Clone, Copy)]
 pub enum Trigger {
@@ -31,16 +38,6 @@ pub enum Trigger {
     Timer,
     /// The input at a line.
     Line(usize),
-}
-
-/// What notes rest on: that no event takes a packet out of the midst of others, or puts one there.
-pub fn law_packets_append()
-    ensures { PacketsAppend }
-{
-    law_steps();
-    law_arrivals();
-    law_calls();
-    law_advances();
 }
 
 /// One event of a run: it is noted who let the packets go that it put out, where it passes.

@@ -4,16 +4,40 @@ mod candidates;
 mod foreign_syntax;
 mod last_event;
 mod probe;
-mod refusal;
 
 use self::candidates::expected;
 pub use self::foreign_syntax::ForeignSyntax;
 use self::last_event::LastEvent;
-pub use self::refusal::Refusal;
 use crate::parts::{rest_at, shown_at};
 use pd_lex::Place;
 use pd_text::Lines;
 use std::alloc::{AllocError, Global};
+
+/// Where no script goes on, and what could be there.
+#[derive(Drop)]
+pub struct Refusal {
+    /// The line that is shown, counted from 1.
+    pub line: usize,
+    /// Its octets as they are shown, all of them.
+    pub text: Vec<u8>,
+    /// In which column of `text` the refused token begins, or something is missing, counted from 0; nothing at the end of the
+    /// text.
+    pub mark: Option<usize>,
+    /// What stands there, where it has a name.
+    pub foreign_syntax: Option<ForeignSyntax>,
+    /// What could be there, in words.
+    pub expected: Vec<Vec<u8>>,
+}
+
+impl Refusal {
+    /// What stands there, in words, where it has a name.
+    pub fn found(&self) -> Option<&'static str> {
+        match self.foreign_syntax {
+            Some(foreign_syntax) => Some(foreign_syntax.words()),
+            None => None,
+        }
+    }
+}
 
 /// The token of a line at which no script goes on, of a text that the grammar refuses at that line.
 ///

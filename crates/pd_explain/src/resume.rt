@@ -6,10 +6,11 @@ ghost use Rattle.pd_run.specs.StopPoints.{stop_in};
 ghost use Rattle.pd_script.specs.Script.{script_of};
 ghost use Rattle.pd_explain.specs.Inner.{AreOriginsOf, IsResumed, IsTraced, knows_all_origins, unmatched_at};
 
-use crate::causes::{Origin, run_at};
+use crate::causes::run_at;
 use crate::dropped::MAX_EVENTS_BACK;
+use crate::laws::law_packets_append;
 use crate::origins::{
-    Trigger, law_packets_append, matched_count, note_stop_triggers, origins_of, step_with_triggers,
+    Origin, Trigger, matched_count, note_stop_triggers, origins_of, step_with_triggers,
 };
 use pd_reparse::{ParsedEvent, Reading, SharedList};
 use pd_run::{

@@ -2,12 +2,10 @@
 ghost use Rattle.std.specs.Prelude.{◌≡◌};
 ghost use Rattle.pd_explain.specs.Rules.{header_rule, event_rule};
 
-mod laws;
 mod limited_numbers;
 mod unsupported_inputs;
 mod unsupported_shapes;
 
-pub use self::laws::law_rules;
 pub use self::limited_numbers::LimitedNumber;
 pub(crate) use self::limited_numbers::is_time_long;
 use self::limited_numbers::number_over;

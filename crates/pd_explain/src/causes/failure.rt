@@ -1,8 +1,8 @@
 //! What is reported of an event that didn't happen as written. Texts are octets as a script has them, neither shown nor cut.
 use crate::causes::not_sent_reason::NotSentReason;
-use crate::causes::origin::Origin;
 use crate::causes::outlook::Outlook;
 use crate::dropped::DroppedSegment;
+use crate::origins::Origin;
 use pd_host::{ConnState, ConnectionSnapshot};
 use pd_match::Kind;
 

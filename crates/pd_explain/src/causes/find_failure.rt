@@ -21,8 +21,7 @@ use crate::causes::failure::{
 use crate::causes::not_sent_reason::NotSentReason;
 use crate::causes::outlook::outlook_of;
 use crate::causes::source_text::SourceText;
-use crate::causes::unexpected::count_unexpected;
-use crate::causes::unmatched::list_unmatched;
+use crate::causes::unmatched::{count_unexpected, list_unmatched};
 use crate::escape::escaped;
 use pd_host::Host;
 use pd_match::Kind;

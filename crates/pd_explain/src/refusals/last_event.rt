@@ -3,13 +3,27 @@ ghost use Rattle.std.specs.Prelude.{◌≡◌};
 ghost use Rattle.pd_explain.specs.MarkedPlace.{place_marked};
 
 use crate::escape::part;
-use crate::event_end::end_of_event;
 use crate::refusals::blanks::bad_column;
 use crate::refusals::probe::{is_refused, is_script};
 use pd_lex::{Lexed, Place, Token, TokenKind, next_token};
-use pd_script::{MAX_EVENTS, read_header};
+use pd_script::{MAX_EVENTS, NextEvent, next_event, read_header};
 use pd_text::{Lines, MAX_OCTETS};
 use std::alloc::{AllocError, Global};
+
+/// Where the event at a place ends, and whether another one follows; nothing where there is none.
+///
+/// # Errors
+/// `AllocError` where a growth is refused.
+fn end_of_event(
+    alloc: Global,
+    lines: &Lines,
+    place: Place,
+) -> Result<Option<(Place, bool)>, AllocError> {
+    match next_event(alloc, lines, place)? {
+        NextEvent::Got(_, after, lookahead_line) => Ok(Some((after, lookahead_line.is_some()))),
+        NextEvent::End | NextEvent::Fault(_) => Ok(None),
+    }
+}
 
 /// An event that a text may have before the remnant: only how many there are matters to the grammar.
 const SOME_EVENT: &[u8] = b"*``";

@@ -3,9 +3,10 @@ ghost use Rattle.std.specs.Prelude.{◌≡◌};
 ghost use Rattle.pd_explain.specs.States.{state_word};
 
 use crate::causes::{
-    Cause, ExpectedTime, Failed, Failure, MissingPacket, Origin, Outlook, SenderSnapshot,
-    TimeBackwards, WrongPacket, WrongResult, bound_of, computed_us,
+    Cause, ExpectedTime, Failed, Failure, MissingPacket, Outlook, SenderSnapshot, TimeBackwards,
+    WrongPacket, WrongResult, bound_of, computed_us,
 };
+use crate::origins::Origin;
 use crate::rules::Rule;
 use pd_host::{
     ConnState, ConnectionSnapshot, DupAckStatus, LossEvidence, Recovery, WindowSnapshot,

@@ -1,6 +1,6 @@
 //! What a row came to, in words.
 use crate::causes::{Cause, Failed};
-use crate::explanation::Explanation;
+use crate::explain_verdict::Explanation;
 use crate::leftovers::Leftovers;
 use pd_match::Kind;
 use pd_run::Verdict;

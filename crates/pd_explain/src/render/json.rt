@@ -1,9 +1,10 @@
 //! The block of an explanation as a JSON object.
-use crate::causes::{Cause, Failed, Origin, SenderSnapshot, Unmatched, span_text};
+use crate::causes::{Cause, Failed, SenderSnapshot, Unmatched, span_text};
 use crate::dropped::DroppedSegment;
 use crate::escape::escaped;
-use crate::explanation::Explanation;
+use crate::explain_verdict::Explanation;
 use crate::leftovers::Leftovers;
+use crate::origins::Origin;
 use crate::refusals::Refusal;
 use crate::render::dropped_text::{failed_check_key, failed_check_words};
 use crate::render::facts::{Fact, FactValue, facts_of, facts_of_sender, named_fact, state_name};

@@ -4,12 +4,13 @@ ghost use Rattle.pd_explain.specs.Escape.{are_printable};
 ghost use Rattle.pd_explain.specs.BlockLines.{AreIndented, IsBlock};
 ghost use Rattle.pd_explain.specs.Inner.{AddsLines};
 
-use crate::causes::{Cause, Failed, Failure, Origin, SenderSnapshot, Unmatched, WrongPacket};
+use crate::causes::{Cause, Failed, Failure, SenderSnapshot, Unmatched, WrongPacket};
 use crate::dropped::DroppedSegment;
 use crate::escape::{escaped, truncated, truncated_around};
-use crate::escape_laws::law_escaped_is_printable;
-use crate::explanation::Explanation;
+use crate::explain_verdict::Explanation;
+use crate::laws::law_escaped_is_printable;
 use crate::leftovers::Leftovers;
+use crate::origins::Origin;
 use crate::refusals::Refusal;
 use crate::render::dropped_text::dropped_text;
 use crate::render::facts::{Fact, FactValue, facts_of, facts_of_sender, state_name};

@@ -2,7 +2,7 @@
 use Rattle.std.proofs.Common.{◌≡◌, ℕ, ◌+◌, ◌-◌, length, slice_get, Some}
 use Rattle.pd_seg.specs.declared.segments.Sent.{Sent}
 use Rattle.pd_explain.specs.Inner.{origin_by}
-use Rattle.pd_explain.specs.declared.causes.origin.Origin.{Origin}
+use Rattle.pd_explain.specs.declared.origins.Origin.{Origin}
 use Rattle.pd_explain.specs.declared.origins.Trigger.{Trigger}
 use Rattle.pd_explain.proofs.origins.origins_of.Given as goal
 

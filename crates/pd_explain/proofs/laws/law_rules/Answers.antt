@@ -1,7 +1,7 @@
 -- The laws are lemmas.
 use Rattle.pd_explain.proofs.RuleLemmas.{limits_have_numbers, shapes_have_rules}
 use Rattle.pd_explain.proofs.InputLemmas.{openings_have_rules, contents_have_rules}
-use Rattle.pd_explain.proofs.rules.laws.law_rules.Goals as goal
+use Rattle.pd_explain.proofs.laws.law_rules.Goals as goal
 
 pub returns-clause-limits : goal.returns-clause-limits
 returns-clause-limits c = limits_have_numbers

@@ -9,7 +9,7 @@ use Rattle.pd_run.specs.Laws.{unmatched}
 use Rattle.pd_run.specs.Step.{tolerance_of}
 use Rattle.pd_run.specs.Times.{time_range_of}
 use Rattle.pd_explain.proofs.UnexpectedLemmas.{Left, early_at, found_after, one_before}
-use Rattle.pd_explain.proofs.causes.unexpected.count_before.Goals as goal
+use Rattle.pd_explain.proofs.causes.unmatched.count_before.Goals as goal
 
 -- the packet at a place, and those after it
 split_at : (n : ℕ) (xs : List Sent) (sent : Sent) → slice_get xs n ≡ Some sent → drop n xs ≡ sent ∷ drop (n + 1) xs

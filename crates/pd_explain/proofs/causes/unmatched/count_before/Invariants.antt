@@ -6,7 +6,7 @@ use Rattle.pd_run.specs.Limits.{is_long, written_times}
 use Rattle.pd_run.specs.Step.{tolerance_of}
 use Rattle.pd_explain.specs.Unexpected.{IsEarly}
 use Rattle.pd_explain.proofs.UnexpectedLemmas.{Left}
-use Rattle.pd_explain.proofs.causes.unexpected.count_before.Given as goal
+use Rattle.pd_explain.proofs.causes.unmatched.count_before.Given as goal
 
 abbrev pub invariant-loop-count : goal.invariant-loop-count
 invariant-loop-count l = record {
