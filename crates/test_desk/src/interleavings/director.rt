@@ -58,8 +58,8 @@ impl<'a> Director<'a> {
     pub fn begin(&mut self, lists: (&'a str, &'a str)) {
         self.callers.clear();
         for left in [lists.0, lists.1] {
-            let law_settling = None;
-            let _ = self.callers.push(Caller { left, law_settling });
+            let settling = None;
+            let _ = self.callers.push(Caller { left, settling });
         }
         self.made.clear();
         self.busy = 0;
@@ -221,11 +221,11 @@ impl<'a> Director<'a> {
 
     /// Whether the output, if there is any, is right as the answer to a caller's last call.
     fn is_right(&mut self, who: usize, out: &str) -> bool {
-        let law_settling = match self.callers.get_mut(who) {
+        let settling = match self.callers.get_mut(who) {
             Some(caller) => caller.settling.take(),
             None => None,
         };
-        match law_settling {
+        match settling {
             Some(before) => self.is_report(before, out),
             None => out.is_empty() || out == self.answer.as_str(),
         }
