@@ -1,11 +1,11 @@
 //! Where a packet has left, between the events of a script.
+
 use crate::event_line::EventLine;
 use crate::failure_site::FailureSite;
 use crate::line_mends::push_line;
 use crate::mend::{Mend, MendEffect, Target};
-use crate::retime::with_time_of;
 use crate::rewrite_packet::retimed;
-use crate::times::{sooner, time_of};
+use crate::times::{sooner, time_of, with_time_of};
 use crate::tokens::{Columns, part};
 use crate::try_mend::stop_before;
 use pd_run::{StopPoint, StopReason};

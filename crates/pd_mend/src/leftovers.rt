@@ -1,6 +1,7 @@
-//! The packets that a script leaves which passes.
-ghost use Rattle.std.specs.Prelude.{◌≡◌, ◌⊎◌, ◌≤◌, IfOk, IfSome, length};
-ghost use Rattle.pd_mend.specs.Mending.{IsRetiming};
+//! The packets that a script leaves which passes: whether there are any, and the edit that gives one a line.
+ghost use Rattle.std.specs.Prelude.{◌≡◌, IfOk, ◌⊎◌, ◌≤◌, IfSome, length};
+ghost use Rattle.pd_mend.specs.Inner.{awaits_no_more};
+ghost use Rattle.pd_mend.specs.Mending.{matches_all, IsRetiming};
 
 use crate::event_line::EventLine;
 use crate::failure_site::FailureSite;
@@ -8,14 +9,36 @@ use crate::input_gap::{first_line, gap_of};
 use crate::line_mends::{push_line, text_of};
 use crate::mend::{Mend, MendEffect, Target};
 use crate::mend_state::MendState;
-use crate::retime::retiming;
+use crate::times::retiming;
 use crate::try_mend::{NEVER, with_never_sent};
+use pd_explain::{Leftovers, find_leftovers};
 use pd_run::{StopReason, find_stop};
 use pd_script::{Action, Parsed, parse};
 use pd_seg::Sent;
 use pd_settings::Settings;
 use pd_text::{LineEdit, LineList, Lines};
 use std::alloc::{AllocError, Global};
+
+/// Whether the events of a text that passes take all packets which its run puts out, or none of them awaits one.
+///
+/// # Errors
+/// `AllocError` where a growth is refused.
+pub fn matches_all(alloc: Global, text: &Lines, settings: &Settings) -> Result<bool, AllocError>
+    ensures { IfOk result (λ taken. taken ≡ matches_all settings.now text.now) }
+{
+    let found = find_leftovers(alloc, text, settings)?;
+    Ok(awaits_no_more(&found))
+}
+
+/// Whether an ending tells of no packet that might have been awaited.
+fn awaits_no_more(found: &Option<Leftovers>) -> bool
+    ensures { result ≡ awaits_no_more found.now }
+{
+    match found {
+        Some(leftovers) => !leftovers.awaits,
+        None => true,
+    }
+}
 
 /// The edit by which the oldest of the packets that stand untaken at the end of a text's run gets a line. Where there is no room for
 /// one, the edit is one for which there is none either.

@@ -33,9 +33,7 @@
 //!   time stays, octet for octet.
 #![tactic(auto)]
 
-mod align;
 mod alignment;
-mod all_matched;
 mod differences;
 mod displaced;
 mod event_line;
@@ -47,7 +45,6 @@ mod laws;
 mod leftovers;
 mod line_map;
 mod line_mends;
-mod lines_of;
 mod mend;
 mod mend_error;
 mod mend_loop;
@@ -58,7 +55,6 @@ mod missing_packet;
 mod moved_lines;
 mod packet_columns;
 mod replacements;
-mod retime;
 mod rewrite_packet;
 mod times;
 mod tokens;

@@ -7,10 +7,9 @@ ghost use Rattle.pd_mend.specs.Mending.{IsNoPass, IsUnfinished, matches_all};
 ghost use Rattle.pd_mend.specs.Mended.{IsFinished, IsMended, RefusesToMend};
 ghost use Rattle.pd_mend.specs.Inner.{IsUnmendable};
 
-use crate::all_matched::matches_all;
-use crate::lines_of::line_in;
+use crate::leftovers::matches_all;
 use crate::mend_error::{MendError, Unmendable};
-use crate::mender::Mender;
+use crate::mender::{Mender, line_in};
 use crate::moved_lines::MovedLines;
 use pd_run::{Verdict, run_all};
 use pd_settings::Settings;

@@ -2,13 +2,12 @@
 ghost use Rattle.std.specs.Prelude.{◌≡◌, ◌⊎◌, IfOk, IfErr, IfSome};
 ghost use Rattle.pd_run.specs.Run.{verdict_of};
 ghost use Rattle.pd_script.specs.Script.{script_of};
-ghost use Rattle.pd_mend.specs.Mending.{IsPlaced, IsUnfinished};
+ghost use Rattle.pd_mend.specs.Mending.{IsPlaced, IsUnfinished, line_after, IsFollowed};
 ghost use Rattle.pd_mend.specs.Inner.{IsChange, IsNext, IsUnmade};
 
 use crate::failure_site::FailureSite;
 use crate::leftovers::{insert_edit, leftover_edit};
 use crate::line_map::LineMap;
-use crate::lines_of::follower_of;
 use crate::mend::{Mend, Target, mend_of};
 use crate::mend_error::MendError;
 use crate::mend_state::MendState;
@@ -194,4 +193,39 @@ fn replaced(text: &Lines, from: usize, insert: LineList) -> Option<LineEdit>
         remove: 1,
         insert,
     })
+}
+
+/// The line that a verdict names; 0 where it names none.
+pub fn line_in(verdict: Verdict) -> usize {
+    match verdict {
+        Verdict::Pass(_) => 0,
+        Verdict::Fail(line, _)
+        | Verdict::Syntax(line)
+        | Verdict::Unsupported(line)
+        | Verdict::Limit(line) => line,
+    }
+}
+
+/// The line of the event after so many others.
+fn line_at(events: &[Event], passed: usize) -> Option<usize>
+    ensures { result ≡ line_after events.now passed }
+{
+    match events.get(passed) {
+        Some(event) => Some(event.line),
+        None => None,
+    }
+}
+
+/// The line of the event that follows the one after so many others, if that one is on this line.
+#[tactic(auto, using(crate::proofs::Followers::followed))]
+fn follower_of(events: &[Event], passed: usize, line: usize) -> Option<usize>
+    ensures { IfSome result (IsFollowed events.now line) }
+{
+    if passed >= events.len() {
+        return None;
+    }
+    match line_at(events, passed) {
+        Some(own) if own == line => line_at(events, passed + 1),
+        _ => None,
+    }
 }

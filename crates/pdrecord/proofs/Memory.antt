@@ -8,7 +8,7 @@ use Rattle.pd_protocol.specs.WriterOutput.{WritesTo}
 use Rattle.pd_protocol.specs.ProgramFaults.{fault_line}
 use Rattle.pd_protocol.specs.declared.exit.Exit.{Exit}
 use Rattle.pd_protocol.proofs.Known.{appends_none}
-use Rattle.pdrecord.specs.declared.mode.RecordMode.{RecordMode}
+use Rattle.pdrecord.specs.declared.record_options.RecordMode.{RecordMode}
 use Rattle.pdrecord.specs.RecordProgram.{Comes}
 use Rattle.pdrecord.specs.FileSections.{FinishesFiles}
 

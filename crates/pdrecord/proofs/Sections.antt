@@ -7,7 +7,7 @@ use Rattle.pd_protocol.specs.declared.faults.ServeFault.{ServeFault}
 use Rattle.pd_protocol.specs.declared.faults.ServeFault.TheVariants as fault
 use Rattle.pd_protocol.specs.ChosenOptions.{names_of}
 use Rattle.pd_protocol.proofs.Known.{appends_then, appends_none}
-use Rattle.pdrecord.specs.declared.mode.RecordMode.{RecordMode}
+use Rattle.pdrecord.specs.declared.record_options.RecordMode.{RecordMode}
 use Rattle.pdrecord.specs.RecordProgram.{IsOutcome, IsStop, IsUnmade}
 use Rattle.pdrecord.specs.ScriptInput.{script_in}
 use Rattle.pdrecord.specs.declared.outcome.Outcome.{Outcome}

@@ -13,7 +13,7 @@ use Rattle.pd_protocol.specs.declared.program_faults.ProgramFault.TheVariants.{S
 use Rattle.pdrecord.specs.RecordProgram.{IsOutcome}
 use Rattle.pdrecord.specs.declared.file_sections.FileFault.{FileFault}
 use Rattle.pdrecord.specs.ScriptInput.{script_in}
-use Rattle.pdrecord.specs.declared.mode.RecordMode.{RecordMode}
+use Rattle.pdrecord.specs.declared.record_options.RecordMode.{RecordMode}
 use Rattle.pdrecord.specs.declared.outcome.Outcome.{Outcome}
 use Rattle.pdrecord.specs.declared.outcome.Outcome.TheVariants.{Recorded, Refused}
 

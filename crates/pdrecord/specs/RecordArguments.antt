@@ -7,8 +7,8 @@ use Rattle.clap.specs.declared.error.kind.ErrorKind.TheVariants.{ArgumentConflic
 use Rattle.pd_protocol.specs.ChosenOptions.{names_of}
 use Rattle.pd_protocol.specs.OptionTable.{settings_rule, settings_text, option_text, word_faults}
 use Rattle.pdrecord.specs.declared.record_options.RecordOptions.{RecordOptions}
-use Rattle.pdrecord.specs.declared.mode.RecordMode.{RecordMode}
-use Rattle.pdrecord.specs.declared.mode.RecordMode.TheVariants.{Whole, Traced, Minimal}
+use Rattle.pdrecord.specs.declared.record_options.RecordMode.{RecordMode}
+use Rattle.pdrecord.specs.declared.record_options.RecordMode.TheVariants.{Whole, Traced, Minimal}
 
 -- `--trace`
 abbrev pub trace_rule : Rule

@@ -26,8 +26,8 @@ use Rattle.pdrecord.specs.ScriptInput.{script_in}
 use Rattle.pdrecord.specs.Written.{IsWritten}
 use Rattle.pdrecord.specs.declared.outcome.Outcome.{Outcome}
 use Rattle.pdrecord.specs.declared.outcome.Outcome.TheVariants.{Recorded, Refused}
-use Rattle.pdrecord.specs.declared.mode.RecordMode.{RecordMode}
-use Rattle.pdrecord.specs.declared.mode.RecordMode.TheVariants.{Whole, Traced, Minimal}
+use Rattle.pdrecord.specs.declared.record_options.RecordMode.{RecordMode}
+use Rattle.pdrecord.specs.declared.record_options.RecordMode.TheVariants.{Whole, Traced, Minimal}
 
 -- the line that says why a script isn't recorded
 abbrev pub refusal_line : List ℕ → List ℕ

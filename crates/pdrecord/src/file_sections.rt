@@ -5,9 +5,9 @@ ghost use Rattle.pdrecord.specs.RecordProgram.{IsStop};
 ghost use Rattle.pdrecord.specs.FileSections.{IsSection, Writes, WritesOne, lines_in, title};
 
 use crate::file_source::FileSource;
-use crate::mode::RecordMode;
 use crate::outcome::Outcome;
 use crate::program::outcome_of;
+use crate::record_options::RecordMode;
 use crate::script_input::ScriptInput;
 use pd_protocol::{InputStream, ServeFault, put_number, write_all};
 use pd_settings::Settings;

@@ -31,7 +31,6 @@ mod file_sections;
 mod file_source;
 mod host_files;
 mod mend_outcome;
-mod mode;
 mod outcome;
 mod program;
 mod record_options;

@@ -12,9 +12,8 @@ ghost use Rattle.pd_protocol.specs.ChosenOptions.{names_of};
 use crate::file_sections::{FileFault, put_sections};
 use crate::file_source::{FileSource, NoFiles};
 use crate::mend_outcome::mended;
-use crate::mode::RecordMode;
 use crate::outcome::{Outcome, refusal_of};
-use crate::record_options::{RecordOptions, record_options};
+use crate::record_options::{RecordMode, RecordOptions, record_options};
 use crate::script_input::ScriptInput;
 use crate::trace_text::octets_of;
 use pd_protocol::{

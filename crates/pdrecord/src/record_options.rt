@@ -1,15 +1,26 @@
-//! The words of the program that records, read by `clap`.
+//! The options of the program that records, read by `clap`.
 ghost use Rattle.std.specs.Prelude.{false, ◌≡◌, ◌≢◌, ◌⊎◌, ◌||◌, List, [], IfOk, IfErr, IsErr, codes, map, option_map, unwrap_or};
 ghost use Rattle.clap.specs.Words.{HasMatchesOf, Text, app_of, found_of, kind_of, matched_of, raw_values, rule_of};
 ghost use Rattle.pd_protocol.specs.ChosenOptions.{names_of};
 ghost use Rattle.pdrecord.specs.RecordArguments.{pdrecord, trace_rule, minimal_rule, drop_missing_rule, file_rule, is_set, is_trace_of_minimal, is_drop_alone, refusals, mode_by, HasRecordOptions};
 
-use crate::mode::RecordMode;
 use clap::error::ErrorKind;
 use clap::{Arg, ArgAction, ArgMatches, Command, Error};
 use pd_protocol::{is_true, settings_option};
 use std::alloc::{AllocError, Global};
 use std::convert::AsStr;
+
+/// How a script is recorded.
+#[derive(Clone, Copy, PartialEq, Eq)]
+pub enum RecordMode {
+    /// Whole.
+    Whole,
+    /// Whole, with a trace.
+    Traced,
+    /// By the least change with which it passes. A packet that is awaited and isn't sent becomes a comment, or if so is taken
+    /// away.
+    Minimal(bool),
+}
 
 /// What the words of the program that records choose.
 #[derive(Drop)]
