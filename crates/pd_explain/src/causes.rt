@@ -11,15 +11,13 @@ pub(crate) mod sentences;
 mod source_text;
 mod unmatched;
 
-pub use self::failure::{
-    ExpectedTime, Failed, Failure, MissingPacket, SenderSnapshot, TimeBackwards, Unmatched,
-    WrongPacket, WrongResult,
+pub(crate) use self::failure::{
+    ExpectedTime, Failure, MissingPacket, TimeBackwards, Unmatched, WrongPacket, WrongResult,
 };
+pub use self::failure::{Failed, SenderSnapshot};
 use self::find_failure::failure_of;
 pub(crate) use self::find_failure::{run_at, sender};
-pub use self::not_sent_reason::NotSentReason;
-pub use self::outlook::{Outlook, SackedRanges};
-pub(crate) use self::outlook::{bound_of, computed_us, span_text};
+pub(crate) use self::outlook::{Outlook, bound_of, computed_us, span_text};
 use self::source_text::source_text_at;
 pub(crate) use self::unmatched::list_unmatched;
 use crate::dropped::DroppedSegment;

@@ -33,7 +33,7 @@ fn hex_digit(value: u8) -> u8
 ///
 /// # Errors
 /// `AllocError` where a growth is refused.
-pub fn put_escaped(out: &mut Vec<u8>, octets: &[u8]) -> Result<(), AllocError>
+fn put_escaped(out: &mut Vec<u8>, octets: &[u8]) -> Result<(), AllocError>
     ensures { OnOk result (out.new.items ≡ out.old.items ++ escaped octets.now) }
 {
     for octet in octets {
@@ -46,7 +46,7 @@ pub fn put_escaped(out: &mut Vec<u8>, octets: &[u8]) -> Result<(), AllocError>
 ///
 /// # Errors
 /// `AllocError` where a growth is refused.
-pub fn escaped(alloc: Global, octets: &[u8]) -> Result<Vec<u8>, AllocError>
+pub(crate) fn escaped(alloc: Global, octets: &[u8]) -> Result<Vec<u8>, AllocError>
     ensures { IfOk result (λ text. text.items ≡ escaped octets.now) }
 {
     let mut text = Vec::new(alloc);
@@ -64,21 +64,11 @@ fn put_octet(out: &mut Vec<u8>, octet: u8) -> Result<(), AllocError>
     out.extend_from_slice(&[b'\\', b'x', hex_digit(octet / 16), hex_digit(octet % 16)])
 }
 
-/// How many octets are shown for these.
-pub fn escaped_len(octets: &[u8]) -> usize {
-    let mut len = 0usize;
-    for octet in octets {
-        let more = if is_printable(*octet) { 1 } else { ESCAPED };
-        len = len.saturating_add(more);
-    }
-    len
-}
-
 /// A shown line, cut at 200 octets; `..` is in the place of what is cut off.
 ///
 /// # Errors
 /// `AllocError` where a growth is refused.
-pub fn truncated(alloc: Global, line: &[u8]) -> Result<Vec<u8>, AllocError>
+pub(crate) fn truncated(alloc: Global, line: &[u8]) -> Result<Vec<u8>, AllocError>
     ensures { IfOk result (λ cut. are_printable line.now ≡ true → are_printable cut.items ≡ true) }
 {
     let (cut, _) = truncated_around(alloc, line, 0)?;
@@ -89,7 +79,7 @@ pub fn truncated(alloc: Global, line: &[u8]) -> Result<Vec<u8>, AllocError>
 ///
 /// # Errors
 /// `AllocError` where a growth is refused.
-pub fn truncated_around(
+pub(crate) fn truncated_around(
     alloc: Global,
     line: &[u8],
     mark: usize,
@@ -126,7 +116,7 @@ fn put_cut(out: &mut Vec<u8>, is_cut: bool) -> Result<(), AllocError>
 
 /// The octets from a place up to another.
 #[tactic(auto, using(crate::proofs::EscapeLemmas::ranged))]
-pub fn part(line: &[u8], start: usize, end: usize) -> &[u8]
+pub(crate) fn part(line: &[u8], start: usize, end: usize) -> &[u8]
     ensures { are_printable line.now ≡ true → are_printable result.now ≡ true }
 {
     let end = end.min(line.len());

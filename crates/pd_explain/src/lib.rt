@@ -48,23 +48,15 @@ mod resume;
 mod rule_violation;
 mod rules;
 
-pub use causes::{
-    Cause, ExpectedTime, Failed, Failure, MissingPacket, NotSentReason, Outlook, SackedRanges,
-    SenderSnapshot, TimeBackwards, Unmatched, WrongPacket, WrongResult, cause_at,
-};
-pub use dropped::DroppedSegment;
-pub use escape::{escaped, put_escaped, truncated, truncated_around};
-pub use explain_verdict::{Explanation, explain, explain_job};
+pub use causes::{Cause, Failed, SenderSnapshot, cause_at};
+pub use explain_verdict::{explain, explain_job};
 pub use laws::{
     law_actual_packets_pass, law_escaped_is_printable, law_named_windows_hold,
     law_origins_are_unique, law_passes_have_ends, law_rules,
 };
 pub use leftovers::{Leftovers, find_leftovers};
-pub use origins::Origin;
-pub use parts::{ShownPart, event_place};
-pub use refusals::{Refusal, find_refusal};
+pub use parts::event_place;
 pub use render::{
     cause_text, explanation_json, explanation_text, leftovers_json, leftovers_text, write_sender,
 };
-pub use rule_violation::RuleViolation;
-pub use rules::{LimitedNumber, Rule, UnsupportedInput, UnsupportedShape, event_rule, header_rule};
+pub use rules::event_rule;

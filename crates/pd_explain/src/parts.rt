@@ -5,8 +5,9 @@ mod part_of_rule;
 mod rule_part;
 mod token_roles;
 
-pub use self::locate::{ShownPart, event_place, place_of_part, rest_at, shown_at};
-pub use self::nesting::Nesting;
-pub use self::part_of_rule::{header_part, part_of};
-pub use self::rule_part::RulePart;
-pub use self::token_roles::TokenRole;
+pub use self::locate::event_place;
+pub(crate) use self::locate::{ShownPart, place_of_part, rest_at, shown_at};
+pub(crate) use self::nesting::Nesting;
+pub(crate) use self::part_of_rule::{header_part, part_of};
+pub(crate) use self::rule_part::RulePart;
+pub(crate) use self::token_roles::TokenRole;

@@ -6,7 +6,7 @@ mod last_event;
 mod probe;
 
 use self::candidates::expected;
-pub use self::foreign_syntax::ForeignSyntax;
+use self::foreign_syntax::ForeignSyntax;
 use self::last_event::LastEvent;
 use crate::parts::{rest_at, shown_at};
 use pd_lex::Place;
@@ -43,7 +43,11 @@ impl Refusal {
 ///
 /// # Errors
 /// `AllocError` where a growth is refused.
-pub fn find_refusal(alloc: Global, lines: &Lines, line: usize) -> Result<Refusal, AllocError> {
+pub(crate) fn find_refusal(
+    alloc: Global,
+    lines: &Lines,
+    line: usize,
+) -> Result<Refusal, AllocError> {
     let last_event = LastEvent::read(alloc, lines, line)?;
     let accepted = last_event.count_accepted(alloc)?;
     let refused = last_event.refused_at(lines, line, accepted);

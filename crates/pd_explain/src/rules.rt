@@ -6,12 +6,11 @@ mod limited_numbers;
 mod unsupported_inputs;
 mod unsupported_shapes;
 
-pub use self::limited_numbers::LimitedNumber;
-pub(crate) use self::limited_numbers::is_time_long;
 use self::limited_numbers::number_over;
-pub use self::unsupported_inputs::UnsupportedInput;
+pub(crate) use self::limited_numbers::{LimitedNumber, is_time_long};
+pub(crate) use self::unsupported_inputs::UnsupportedInput;
 use self::unsupported_inputs::input_rule;
-pub use self::unsupported_shapes::UnsupportedShape;
+pub(crate) use self::unsupported_shapes::UnsupportedShape;
 use self::unsupported_shapes::shape_rule;
 use pd_host::Halt;
 use pd_run::{StopPoint, StopReason};
@@ -77,7 +76,7 @@ impl Rule {
 }
 
 /// The rule by which a header item isn't run.
-pub fn header_rule(item: &HeaderItem) -> Rule
+pub(crate) fn header_rule(item: &HeaderItem) -> Rule
     ensures { result ≡ header_rule item.now.kind }
 {
     match item.kind {
