@@ -13,7 +13,7 @@ pub fn law_readings()
 /// Laws, and no work: the events that the equal first lines of two texts decide are the first
 /// events of both, and the headers before them are equal.
 pub fn law_first_events()
-    ensures law_readings { FirstEventsStay }
+    ensures readings { FirstEventsStay }
     ensures scripts { FirstEventsOfScriptsStay }
 {
     law_first_lines();
