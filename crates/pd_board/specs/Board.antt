@@ -21,7 +21,7 @@ pub record BoardView : Type 0 where
   -- whether a call has found no memory
   pub out_of_memory : Bool
 
--- what holds of every scoreboard: the order of its numbers, their ranges, and where SACKed octets lie
+-- the invariant of scoreboards: the order of their numbers, their ranges, and where SACKed octets lie
 pub record IsBoardView (s : BoardView) : Type 0 where
   pub smss_low : 64 ≤ s.smss
   pub smss_high : s.smss ≤ 65495

@@ -4,7 +4,7 @@ use Rattle.pd_board.specs.Octets.{contains, size_where}
 use Rattle.pd_board.specs.Loss.{is_lost, is_unsacked, undelivered, lost_edge, pipe}
 use Rattle.pd_board.specs.Board.{BoardView}
 
--- what lies below a lost octet is lost
+-- an octet below a lost one is lost
 abbrev pub LostIsDownwardClosed : Type 0
 LostIsDownwardClosed = (s : BoardView) (x y : ℕ) → x ≤ y → is_lost y s ≡ true → is_lost x s ≡ true
 
@@ -27,7 +27,7 @@ EdgeShowsLosses =
     → (lost_edge t ≤ lost_edge s)
     ↔ ((x : ℕ) → t.una ≤ x → x < t.top → is_unsacked x t ≡ true → is_lost x t ≡ true → is_lost x s ≡ true)
 
--- what wasn't delivered before an ACK: what is outstanding after it, less the octets SACKed before it that still are, and those
+-- the octets not delivered before an ACK: those outstanding after it, less those SACKed before it that still are, and those
 -- that it acknowledges, none of which was SACKed before
 abbrev pub CountsUndelivered : Type 0
 CountsUndelivered =

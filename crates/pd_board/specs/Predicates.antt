@@ -7,11 +7,11 @@ use Rattle.pd_board.specs.Octets.{size_where, greatest_where, after}
 abbrev pub first_of : (ℕ → Bool) → ℕ → ℕ → Bool
 first_of p a x = p x && (x == a || not (p (x - 1)))
 
--- what makes lost, counted from the octet first on
+-- the octets that make lost, counted from the octet first on
 abbrev pub lost_from : (ℕ → Bool) → ℕ → ℕ → ℕ → ℕ → Bool
 lost_from p una top smss first = shows_loss smss (size_where (first_of p una) first top) (size_where p first top)
 
--- what is on the way of the octets from first on
+-- the octets on the way, from first on
 abbrev pub pipe_from : (ℕ → Bool) → ℕ → ℕ → ℕ → ℕ → ℕ → ℕ
 pipe_from p una top smss high first =
     size_where (λ x. not (p x) && not (lost_from p una top smss (x + 1))) first top

@@ -19,7 +19,7 @@ pub record AreRanges (a b : ℕ) (r : Ranges) : Type 0 where
   pub apart : Between a r.spans.items b
   pub total : r.octets ≡ octets_in r.spans.items
 
--- what is kept of a board's fields: what holds of every scoreboard, and where its ranges lie
+-- the invariant of a board's fields: that of every scoreboard, and where its ranges lie
 pub record IsBoard (segment una next top end : ℕ) (r : Ranges) : Type 0 where
   pub smss_low : 64 ≤ segment
   pub smss_high : segment ≤ 65495
@@ -53,11 +53,11 @@ pub record SearchingLast (from to end : ℕ) (all rest : List Span) : Type 0 whe
   pub after : (x : ℕ) → end ≤ x → x < to → among all x ≡ among rest x
   pub found : from < end → among all (end - 1) ≡ true
 
--- what a gap from i to s adds to the pipe, below so many runs and octets
+-- the octets that a gap from i to s adds to the pipe, below so many runs and octets
 abbrev pub gap : ℕ → ℕ → ℕ → ℕ → ℕ → ℕ → ℕ
 gap smss high runs octets i s = cond (shows_loss smss runs octets) 0 (s - i) + (min high s - i)
 
--- what is on the way from i on, over the ranges there
+-- the octets on the way from i on, over the ranges there
 abbrev pub pipe_over : ℕ → ℕ → ℕ → ℕ → List Span → ℕ
 pipe_over smss high top i [] = gap smss high 0 0 i top
 pipe_over smss high top i (r ∷ rs) = gap smss high (length rs + 1) (r.end - r.start + octets_in rs) i r.start + pipe_over smss high top r.end rs

@@ -134,6 +134,6 @@ job opening past j = find (λ (task : Task). j == task.number) (jobs opening pas
 abbrev pub is_unchanged : List Act → Task → Bool
 is_unchanged past task = has_script past task.name && list_any (starts (λ j. j == task.number) task.name) (since task.name past)
 
--- what a finish of an outstanding job is
+-- the ruling on a finish of an outstanding job
 abbrev pub ruling : List Act → Task → Ruling
 ruling past task = if is_unchanged past task then Taken else Stale

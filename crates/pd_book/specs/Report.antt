@@ -33,7 +33,7 @@ abbrev pub row : Settings → List Act → NamedText → Row
 row opening past script =
     record { name = script.0; text = script.1; verdict = if answered past script.0 then Some (verdict_of script.1 (now opening past)) else None }
 
--- what is shown after these acts
+-- the report after these acts
 abbrev pub shown : Settings → List Act → ReportView
 shown opening past = record { settings = now opening past; rows = map (row opening past) (texts past) }
 

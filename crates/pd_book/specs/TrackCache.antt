@@ -14,7 +14,7 @@ pub record TrackCacheView : Type 0 where
   pub entries : List (List ℕ × TrackView)
   pub max_tracks : ℕ
 
--- what the track under a name is of, if one is kept
+-- the text and the settings of the track under a name, if one is kept
 abbrev pub track_of : List ℕ → TrackCacheView → Option TrackView
 track_of name cache = lookup (bytes_eq name) cache.entries
 
@@ -33,12 +33,12 @@ cached_first name track cache = record {
 abbrev pub without_track : List ℕ → TrackCacheView → TrackCacheView
 without_track name cache = record { entries = remove_entry (bytes_eq name) cache.entries; max_tracks = cache.max_tracks }
 
--- what a start does: it hands out the track of its script, and uses it
+-- a start hands out the track of its script, and uses it
 abbrev pub HandsOutTrack : Option JobView → TrackCacheView → TrackCacheView → Type 0
 HandsOutTrack None old new = new ≡ old
 HandsOutTrack (Some job) old new = (job.track ≡ track_of job.task.name old) × (new ≡ marked_used job.task.name old)
 
--- what the track of a result is of
+-- the text and the settings of a result's track
 abbrev pub source_of : Task → TrackView
 source_of done = record { text = done.text; settings = done.settings }
 
@@ -58,6 +58,6 @@ should_cache Stale (Some text) done cache = is_better_than_cached text (source_o
 abbrev pub cache_after_finish : Ruling → Option (List (List ℕ)) → Task → TrackCacheView → TrackCacheView
 cache_after_finish ruled present_text done cache = if should_cache ruled present_text done cache then cached_first done.name (source_of done) cache else cache
 
--- what a finish does; where there is no memory to keep a track, none is
+-- a finish keeps the track of its result; where there is no memory to keep a track, none is
 abbrev pub CachesTrack : Ruling → Option (List (List ℕ)) → Task → TrackCacheView → TrackCacheView → Type 0
 CachesTrack ruled present_text done old new = (new ≡ cache_after_finish ruled present_text done old) ⊎ (new ≡ old)

@@ -64,7 +64,7 @@ TurnsAreLegal history = (task : Task) → next_job history ≡ Some task → sta
 abbrev pub TurnsSuffice : History → Type 0
 TurnsSuffice history = (turns : ℕ) → owed history.opening history.past ≤ turns → settled_in turns history ≡ settled history
 
--- what a settling leaves: nothing pending, the scripts and the settings as they were, and so the report from scratch
+-- a settling leaves this: nothing pending, the scripts and the settings as they were, and so the report from scratch
 pub record IsSettled (before after : History) : Type 0 where
   pub rest : IsAtRest after
   pub opening : after.opening ≡ before.opening

@@ -34,15 +34,15 @@ IsScratchOf history = IsFromScratch (texts history.past) (now history.opening hi
 abbrev pub IsPartOf : History → ReportView → Type 0
 IsPartOf history report = (report.settings ≡ now history.opening history.past) × RowsAreOfWhole history.opening history.past report
 
--- what an act prints, and the history after it: where there is a reason to refuse it, a full history apart, that refusal;
--- else it is accepted, or refused for a full history
+-- the octets that an act prints, and the history after it: where there is a reason to refuse it, a full history apart, that
+-- refusal; else it is accepted, or refused for a full history
 abbrev pub MayAct : History → Option BookFault → Option Act → List ℕ → History → Type 0
 MayAct history (Some fault) act octets next = (octets ≡ refused fault) × (next ≡ history)
 MayAct history None (Some act) octets next = ((octets ≡ []) × (next ≡ after_act history act)) ⊎ ((octets ≡ refused book.HistoryFull) × (next ≡ history))
 MayAct history None None octets next = ⊥
 
--- what a command may print, and the history after it; lines that alone are over the limits of a text are refused before
--- all else
+-- the octets that a command may print, and the history after it; lines that alone are over the limits of a text are refused
+-- before all else
 abbrev pub MayPrint : History → Command → List ℕ → History → Type 0
 MayPrint history (Add name None) octets next = MayAct history (Some book.TooLarge) None octets next
 MayPrint history (Add name (Some text)) octets next = MayAct history (name_refusal history.past name) (Some (act.Add name text)) octets next
@@ -54,7 +54,7 @@ MayPrint history (Set key value) octets next =
 MayPrint history Show octets next = ((report : ReportView) × IsPartOf history report × (octets ≡ rendered report)) × (next ≡ history)
 MayPrint history Settle octets next = ((report : ReportView) × IsScratchOf history report × (octets ≡ rendered report)) × (next ≡ history)
 
--- what items may print, one after another, and the history after them
+-- the octets that items may print, one after another, and the history after them
 abbrev pub MayPrintAll : History → List InputItem → List ℕ → History → Type 0
 MayPrintAll = PrintsAll MayPrint
 

@@ -7,7 +7,7 @@ use Rattle.pd_cli.specs.StepLines.{FinishedJob}
 abbrev pub is_explained : List (List ℕ) → List ℕ → Bool
 is_explained only name = length only == 0 || list_any (λ each. bytes_eq each name) only
 
--- what may be written of a job: nothing where its script isn't looked into
+-- the block that may be written of a job: nothing where its script isn't looked into
 abbrev pub MayExplainScript : List (List ℕ) → FinishedJob → List ℕ → Type 0
 MayExplainScript only job block = is_explained only job.name ≡ false → block ≡ []
 

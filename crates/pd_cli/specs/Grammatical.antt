@@ -31,7 +31,7 @@ SettlesTo history after = (turns : ℕ) × (settled_in turns history ≡ Ok afte
 abbrev pub IsRefusedStart : History → Type 0
 IsRefusedStart history = (turns : ℕ) × (fault : BookFault) × (settled_in turns history ≡ Err fault)
 
--- what a command prints, and the history after it
+-- the octets that a command prints, and the history after it
 abbrev pub Prints : History → Command → List ℕ → History → Type 0
 Prints history Show octets next = ((report : ReportView) × IsReportOf history report × (octets ≡ rendered report)) × (next ≡ history)
 Prints history Settle octets next = ((report : ReportView) × IsScratchOf history report × (octets ≡ rendered report)) × SettlesTo history next

@@ -48,15 +48,15 @@ ShowsPrintPart =
 abbrev pub HaveSame : History → History → Type 0
 HaveSame history other = (texts history.past ≡ texts other.past) × (now history.opening history.past ≡ now other.opening other.past)
 
--- what a command prints without workers it may print beside them, after accepted commands that leave the same scripts and
--- settings; and it leaves the same then
+-- the octets that a command prints without workers it may print beside them, after accepted commands that leave the same
+-- scripts and settings; and it leaves the same then
 abbrev pub AloneIsPossibleBeside : Type 0
 AloneIsPossibleBeside =
     (settings : Settings) → (input octets : List ℕ) → (history : History) → (rest : List InputItem) → (command : Command) → Reaches settings input octets history (does command ∷ rest)
     → (printed : List ℕ) → (after : History) → effect history command ≡ Ok (printed, after)
     → (accepted : History) → HaveSame history accepted → (next : History) × MayPrint accepted command printed next × HaveSame after next
 
--- what the first items of an input print without workers they may print beside them, one after another
+-- the octets that the first items of an input print without workers they may print beside them, one after another
 abbrev pub SessionsArePossibleBeside : Type 0
 SessionsArePossibleBeside =
     (settings : Settings) → (input octets : List ℕ) → (history : History) → (rest : List InputItem) → Reaches settings input octets history rest

@@ -44,7 +44,7 @@ abbrev pub reported : Result History BookFault → Result (List ℕ × History) 
 reported (Ok history) = Ok (rendered (report history), history)
 reported (Err fault) = Err HistoryFull
 
--- what an act prints that a command asks for, and the history after it; lines that alone are over the limits of a text are
+-- the octets of an act that a command asks for, and the history after it; lines that alone are over the limits of a text are
 -- refused before all else
 abbrev pub done : History → Command → List ℕ × History
 done history (Add name None) = acted history (Some book.TooLarge) None
@@ -55,13 +55,13 @@ done history (Remove name) = acted history (remove_refusal history name) (Some (
 done history (Set key value) = acted history (set_refusal history key value) (option_map (λ k. act.Set k value) (key_named key))
 done history command = ([], history)
 
--- what a command prints, and the history after it, or the fault that ends the run
+-- the octets that a command prints, and the history after it, or the fault that ends the run
 abbrev pub effect : History → Command → Result (List ℕ × History) ServeFault
 effect history Show = Ok (rendered (report history), history)
 effect history Settle = reported (settled history)
 effect history command = Ok (done history command)
 
--- what a command prints, and the history after it, where no fault ends the run
+-- the octets that a command prints, and the history after it, where no fault ends the run
 abbrev pub PrintsAlone : History → Command → List ℕ → History → Type 0
 PrintsAlone history command octets next = effect history command ≡ Ok (octets, next)
 
@@ -85,7 +85,7 @@ outcome history [] = record { written = []; end = Ok (all_pass (report history))
 outcome history (stops fault ∷ items) = record { written = []; end = Err fault }
 outcome history (does command ∷ items) = follow (effect history command) (λ next. outcome next items)
 
--- what an input makes serving write, beginning with these settings and no scripts, and how it ends
+-- the octets that serving writes for an input, beginning with these settings and no scripts, and how it ends
 abbrev pub output : Settings → List ℕ → Session
 output settings input = outcome (record { opening = settings; past = [] }) (commands input)
 

@@ -24,7 +24,7 @@ abbrev pub ServedBy : ℕ → Settings → Result Bool ServeFault → List ℕ �
 ServedBy zero settings end octets input = Writes end octets (record { opening = settings; past = [] }) (commands input)
 ServedBy (suc more) settings end octets input = EndsBeside end
 
--- what serving writes, and how it ends: with 17 only where a read failed, or all were made
+-- the octets that serving writes, and how it ends: with 17 only where a read failed, or all were made
 abbrev pub Served : Type 0 → ℕ → Settings → Result Bool ServeFault → List ℕ → List ℕ → Type 0
 Served failed workers settings end octets input =
     MayAnswer end octets (record { opening = settings; past = [] }) (commands input) × ServedBy workers settings end octets input × HasCause end failed (Some input)
@@ -48,7 +48,7 @@ status_of (Ok true) = 0
 status_of (Ok false) = 1
 status_of (Err fault) = 2
 
--- what is on standard error: the line of a fault
+-- the text on standard error: the line of a fault
 abbrev pub stderr_of : Result Bool ProgramFault → List ℕ
 stderr_of (Ok passed) = []
 stderr_of (Err fault) = fault_line (codes "pdregress") fault

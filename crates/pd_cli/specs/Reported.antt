@@ -4,16 +4,16 @@ use Rattle.pd_protocol.specs.ChosenOptions.{ReportOptions}
 use Rattle.pd_cli.specs.StepLines.{FinishedJob, step_line, step_lines}
 use Rattle.pd_cli.specs.ExplanationBlocks.{MayExplainScript, AreBlocks}
 
--- what may explain a job: nothing where no explanations are asked for
+-- the octets that may explain a job: nothing where no explanations are asked for
 abbrev pub MayExplain : Option (List (List ℕ)) → FinishedJob → List ℕ → Type 0
 MayExplain None job block = block ≡ []
 MayExplain (Some only) job block = MayExplainScript only job block
 
--- what may be reported of a job: its line of steps where these are asked for, then its block
+-- the report that may be made of a job: its line of steps where these are asked for, then its block
 abbrev pub MayReport : ReportOptions → FinishedJob → List ℕ → Type 0
 MayReport report_options job lines = (block : List ℕ) × (lines ≡ (if report_options.steps then step_line job else []) ++ block) × MayExplain report_options.explain job block
 
--- what is reported of jobs, one after another
+-- the reports of jobs, one after another
 abbrev pub AreReported : ReportOptions → List FinishedJob → List ℕ → Type 0
 AreReported report_options [] lines = lines ≡ []
 AreReported report_options (job ∷ jobs) lines = (first : List ℕ) × (rest : List ℕ) × (lines ≡ first ++ rest) × MayReport report_options job first × AreReported report_options jobs rest

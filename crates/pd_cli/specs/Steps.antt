@@ -13,7 +13,7 @@ use Rattle.pd_protocol.specs.declared.faults.ServeFault.{ServeFault}
 use Rattle.pd_protocol.specs.declared.faults.ServeFault.TheVariants.{HistoryFull, OutOfMemory}
 use Rattle.pd_cli.specs.Output.{refused, effect}
 
--- what an answer of a book prints
+-- the octets that are printed of an answer of a book
 abbrev pub RepliesTo : Result (Unit {0}) BookFault → List ℕ → Type 0
 RepliesTo (Ok u) octets = octets ≡ []
 RepliesTo (Err fault) octets = (octets ≡ refused fault) × (fault ≢ book.OutOfMemory)

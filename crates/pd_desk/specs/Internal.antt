@@ -25,8 +25,8 @@ EndsJob task seat seat' =
 abbrev pub AbandonsJob : ℕ → SeatView → SeatView → Type 0
 AbandonsJob number seat seat' = (seat' ≡ with_act seat (Abandon number)) ⊎ ((fault : FinishFault) × RefusesAbandon seat number fault × (seat' ≡ seat))
 
--- what a reply that ends a job says where the history was compared with the seat: where it is refused, either the history
--- agrees with the seat, and P holds of it unless memory was wanted, or it disagrees
+-- the meaning of a reply that ends a job where the history was compared with the seat: where it is refused, either the history
+-- agrees with the seat, and P holds of it unless it is out of memory, or it disagrees
 abbrev pub Compared : {T : Type 0} → SeatView → Result T FinishFault → Bool → (History → History → Type 0) → Type 0
 Compared seat (Ok x) agrees P = agrees ≡ true
 Compared seat (Err fault) true P = fault ≢ finish.OutOfMemory → AfterOwn seat P

@@ -60,7 +60,7 @@ pub record FoundDiffering (seat seat' : SeatView) : Type 0 where
   pub now : seat' ≡ with_start seat acts number name
   pub differs : Disagrees seat'
 
--- what a worker leaves in its seat and answers: one that isn't let in does nothing, one that wants memory gives its job up
+-- a worker's acts in its seat, and its answer: one that isn't let in does nothing, one out of memory gives its job up
 -- and leaves, and so does, without an end of its job, one at a seat with which a history disagrees
 abbrev pub Works : SeatView → Result (Unit {0}) DeskFault → SeatView → Type 0
 Works seat (Ok _) seat' = Worked seat seat'

@@ -95,11 +95,11 @@ with_new_window segment e c =
 abbrev pub sack_news_of : Bool → ConnectionView → Option SackNews
 sack_news_of fresh c = if c.sack then Some (record { fresh = fresh; lost = fresh && is_lost c.board.una c.board }) else None
 
--- what an ACK of n new octets delivered, by the boards before and after it (RFC 9937, section 6). DeliveredData: the advance of
--- SND.UNA and the change of SACKed octets. RecoverFS: what wasn't delivered before the ACK, which is what is outstanding after it,
--- less the octets SACKed before it that still are, and those that it acknowledges (none counts twice). SafeACK: SND.UNA has
--- advanced, and no octet is lost that wasn't before (own; it lies no higher than the last that was, since all below a lost one
--- are lost)
+-- the octets that an ACK of n new ones delivered, by the boards before and after it (RFC 9937, section 6). DeliveredData: the
+-- advance of SND.UNA and the change of SACKed octets. RecoverFS: what wasn't delivered before the ACK, which is what is
+-- outstanding after it, less the octets SACKed before it that still are, and those that it acknowledges (none counts twice).
+-- SafeACK: SND.UNA has advanced, and no octet is lost that wasn't before (own; it lies no higher than the last that was, since
+-- all below a lost one are lost)
 abbrev pub delivery : ℕ → BoardView → BoardView → Delivery
 delivery n before after = record {
   delivered_data = n + sacked_octets after - sacked_octets before;
@@ -189,9 +189,9 @@ sent_as now sent c = timing_started now (segment_of sent) c
 abbrev pub octets_of : Span → ℕ
 octets_of segment = segment.end - segment.start
 
--- what congestion control notes: where octets were sent again, HighRxt or RescueRxt moves (RFC 6675, section 4, NextSeg, rule
--- 4, and section 5, step C.2); those of limited transmit are counted: ssthresh is set without them (RFC 5681, section 3.2,
--- step 2)
+-- the notes of congestion control: where octets were sent again, HighRxt or RescueRxt moves (RFC 6675, section 4, NextSeg,
+-- rule 4, and section 5, step C.2); those of limited transmit are counted: ssthresh is set without them (RFC 5681, section
+-- 3.2, step 2)
 abbrev pub fill_noted_by : WindowFill → NextSegment → CongView → CongView
 fill_noted_by NextSeg sent w = with_sent_noted sent w
 fill_noted_by NewData sent w = with_limited (octets_of (segment_of sent)) w
@@ -248,8 +248,8 @@ entry now c s =
     then put_segment now segment c (entered_on segment (timing_started now segment c) c.established) s
     else Ok (with_begun_connection (entered_on segment c c.established) s)
 
--- what an ACK leads to, on the connection that it left: an entry is followed by step C (RFC 6675, section 5, step 4.5), a
--- fast retransmit (RFC 5681, section 3.2, step 3) by ordinary sending
+-- the sending that an ACK leads to, on the connection that it left: an entry is followed by step C (RFC 6675, section 5, step
+-- 4.5), a fast retransmit (RFC 5681, section 3.2, step 3) by ordinary sending
 abbrev pub after_ack_action : ℕ → ConnectionView → SenderState → AckAction → Result SenderState Halt
 after_ack_action now c s Ordinary = ordinary now s
 after_ack_action now c s StepC = filled now NextSeg s

@@ -80,7 +80,7 @@ first_failed_check [] = None
 first_failed_check (Some failed_check ∷ checks) = Some failed_check
 first_failed_check (None ∷ checks) = first_failed_check checks
 
--- what becomes of a later segment; one that passes all checks has no ruling
+-- the ruling on a later segment; one that passes all checks has none
 abbrev pub failed_check_of : ConnectionView → Segment → Option SegmentCheck
 failed_check_of c segment = first_failed_check (
     check_contents c segment ∷ check_window c segment ∷ check_rst c segment
@@ -103,7 +103,7 @@ reset_of c = record c { is_reset = true; timer = stopped c.timer; rtt_segment = 
 abbrev pub with_connection : ConnectionView → Endpoint → Endpoint
 with_connection c e = record e { connection = Some c }
 
--- what comes of a segment that a check rules out, on the connection c of the state; one that passed them all is taken
+-- the result of a segment that a check rules out, on the connection c of the state; one that passed them all is taken
 abbrev pub check_outcome : ℕ → Segment → ConnectionView → SenderState → Option SegmentCheck → Result SenderState Halt
 check_outcome now segment c s (Some NotRun) = Err Unsupported
 check_outcome now segment c s (Some StrayRst) = Ok s

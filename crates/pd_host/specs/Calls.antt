@@ -209,7 +209,7 @@ abbrev pub reply_to : ℕ → SenderState → Syscall → Reply
 reply_to now s Socket = socket_reply s s.endpoint.listener
 reply_to now s (On fd operation) = on_open now s operation (open_descriptor s.endpoint fd)
 
--- what a request does; without one the call isn't run
+-- the effect of a request; without one the call isn't run
 abbrev pub requested : ℕ → SenderState → Option Syscall → Reply
 requested now s None = Err Unsupported
 requested now s (Some request) = reply_to now s request

@@ -32,7 +32,7 @@ pub record ConnectionView : Type 0 where
   pub max_window : ℕ
   -- whether the SYN/ACK was sent again (RFC 5681, section 3.1; RFC 6298, section 5.7)
   pub syn_ack_resent : Bool
-  -- what the connection has from the end of its handshake on
+  -- its parts that begin at the end of its handshake
   pub established : Option Established
   -- whether an RST has ended it
   pub is_reset : Bool

@@ -23,7 +23,7 @@ recovery_of c w = by w.recovering c.sack
     by true true = WithSack (pipe w.high_rxt c.board)
     by true false = WithoutSack
 
--- what PRR keeps, where recovery goes by it
+-- the state of PRR, where recovery goes by it
 abbrev pub reduction_of : CongView → Option PrrState
 reduction_of w = if uses_prr w.recovery_algorithm then Some w.prr else None
 

@@ -63,7 +63,7 @@ offered_count options = slice_get (filter_map count_in (before_eol options)) 0
 abbrev pub offers_sack : List SegOption → Bool
 offers_sack options = list_any is_sack_ok (before_eol options)
 
--- what the options of a SYN offer
+-- the offers of a SYN's options
 abbrev pub syn_options_of : List SegOption → SynOptions
 syn_options_of options = record { mss = offered_mss options; count = offered_count options; sack = offers_sack options }
 
@@ -147,9 +147,9 @@ window_in c segment = segment.win * 2 ^ peer_count c.scaling
 abbrev pub with_window : ℕ → Segment → Established → Established
 with_window window segment e = record e { rwnd = window; wl1 = segment.start; wl2 = segment.ack }
 
--- what a connection has from the end of its handshake on: the window, Nagle's algorithm and the clock's granularity as the
--- settings say, the initial congestion window (RFC 5681, section 3.1; RFC 6928, section 2), a descriptor that `accept` has
--- still to hand out, and the peer's FIN still to come
+-- the parts of a connection that begin at the end of its handshake: the window, Nagle's algorithm and the clock's granularity
+-- as the settings say, the initial congestion window (RFC 5681, section 3.1; RFC 6928, section 2), a descriptor that `accept`
+-- has still to hand out, and the peer's FIN still to come
 abbrev pub established_with : Settings → Segment → ConnectionView → Established
 established_with settings segment c = record {
   rwnd = window_in c segment;

@@ -24,7 +24,7 @@ abbrev pub queued_to : Option ConnectionView → ℕ
 queued_to None = 0
 queued_to (Some c) = c.board.end
 
--- what is queued leaves room below 2^31 for whatever one call may queue: at most the greatest `sndbuf`
+-- the octets that are queued leave room below 2^31 for whatever one call may queue: at most the greatest `sndbuf`
 abbrev pub IsShort : SenderState → Type 0
 IsShort s = queued_to s.endpoint.connection + 1048576 < 2 ^ 31
 
@@ -39,7 +39,7 @@ fresh_host settings = record {
   ended = None;
 }
 
--- what a rule of the endpoint gives for the whole state: settings and uses stay
+-- the result of a rule of the endpoint for the whole state: settings and uses stay
 abbrev pub beside : SenderState → Result Endpoint Halt → Result SenderState Halt
 beside s (Ok endpoint) = Ok (record s { endpoint = endpoint })
 beside s (Err halt) = Err halt
@@ -54,7 +54,7 @@ abbrev pub with_packet : ℕ → Segment → List Sent → Result (List Sent) Ha
 with_packet now segment packets =
     if has_place packets then Ok (packets ++ record { segment = segment; at = now } ∷ []) else Err Limit
 
--- what comes of the outbox for the whole endpoint
+-- the result of the outbox for the whole endpoint
 abbrev pub with_outbox : Endpoint → Result (List Sent) Halt → Result Endpoint Halt
 with_outbox e (Ok packets) = Ok (record e { outbox = packets })
 with_outbox e (Err halt) = Err halt

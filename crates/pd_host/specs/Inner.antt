@@ -8,7 +8,7 @@ use Rattle.pd_host.specs.declared.connection.Scaling.{Scaling}
 abbrev pub IsScalable : Option Scaling → Type 0
 IsScalable scaling = ForSome scaling (λ s. (s.own ≤ 14) × (s.peer ≤ 14))
 
--- what holds of every connection: no shift count is above 14, and in the handshake no octet after our SYN is acknowledged
+-- the invariant of connections: no shift count is above 14, and in the handshake no octet after our SYN is acknowledged
 pub record IsConnection (scaling : Option Scaling) (una : ℕ) (established : Option Established) : Type 0 where
   pub shifts : IsScalable scaling
   pub handshake : IfNone established (una ≤ 1)

@@ -29,7 +29,7 @@ OnlyAnExactRstResets =
     → t.endpoint.connection ≡ Some d → c.is_reset ≡ false → d.is_reset ≡ true → arrived segment now s ≡ Ok t
     → (segment.flags.rst ≡ true) × (segment.start ≡ rcv_nxt c)
 
--- what was put out at a moment follows the packets that nobody has taken, and carries that moment
+-- a packet that was put out at a moment follows those that nobody has taken, and carries that moment
 abbrev pub IsAfter : ℕ → SenderState → SenderState → Type 0
 IsAfter now s t =
     (packets : List Sent) × AllByRecursion (λ p. p.at ≡ now) packets × (t.endpoint.outbox ≡ s.endpoint.outbox ++ packets)
@@ -42,7 +42,7 @@ PutsOutAfter = (segment : Segment) (now : ℕ) (s t : SenderState) → arrived s
 abbrev pub CallsPutOutAfter : Type 0
 CallsPutOutAfter = (call : Call) (now : ℕ) (s t : SenderState) (answer : Answer) → called call now s ≡ Ok (t, answer) → IsAfter now s t
 
--- what the expiries up to a moment put out follows the others, in the order of its moments, none of them later
+-- the packets that the expiries up to a moment put out follow the others, in the order of their moments, none of them later
 abbrev pub AdvancesPutOutAfter : Type 0
 AdvancesPutOutAfter =
     (until : ℕ) (s t : SenderState) → advanced until s ≡ Ok t

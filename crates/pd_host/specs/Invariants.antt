@@ -22,7 +22,7 @@ use Rattle.pd_host.specs.declared.endpoint.SenderState.{SenderState}
 use Rattle.pd_host.specs.declared.descriptors.StreamState.TheVariants as stream
 use Rattle.pd_host.specs.declared.connection.rtt_segment.RttSegment.{RttSegment}
 
--- what the SYN and the settings agreed on stays (RFC 9293, section 3.7.1)
+-- the agreement of the SYN and the settings stays (RFC 9293, section 3.7.1)
 pub record IsAgreed (b : Settings) (own_mss smss rcv_wnd : ℕ) : Type 0 where
   pub mss : own_mss ≡ b.mss
   pub no_longer : smss ≤ b.mss

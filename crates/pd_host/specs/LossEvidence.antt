@@ -19,7 +19,7 @@ use Rattle.pd_host.specs.declared.connection.loss_evidence.SackEvidence.{SackEvi
 use Rattle.pd_host.specs.declared.endpoint.SenderState.{SenderState}
 use Rattle.pd_host.specs.declared.established.Established.{Established}
 
--- what is SACKed above una, and how much shows una to be lost (RFC 6675, section 4, IsLost)
+-- the octets SACKed above una, and how many show una to be lost (RFC 6675, section 4, IsLost)
 abbrev pub sack_evidence_of : BoardView → SackEvidence
 sack_evidence_of s = record {
   octets = sacked_above s.una s;
@@ -28,7 +28,7 @@ sack_evidence_of s = record {
   needed = dup_thresh;
 }
 
--- what has come of what shows a loss, and how much begins recovery (RFC 6675, section 5; RFC 5681, section 3.2)
+-- the evidence of a loss so far, and how much begins recovery (RFC 6675, section 5; RFC 5681, section 3.2)
 abbrev pub loss_evidence_of : ConnectionView → CongView → LossEvidence
 loss_evidence_of c w = record {
   dup_acks = w.dup_acks;
@@ -51,7 +51,7 @@ dup_ack_status_of c = by c.established
     by None = None
     by (Some e) = dup_ack_status_since c e
 
--- what a duplicate leads to at the sender
+-- the effect of a duplicate at the sender
 abbrev pub dup_ack_status_in : SenderState → Option DupAckStatus
 dup_ack_status_in s = by s.endpoint.connection
   where

@@ -15,7 +15,7 @@ use Rattle.pd_host.specs.declared.endpoint.SenderState.{SenderState}
 abbrev pub wanted : ConnectionView → ℕ
 wanted c = if nat_lt c.board.next c.board.top then (run_at c.board.next c.board).end - 1 else c.board.next
 
--- what could leave is a segment worth sending, Nagle's algorithm apart (RFC 9293, section 3.8.6.2.1)
+-- a segment that could leave is worth sending, Nagle's algorithm apart (RFC 9293, section 3.8.6.2.1)
 abbrev pub is_worth_sending : ConnectionView → Established → Bool
 is_worth_sending c e = is_full c e || (is_all_unsent c e || is_half_max_window c e)
 

@@ -42,12 +42,12 @@ with_packet_sent now segment s = record s {
 abbrev pub with_begun_connection : ConnectionView → SenderState → SenderState
 with_begun_connection c s = record s { endpoint = record s.endpoint { connection = Some c } }
 
--- what was found is done, and the rest follows; where nothing is found, all is done
+-- an item that was found is acted on, and the rest follows; where none is found, all is done
 abbrev pub on_found : {S X : Type 0} → (S → Result S Halt) → (X → S → S) → S → Option X → Result S Halt
 on_found rest act s None = Ok s
 on_found rest act s (Some x) = rest (act x s)
 
--- what is found is done until nothing more is found, at most n times; one time more is too many
+-- items that are found are acted on until none is found, at most n times; one time more is too many
 abbrev pub repeated : {S X : Type 0} → (S → Option X) → (X → S → S) → ℕ → S → Result S Halt
 repeated find act zero s = if is_some (find s) then Err Limit else Ok s
 repeated find act (suc n) s = on_found (repeated find act n) act s (find s)

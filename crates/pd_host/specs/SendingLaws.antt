@@ -124,7 +124,7 @@ octets_in (p ∷ packets) = (end_with_fin p.segment - p.segment.start) + octets_
 abbrev pub cwnd_in : Option ConnectionView → ℕ
 cwnd_in connection = value_in 0 (λ c e. e.congestion.cwnd) connection
 
--- what was put out has no more octets than the congestion window has room for beside what was on the way
+-- the packets that were put out have no more octets than the congestion window has room for beside those on the way
 abbrev pub FillsWindow : SenderState → SenderState → Type 0
 FillsWindow s t =
     (packets : List Sent)
@@ -151,7 +151,7 @@ sndcnt_in connection = value_in 0 (λ c e. sndcnt c.board.smss (pipe e.congestio
 abbrev pub forces_in : Option ConnectionView → Bool
 forces_in connection = value_in false (λ c e. forces c.board.smss (pipe e.congestion.high_rxt c.board) e.congestion) connection
 
--- what was put out has so many octets at most, and prr_out has grown by no more
+-- the packets that were put out have so many octets at most, and prr_out has grown by no more
 abbrev pub LetsOut : ℕ → SenderState → SenderState → Type 0
 LetsOut most s t =
     (packets : List Sent)
@@ -269,8 +269,8 @@ pub record IsSentOnce (top : ℕ) (x : RttSegment) (packets : List Sent) : Type 
   pub apart_before : AreApart x before
   pub apart_after : AreApart x after
 
--- what is timed after an input was timed before it, and no packet that was put out has an octet of it; or it was put out
--- then, once, and never before
+-- a segment that is timed after an input was timed before it, and no packet that was put out has an octet of it; or it was put
+-- out then, once, and never before
 abbrev pub TimesNew : SenderState → SenderState → Type 0
 TimesNew s t =
     (packets : List Sent)

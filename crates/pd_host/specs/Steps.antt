@@ -15,7 +15,7 @@ use Rattle.pd_seg.specs.declared.segments.Sent.{Sent}
 use Rattle.pd_host.specs.InputResults.{Gives, GivesAnswer}
 use Rattle.pd_host.specs.declared.halts.HostEnd.{HostEnd}
 
--- The segment that is found, and one time of it
+-- The item that is found, and one time of it
 
 -- a segment that ends among the octets that are queued, and isn't acknowledged beyond
 abbrev pub IsQueued : Span → ConnectionView → Type 0
@@ -30,7 +30,7 @@ FollowsQueued _ c = ⊤
 abbrev pub with_connection_and_packets : ConnectionView → List Sent → SenderState → SenderState
 with_connection_and_packets c packets s = record s { endpoint = record s.endpoint { connection = Some c; outbox = packets } }
 
--- what a rule gives came of a connection and the packets, whatever else the state holds
+-- a rule's result came of a connection and the packets, whatever else the state holds
 abbrev pub GivesOn : (SenderState → Result SenderState Halt) → ConnectionView → List Sent → Result (Unit {0}) HostEnd → ConnectionView → List Sent → Type 0
 GivesOn rule c packets result d new = (s : SenderState) → Gives (rule (with_connection_and_packets c packets s)) result (with_connection_and_packets d new s)
 
@@ -40,7 +40,7 @@ AnswersOn rule c packets result d new = (s : SenderState) → GivesAnswer (rule 
 
 -- Options
 
--- what is offered with one more option; what was offered before counts
+-- the offers with one more option; an earlier offer counts
 abbrev pub with_option : SynOptions → SegOption → SynOptions
 with_option syn_options (Mss octets) = record syn_options { mss = option_or syn_options.mss (Some octets) }
 with_option syn_options (Wscale count) = record syn_options { count = option_or syn_options.count (Some count) }

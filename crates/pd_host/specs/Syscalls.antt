@@ -64,7 +64,7 @@ abbrev pub close_syscall : List Argument → Option Syscall
 close_syscall (Int fd ∷ []) = Some (On fd Close)
 close_syscall _ = None
 
--- what a call of this name asks, where its shape is run
+-- the request of a call of this name, where its shape is run
 abbrev pub syscall_in : Function → List Argument → Option Syscall
 syscall_in SocketCall arguments = socket_syscall arguments
 syscall_in BindCall arguments = address_syscall Bind arguments
@@ -76,6 +76,6 @@ syscall_in WriteCall arguments = write_syscall arguments
 syscall_in CloseCall arguments = close_syscall arguments
 syscall_in _ arguments = None
 
--- what a call asks, where its name and shape are run
+-- the request of a call, where its name and shape are run
 abbrev pub syscall_of : Call → Option Syscall
 syscall_of call = syscall_in call.function call.arguments

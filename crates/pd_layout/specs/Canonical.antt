@@ -38,7 +38,7 @@ after_octets octets test line = bytes_eq (take (length octets) line) octets && t
 
 -- ---- comments and empty lines
 
--- what follows the end of a comment in a line; None where the comment goes on in the next line
+-- the octets after the end of a comment in a line; None where the comment goes on in the next line
 abbrev pub after_end : List ℕ → Option (List ℕ)
 after_end [] = None
 after_end (a ∷ []) = None
@@ -66,7 +66,7 @@ abbrev pub lead : Bool → List (List ℕ) → Bool
 lead inside [] = not inside
 lead inside (line ∷ lines) = option_map_or (λ more. lead more lines) (comment_open_after inside line) false
 
--- what follows an event in its line: comments, each after one blank, or the rest of one and further ones; whether the
+-- the rest of an event's line: comments, each after one blank, or the rest of one and further ones; whether the
 -- last of them goes on in the next line
 abbrev pub trail : Bool → List ℕ → Option Bool
 trail true [] = Some true
@@ -77,7 +77,7 @@ trail false (a ∷ []) = None
 trail false (a ∷ b ∷ []) = None
 trail false (a ∷ b ∷ c ∷ s) = if a == 32 && b == 47 then (if c == 47 then Some false else (if c == 42 then trail true s else None)) else None
 
--- what follows an event up to the next one: comments in its line, and lines in front of the next one
+-- the gap after an event up to the next one: comments in its line, and lines in front of the next one
 abbrev pub gap : List (List ℕ) → List ℕ → Bool
 gap lines rest = option_map_or (λ inside. lead inside lines) (trail false rest) false
 
@@ -103,7 +103,7 @@ first_line test (line ∷ lines) = test lines line
 abbrev pub lines_between : List (List ℕ) → ℕ → ℕ → List (List ℕ)
 lines_between text from to = take (to - from) (drop from text)
 
--- what is left of a line at a place, and the lines after it up to another, pass a test
+-- the rest of a line at a place, and the lines after it up to another, pass a test
 abbrev pub passes_at : (List (List ℕ) → List ℕ → Bool) → List (List ℕ) → ℕ → Place → Bool
 passes_at test text until place = first_line (λ lines line. test lines (drop place.at line)) (lines_between text (place.line - 1) until)
 
@@ -111,7 +111,7 @@ passes_at test text until place = first_line (λ lines line. test lines (drop pl
 abbrev pub note_end : List (List ℕ) → List ℕ → Bool
 note_end lines = after_octets (codes ")") (gap lines)
 
--- what follows an answer: a gap; or a note up to the bracket that closes it, and a gap
+-- the text after an answer: a gap; or a note up to the bracket that closes it, and a gap
 abbrev pub note_or_gap : List (List ℕ) → ℕ → Option Place → List (List ℕ) → List ℕ → Bool
 note_or_gap text until closing lines rest =
     gap lines rest || after_octets (codes " (") (λ note. option_map_or (passes_at note_end text until) closing false) rest
@@ -122,7 +122,7 @@ answered_at answer text until place =
     let closing = first_outside (is_symbol (sign ")")) 0 (items text place) in
     passes_at (λ lines. after_octets (codes "= ") (after_octets answer (note_or_gap text until closing lines))) text until place
 
--- what begins with a letter, a digit or `_`
+-- a text that begins with a letter, a digit or `_`
 abbrev pub begins_word : List ℕ → Bool
 begins_word [] = false
 begins_word (b ∷ s) = is_ascii_alphanumeric b || b == 95

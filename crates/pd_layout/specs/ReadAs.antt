@@ -14,11 +14,11 @@ without_line e = record e { line = 0 }
 abbrev pub AreSameEvents : List Event → List Event → Type 0
 AreSameEvents xs ys = map without_line xs ≡ map without_line ys
 
--- what header items say, whatever their lines
+-- the kinds of header items, whatever their lines
 abbrev pub kinds_of : List HeaderItem → List HeaderKind
 kinds_of = map (λ item. item.kind)
 
--- what was read is a script with such a header and such events, but for their lines
+-- the text was read as a script with such a header and such events, but for their lines
 pub record IsScript (items : List HeaderItem) (list : List Event) (parsed : Parsed) : Type 0 where
   pub whole : parsed.fault ≡ None
   pub header : kinds_of parsed.header.items ≡ kinds_of items

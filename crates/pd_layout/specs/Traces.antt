@@ -76,7 +76,7 @@ abbrev pub is_trace_body_at : Option ℕ → List ℕ → Bool
 is_trace_body_at None words = false
 is_trace_body_at (Some at) words = let rest = drop (at + 1) words in is_fixed_seconds (take at words) && is_state_and_facts_at (first_space rest) rest
 
--- what a line of a trace begins with
+-- the opening of a line of a trace
 abbrev pub opening : List ℕ
 opening = codes "//= at "
 

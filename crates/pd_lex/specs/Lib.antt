@@ -1,6 +1,6 @@
 -- The definitions that the contracts cite.
 
--- what the tokens of a text are
+-- the tokens of a text
 pub mod Octets
 pub mod Classes
 pub mod Spellings

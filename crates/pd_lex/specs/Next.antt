@@ -48,7 +48,7 @@ HasLineAfter lines (lexed.Token t) octets = (1 ≤ t.to.line) × (octets ≡ lin
 HasLineAfter lines lexed.End octets = Unit {0}
 HasLineAfter lines (lexed.Bad line) octets = Unit {0}
 
--- what is read at a place, and the octets of the line in which it ends
+-- the item that is read at a place, and the octets of the line in which it ends
 pub record IsReadAt (lines : List (List ℕ)) (p : Place) (found : Lexed) (octets : List ℕ) : Type 0 where
   pub next : IsNext lines p found
   pub cut : IsCut lines p found

@@ -60,23 +60,23 @@ piece (b ∷ s) =
     else (if starts_with nat_eq (b ∷ s) (codes "%{") then Open openers.Brace
     else (if is_printable b then Whole Symbol 1 else Stray)))))))))
 
--- what follows the first place where these two octets come one after the other
+-- the octets after the first place where these two octets come one after the other
 abbrev pub after_pair : ℕ → ℕ → List ℕ → Option (List ℕ)
 after_pair x y [] = None
 after_pair x y (b ∷ s) = if starts_with nat_eq (b ∷ s) (x ∷ y ∷ []) then Some (drop 1 s) else after_pair x y s
 
--- what follows the first backquote
+-- the octets after the first backquote
 abbrev pub after_backquote : List ℕ → Option (List ℕ)
 after_backquote [] = None
 after_backquote (b ∷ s) = if b == backquote then Some s else after_backquote s
 
--- what follows the first `"`; a backslash takes the next octet with it
+-- the octets after the first `"`; a backslash takes the next octet with it
 abbrev pub after_quote : List ℕ → Option (List ℕ)
 after_quote [] = None
 after_quote (b ∷ []) = if b == quote then Some [] else None
 after_quote (b ∷ c ∷ s) = if b == quote then Some (c ∷ s) else (if b == backslash then after_quote s else after_quote (c ∷ s))
 
--- what follows the end of what was opened: `*/`, `"`, a backquote or `}%`
+-- the octets after the end of the piece that was opened: `*/`, `"`, a backquote or `}%`
 abbrev pub after_end : Opener → List ℕ → Option (List ℕ)
 after_end openers.Comment s = after_pair 42 47 s
 after_end openers.Quote s = after_quote s
@@ -94,7 +94,7 @@ opener_text openers.Brace = codes "%{"
 abbrev pub opener_len : Opener → ℕ
 opener_len o = length (opener_text o)
 
--- what can be at the front of a text: nothing, a blank or a comment, a token, or what begins nothing; and what is left
+-- the front of a text: nothing, a blank or a comment, a token, or an octet that begins nothing; and the octets
 -- after it
 pub data Front : Type 0 where
   nothing : Front
@@ -102,7 +102,7 @@ pub data Front : Type 0 where
   token : TokenKind → List ℕ → Front
   stray : Front
 
--- what was opened, when it is known what is left after its end
+-- the piece that was opened, when it is known which octets are left after its end
 abbrev pub closed : Opener → Option (List ℕ) → Front
 closed o None = stray
 closed openers.Comment (Some rest) = gap rest
@@ -117,7 +117,7 @@ parted s (Whole kind n) = token kind (drop n s)
 parted s (Open o) = closed o (after_end o (drop (opener_len o) s))
 parted s Stray = stray
 
--- what is at the front of a text: nothing where it ends, else what its first piece makes
+-- the front of a text: nothing where it ends, else the piece that comes first
 unfoldable pub front : List ℕ → Front
 front [] = nothing
 front (b ∷ s) = parted (b ∷ s) (piece (b ∷ s))

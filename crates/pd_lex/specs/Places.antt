@@ -26,7 +26,7 @@ pub record IsPlace (lines : List (List ℕ)) (p : Place) : Type 0 where
 unfoldable pub clamped_place : List (List ℕ) → Place → Place
 clamped_place lines p = if p.line == 0 then first_place else record { line = p.line; at = min p.at (length (line_at lines p.line)) }
 
--- what is left of a text from a place on
+-- the rest of a text from a place on
 unfoldable pub octets_from : List (List ℕ) → Place → List ℕ
 octets_from lines p = drop (clamped_place lines p).at (joined (drop ((clamped_place lines p).line - 1) lines))
 
@@ -35,7 +35,7 @@ abbrev pub place_after : Place → List ℕ → Place
 place_after p [] = p
 place_after p (b ∷ s) = place_after (if b == newline then record { line = p.line + 1; at = 0 } else record { line = p.line; at = p.at + 1 }) s
 
--- what is before the last part of a list
+-- the part of a list before its last part
 abbrev pub before : List ℕ → List ℕ → List ℕ
 before s rest = take (length s - length rest) s
 

@@ -33,7 +33,7 @@ IsValue text = (text ≡ []) ⊎ ((value : List ℕ) × (text ≡ codes "=" ++ v
 abbrev pub IsOpt : List ℕ → Type 0
 IsOpt text = (name : List ℕ) × (value : List ℕ) × (text ≡ codes "--" ++ name ++ value) × AreSome is_word name × IsValue value
 
--- what may be in a string: any octet but `"` and a backslash, and a backslash with any octet after it
+-- the parts of a string: any octet but `"` and a backslash, and a backslash with any octet after it
 pub data IsQuoted : List ℕ → Type 0 where
   empty : IsQuoted []
   plain : {b : ℕ} {text : List ℕ} → b ≢ quote → b ≢ backslash → IsQuoted text → IsQuoted (b ∷ text)

@@ -52,7 +52,7 @@ option_of sent.Eol = written.Eol
 option_of (sent.Timestamp n m) = written.Timestamp n m
 option_of (sent.Sack spans) = written.Sack (map block_of spans)
 
--- what was sent is what is written; `<...>` stands for any options, and nothing written for none sent
+-- the options that were sent are those that are written; `<...>` stands for any options, and nothing written for none sent
 abbrev pub HasOptions : Options → List SegOption → Type 0
 HasOptions Any s = ⊤
 HasOptions Absent s = [] ≡ s

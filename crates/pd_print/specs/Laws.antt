@@ -22,6 +22,6 @@ LinesAreScripts =
     (event : ℕ → Event) (octets : List ℕ)
     → IsTrue (is_line octets) → IsReadAs IsEvent event octets → script_of (octets ∷ []) ≡ script_of_one_event (event 1)
 
--- what was sent agrees with the packet that is written of it, in each field and at any time
+-- a segment that was sent agrees with the packet that is written of it, in each field and at any time
 abbrev pub SentPacketsAgree : Type 0
 SentPacketsAgree = (sent : Sent) (tolerance : ℕ) (field : Kind) → Agrees (packet_of sent.segment) None sent tolerance field

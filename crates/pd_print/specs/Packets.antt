@@ -52,7 +52,7 @@ arrow Outbound = codes " > "
 abbrev pub event_text : Time → Direction → Packet → List ℕ
 event_text time direction packet = time_text time ++ arrow direction ++ packet_text packet
 
--- what happens at such an event
+-- the action of such an event
 abbrev pub action_of : Direction → Packet → Action
 action_of Inbound packet = actions.Inbound packet
 action_of Outbound packet = actions.Outbound packet

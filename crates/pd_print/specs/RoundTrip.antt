@@ -41,7 +41,7 @@ IsReadAs spelling value octets =
 abbrev pub event_of : Time → Action → ℕ → Event
 event_of time action line = record { line = line; time = time; blocking_end = None; action = action }
 
--- ---- what the language can write
+-- ---- values that the language can write
 
 -- a moment below 4,294,967,296 s
 abbrev pub IsShort : ℕ → Type 0

@@ -42,6 +42,6 @@ command_line_by (word ∷ words) =
     if bytes_eq word (codes "show") then without_arguments Show words else (
     if bytes_eq word (codes "settle") then without_arguments Settle words else Bad)))))
 
--- what a line asks for; one of more than 256 octets is bad
+-- the command of a line; one of more than 256 octets is bad
 abbrev pub command_line_of : List ℕ → CommandLine
 command_line_of line = if nat_le (length line) 256 then command_line_by (words_of line) else Bad

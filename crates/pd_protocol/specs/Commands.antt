@@ -19,7 +19,7 @@ fitted lines = if fits_text lines then Some lines else None
 abbrev pub edit_of : ℕ → ℕ → Option (List (List ℕ)) → Option LineEdit
 edit_of from remove insert = option_map (λ lines. record { from = from; remove = remove; insert = lines }) insert
 
--- what is in an input: a command, or a fault in its place
+-- an item of an input: a command, or a fault in its place
 pub data InputItem : Type 0 where
   does : Command → InputItem
   stops : ServeFault → InputItem
@@ -29,7 +29,7 @@ abbrev pub with_lines : ℕ → List (List ℕ) → (Option (List (List ℕ)) �
 with_lines count after command rest =
     if nat_le count (length after) then does (command (fitted (take count after))) ∷ rest count else stops Truncated ∷ []
 
--- what a line that asks for this stands for, before the lines after it
+-- the item of a line that asks for this, before the lines after it
 abbrev pub items_at : CommandLine → List (List ℕ) → (ℕ → List InputItem) → List InputItem
 items_at asks.Empty after rest = rest 0
 items_at asks.Bad after rest = stops BadCommand ∷ []
@@ -40,12 +40,12 @@ items_at (asks.Set key value) after rest = does (Set key value) ∷ rest 0
 items_at asks.Show after rest = does Show ∷ rest 0
 items_at asks.Settle after rest = does Settle ∷ rest 0
 
--- what is in lines, of which the first so many belong to the command before; their end acts as a settle
+-- the items of lines, of which the first so many belong to the command before; their end acts as a settle
 abbrev pub items : ℕ → List (List ℕ) → List InputItem
 items n [] = does Settle ∷ []
 items zero (line ∷ after) = items_at (command_line_of line) after (λ n. items n after)
 items (suc n) (line ∷ after) = items n after
 
--- what is in the octets of an input, cut at newlines, with a carriage return before one dropped
+-- the items of the octets of an input, cut at newlines, with a carriage return before one dropped
 abbrev pub commands : List ℕ → List InputItem
 commands input = items 0 (lines input)

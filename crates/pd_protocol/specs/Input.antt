@@ -37,7 +37,7 @@ IsCaused failed old new remaining fault = Unit {0}
 abbrev pub EndsReading : Type 0 → Option (List ℕ) → Type 0
 EndsReading failed input = failed ⊎ IfSome input (λ octets. 1048575 ≤ length octets)
 
--- what ends with 17 isn't read on
+-- an input on which serving ends with 17 isn't read on
 abbrev pub HasCause : {V : Type 0} → Result V ServeFault → Type 0 → Option (List ℕ) → Type 0
 HasCause (Err Read) failed input = EndsReading failed input
 HasCause result failed input = Unit {0}

@@ -3,7 +3,7 @@ use Rattle.std.specs.Prelude.{◌≡◌, ℕ, Bool, true, false, List, [], take,
 use Rattle.std.specs.Io.KnownBytes.{Appends}
 use Rattle.pd_protocol.specs.declared.exit.Exit.{Exit}
 
--- what was written of a line: all of it, or some of its first octets where the writer failed
+-- the octets that were written of a line: all, or some of its first ones where the writer failed
 abbrev pub IsWrittenOf : Bool → List ℕ → List ℕ → Type 0
 IsWrittenOf true written line = written ≡ line
 IsWrittenOf false written line = (n : ℕ) × (written ≡ take n line)

@@ -55,7 +55,7 @@ recovery_ended w = record w {
   prr = no_prr;
 }
 
--- what PRR keeps where recovery begins, whose ACK is the first that is counted, and after each ACK in it
+-- the state of PRR where recovery begins, whose ACK is the first that is counted, and after each ACK in it
 abbrev pub prr_begun : Ack → CongView → PrrState
 prr_begun ack w =
     if uses_prr w.recovery_algorithm then delivery_counted ack.delivery (begun_with ack.delivery.recover_fs) else w.prr

@@ -207,14 +207,14 @@ KeepsWindow =
 abbrev pub IsSpared : BoardView → Span → Type 0
 IsSpared s segment = (x : ℕ) → segment.start ≤ x → x < segment.end → contains s.sacked x ≡ false
 
--- what is SACKed isn't sent again, neither by an entry nor by NextSeg (RFC 2018, section 5; RFC 6675, section 4)
+-- SACKed octets aren't sent again, neither by an entry nor by NextSeg (RFC 2018, section 5; RFC 6675, section 4)
 pub record SparesSacked : Type 0 where
   pub again : (s : BoardView) (start : ℕ) → IsSpared s (run_at start s)
   pub chosen :
       (rwnd : ℕ) (s : BoardView) (w : CongView) → IsBoardView s
       → (sent : NextSegment) → next_send rwnd s w ≡ Some sent → IsSpared s (segment_of sent)
 
--- what NextSeg and limited transmit choose can be sent
+-- the segments that NextSeg and limited transmit choose can be sent
 pub record ChoosesSendable : Type 0 where
   pub chosen :
       (rwnd : ℕ) (s : BoardView) (w : CongView) → IsBoardView s

@@ -63,7 +63,7 @@ step_c_segment rwnd pipe s w = if has_room pipe s w then next_send rwnd s w else
 abbrev pub limited_segment : ℕ → ℕ → BoardView → CongView → Option Span
 limited_segment rwnd pipe s w = if has_room pipe s w then new_data rwnd s else None
 
--- what a segment sent by these rules moves: rules 1 and 3 HighRxt, rule 4 RescueRxt
+-- the number that a segment sent by these rules moves: rules 1 and 3 HighRxt, rule 4 RescueRxt
 abbrev pub moved : NextSegment → CongView → CongView
 moved (Lost segment) w = record w { high_rxt = segment.end }
 moved (New segment) w = w

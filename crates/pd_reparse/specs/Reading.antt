@@ -44,13 +44,13 @@ unfoldable pub parsed_events_in : ℕ → List Item → ParsedEventsAndFault
 parsed_events_in zero ts = no_parsed_event ts
 parsed_events_in (suc n) ts = if next_is starts_event ts then with_parsed_event (parsed_events_in n) (followed (may_follow n) (event_at ts)) else no_parsed_event ts
 
--- what the items of a text are read as: a header, and at most 4,096 events
+-- the reading of the items of a text: a header, and at most 4,096 events
 unfoldable pub reading_in : List Item → ReadingView
 reading_in ts =
     let found = parsed_events_in 4096 (after_header ts) in
     record { header = header_in ts; events = found.events; fault = found.fault }
 
--- what a text is read as
+-- the reading of a text
 unfoldable pub reading_of : List (List ℕ) → ReadingView
 reading_of lines = reading_in (items lines first_place)
 

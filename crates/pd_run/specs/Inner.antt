@@ -43,7 +43,7 @@ abbrev pub Ends : Result RunStateView StopReason → Option StopKind → RunStat
 Ends came None new = came ≡ Ok new
 Ends came (Some stopped) new = StopsBy came stopped new
 
--- what runs rest on: the sender stays up to date, and no input queues more than it names
+-- runs rest on this: the sender stays up to date, and no input queues more than it names
 pub record SenderIsLawful : Type 0 where
   pub start : StartsUpToDate
   pub advances : AdvancesKeepUp
@@ -56,7 +56,7 @@ pub record SenderIsLawful : Type 0 where
   pub queued_by_calls : CallsQueueWhatTheyAsk
   pub asked_by_calls : CallsAskFew
 
--- what the sender says of its settings
+-- the sender's laws of its settings
 pub record InputsOnlyUse : Type 0 where
   pub arrivals : OnlyUsesMatter
   pub calls : CallsOnlyUse

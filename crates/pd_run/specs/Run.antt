@@ -41,7 +41,7 @@ start_of header settings = started (find (λ item. is_none (tolerance_in item)) 
 abbrev pub fresh_run : Option ℕ → Settings → RunStateView
 fresh_run header_tolerance settings = record { host = fresh_host settings; clock = 0; base = 0; header_tolerance = header_tolerance; used_tolerance = false }
 
--- what a header is to its run under any settings: the tolerance that it sets, or the verdict of the item that isn't run
+-- the result of a header for its run under any settings: the tolerance that it sets, or the verdict of the item that isn't run
 abbrev pub LetsBegin : List HeaderItem → Result (Option ℕ) Verdict → Type 0
 LetsBegin header (Ok header_tolerance) = (settings : Settings) → start_of header settings ≡ Ok (fresh_run header_tolerance settings)
 LetsBegin header (Err verdict) = (settings : Settings) → start_of header settings ≡ Err verdict
@@ -61,7 +61,7 @@ abbrev pub stepped_from : List Event → RunStateView → ℕ
 stepped_from [] r = 0
 stepped_from (e ∷ es) r = 1 + on_step (stepped_from es) (λ v. 0) (step r e)
 
--- what a script that was read comes to: a refused text is a syntax fault at its line and takes no steps
+-- the verdict of a script that was read: a refused text is a syntax fault at its line and takes no steps
 abbrev pub on_script : {A : Type 0} → (ℕ → A) → (Verdict → A) → (RunStateView → A) → Settings → Parsed → A
 on_script {A} refused stopped run settings parsed = on_fault parsed.fault
   where

@@ -40,12 +40,12 @@ tolerance_of r = unwrap_or r.header_tolerance r.host.state.settings.tolerance_us
 abbrev pub comparison_noted : RunStateView → RunStateView
 comparison_noted r = record r { used_tolerance = r.used_tolerance || is_none r.header_tolerance }
 
--- what follows an event: goes on from the state after it, or from what stopped the run
+-- the run after an event: it goes on from the state after it, or from the reason that stopped it
 abbrev pub on_step : {A S : Type 0} → (RunStateView → A) → (S → A) → Result RunStateView S → A
 on_step go stop (Ok r) = go r
 on_step go stop (Err s) = stop s
 
--- what was compared agrees, or what differs first gives the reason to stop
+-- the compared fields agree, or the first that differs gives the reason to stop
 abbrev pub judged : RunStateView → (Kind → StopReason) → Option Kind → Result RunStateView StopReason
 judged r reason None = Ok r
 judged r reason (Some kind) = Err (reason kind)
@@ -66,7 +66,7 @@ acted r e s = record (with_state r s) { clock = action_time r e; base = time_of 
 abbrev pub arrives : RunStateView → Event → Packet → Result SenderState Halt
 arrives r e p = then_on (arrived (segment_in p) (action_time r e)) (advanced (action_time r e) r.host.state)
 
--- what comes of the arrival: the run goes on, or the sender halts
+-- the result of the arrival: the run goes on, or the sender halts
 abbrev pub on_arrival : RunStateView → Event → Result SenderState Halt → Result RunStateView StopReason
 on_arrival r e (Ok s) = Ok (acted r e s)
 on_arrival r e (Err halt) = Err (Halted halt)
@@ -75,7 +75,7 @@ on_arrival r e (Err halt) = Err (Halted halt)
 abbrev pub answers : RunStateView → Event → Call → Result (SenderState × Answer) Halt
 answers r e call = then_on (called call (action_time r e)) (advanced (action_time r e) r.host.state)
 
--- what comes of the call: its answer is compared with the written result, in the run after it, or the sender halts
+-- the result of the call: its answer is compared with the written one, in the run after it, or the sender halts
 abbrev pub on_answer : RunStateView → Event → Call → Result (SenderState × Answer) Halt → Result RunStateView StopReason
 on_answer r e call (Ok (s, answer)) = judged (acted r e s) (λ kind. Answered answer (acted r e s)) (result_mismatch call.result answer)
 on_answer r e call (Err halt) = Err (Halted halt)
@@ -107,7 +107,7 @@ packet_taken e p r (Some sent) =
 abbrev pub leaves : RunStateView → Event → Packet → Result RunStateView StopReason
 leaves r e p = on_step (λ s. packet_taken e p s (slice_get s.host.state.endpoint.outbox 0)) (λ reason. Err reason) (awaited r e)
 
--- what an action of a shape that is run does
+-- the effect of an action of a shape that is run
 abbrev pub performed : RunStateView → Event → Action → Result RunStateView StopReason
 performed r e (Inbound p) = on_arrival r e (arrives r e p)
 performed r e (Outbound p) = leaves (comparison_noted r) e p
@@ -136,7 +136,7 @@ step r e = at_line e.line (outcome r e)
 abbrev pub stop_reason : RunStateView → Event → Option StopReason
 stop_reason r e = result_err (outcome r e)
 
--- what a step answered, and the state it left where the run goes on
+-- the answer of a step, and the state that it left where the run goes on
 abbrev pub IsStepEnd : Result RunStateView Verdict → StepEnd → RunStateView → Type 0
 IsStepEnd came Go new = came ≡ Ok new
 IsStepEnd came (Stop v) new = came ≡ Err v

@@ -24,7 +24,7 @@ extended_builder argument_builder.Opened t = if is_any_int t then argument_build
 extended_builder (argument_builder.Numbered n) t = if is_symbol (sign "]") t then argument_builder.Element n else argument_builder.Mixed
 extended_builder _ t = argument_builder.Mixed
 
--- what the tokens of an argument make
+-- the argument that its tokens make
 abbrev pub built_argument : ArgumentBuilder → Argument
 built_argument (argument_builder.Single a) = a
 built_argument (argument_builder.Element n) = arguments.Element n
@@ -70,7 +70,7 @@ abbrev pub part_at : BracketContext → Reader BracketContext
 part_at i [] = Err []
 part_at i (t ∷ ts) = part_by i.builder t ts (pairs_after 16 i.pairs t)
 
--- what is left after a token
+-- the rest after a token
 abbrev pub after_token : List Item → List Item
 after_token [] = []
 after_token (lexeme x ∷ ts) = ts

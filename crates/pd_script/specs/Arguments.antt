@@ -20,7 +20,7 @@ abbrev pub Balances : (List Bracket → Item → Bool) → ℕ → List Bracket 
 Balances parts most pairs [] = pairs ≡ []
 Balances parts most pairs (t ∷ ts) = (parts pairs t ≡ false) × (next : List Bracket) × (pairs_after most pairs t ≡ Some next) × Balances parts most next ts
 
--- what the items of an argument are: one whole number, one word, a whole number between `[` and `]`, or anything else
+-- the items of an argument: one whole number, one word, a whole number between `[` and `]`, or anything else
 abbrev pub argument_of : List Item → Argument
 argument_of (t ∷ []) =
     if is_any_int t then arguments.Int (capped_number (text_of t))

@@ -20,7 +20,7 @@ left lines (lexed.Token t) = lexeme (lexeme_of lines t) ∷ items lines t.to
 left lines lexed.End = ending (max 1 (length lines)) ∷ []
 left lines (lexed.Bad line) = bad line ∷ []
 
--- what comes next in a text, and with it what is left
+-- the next item of a text, and with it the rest
 abbrev pub IsPeeked : Lexed → List Item → Type 0
 IsPeeked next ts = (lines : List (List ℕ)) × HasText lines next × (ts ≡ left lines next)
 
@@ -28,7 +28,7 @@ IsPeeked next ts = (lines : List (List ℕ)) × HasText lines next × (ts ≡ le
 abbrev pub shown : Token → Item
 shown t = lexeme (record { kind = t.kind; text = t.text.now; from = t.from })
 
--- what a method of a cursor answered, and what it left, are what was read; at a fault it is there
+-- the answer of a method of a cursor, and the rest that it left, are those of the reader; at a fault the cursor is there
 abbrev pub Leaves : {X : Type 0} → Result X ParseError → List Item → Read X → Type 0
 Leaves (Ok x) rest read = read ≡ Ok (x, rest)
 Leaves (Err parse_error.Syntax) rest read = read ≡ Err rest
@@ -54,6 +54,6 @@ pub record IsItemAt (lines : List (List ℕ)) (place : Place) (item : HeaderItem
   pub value : header_item token ≡ item
   pub end : place_after_item place token ≡ after
 
--- what an item that passes a test stands for
+-- the value of an item that passes a test
 abbrev pub given : {A : Type 0} → (Item → Bool) → (Item → A) → Item → Option A
 given test value t = if test t then Some (value t) else None

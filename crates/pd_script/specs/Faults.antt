@@ -41,7 +41,7 @@ pub record IsFault (front : List Item) (t : Item) : Type 0 where
   pub plain : All IsPlain before.more
   pub none : Begins (front ++ t ∷ []) → ⊥
 
--- what is kept at a fault: all of the header before it, and the events before it whose next token is before it too
+-- the script that is kept at a fault: all of the header before it, and the events before it whose next token is before it too
 pub record IsKept (header : List HeaderItem) (events : List Event) (front : List Item) : Type 0 where
   pub after : List Item
   pub others : List Item
@@ -60,6 +60,6 @@ IsReadTo ts parsed (Some line) = (front : List Item) × (t : Item) × (rest : Li
 abbrev pub IsRead : List Item → Parsed → Option ℕ → Type 0
 IsRead ts parsed fault = HasEnd ts parsed.header × IsReadTo ts parsed fault
 
--- what a text is read as
+-- the script that a text is read as
 abbrev pub IsScriptOf : List (List ℕ) → Parsed → Type 0
 IsScriptOf lines parsed = (ts : List Item) × AreItemsOf lines ts × IsRead ts parsed parsed.fault

@@ -20,7 +20,7 @@ option_kind text =
     then headers.Tolerance (number digits)
     else headers.OtherOption
 
--- what a token of this kind with these octets is as a header item: an option is looked at, another is a command
+-- the header item of a token of this kind with these octets: an option is looked at, another is a command
 abbrev pub kind_of_token : TokenKind → List ℕ → HeaderKind
 kind_of_token kinds.Opt text = option_kind text
 kind_of_token _ text = headers.Command

@@ -142,11 +142,11 @@ is_header_kind _ = false
 abbrev pub is_header : Item → Bool
 is_header t = is_token (λ kind text. is_header_kind kind) t
 
--- what an event begins with
+-- an item that begins an event
 abbrev pub starts_event : Item → Bool
 starts_event t = is_num t || is_symbol (sign "+") t || is_symbol (sign "*") t
 
--- what an event or the end begins with
+-- an item that begins an event, or the end
 abbrev pub starts_event_or_end : Item → Bool
 starts_event_or_end t = starts_event t || is_end t
 

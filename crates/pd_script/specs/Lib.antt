@@ -2,7 +2,7 @@
 pub use Rattle.pd_lex.specs.Places
 pub use Rattle.pd_lex.specs.Tokens
 pub use Rattle.pd_lex.specs.Lexing
--- what a script is
+-- the grammar of scripts
 pub mod Values
 pub mod Items
 pub mod Spelling

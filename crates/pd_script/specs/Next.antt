@@ -35,7 +35,7 @@ abbrev pub got : Read Event → NextEvent
 got (Ok x) = Got x.0 (next_place x.1) (lookahead_line_of x.1)
 got (Err rest) = Fault (next_line rest)
 
--- what comes next, where its event is in a place of its own
+-- the next item, where its event is in a place of its own
 abbrev pub with_event : Event → NextEventStatus → NextEvent
 with_event event (places.After after lookahead_line) = Got event after lookahead_line
 with_event event places.End = End
@@ -71,7 +71,7 @@ IsNextEvent lines place (Got event after lookahead_line) = IsEvent event (items 
 IsNextEvent lines place End = next_is is_end (items lines place) ≡ true
 IsNextEvent lines place (Fault line) = (front : List Item) × (t : Item) × (rest : List Item) × (items lines place ≡ front ++ t ∷ rest) × (line ≡ line_of t) × IsEventFault front t × (next_is is_end (items lines place) ≡ false)
 
--- what took an event follows it
+-- the rest after an event that was read
 abbrev pub LeavesNext : NextEvent → List Item → List Item → Type 0
 LeavesNext (Got event after lookahead_line) rest ts = followed starts_event_or_end (event_at ts) ≡ Ok (event, rest)
 LeavesNext End rest ts = Unit {0}

@@ -105,7 +105,7 @@ AreBlocks = do
   bs ← Repeats IsBlock
   made (b ∷ bs)
 
--- what follows `TS`: `val` and `ecr`, each with a number (RFC 7323, section 3.2)
+-- the parts after `TS`: `val` and `ecr`, each with a number (RFC 7323, section 3.2)
 abbrev pub IsTimestamp : Spelling PacketOption
 IsTimestamp = do
   val ← IsNamed (codes "val")
@@ -114,7 +114,7 @@ IsTimestamp = do
   e ← IsInt
   made (options.Timestamp v e)
 
--- what follows the name of an option
+-- the parts after the name of an option
 unfoldable pub IsOptionRest : OptionName → Spelling PacketOption
 IsOptionRest names.Mss = in_turn IsInt (λ n. made (options.Mss n))
 IsOptionRest names.Wscale = in_turn IsInt (λ n. made (options.Wscale n))

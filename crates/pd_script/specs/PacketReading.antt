@@ -133,7 +133,7 @@ blocks_at = do
   bs ← repeated_at is_int block_at
   done (b ∷ bs)
 
--- what follows `TS`: `val` and `ecr`, each with a number
+-- the parts after `TS`: `val` and `ecr`, each with a number
 abbrev pub timestamp_at : Reader PacketOption
 timestamp_at = do
   val ← named_at (codes "val")
@@ -142,7 +142,7 @@ timestamp_at = do
   e ← int_at
   done (options.Timestamp v e)
 
--- what follows the name of an option
+-- the parts after the name of an option
 unfoldable pub option_rest_at : OptionName → Reader PacketOption
 option_rest_at names.Mss = int_at >>= (λ n. done (options.Mss n))
 option_rest_at names.Wscale = int_at >>= (λ n. done (options.Wscale n))

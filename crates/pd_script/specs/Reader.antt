@@ -3,7 +3,7 @@ use Rattle.std.specs.Prelude.{Bool, List, [], ◌∷◌, ◌++◌, Result, Ok, E
 use Rattle.pd_lex.specs.Tokens.{Item}
 use Rattle.pd_script.specs.Items.{next_is}
 
--- what reading gives: a value and the items that are left, or what is left at the fault
+-- the result of reading: a value and the items that are left, or the items that are left at the fault
 abbrev pub Read : Type 0 → Type 0
 Read A = Result (A × List Item) (List Item)
 
@@ -34,7 +34,8 @@ one test (t ∷ ts) = if test t then Ok (t, ts) else Err (t ∷ ts)
 abbrev pub when : {A : Type 0} → (Item → Bool) → Reader A → Reader A → Reader A
 when test p q ts = if next_is test ts then p ts else q ts
 
--- what an item does to the state of a machine: it is refused, it is the last with the last values, or it leads on with some
+-- the effect of an item on the state of a machine: it is refused, it is the last with the last values, or it leads on with
+-- some
 pub data Move (S A : Type 0) : Type 0 where
   stuck : Move S A
   ends : List A → Move S A
@@ -45,13 +46,13 @@ abbrev pub onto : {A : Type 0} → List A → Read (List A) → Read (List A)
 onto front (Ok x) = Ok (front ++ x.0, x.1)
 onto front (Err rest) = Err rest
 
--- what a machine reads at an item, by what that does to its state; a refused item is the fault
+-- the result of a machine at an item, by the effect on its state; a refused item is the fault
 abbrev pub moved : {S A : Type 0} → (S → Read (List A)) → Item → List Item → Move S A → Read (List A)
 moved others t ts stuck = Err (t ∷ ts)
 moved others t ts (ends last) = Ok (last, ts)
 moved others t ts (goes state values) = onto values (others state)
 
--- what a machine reads from a state on, to its last item
+-- the result of a machine from a state on, to its last item
 unfoldable pub machine_at : {S A : Type 0} → (S → Item → Move S A) → S → Reader (List A)
 machine_at move state [] = Err []
 machine_at move state (t ∷ ts) = moved (λ next. machine_at move next ts) t ts (move state t)

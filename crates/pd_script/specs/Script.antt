@@ -32,7 +32,7 @@ header_end place (t ∷ ts) = if is_header t then header_end (place_after_item p
 abbrev pub header_in : List Item → HeaderView
 header_in ts = record { items = header_of ts; end = header_end first_place ts }
 
--- what may follow an event when there may be so many more
+-- the item that may follow an event when there may be so many more
 abbrev pub may_follow : ℕ → Item → Bool
 may_follow zero = is_end
 may_follow (suc n) = starts_event_or_end
@@ -60,12 +60,12 @@ unfoldable pub found_in : ℕ → List Item → EventsAndFault
 found_in zero ts = at_end ts
 found_in (suc n) ts = if next_is starts_event ts then with_event (found_in n) (followed (may_follow n) (event_at ts)) else at_end ts
 
--- what the items of a text are read as: a header, and at most 4,096 events
+-- the script that the items of a text are read as: a header, and at most 4,096 events
 unfoldable pub script_in : List Item → Parsed
 script_in ts =
     let found = found_in 4096 (after_header ts) in
     record { header = header_in ts; events = found.events; fault = found.fault }
 
--- what a text is read as
+-- the script that a text is read as
 unfoldable pub script_of : List (List ℕ) → Parsed
 script_of lines = script_in (items lines first_place)

@@ -21,7 +21,7 @@ abbrev pub RefusesClose : HeldView → List SeatView → CloseFault HeldView →
 RefusesClose held seats (MissingSeat back them) = ¬ EachOnce held.seats seats × (back ≡ held) × (them.items ≡ seats)
 RefusesClose held seats (Differs book) = EachOnce held.seats seats × ¬ Accounts held seats × (book ≡ held.book) × Legal book.history.opening book.history.past
 
--- what is left of this where the book isn't known that the seats were of: of a `MissingSeat` only that the seats come back;
+-- the part of this that is known where the seats' book isn't known: of a `MissingSeat` only that the seats come back;
 -- of a `Differs` that the seats' numbers are 0 to the last, each once, and that the book's history is legal, and nothing of
 -- notes
 abbrev pub RefusesCloseAt : {H : Type 0} → List SeatView → CloseFault H → Type 0

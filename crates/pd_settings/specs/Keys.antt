@@ -19,12 +19,12 @@ name_of key = (row_of key).name
 abbrev pub key_named : List ℕ → Option Key
 key_named name = find (λ key. bytes_eq (name_of key) name) all_keys
 
--- what each setting takes: the whole numbers of a range, both ends included, the truth values, the rules for the initial
+-- the values of each setting: the whole numbers of a range, both ends included, the truth values, the rules for the initial
 -- window, or those for the rate of loss recovery
 abbrev pub allowed_values_of : Key → AllowedValues
 allowed_values_of key = (row_of key).allowed
 
--- what a setting is where nobody sets it
+-- the value of a setting where nobody sets it
 abbrev pub default_of : Key → Value
 default_of key = (row_of key).default_value
 
@@ -47,6 +47,6 @@ decide_allowed WindowRules _ = no (λ impossible. impossible)
 decide_allowed Algorithms (Algorithm _) = yes tt
 decide_allowed Algorithms _ = no (λ impossible. impossible)
 
--- what is made of a value that the domain takes; None for any other
+-- the result for a value that the domain takes; None for any other
 abbrev pub made_if_allowed : {A : Type 0} (d : AllowedValues) (v : Value) → (Allows d v → A) → Option A
 made_if_allowed d v made = dite (decide_allowed d v) (λ h. Some (made h)) (λ _. None)

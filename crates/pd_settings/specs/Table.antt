@@ -35,7 +35,7 @@ overlaid s (member name entry rest) = unless_refused (with_value s name (value_o
 abbrev pub from_table_of : Members → Result Settings SettingsFault
 from_table_of entries = overlaid defaults entries
 
--- what the entries write for a name: the value of the last entry with it
+-- the value that the entries write for a name: that of the last entry with it
 abbrev pub written : List ℕ → Members → Option Value
 written name no_members = None
 written name (member n entry rest) =

@@ -26,20 +26,20 @@ algorithm_word Rfc9937 = codes "rfc9937"
 abbrev pub algorithm_named : List ℕ → Option RecoveryAlgorithm
 algorithm_named word = find (λ algorithm. bytes_eq (algorithm_word algorithm) word) (Rfc6675 ∷ Rfc9937 ∷ [])
 
--- what such a rule says as a value; a word that no setting takes is neither
+-- the value of such a rule; a word that no setting takes is neither
 abbrev pub algorithm_value : Option RecoveryAlgorithm → Value
 algorithm_value None = Other
 algorithm_value (Some algorithm) = Algorithm algorithm
 
--- what a word says as a value that is no rule for the initial window
+-- the value of a word that is no rule for the initial window
 abbrev pub algorithm_word_value : List ℕ → Value
 algorithm_word_value word = algorithm_value (algorithm_named word)
 
--- what a rule for the initial window says as a value, and what another word does
+-- the value of a rule for the initial window, and of another word
 abbrev pub window_value : Value → Option InitialWindow → Value
 window_value otherwise None = otherwise
 window_value otherwise (Some window) = WindowRule window
 
--- what a word says as a value
+-- the value of a word
 abbrev pub word_value : List ℕ → Value
 word_value word = window_value (algorithm_word_value word) (window_named word)

@@ -15,7 +15,7 @@ pub record RtoView : Type 0 where
   -- the moment of the next expiry, while the timer runs
   pub deadline : Option ℕ
 
--- what is measured stays below 2^62
+-- measured times stay below 2^62
 abbrev pub IsEstimate : Estimate → Type 0
 IsEstimate e = (e.srtt < 2 ^ 62) × (e.rttvar < 2 ^ 62)
 
@@ -63,7 +63,7 @@ next_srtt r e = (7 * e.srtt + r) / 8
 abbrev pub next_estimate : ℕ → Estimate → Estimate
 next_estimate r e = record { srtt = next_srtt r e; rttvar = next_rttvar r e }
 
--- what is known after a measurement (sections 2.2 and 2.3)
+-- the estimate after a measurement (sections 2.2 and 2.3)
 abbrev pub estimate_after : ℕ → Option Estimate → Estimate
 estimate_after r None = first_estimate r
 estimate_after r (Some e) = next_estimate r e

@@ -22,7 +22,7 @@ pub record BeginsIn (text : List (List ℕ)) (settings : Settings) (state : RunS
   pub start : start_of (script_of text).header.items settings ≡ Ok state
 
 -- the run that goes on in this state after so many events, with these checkpoints but for the settings held in them, gives
--- what the whole run gives
+-- the result of the whole run
 pub record Resumes (text : List (List ℕ)) (settings : Settings) (passed : ℕ) (state : RunStateView) (checkpoints : List RunStateView) : Type 0 where
   pub fourth : passed % 4 ≡ 0
   pub within : passed ≤ length (script_events text)
@@ -33,7 +33,7 @@ pub record Resumes (text : List (List ℕ)) (settings : Settings) (passed : ℕ)
   pub bound : state.host.state.settings ≡ settings
   pub held : AgreeWhereConsulted settings checkpoints
 
--- what the whole run of a task comes to, what is read of its text, and every fourth state but for the settings held in it
+-- the result of the whole run of a task, the reading of its text, and every fourth state but for the settings held in it
 pub record IsJobOutcome (task : Task) (came : Verdict) (reading : ReadingView) (checkpoints : List RunStateView) : Type 0 where
   pub verdict : came ≡ verdict_of task.text task.settings
   pub read : reading ≡ reading_of task.text

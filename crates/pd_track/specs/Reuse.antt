@@ -12,12 +12,12 @@ use Rattle.pd_run.specs.Step.{RunStateView}
 use Rattle.pd_run.specs.declared.verdict.Verdict.{Verdict}
 use Rattle.pd_track.specs.declared.task.Task.{Task}
 
--- what a track is of: the text that was run, and the settings that it was run under
+-- the text of a track's run, and the settings that it was run under
 pub record TrackView : Type 0 where
   pub text : List (List ℕ)
   pub settings : Settings
 
--- what a job is: its task, and what the track that it was given is of
+-- a job: its task, and the text and the settings of the track that it was given
 pub record JobView : Type 0 where
   pub task : Task
   pub track : Option TrackView
@@ -32,7 +32,7 @@ every_fourth (suc j) (r ∷ rs) = every_fourth j rs
 abbrev pub AgreeWhereConsulted : Settings → List RunStateView → Type 0
 AgreeWhereConsulted settings checkpoints = AllByRecursion (λ (r : RunStateView). Agree (consulted_settings_of r) settings r.host.state.settings) checkpoints
 
--- what a track keeps: its text as it was read, and the states after 4, 8, 12 .. events of its run, but for the settings held
+-- the parts of a track: its text as it was read, and the states after 4, 8, 12 .. events of its run, but for the settings held
 -- in them, which agree with its own on all that was consulted up to there
 pub record IsTrack (text : List (List ℕ)) (settings : Settings) (reading : ReadingView) (checkpoints : List RunStateView) : Type 0 where
   pub read : reading ≡ reading_of text
@@ -92,7 +92,7 @@ abbrev pub front_of : Option TrackView → List (List ℕ) → ℕ
 front_of None text = 0
 front_of (Some track) text = common_prefix track.text text
 
--- what a job came to: the verdict of its text under its settings, and a track of both
+-- the result of a job: the verdict of its text under its settings, and a track of both
 pub record IsDone (task : Task) (came : Verdict) (track : TrackView) : Type 0 where
   pub verdict : came ≡ verdict_of task.text task.settings
   pub text : track.text ≡ task.text
