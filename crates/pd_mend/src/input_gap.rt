@@ -2,7 +2,6 @@
 
 use crate::event_line::EventLine;
 use crate::failure_site::FailureSite;
-use crate::line_mends::push_line;
 use crate::mend::{Mend, MendEffect, Target};
 use crate::rewrite_packet::retimed;
 use crate::times::{sooner, time_of, with_time_of};
@@ -14,7 +13,7 @@ use pd_seg::Sent;
 use pd_text::{LineList, Lines};
 use std::alloc::AllocError;
 
-/// What ends a comment that may go over lines.
+/// The end of a comment that may go over lines.
 const COMMENT_END: &[u8] = b"*/";
 
 /// Before an input.
@@ -116,12 +115,12 @@ impl<'a> InputGap<'a> {
     pub fn filled(&self, text: &[u8], at: u64, effect: MendEffect) -> Result<Mend, AllocError> {
         let input = &self.input;
         let mut lines = LineList::new(input.alloc);
-        push_line(&mut lines, text)?;
+        lines.push_if_line(text)?;
         let target = match input.event.time {
             Time::Relative(_) if at > self.base => {
                 let time = sooner(input.event.time, at.saturating_sub(self.base));
                 let own = with_time_of(input, retimed(input, time)?.as_slice())?;
-                push_line(&mut lines, own.as_slice())?;
+                lines.push_if_line(own.as_slice())?;
                 Target::Retimed(input.line)
             }
             _ => Target::Before(self.first),

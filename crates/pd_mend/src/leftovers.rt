@@ -6,7 +6,7 @@ ghost use Rattle.pd_mend.specs.Mending.{matches_all, IsRetiming};
 use crate::event_line::EventLine;
 use crate::failure_site::FailureSite;
 use crate::input_gap::{first_line, gap_of};
-use crate::line_mends::{push_line, text_of};
+use crate::line_mends::text_of;
 use crate::mend::{Mend, MendEffect, Target};
 use crate::mend_state::MendState;
 use crate::times::retiming;
@@ -30,7 +30,7 @@ pub fn matches_all(alloc: Global, text: &Lines, settings: &Settings) -> Result<b
     Ok(awaits_no_more(&found))
 }
 
-/// Whether an ending tells of no packet that might have been awaited.
+/// Whether leftovers name no packet that might have been awaited.
 fn awaits_no_more(found: &Option<Leftovers>) -> bool
     ensures { result ≡ awaits_no_more found.now }
 {
@@ -40,7 +40,7 @@ fn awaits_no_more(found: &Option<Leftovers>) -> bool
     }
 }
 
-/// The edit by which the oldest of the packets that stand untaken at the end of a text's run gets a line. Where there is no room for
+/// The edit by which the oldest packet that is unmatched at the end of a text's run gets a line. Where there is no room for
 /// one, the edit is one for which there is none either.
 ///
 /// # Errors
@@ -60,7 +60,7 @@ pub fn leftover_edit(
         }
     }
     let mut insert = LineList::new(alloc);
-    push_line(&mut insert, NEVER)?;
+    insert.push_if_line(NEVER)?;
     Ok(Some(LineEdit {
         from: line,
         remove: 0,
@@ -93,7 +93,7 @@ fn line_after(alloc: Global, text: &Lines, parsed: &Parsed) -> Result<usize, All
     }
 }
 
-/// The mend by which the oldest packet gets a line that stands untaken where a text awaits, at its end, one that is never sent.
+/// The mend by which the oldest unmatched packet gets a line where a text awaits, at its end, one that is never sent.
 fn mend_in(
     alloc: Global,
     lines: &Lines,
@@ -150,7 +150,7 @@ fn mend_styled(
         return Ok(None);
     };
     let mut lines = LineList::new(site.alloc);
-    push_line(&mut lines, text.octets.as_slice())?;
+    lines.push_if_line(text.octets.as_slice())?;
     Ok(Some(Mend {
         target: Target::Before(site.line),
         lines,

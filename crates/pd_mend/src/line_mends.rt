@@ -1,7 +1,4 @@
 //! The lines in the place of one.
-ghost use Rattle.std.specs.Prelude.{◌≡◌};
-ghost use Rattle.pd_text.specs.Text.{is_line};
-
 use crate::differences::Differences;
 use crate::event_line::EventLine;
 use crate::failure_site::FailureSite;
@@ -17,10 +14,10 @@ use pd_seg::Sent;
 use pd_text::LineList;
 use std::alloc::{AllocError, Global};
 
-/// What is before a packet that wasn't sent.
+/// The blanks and comments before a packet that wasn't sent.
 const NOT_SENT: &[u8] = b"// not sent: ";
 
-/// What is left of the line of a packet that is taken out.
+/// How much is left of the line of a packet that is taken out.
 #[derive(Clone, Copy)]
 pub enum Removal {
     /// Nothing.
@@ -37,7 +34,7 @@ pub enum Removal {
 /// `AllocError` where a growth is refused.
 pub fn one_line(alloc: Global, octets: &[u8]) -> Result<Mend, AllocError> {
     let mut lines = LineList::new(alloc);
-    push_line(&mut lines, octets)?;
+    lines.push_if_line(octets)?;
     Ok(Mend {
         target: Target::Own,
         lines,
@@ -107,13 +104,13 @@ pub fn inserted(
     };
     let mut lines = LineList::new(site.alloc);
     let from = put_before(&mut lines, site)?;
-    push_line(&mut lines, extra.octets.as_slice())?;
+    lines.push_if_line(extra.octets.as_slice())?;
     match time_of(base, extra.time) {
         Some(at) if at > base => {
             let own = retimed(&site.own, sooner(site.own.event.time, at - base))?;
-            push_line(&mut lines, rest(own.as_slice(), from))?;
+            lines.push_if_line(rest(own.as_slice(), from))?;
         }
-        _ => push_line(&mut lines, rest(site.octets(), from))?,
+        _ => lines.push_if_line(rest(site.octets(), from))?,
     }
     Ok(Some(Mend {
         target: Target::Own,
@@ -125,12 +122,12 @@ pub fn inserted(
 /// Puts what is before the event on a line of its own, unless these are blanks; where the event's own line begins then.
 fn put_before(lines: &mut LineList, site: &FailureSite<'_>) -> Result<usize, AllocError> {
     if !site.own.is_first() {
-        push_line(lines, site.own.before().trim_ascii_end())?;
+        lines.push_if_line(site.own.before().trim_ascii_end())?;
     }
     Ok(site.own.from())
 }
 
-/// The event's packet wasn't sent here, and of its line this is left. What else is on it stays.
+/// The event's packet wasn't sent here, and of its line this is left. All else on it stays.
 ///
 /// # Errors
 /// `AllocError` where a growth is refused.
@@ -138,10 +135,10 @@ pub fn without_line(site: &FailureSite<'_>, removal: Removal) -> Result<Mend, Al
     let mut lines = LineList::new(site.alloc);
     let from = put_before(&mut lines, site)?;
     if let Some(comment) = comment_of(site, from, removal)? {
-        push_line(&mut lines, comment.as_slice())?;
+        lines.push_if_line(comment.as_slice())?;
     }
     if !site.own.ends_line() {
-        push_line(&mut lines, site.own.after().trim_ascii_start())?;
+        lines.push_if_line(site.own.after().trim_ascii_start())?;
     }
     Ok(Mend {
         target: Target::Own,
@@ -210,21 +207,4 @@ impl FailureSite<'_> {
             ..one_line(self.alloc, line.as_slice())?
         }))
     }
-}
-
-/// Adds a line; octets with a newline, which no line has, are left out.
-///
-/// # Errors
-/// `AllocError` where a growth is refused.
-pub fn push_line(list: &mut LineList, octets: &[u8]) -> Result<(), AllocError> {
-    if is_line(octets) {
-        list.push(octets)?;
-    }
-    Ok(())
-}
-
-fn is_line(octets: &[u8]) -> bool
-    ensures { result ≡ is_line octets.now }
-{
-    octets.iter().all(|octet| *octet != b'\n')
 }

@@ -3,7 +3,6 @@ ghost use Rattle.std.specs.Prelude.{◌≤◌, length};
 
 use crate::event_line::EventLine;
 use crate::failure_site::FailureSite;
-use crate::line_mends::push_line;
 use crate::mend::{Mend, Target};
 use crate::mender::line_in;
 use pd_run::{StopPoint, Verdict, find_stop, run_all};
@@ -25,7 +24,7 @@ pub fn with_never_sent(
     line: usize,
 ) -> Result<Option<Lines>, AllocError> {
     let mut insert = LineList::new(alloc);
-    push_line(&mut insert, NEVER)?;
+    insert.push_if_line(NEVER)?;
     let edit = LineEdit {
         from: line,
         remove: 0,

@@ -1,7 +1,4 @@
 //! Puts a recording into lines.
-ghost use Rattle.std.specs.Prelude.{◌≡◌};
-ghost use Rattle.pd_text.specs.Text.{is_line};
-
 use crate::record_error::RecordError;
 use crate::recorded::{OwnEvent, RecordedAnswer, RecordedEvent, SenderSnapshot};
 use crate::recording_text::{Origin, Recording, TraceEntry};
@@ -21,9 +18,9 @@ pub struct Writer<'a> {
     list: LineList,
     /// The octets of the line or lines that are being written.
     line: Vec<u8>,
-    /// How the sender stood after each event, where a trace tells it.
+    /// The sender's state after each event, where a trace has it.
     senders: &'a [SenderSnapshot],
-    /// What a trace tells of each event so far.
+    /// The trace of each event so far.
     trace_entries: Vec<TraceEntry>,
     /// At which line of the trace the last input begins.
     input: usize,
@@ -198,7 +195,7 @@ impl<'a> Writer<'a> {
         Ok(())
     }
 
-    /// Marks the event whose line was ended, where a trace tells of it; the trace has so many lines before it.
+    /// Marks the event whose line was ended, where a trace has it; the trace has so many lines before it.
     fn trace_event(&mut self, recorded: &RecordedEvent, traced: usize) -> Result<(), AllocError> {
         let Some(sender) = self.senders.get(self.trace_entries.len()) else {
             return Ok(());
@@ -213,8 +210,8 @@ impl<'a> Writer<'a> {
         Ok(())
     }
 
-    /// What let a packet go. Before an input acts all packets that left are recorded, so those that are untaken after it are its
-    /// own.
+    /// The input or timer that let a packet go. Before an input acts all packets that left are recorded, so those that are
+    /// unmatched after it are its own.
     fn origin(&mut self, action: &Action, traced: usize, unmatched: usize) -> Option<Origin> {
         match action {
             Action::Outbound(_) if self.left_of_input == 0 => Some(Origin::Timer),
@@ -243,19 +240,8 @@ impl<'a> Writer<'a> {
 
 /// Adds a line, or several that newlines part.
 fn push_lines(list: &mut LineList, octets: &[u8]) -> Result<(), AllocError> {
-    if is_line(octets) {
-        return list.push(octets);
-    }
     for line in octets.split(|octet| *octet == b'\n') {
-        if is_line(line) {
-            list.push(line)?;
-        }
+        list.push_if_line(line)?;
     }
     Ok(())
-}
-
-fn is_line(octets: &[u8]) -> bool
-    ensures { result ≡ is_line octets.now }
-{
-    octets.iter().all(|octet| *octet != b'\n')
 }

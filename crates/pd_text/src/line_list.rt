@@ -1,5 +1,5 @@
 //! Lists of lines, of any length.
-ghost use Rattle.std.specs.Prelude.{◌≡◌, ◌+◌, ◌-◌, ◌^◌, ◌≤◌, ◌<◌, ◌++◌, ◌∷◌, ◌↔◌, [], Some, length, take, drop, option_copied, slice_get, IfOk, OnOk, OnErr, IsTrue};
+ghost use Rattle.std.specs.Prelude.{◌≡◌, ◌+◌, ◌-◌, ◌^◌, ◌≤◌, ◌<◌, ◌++◌, ◌∷◌, ◌↔◌, [], Some, length, take, drop, option_copied, slice_get, IfOk, OnOk, OnErr, IsTrue, if◌then◌else◌};
 ghost use Rattle.pd_text.specs.Text.{common_prefix, is_line, octets_of, AreLines};
 ghost use Rattle.pd_text.specs.PackedLines.{lines_from, are_ends};
 
@@ -58,6 +58,21 @@ impl LineList {
         self.octets.extend_from_slice(line)?;
         self.ends.push_reserved(end);
         Ok(())
+    }
+
+    /// Adds octets as a line, unless they hold a newline.
+    ///
+    /// # Errors
+    /// As for `push`; the list is as before then.
+    pub fn push_if_line(&mut self, octets: &[u8]) -> Result<(), AllocError>
+        ensures ok { OnOk result (self.new ≡ (if is_line octets.now then self.old ++ octets.now ∷ [] else self.old)) }
+        ensures same { OnErr result (self.new ≡ self.old) }
+    {
+        if is_line(octets) {
+            self.push(octets)
+        } else {
+            Ok(())
+        }
     }
 
     /// Its lines as they stand.
@@ -251,4 +266,11 @@ impl LineList {
     pub fn allocator(&self) -> Global {
         *self.octets.allocator()
     }
+}
+
+/// Whether octets hold no newline.
+fn is_line(octets: &[u8]) -> bool
+    ensures { result ≡ is_line octets.now }
+{
+    octets.iter().all(|octet| *octet != b'\n')
 }

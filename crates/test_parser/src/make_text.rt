@@ -1,7 +1,4 @@
 //! Texts, made of octets.
-ghost use Rattle.std.specs.Prelude.{◌≡◌};
-ghost use Rattle.pd_text.specs.Text.{is_line};
-
 use crate::octet_buffer::split_at_mark;
 use pd_text::{LineList, Lines, TextFault};
 use std::alloc::{AllocError, Global};
@@ -28,19 +25,11 @@ fn add_lines(list: &mut LineList, octets: &[u8]) -> Result<(), AllocError> {
     let mut left = octets;
     for _line in 0..=octets.len() {
         let (line, rest) = split_at_mark(left, b'\n');
-        if is_line(line) {
-            list.push(line)?;
-        }
+        list.push_if_line(line)?;
         if line.len() == left.len() {
             return Ok(());
         }
         left = rest;
     }
     Ok(())
-}
-
-fn is_line(octets: &[u8]) -> bool
-    ensures { result ≡ is_line octets.now }
-{
-    octets.iter().all(|octet| *octet != b'\n')
 }

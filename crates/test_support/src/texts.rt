@@ -1,7 +1,4 @@
 //! Names, texts and edits, and the words that stand for lines.
-ghost use Rattle.std.specs.Prelude.{◌≡◌};
-ghost use Rattle.pd_text.specs.Text.{is_line};
-
 use crate::arguments::CallArguments;
 use pd_text::{LineEdit, LineList, Lines, Name, TextFault};
 use std::alloc::{AllocError, Global};
@@ -71,16 +68,16 @@ impl Texts {
         let mut arguments = CallArguments::new(written);
         match arguments.word() {
             "" => Ok(()),
-            "(empty)" => push(list, b""),
+            "(empty)" => list.push_if_line(b""),
             "(blanks)" => self.add_blanks(list, arguments.number() as usize),
-            _ => push(list, written.as_bytes()),
+            _ => list.push_if_line(written.as_bytes()),
         }
     }
 
     fn add_blanks(&self, list: &mut LineList, count: usize) -> Result<(), AllocError> {
         let mut blanks = Vec::new(self.alloc);
         blanks.resize(count, b' ')?;
-        push(list, blanks.as_slice())
+        list.push_if_line(blanks.as_slice())
     }
 
     /// The text that is written.
@@ -106,19 +103,4 @@ impl Texts {
         own.extend_from_slice(octets)?;
         Name::new(own)
     }
-}
-
-/// Adds a line, if it has no newline.
-fn push(list: &mut LineList, octets: &[u8]) -> Result<(), AllocError> {
-    if is_line(octets) {
-        list.push(octets)
-    } else {
-        Ok(())
-    }
-}
-
-fn is_line(octets: &[u8]) -> bool
-    ensures { result ≡ is_line octets.now }
-{
-    octets.iter().all(|octet| *octet != b'\n')
 }

@@ -1,7 +1,4 @@
-//! Whether a script goes on with some octets: the grammar's reader tells.
-ghost use Rattle.std.specs.Prelude.{◌≡◌};
-ghost use Rattle.pd_text.specs.Text.{is_line};
-
+//! Whether a script goes on with some octets, by the grammar's reader.
 use pd_script::parse;
 use pd_text::{LineList, Lines};
 use std::alloc::{AllocError, Global};
@@ -40,28 +37,14 @@ pub fn is_refused(alloc: Global, octets: &[u8]) -> Result<bool, AllocError> {
 }
 
 /// The fault of a text of three lines: these octets, a candidate, and nothing, so that the end of the text is on a line of
-/// its own. A text that has no room for them is refused at the candidate.
+/// its own. A text that has no room for them is refused at the candidate. None of those that are tried has a newline.
 fn fault_of(alloc: Global, before: &[u8], candidate: &[u8]) -> Result<Option<usize>, AllocError> {
     let mut list = LineList::new(alloc);
-    push_line(&mut list, before)?;
-    push_line(&mut list, candidate)?;
-    push_line(&mut list, b"")?;
+    list.push_if_line(before)?;
+    list.push_if_line(candidate)?;
+    list.push_if_line(b"")?;
     match Lines::new(list) {
         Ok(lines) => Ok(parse(alloc, &lines)?.fault),
         Err(_) => Ok(Some(TRIED)),
     }
-}
-
-/// Adds octets as a line. None of those that are tried has a newline.
-fn push_line(list: &mut LineList, octets: &[u8]) -> Result<(), AllocError> {
-    if is_line(octets) {
-        list.push(octets)?;
-    }
-    Ok(())
-}
-
-fn is_line(octets: &[u8]) -> bool
-    ensures { result ≡ is_line octets.now }
-{
-    octets.iter().all(|octet| *octet != b'\n')
 }
