@@ -1,13 +1,12 @@
 -- Arguments that are refused together, and what else is read off the matches of arguments.
-use Rattle.std.proofs.Common.{◌≡◌, ◌≢◌, ◌⊎◌, ◌||◌, inl, inr, if◌then◌else◌, Bool, true, false, ℕ, List, [], ◌∷◌, Result, Ok, Err, IfErr, Option, Some, None, is_some, option_map, Bor, refl, ap, ◌∙◌}
+use Rattle.std.proofs.Common.{◌≡◌, ◌≢◌, ◌⊎◌, ◌||◌, inl, inr, Bool, true, false, ℕ, List, [], ◌∷◌, Option, Some, None, is_some, option_map, Bor, refl, ap, ◌∙◌}
 use Rattle.clap.specs.Kinds.{or_else}
-use Rattle.clap.specs.Words.{HasMatchesOf, Kinds, Text, first_of, first_value, found_of, matches_of}
+use Rattle.clap.specs.Words.{App, HasMatchesOf, Kinds, Text, first_of, first_value, found_of, matches_of}
 use Rattle.clap.specs.declared.parser.matches.ArgMatches.{ArgMatches}
-use Rattle.clap.specs.declared.error.Error.{Error}
 use Rattle.clap.specs.declared.error.kind.ErrorKind.{ErrorKind}
 use Rattle.clap.specs.declared.error.kind.ErrorKind.TheVariants.{ArgumentConflict, MissingRequiredArgument}
 use Rattle.clap.proofs.WalkLemmas.{first_value-rows}
-use Rattle.pd_protocol.specs.OptionTable.{pdregress, are_in_conflict, lack_explain, is_written, together_faults, word_faults, refusals}
+use Rattle.pd_protocol.specs.OptionTable.{pdregress, is_written, together_faults, word_faults, refusals_by}
 use Rattle.pd_protocol.proofs.SettingsText.{simple_pdregress}
 
 some_now : (r : Option (Bor (List ℕ))) → is_some r ≡ is_some (option_map (λ (s : Bor (List ℕ)). s.now) r)
@@ -23,45 +22,36 @@ written id m words h r e =
 one_kind : (kind : ErrorKind) (kinds : Kinds) → (kind ∷ kinds) ≢ []
 one_kind kind kinds n = absurd cc
 
-by_both : (conflict lonely : Bool) (first second : Kinds) → first ≢ [] → second ≢ [] → (conflict || lonely) ≡ true → (if conflict then first else (if lonely then second else [])) ≢ []
-by_both true lonely first second f s t = f
-by_both false true first second f s t = s
-by_both false false first second f s t = absurd cc
+by_both : (conflict lonely : Bool) → (conflict || lonely) ≡ true → together_faults conflict lonely ≢ []
+by_both true lonely t = one_kind ArgumentConflict []
+by_both false true t = one_kind MissingRequiredArgument []
+by_both false false t = absurd cc
 
-by_none : (conflict lonely : Bool) (first second : Kinds) → (conflict || lonely) ≡ false → (if conflict then first else (if lonely then second else [])) ≡ []
-by_none false false first second t = refl
-by_none true lonely first second t = absurd cc
-by_none false true first second t = absurd cc
+by_none : (conflict lonely : Bool) → (conflict || lonely) ≡ false → together_faults conflict lonely ≡ []
+by_none false false t = refl
+by_none true lonely t = absurd cc
+by_none false true t = absurd cc
 
-second_is : (a b : Kinds) → b ≢ [] → or_else a b ≢ []
-second_is [] b h = h
-second_is (kind ∷ kinds) b h = one_kind kind kinds
+second_is : (alone together : Kinds) → together ≢ [] → or_else alone together ≢ []
+second_is [] together h = h
+second_is (kind ∷ kinds) together h = one_kind kind kinds
 
-first_is : (a b : Kinds) → a ≢ [] → or_else a b ≢ []
-first_is [] b h = absurd (h refl)
-first_is (kind ∷ kinds) b h = one_kind kind kinds
+first_is : (alone together : Kinds) → alone ≢ [] → or_else alone together ≢ []
+first_is [] together h = absurd (h refl)
+first_is (kind ∷ kinds) together h = one_kind kind kinds
 
-none_is : (a b : Kinds) → a ≡ [] → b ≡ [] → or_else a b ≡ []
-none_is a b e f = rw (e, f) refl
+none_is : (alone together : Kinds) → alone ≡ [] → together ≡ [] → or_else alone together ≡ []
+none_is alone together e f = rw (e, f) refl
 
 -- arguments that are refused together are refused
-pub refused_together : (words : List Text) → (are_in_conflict words || lack_explain words) ≡ true → refusals words ≢ []
-refused_together words t =
-    second_is (word_faults pdregress words) (together_faults words)
-    (by_both (are_in_conflict words) (lack_explain words) (ArgumentConflict ∷ []) (MissingRequiredArgument ∷ []) (one_kind ArgumentConflict []) (one_kind MissingRequiredArgument []) t)
-
--- arguments that are refused one by one are refused
-pub refused_alone : (words : List Text) → word_faults pdregress words ≢ [] → refusals words ≢ []
-refused_alone words h = first_is (word_faults pdregress words) (together_faults words) h
+pub refused_together : (program : App) (conflict lonely : Bool) (arguments : List Text) → (conflict || lonely) ≡ true → refusals_by program conflict lonely arguments ≢ []
+refused_together program conflict lonely arguments t = second_is (word_faults program arguments) (together_faults conflict lonely) (by_both conflict lonely t)
 
 -- arguments that are refused neither one by one nor together are taken
-pub not_refused : (words : List Text) → word_faults pdregress words ≡ [] → (are_in_conflict words || lack_explain words) ≡ false → refusals words ≡ []
-not_refused words e t = none_is (word_faults pdregress words) (together_faults words) e (by_none (are_in_conflict words) (lack_explain words) (ArgumentConflict ∷ []) (MissingRequiredArgument ∷ []) t)
+pub not_refused : (program : App) (conflict lonely : Bool) (arguments : List Text) → word_faults program arguments ≡ [] → (conflict || lonely) ≡ false → refusals_by program conflict lonely arguments ≡ []
+not_refused program conflict lonely arguments e t = none_is (word_faults program arguments) (together_faults conflict lonely) e (by_none conflict lonely t)
 
-pub alone_too : (words : List Text) (memory : Type 0) → memory ⊎ (word_faults pdregress words ≢ []) → memory ⊎ (refusals words ≢ [])
-alone_too words memory (inl m) = inl m
-alone_too words memory (inr h) = inr (refused_alone words h)
-
-pub if_err : {T : Type 0} (r : Result T Error) (P : Error → Type 0) (Q : Type 0) → Q → IfErr r (λ error. P error ⊎ Q)
-if_err (Ok x) P Q q = tt
-if_err (Err x) P Q q = inr q
+-- arguments that are refused one by one are refused
+pub alone_too : (program : App) (conflict lonely : Bool) (arguments : List Text) (memory : Type 0) → memory ⊎ (word_faults program arguments ≢ []) → memory ⊎ (refusals_by program conflict lonely arguments ≢ [])
+alone_too program conflict lonely arguments memory (inl m) = inl m
+alone_too program conflict lonely arguments memory (inr h) = inr (first_is (word_faults program arguments) (together_faults conflict lonely) h)

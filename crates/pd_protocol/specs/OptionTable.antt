@@ -149,10 +149,15 @@ are_in_conflict words = is_written (codes "workers") words && (asks_steps words 
 abbrev pub lack_explain : List Text → Bool
 lack_explain words = not (asks_explain words) && (is_written (codes "only") words || asks_json words || asks_leftovers words)
 
--- why arguments are refused together of which each may be written
-abbrev pub together_faults : List Text → Kinds
-together_faults words = if are_in_conflict words then ArgumentConflict ∷ [] else (if lack_explain words then MissingRequiredArgument ∷ [] else [])
+-- why options are refused together of which each may be written: one is beside another that it doesn't go with, or without the
+-- one to which it belongs
+abbrev pub together_faults : Bool → Bool → Kinds
+together_faults conflict lonely = if conflict then ArgumentConflict ∷ [] else (if lonely then MissingRequiredArgument ∷ [] else [])
 
--- why the program refuses arguments: the first fault of one by itself, or else of some together
+-- why a program refuses arguments: the first fault of one by itself, or else of some together
+abbrev pub refusals_by : App → Bool → Bool → List Text → Kinds
+refusals_by program conflict lonely words = or_else (word_faults program words) (together_faults conflict lonely)
+
+-- why the program that runs scripts refuses arguments
 abbrev pub refusals : List Text → Kinds
-refusals words = or_else (word_faults pdregress words) (together_faults words)
+refusals words = refusals_by pdregress (are_in_conflict words) (lack_explain words) words

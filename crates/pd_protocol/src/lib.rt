@@ -48,7 +48,7 @@ pub use input_stream::InputStream;
 pub use line_reader::{LineReader, NextLine, without_carriage_return};
 pub use option_table::settings_option;
 pub use output_stream::{try_write, write_all};
-pub use parse_options::{is_true, options};
+pub use parse_options::{is_true, options, refusal_together};
 pub use program_arguments::{arguments, refuse_arguments};
 pub use program_faults::ProgramFault;
 pub use program_options::{ExplainOptions, Options};

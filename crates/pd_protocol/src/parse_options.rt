@@ -1,5 +1,5 @@
 //! The arguments of the program, read by `clap`.
-ghost use Rattle.std.specs.Prelude.{bytes_eq, codes, ◌≡◌, ◌≢◌, ◌⊎◌, ◌≤◌, ◌||◌, List, [], IfOk, IfErr, IfSome, IsErr, map, option_map, unwrap_or};
+ghost use Rattle.std.specs.Prelude.{bytes_eq, codes, ◌≡◌, ◌≢◌, ◌⊎◌, ◌≤◌, ◌||◌, List, [], IfOk, IfErr, IfSome, map, option_map, unwrap_or};
 ghost use Rattle.clap.specs.Words.{HasMatchesOf, Text, found_of, kind_of, matched_of, raw_values};
 ghost use Rattle.pd_protocol.specs.ChosenOptions.{names_of, report_options, HasChosen};
 ghost use Rattle.pd_protocol.specs.OptionTable.{pdregress, without_sign, workers_in, cache_in, is_written, has_flag, asks_json, asks_leftovers, are_in_conflict, lack_explain, refusals};
@@ -27,31 +27,27 @@ pub fn options<'a, S: AsStr>(alloc: Global, words: &'a [S]) -> Result<Options<'a
     let command = command_without_conflicts(alloc)?;
     let matches = command.try_get_matches_from(words)?;
     if are_refused_together(&matches) {
-        return refuse_together(alloc, words, is_in_conflict(&matches));
+        let with_conflicts = command_with_conflicts(alloc, is_in_conflict(&matches));
+        return Err(refusal_together(with_conflicts, words));
     }
     Ok(chosen(alloc, &matches)?)
 }
 
-/// Has `clap` refuse arguments of which it takes each by itself, for `--workers` among them or for one that is alone.
-///
-/// # Errors
-/// Always: `clap`'s message on the arguments.
-fn refuse_together<'a, S: AsStr>(
-    alloc: Global,
-    words: &'a [S],
-    are_workers_apart: bool,
-) -> Result<Options<'a>, Error>
-    ensures { IsErr result }
-{
-    match command_with_conflicts(alloc, are_workers_apart) {
-        Ok(mut command) => Err(refusal_by(&mut command, words)),
-        Err(error) => Err(error),
+/// The error with which `clap` refuses arguments of which it takes each by itself, by a command that knows which options go together; or
+/// why there is no such command.
+pub fn refusal_together<'a, S: AsStr>(
+    command: Result<Command<'a>, Error>,
+    arguments: &'a [S],
+) -> Error {
+    match command {
+        Ok(mut command) => refusal_by(&mut command, arguments),
+        Err(error) => error,
     }
 }
 
 /// The message of a command on arguments that it refuses, or that are refused all the same.
-fn refusal_by<'a, S: AsStr>(command: &mut Command<'a>, words: &'a [S]) -> Error {
-    match command.try_get_matches_from_mut(words) {
+fn refusal_by<'a, S: AsStr>(command: &mut Command<'a>, arguments: &'a [S]) -> Error {
+    match command.try_get_matches_from_mut(arguments) {
         Ok(_) => conflict_in(command),
         Err(error) => error,
     }

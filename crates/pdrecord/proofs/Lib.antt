@@ -5,5 +5,4 @@ mod Joining
 mod Memory
 pub mod MendedTexts
 mod Sections
-mod Together
 mod Words

@@ -1,11 +1,9 @@
--- The words of the program that records, in the definitions of `clap`.
-use Rattle.std.specs.Prelude.{◌≡◌, ℕ, Bool, not, ◌&&◌, List, [], ◌∷◌, bytes_eq, codes, Some, unwrap_or, if◌then◌else◌}
-use Rattle.clap.specs.Kinds.{or_else}
+-- The options of the program that records, in the definitions of `clap`.
+use Rattle.std.specs.Prelude.{◌≡◌, ℕ, Bool, not, ◌&&◌, List, [], bytes_eq, codes, Some, unwrap_or, if◌then◌else◌}
 use Rattle.clap.specs.Words.{App, Kinds, Rule, Text, all_of, matches_of, new_app, new_rule, with_rule}
 use Rattle.clap.specs.declared.builder.ArgAction.TheVariants.{Append, SetTrue}
-use Rattle.clap.specs.declared.error.kind.ErrorKind.TheVariants.{ArgumentConflict, MissingRequiredArgument}
 use Rattle.pd_protocol.specs.ChosenOptions.{names_of}
-use Rattle.pd_protocol.specs.OptionTable.{settings_rule, settings_text, option_text, word_faults}
+use Rattle.pd_protocol.specs.OptionTable.{settings_rule, settings_text, option_text, refusals_by}
 use Rattle.pdrecord.specs.declared.record_options.RecordOptions.{RecordOptions}
 use Rattle.pdrecord.specs.declared.record_options.RecordMode.{RecordMode}
 use Rattle.pdrecord.specs.declared.record_options.RecordMode.TheVariants.{Whole, Traced, Minimal}
@@ -43,7 +41,7 @@ abbrev pub pdrecord : App
 pdrecord =
     with_rule (with_rule (with_rule (with_rule (with_rule (new_app (codes "pdrecord")) settings_rule) trace_rule) minimal_rule) drop_missing_rule) file_rule
 
--- words have a flag of this name
+-- arguments have a flag of this name
 abbrev pub is_set : List ℕ → List Text → Bool
 is_set name arguments = bytes_eq (option_text pdrecord name arguments) (codes "true")
 
@@ -55,26 +53,22 @@ is_trace_of_minimal arguments = is_set (codes "trace") arguments && is_set (code
 abbrev pub is_drop_alone : List Text → Bool
 is_drop_alone arguments = is_set (codes "drop-missing") arguments && not (is_set (codes "minimal") arguments)
 
--- why words are refused together of which each may be written
-abbrev pub together_faults : List Text → Kinds
-together_faults arguments = if is_trace_of_minimal arguments then ArgumentConflict ∷ [] else (if is_drop_alone arguments then MissingRequiredArgument ∷ [] else [])
-
--- why the program refuses words: the first fault of one by itself, or else of some together
+-- why the program refuses arguments
 abbrev pub refusals : List Text → Kinds
-refusals arguments = or_else (word_faults pdrecord arguments) (together_faults arguments)
+refusals arguments = refusals_by pdrecord (is_trace_of_minimal arguments) (is_drop_alone arguments) arguments
 
 -- how scripts are recorded, by whether the least change, one without comments, and a trace are asked for
 abbrev pub mode_by : Bool → Bool → Bool → RecordMode
 mode_by least drop trace = if least then Minimal drop else (if trace then Traced else Whole)
 
--- how words ask for scripts to be recorded
+-- the way in which arguments have scripts recorded
 abbrev pub mode_chosen : List Text → RecordMode
 mode_chosen arguments = mode_by (is_set (codes "minimal") arguments) (is_set (codes "drop-missing") arguments) (is_set (codes "trace") arguments)
 
--- the files that words name
+-- the files that arguments name
 abbrev pub files_named : List Text → List Text
 files_named arguments = unwrap_or (all_of (codes "file") (matches_of pdrecord arguments)) []
 
--- these are chosen by words, of which the first is the program's own name
+-- arguments choose these options; the first is the program's own name
 abbrev pub HasRecordOptions : List Text → RecordOptions → Type 0
 HasRecordOptions arguments options = (options.settings.now ≡ settings_text pdrecord arguments) × (options.mode ≡ mode_chosen arguments) × (names_of options.files.items ≡ files_named arguments)

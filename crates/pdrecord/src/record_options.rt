@@ -1,12 +1,12 @@
 //! The options of the program that records, read by `clap`.
-ghost use Rattle.std.specs.Prelude.{false, ◌≡◌, ◌≢◌, ◌⊎◌, ◌||◌, List, [], IfOk, IfErr, IsErr, codes, map, option_map, unwrap_or};
+ghost use Rattle.std.specs.Prelude.{false, ◌≡◌, ◌≢◌, ◌⊎◌, ◌||◌, List, [], IfOk, IfErr, codes, map, option_map, unwrap_or};
 ghost use Rattle.clap.specs.Words.{HasMatchesOf, Text, app_of, found_of, kind_of, matched_of, raw_values, rule_of};
 ghost use Rattle.pd_protocol.specs.ChosenOptions.{names_of};
 ghost use Rattle.pdrecord.specs.RecordArguments.{pdrecord, trace_rule, minimal_rule, drop_missing_rule, file_rule, is_set, is_trace_of_minimal, is_drop_alone, refusals, mode_by, HasRecordOptions};
 
 use clap::error::ErrorKind;
 use clap::{Arg, ArgAction, ArgMatches, Command, Error};
-use pd_protocol::{is_true, settings_option};
+use pd_protocol::{is_true, refusal_together, settings_option};
 use std::alloc::{AllocError, Global};
 use std::convert::AsStr;
 
@@ -22,7 +22,7 @@ pub enum RecordMode {
     Minimal(bool),
 }
 
-/// What the words of the program that records choose.
+/// The options of the program that records.
 #[derive(Drop)]
 pub struct RecordOptions<'a> {
     /// A TOML text of settings.
@@ -33,11 +33,11 @@ pub struct RecordOptions<'a> {
     pub files: Vec<&'a str>,
 }
 
-/// What `--help` says first.
+/// The beginning of `--help`.
 const ABOUT: &str = "\
 Records packetdrill scripts: from the inputs of a script, a script that passes.";
 
-/// What `--help` says last.
+/// The end of `--help`.
 const AFTER: &str = "\
 One script is read from standard input. The recorded script is written to
 standard output: its inputs with what the sender answers, and each packet that
@@ -53,10 +53,10 @@ Example:
 prints
   +0 socket(..., SOCK_STREAM, 0) = 3";
 
-/// Reads the words of the program that records.
+/// Reads the arguments of the program that records.
 ///
 /// # Errors
-/// What `clap` says of the words, the text of `--help` among it.
+/// `clap`'s message on the arguments, the text of `--help` among it.
 pub fn record_options<'a, S: AsStr>(
     alloc: Global,
     arguments: &'a [S],
@@ -68,48 +68,13 @@ pub fn record_options<'a, S: AsStr>(
     let command = command_without_conflicts(alloc)?;
     let matches = command.try_get_matches_from(arguments)?;
     if are_refused_together(&matches) {
-        return refuse_together(alloc, arguments, is_trace_of_minimal(&matches));
+        let with_conflicts = command_with_conflicts(alloc, is_trace_of_minimal(&matches));
+        return Err(refusal_together(with_conflicts, arguments));
     }
     Ok(options_of(alloc, &matches)?)
 }
 
-/// Has `clap` refuse words of which it takes each by itself, for `--trace` beside `--minimal` or for a `--drop-missing` that is alone.
-///
-/// # Errors
-/// Always: what `clap` says of the words.
-fn refuse_together<'a, S: AsStr>(
-    alloc: Global,
-    arguments: &'a [S],
-    is_trace_apart: bool,
-) -> Result<RecordOptions<'a>, Error>
-    ensures { IsErr result }
-{
-    match command_with_conflicts(alloc, is_trace_apart) {
-        Ok(mut command) => Err(refusal_by(&mut command, arguments)),
-        Err(error) => Err(Error::from(error)),
-    }
-}
-
-/// What a command says of words that it refuses, or that are refused all the same.
-fn refusal_by<'a, S: AsStr>(command: &mut Command<'a>, arguments: &'a [S]) -> Error {
-    match command.try_get_matches_from_mut(arguments) {
-        Ok(_) => conflict_in(command),
-        Err(error) => error,
-    }
-}
-
-/// That options can't be used together.
-fn conflict_in(command: &mut Command<'_>) -> Error {
-    match command.error(
-        ErrorKind::ArgumentConflict,
-        "these options can't be used together",
-    ) {
-        Ok(error) => error,
-        Err(error) => Error::from(error),
-    }
-}
-
-/// Whether words are refused together of which each may be written.
+/// Whether options are refused together of which each may be written.
 fn are_refused_together(matches: &ArgMatches<'_>) -> bool
     ensures { (arguments : List Text) → HasMatchesOf pdrecord arguments matches.now → result ≡ (is_trace_of_minimal arguments || is_drop_alone arguments) }
 {
@@ -137,7 +102,7 @@ fn is_set(matches: &ArgMatches<'_>, name: &str) -> bool
     is_true(matches.get_str(name).unwrap_or("").as_bytes())
 }
 
-/// What words choose that aren't refused.
+/// The options that arguments choose which aren't refused.
 fn options_of<'a>(alloc: Global, matches: &ArgMatches<'a>) -> Result<RecordOptions<'a>, AllocError>
     ensures { (arguments : List Text) → HasMatchesOf pdrecord arguments matches.now → IfOk result (λ options. HasRecordOptions arguments options) }
 {
@@ -175,7 +140,7 @@ fn files_in<'a>(alloc: Global, matches: &ArgMatches<'a>) -> Result<Vec<&'a str>,
     }
 }
 
-/// What each word of the program that records may be, whatever the others are.
+/// The options that may be written, each whatever the others are.
 fn command_without_conflicts<'a>(alloc: Global) -> Result<Command<'a>, Error>
     ensures arguments { IfOk result (λ command. app_of command ≡ pdrecord) }
     ensures memory { IfErr result (λ error. kind_of error ≡ ErrorKind.OutOfMemory) }
@@ -200,18 +165,15 @@ fn command_with_options<'a>(alloc: Global) -> Result<Command<'a>, AllocError>
     )
 }
 
-/// What each word may be beside the others. Where `--trace` may never be beside `--minimal`, `clap` doesn't ask for `--minimal` beside
-/// `--drop-missing` and `--trace`.
-fn command_with_conflicts<'a>(
-    alloc: Global,
-    is_trace_apart: bool,
-) -> Result<Command<'a>, AllocError> {
+/// The options that may be written together. Where `--trace` may never be beside `--minimal`, `clap` doesn't ask for
+/// `--minimal` beside `--drop-missing` and `--trace`.
+fn command_with_conflicts<'a>(alloc: Global, is_trace_apart: bool) -> Result<Command<'a>, Error> {
     let mut options = Vec::new(alloc);
     push_options(alloc, &mut options, is_trace_apart)?;
     let command = Command::new(alloc, "pdrecord")
         .about(ABOUT)
         .after_help(AFTER);
-    command.args(options)?.bin_name("pdrecord")
+    Ok(command.args(options)?.bin_name("pdrecord")?)
 }
 
 /// Adds each option, with what it may be beside.
@@ -228,7 +190,7 @@ fn push_options<'a>(
     Ok(())
 }
 
-/// What `--trace` may be, with what it may be beside.
+/// `--trace`, with the options that may be beside it.
 fn trace_with_conflicts<'a>(alloc: Global, is_trace_apart: bool) -> Result<Arg<'a>, AllocError> {
     let trace = trace_option(alloc);
     if is_trace_apart {
