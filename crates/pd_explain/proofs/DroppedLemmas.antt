@@ -79,7 +79,7 @@ noted_none settings p begun =
     let each : List (Option DroppedSegment) = whole settings p in
     sym (drop_all begun (take begun each) (omega (arith, length-take begun each)))
 
--- What is told of
+-- The segments that are reported
 
 pub filtered_more : {A : Type 0} → (xs : List (Option A)) (n : ℕ) (d : Option A) → n < length xs
     → filter_map (λ it. it) (take (n + 1) xs) ≡ filter_map (λ it. it) (take n xs) ++ filter_map (λ it. it) (get_or xs n d ∷ [])

@@ -1,4 +1,4 @@
--- What is shown is printable, and so is what is cut of it.
+-- Escaped octets are printable, and so are the parts that are cut of them.
 use Rattle.std.proofs.Common.{◌≡◌, ℕ, ◌+◌, ◌-◌, ◌/◌, ◌%◌, ◌<◌, ◌≤◌, min, nat_lt, nat_le, Bool, true, false, ◌&&◌, if◌then◌else◌, List, [], ◌∷◌, ◌++◌, take, drop, refl, sym, ap, ◌∙◌, arith, take-append-drop}
 use Rattle.std.proofs.lemmas.Bool.{and_from, and_parts, ltb-true, le-leb}
 use Rattle.std.proofs.lemmas.List.Folds.{list_all-append}

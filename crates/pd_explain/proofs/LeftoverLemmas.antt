@@ -56,7 +56,7 @@ one_more base skipped n xs sent ps qs p got before text put =
     ∙ (ap₂ (λ (l : List (List ℕ)) (t : List ℕ). l ++ (t ∷ [])) before text
     ∙ sym (listed_more base skipped n xs sent got)))
 
--- what is counted beyond ten
+-- the count of packets beyond ten
 pub beyond_ten : (skipped : ℕ) (xs : List Sent) → length xs - (skipped + 10) ≡ length (drop skipped xs) - 10
 beyond_ten skipped xs = omega (arith, length-drop skipped xs)
 

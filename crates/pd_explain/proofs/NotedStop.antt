@@ -1,4 +1,4 @@
--- Who let packets go: those of the event that stopped a run.
+-- Origins of packets: those of the event that stopped a run.
 use Rattle.std.proofs.Common.{◌≡◌, ℕ, ◌==◌, Bool, true, false, if◌then◌else◌, List, [], ◌++◌, length, slice_get, Option, Some, None, Result, Ok, Err, refl, sym, ap, subst, ◌∙◌}
 use Rattle.std.proofs.lemmas.List.{append-nil}
 use Rattle.std.specs.Result.{result_err}
@@ -55,7 +55,7 @@ of_waiting : (r : RunStateView) (e : Event) (empty : Bool) (w : StopReason) → 
 of_waiting r e true w h = of_due r e (deadline_of r.host.state) w h
 of_waiting r e false w h = absurd cc
 
--- what stood there where a packet or an answer was compared
+-- the packets that were there where a packet or an answer was compared
 abbrev Stood : RunStateView → Event → Action → StopReason → Type 0
 Stood r e a (Differs kind sent q) = length (unmatched q) ≡ length (put_out_by_input r e a)
 Stood r e a (Answered answer q) = length (unmatched q) ≡ length (put_out_by_input r e a)

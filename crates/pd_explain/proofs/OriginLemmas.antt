@@ -1,4 +1,4 @@
--- What is told to have let packets go, and that nothing else did.
+-- The origins that are reported let packets go, and nothing else did.
 use Rattle.std.proofs.Common.{◌≡◌, inl, inr, ◌⊎◌, ℕ, zero, suc, ◌+◌, ◌-◌, ◌<◌, ◌≤◌, List, [], ◌∷◌, length, take, slice_get, Some, Result, Ok, Err, refl, sym, ap, ap₂, subst, ◌∙◌, arith}
 use Rattle.pd_settings.specs.declared.settings.Settings.{Settings}
 use Rattle.pd_script.specs.declared.parsed.Parsed.{Parsed}
@@ -24,7 +24,7 @@ use Rattle.pd_explain.specs.declared.dropped.DroppedSegment.{DroppedSegment}
 use Rattle.pd_explain.specs.declared.origins.Trigger.{Trigger}
 use Rattle.pd_explain.proofs.TriggerLemmas.{passes, timer_grows, input_grows}
 
--- What is told of packets
+-- The origins that are reported of packets
 
 pub are_origins : (settings : Settings) (parsed : Parsed) (first passed : ℕ) (packets : List Sent) (triggers : List Trigger) (origins : List Origin)
     → AreTriggers settings parsed first passed (length packets) triggers → length packets ≤ length triggers → AreOriginsOf packets triggers origins

@@ -1,4 +1,4 @@
--- What is listed of the ranges of SACKed octets are the first of them.
+-- The ranges of SACKed octets that are listed are the first of them.
 use Rattle.std.proofs.Common.{◌≡◌, ℕ, min, List, length, take}
 use Rattle.std.proofs.lemmas.List.{take_min}
 use Rattle.pd_seg.specs.declared.sack_spans.Span.{Span}

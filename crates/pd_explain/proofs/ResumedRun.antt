@@ -13,7 +13,7 @@ use Rattle.pd_run.proofs.States.{states_underway}
 use Rattle.pd_run.proofs.StopsFound.{silent, stop_after}
 use Rattle.pd_explain.specs.Inner.{IsResumed}
 
--- what stops a run after an event that passes stops what is left of it
+-- a stop of a run after an event that passes is a stop of the rest of it
 pub stops_later : ReasonsGiveVerdicts → (line n : ℕ) (es : List Event) (r s : RunStateView) (e : Event) → step r e ≡ Ok s
     → stop_from line n (e ∷ es) r ≡ stop_from line (n + 1) es s
 stops_later law line n es r s e h =

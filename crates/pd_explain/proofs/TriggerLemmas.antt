@@ -1,4 +1,4 @@
--- Who let packets go: one event more of a run.
+-- Triggers of packets: one event more of a run.
 use Rattle.std.proofs.Common.{◌≡◌, inl, inr, ◌⊎◌, ℕ, zero, suc, ◌+◌, ◌-◌, ◌<◌, ◌≤◌, ◌==◌, Bool, true, false, if◌then◌else◌, List, [], ◌∷◌, ◌++◌, length, take, replicate, slice_get, is_some, Option, Some, None, Result, Ok, Err, refl, sym, ap, ap₂, subst, ◌∙◌, arith}
 use Rattle.std.proofs.lemmas.Bool.Decides.{nat_tests}
 use Rattle.std.proofs.lemmas.List.{length-append, length-replicate, get_or-replicate}
@@ -284,7 +284,7 @@ timer_of r e (Calls call) h = refl
 timer_of r e Command h = refl
 timer_of r e Code h = refl
 
--- what is counted of an event
+-- the counts of an event
 pub counts : (r : RunStateView) (e : Event) (before after expired : ℕ) → failed_precheck r.base e ≡ None
     → before ≡ length (unmatched r) → after ≡ length (after_input r e)
     → (failed_precheck r.base e ≡ None → is_awaited e.action ≡ false → expired ≡ length (after_timer r e))

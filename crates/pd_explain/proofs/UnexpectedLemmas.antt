@@ -29,7 +29,7 @@ early_at zero (x ∷ xs) sent all h =
 early_at (suc n) (x ∷ xs) sent all h = early_at n xs sent all.1 h
 
 module _ (p : Packet) (time : Time) (tolerance : ℕ) where
-  -- what is left to be counted after so many packets
+  -- the packets that are left to be counted after so many others
   abbrev pub Left : ℕ → ℕ → ℕ → List Sent → Type 0
   Left first base n xs =
       before_awaited p time tolerance first xs ≡ option_map (λ (k : ℕ). n + k) (before_awaited p time tolerance base (drop n xs))

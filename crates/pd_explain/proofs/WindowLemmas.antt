@@ -13,14 +13,14 @@ use Rattle.pd_explain.specs.SenderSnapshots.{is_answer, reason_of}
 use Rattle.pd_explain.specs.Windows.{IsWithin, HoldsByPeer, HoldsByCongestion, LeavesPart, NamedWindowsHold}
 use Rattle.pd_explain.specs.declared.causes.not_sent_reason.NotSentReason.TheVariants.{NoOctets, Held}
 
--- what a reason says of a connection, where it names a window
+-- the claim of a reason on a connection, where it names a window
 abbrev Says : ConnectionView → Established → SendBlocker → Type 0
 Says c e PeerWindow = HoldsByPeer c e
 Says c e CongestionWindow = HoldsByCongestion c e
 Says c e PartOfSegment = LeavesPart c e
 Says c e _ = ⊤
 
--- what holds of either branch holds of the choice
+-- a property of both branches is one of the choice
 chosen : (P : SendBlocker → Type 0) (b : Bool) (x y : SendBlocker) → (b ≡ true → P x) → (b ≡ false → P y) → P (if b then x else y)
 chosen P true x y then_x else_y = then_x refl
 chosen P false x y then_x else_y = else_y refl

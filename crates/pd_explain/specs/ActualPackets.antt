@@ -1,4 +1,4 @@
--- What the line that is shown as the actual one does in the place of the script's.
+-- The effect of the line that is shown as the actual one, in the place of the script's.
 use Rattle.std.specs.Prelude.{◌≡◌, ℕ, max, false, Some, Ok}
 use Rattle.pd_script.specs.declared.packets.Packet.{Packet}
 use Rattle.pd_script.specs.declared.script_events.Action.TheVariants.{Outbound}

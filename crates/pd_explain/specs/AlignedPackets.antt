@@ -10,7 +10,7 @@ use Rattle.pd_print.specs.Sent.{packet_of}
 use Rattle.pd_print.specs.Packets.{arrow, event_text, flags_text, octets_text, numbered}
 use Rattle.pd_print.specs.declared.packet_texts.Direction.TheVariants.{Outbound}
 
--- the time of a moment from the base; `*` where it lies before that, which no written time can say
+-- the time of a moment from the base; `*` where it lies before that, which no written time can express
 abbrev pub time_since : ℕ → ℕ → Time
 time_since base at = if nat_le base at then Relative (at - base) else Any
 

@@ -1,4 +1,4 @@
--- What is reported as the cause of an event that stopped a run.
+-- The reported cause of an event that stopped a run.
 use Rattle.std.specs.Prelude.{◌≡◌, ℕ, false, List}
 use Rattle.pd_lex.specs.declared.token.Place.{Place}
 use Rattle.pd_script.specs.declared.script_events.Event.{Event}
@@ -13,7 +13,7 @@ use Rattle.pd_explain.specs.declared.causes.failure.Failure.{Failure}
 use Rattle.pd_explain.specs.declared.origins.Origin.{Origin}
 use Rattle.pd_explain.specs.declared.dropped.DroppedSegment.{DroppedSegment}
 
--- what is reported of an event that stopped a run, and stands at a place of its text: what didn't happen as written, with the time
+-- the report of an event that stopped a run, and stands at a place of its text: the failure, with the time
 -- shown as some octets are, or the rule that stopped it, with the part of the event that it is about
 abbrev pub IsCauseOf : List (List ℕ) → Place → Event → StopPoint → Cause → Type 0
 IsCauseOf lines place e stop (cause.Failed f) = (time : List ℕ) × IsFailureOf time e stop f
@@ -22,7 +22,7 @@ IsCauseOf lines place e stop (cause.Rule violation) =
     (is_failure stop.stop_reason ≡ false) × IsRuleViolation lines place (part_of rule e) rule violation
 IsCauseOf lines place e stop (cause.Syntax refusal) = ⊥
 
--- a cause is another one, and where an event failed these origins and segments are told of
+-- a cause is another one, and where an event failed it has these origins and dropped segments
 abbrev pub HasHistoryOf : Cause → List Origin → List DroppedSegment → Cause → Type 0
 HasHistoryOf (cause.Failed f) origins dropped reported =
     (g : Failure) × (reported ≡ cause.Failed g) × (g.origins.items ≡ origins) × (g.dropped.items ≡ dropped) × (g.failed ≡ f.failed) × (g.sender ≡ f.sender)

@@ -44,7 +44,7 @@ abbrev pub failed_check_on : RunStateView → Event → Action → Option Segmen
 failed_check_on r e (Inbound p) = failed_check_after p (advanced (action_time r e) r.host.state)
 failed_check_on r e _ = None
 
--- what is told of it, where it drops the segment
+-- the report of it, where it drops the segment
 abbrev pub dropped_by : ℕ → Option SegmentCheck → Option DroppedSegment
 dropped_by line None = None
 dropped_by line (Some failed_check) = if drops failed_check then Some (record { line = line; failed_check = failed_check }) else None
@@ -61,7 +61,7 @@ dropped_in settings parsed passed = take passed (map (λ at. dropped_at at.0 at.
 abbrev pub last : {A : Type 0} → ℕ → List A → List A
 last n xs = drop (length xs - n) xs
 
--- those that are told of: the last four among the last 16 events
+-- those that are reported: the last four among the last 16 events
 abbrev pub last_dropped : List (Option DroppedSegment) → List DroppedSegment
 last_dropped each = last 4 (filter_map (λ it. it) (last 16 each))
 

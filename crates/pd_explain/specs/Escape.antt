@@ -23,6 +23,6 @@ escaped_octet octet =
 abbrev pub escaped : List ℕ → List ℕ
 escaped octets = flat_map escaped_octet octets
 
--- a law: what is shown has printable octets alone, whatever they are shown for
+-- a law: escaped octets are printable, whatever they stand for
 abbrev pub EscapedIsPrintable : Type 0
 EscapedIsPrintable = (octets : List ℕ) → are_printable (escaped octets) ≡ true

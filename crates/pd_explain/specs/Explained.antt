@@ -42,7 +42,7 @@ pub record StopsAt (line : ℕ) (settings : Settings) (parsed : Parsed) (v : Ver
   pub event : slice_get parsed.events stop.passed ≡ Some e
   pub gives : verdict_at line stop.stop_reason ≡ v
 
--- what is reported of the run before the stop, where an event failed: what let the oldest of the packets go that nobody has taken,
+-- the report of the run before the stop, where an event failed: the origins of the oldest unmatched packets,
 -- and the last segments that were dropped
 abbrev pub HasHistory : Settings → Parsed → StopPoint → Cause → Type 0
 HasHistory settings parsed stop (cause.Failed f) =
@@ -50,12 +50,12 @@ HasHistory settings parsed stop (cause.Failed f) =
     × (f.dropped.items ≡ dropped_before_stop settings parsed stop)
 HasHistory settings parsed stop _ = Unit {0}
 
--- what is reported of a header item that isn't run: its rule, with the item
+-- the report of a header item that isn't run: its rule, with the item
 abbrev pub IsHeaderCause : List (List ℕ) → HeaderKind → Cause → Type 0
 IsHeaderCause lines kind (cause.Rule violation) = IsRuleViolation lines first_place (header_part kind) (header_rule kind) violation
 IsHeaderCause lines kind _ = ⊥
 
--- what is reported of a script whose run comes to a verdict at a line: the rule of the first header item that isn't run, or the
+-- the report of a script whose run comes to a verdict at a line: the rule of the first header item that isn't run, or the
 -- cause of the stop
 abbrev pub IsCauseIn : List (List ℕ) → ℕ → Settings → Parsed → Verdict → Cause → Type 0
 IsCauseIn lines line settings parsed v reported = by_header (not_run parsed.header.items)
@@ -72,7 +72,7 @@ abbrev pub IsRefused : Cause → Type 0
 IsRefused (cause.Syntax refusal) = Unit {0}
 IsRefused _ = ⊥
 
--- what is reported of a row: of a text that is no script that it is refused, of any other the cause of the stop at its line
+-- the report of a row: of a text that is no script that it is refused, of any other the cause of the stop at its line
 abbrev pub IsCause : List (List ℕ) → Settings → Verdict → Cause → Type 0
 IsCause text settings (verdict.Pass n) reported = ⊥
 IsCause text settings (verdict.Syntax line) reported = IsRefused reported

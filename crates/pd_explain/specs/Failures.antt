@@ -1,4 +1,4 @@
--- What is reported of an event that failed.
+-- The report of an event that failed.
 use Rattle.std.specs.Prelude.{◌≡◌, ℕ, ◌++◌, Bool, true, false, List}
 use Rattle.pd_script.specs.declared.script_events.Action.{Action}
 use Rattle.pd_script.specs.declared.script_events.Action.TheVariants.{Outbound}
@@ -47,7 +47,7 @@ ShowsPackets time (Outbound p) sent base c =
     × (c.actual.items ≡ lined_up (time_text (time_since base sent.at)) (packet_of sent.segment) time p ++ comment_of sent.at)
 ShowsPackets time _ sent base c = Unit {0}
 
--- what is reported of the event, whose time is written so, by why it stopped the run
+-- the report of the event, whose time is written so, by why it stopped the run
 abbrev pub Tells : List ℕ → Event → RunStateView → StopReason → Failed → Type 0
 Tells time e before (stop_reason.Differs kind sent r) (failed.Packet c) =
     (c.kind ≡ kind) × (c.at ≡ sent.at) × ShowsPackets (escaped time) e.action sent r.base c × CountsUnexpected e r c.unexpected

@@ -1,4 +1,4 @@
--- What others write in scripts and no script has.
+-- Syntax that people write in scripts and the grammar doesn't have.
 use Rattle.std.specs.Prelude.{ℕ, ◌==◌, Bool, false, ◌&&◌, ◌||◌, List, [], ◌∷◌, Option, Some, None, if◌then◌else◌}
 use Rattle.pd_script.specs.Values.{role}
 use Rattle.pd_explain.specs.declared.refusals.foreign_syntax.ForeignSyntax.{ForeignSyntax}
@@ -18,7 +18,7 @@ abbrev pub is_mark : List ℕ → Bool
 is_mark (a ∷ b ∷ c ∷ octets) = (a == 239) && ((b == 187) && (c == 191))
 is_mark _ = false
 
--- what octets begin with, after a symbol of this octet
+-- the foreign syntax with which octets begin, after a symbol of this octet
 abbrev pub foreign_syntax_at : ℕ → List ℕ → Option ForeignSyntax
 foreign_syntax_at after [] = None
 foreign_syntax_at after (octet ∷ octets) = if is_mark (octet ∷ octets) then Some ByteOrderMark else foreign_syntax_of after octet

@@ -60,16 +60,16 @@ pub record Reaches (settings : Settings) (parsed : Parsed) (passed : ℕ) : Type
   pub stage : slice_get (stages settings parsed) passed ≡ Some run
   pub within : passed ≤ length parsed.events
 
--- what let a packet with a moment go, by who did
+-- the origin of a packet with a moment, by its trigger
 abbrev pub origin_by : Trigger → ℕ → Origin
 origin_by Timer at = origin.Timer at
 origin_by (Line line) at = origin.Line line
 
--- who let so many packets go, first the timer and then the input of a line
+-- the triggers of so many packets, first the timer and then the input of a line
 abbrev pub triggers_of : ℕ → ℕ → ℕ → List Trigger
 triggers_of timer input line = replicate timer Timer ++ replicate input (Line line)
 
--- who lets the packets go that an event puts out
+-- the triggers of the packets that an event puts out
 abbrev pub triggers_at : RunStateView → Event → List Trigger
 triggers_at r e = triggers_of (length (after_timer r e) - length (unmatched r)) (length (after_input r e) - length (after_timer r e)) e.line
 
@@ -86,7 +86,7 @@ pub record AreTriggers (settings : Settings) (parsed : Parsed) (first passed pac
       (place at : ℕ) (trigger : Trigger) → slice_get triggers place ≡ Some trigger
       → IsSentBy settings parsed (first + place) at (origin_by trigger at)
 
--- what let the oldest of the packets go that nobody has taken, by the senders of those that were put out last
+-- the origins of the oldest unmatched packets, by the triggers of those that were put out last
 pub record AreOriginsOf (packets : List Sent) (triggers : List Trigger) (origins : List Origin) : Type 0 where
   pub all : length origins ≡ min listed_packets (length packets)
   pub each :
@@ -97,19 +97,19 @@ pub record AreOriginsOf (packets : List Sent) (triggers : List Trigger) (origins
 abbrev pub unmatched_at : StopPoint → List Sent
 unmatched_at stop = (sender_at stop.before stop.stop_reason).state.endpoint.outbox
 
--- who let the packets go is known where a run stops
+-- the triggers of the packets are known where a run stops
 abbrev pub IsTraced : Settings → Parsed → StopPoint → List Trigger → Type 0
 IsTraced settings parsed stop triggers = (first : ℕ) × AreTriggers settings parsed first stop.passed (length (unmatched_at stop)) triggers
 
--- it is known of each that nobody has taken
+-- the origin of each unmatched packet is known
 abbrev pub knows_all_origins : StopPoint → List Trigger → Bool
 knows_all_origins stop triggers = nat_le (length (unmatched_at stop)) (length triggers)
 
--- who let each packet go that a run put out that has come to its end
+-- the triggers of the packets that a run put out that has come to its end
 abbrev pub HasTriggersToEnd : Settings → Parsed → RunStateView → List Trigger → Type 0
 HasTriggersToEnd settings parsed run triggers = AreTriggers settings parsed 0 (length parsed.events) (length (unmatched run)) triggers
 
--- what notes of who let packets go rest on
+-- the laws on which notes of triggers rest
 pub record PacketsAppend : Type 0 where
   pub arrivals : PutsOutAfter
   pub calls : CallsPutOutAfter

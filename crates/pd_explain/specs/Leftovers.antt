@@ -1,4 +1,4 @@
--- What a script that passes leaves at its end.
+-- The packets that a script that passes leaves at its end.
 use Rattle.std.specs.Prelude.{◌≡◌, ℕ, ◌-◌, ◌==◌, Bool, true, false, ◌&&◌, is_some, List, [], ◌∷◌, map, take, length, slice_get, option_map, unwrap_or, Option, Some, None}
 use Rattle.std.specs.List.{list_any}
 use Rattle.pd_settings.specs.declared.settings.Settings.{Settings}
@@ -48,7 +48,7 @@ last_line events = unwrap_or (option_map (λ (e : Event). e.line) (slice_get eve
 abbrev pub Lists : ℕ → List Sent → Unmatched → Type 0
 Lists base packets reported = (map (λ packet. packet.items) reported.packets.items ≡ map (sent_text base) (take 10 packets)) × (reported.more ≡ length packets - 10)
 
--- what is reported of a run at its end: nothing where a packet was awaited and none is left
+-- the leftovers of a run at its end: nothing where a packet was awaited and none is left
 abbrev pub IsLeftoversOf : Settings → Parsed → RunStateView → Option Leftovers → Type 0
 IsLeftoversOf settings parsed r None = (awaits_any parsed.events ≡ true) × (unmatched r ≡ [])
 IsLeftoversOf settings parsed r (Some reported) =
@@ -59,7 +59,7 @@ IsLeftoversOf settings parsed r (Some reported) =
     × AreOrigins settings parsed (length parsed.events) (unmatched r) reported.origins.items
     × (reported.sender ≡ snapshot_of r.host)
 
--- what is reported of the end of a text's run: nothing where the run stops before
+-- the leftovers of a text's run: nothing where the run stops before
 abbrev pub IsLeftovers : List (List ℕ) → Settings → Option Leftovers → Type 0
 IsLeftovers text settings reported = by (end_in settings (script_of text))
   where

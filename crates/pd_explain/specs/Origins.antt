@@ -1,4 +1,4 @@
--- What let a packet go that a run put out: an event's own input, or the timer.
+-- The origin of a packet that a run put out: an event's own input, or the timer.
 use Rattle.std.specs.Prelude.{◌≡◌, Bool, true, false, ℕ, ◌+◌, ◌<◌, ◌≤◌, min, List, [], ◌∷◌, length, take, slice_get, None, Some, Result, Ok, Err, if◌then◌else◌}
 use Rattle.pd_settings.specs.declared.settings.Settings.{Settings}
 use Rattle.pd_script.specs.declared.parsed.Parsed.{Parsed}
@@ -69,8 +69,8 @@ after_input r e = put_out_by_input r e e.action
 abbrev pub IsReached : ℕ → List Sent → List Sent → ℕ → Type 0
 IsReached taken before after number = (taken + length before ≤ number) × (number < taken + length after)
 
--- what let the packet with a number and a moment go in an event, before which so many were taken: the timer where it was put out
--- by then, else the event's line
+-- the origin of the packet with a number and a moment in an event, before which so many were taken: the timer where it was put
+-- out by then, else the event's line
 abbrev pub IsLetGo : ℕ → RunStateView → Event → ℕ → ℕ → Origin → Type 0
 IsLetGo taken r e number at (Timer moment) = IsReached taken (unmatched r) (after_timer r e) number × (moment ≡ at)
 IsLetGo taken r e number at (Line line) = IsReached taken (after_timer r e) (after_input r e) number × (line ≡ e.line)
@@ -91,11 +91,11 @@ OriginsAreUnique =
     (settings : Settings) (parsed : Parsed) (number at : ℕ) (a b : Origin)
     → IsSentBy settings parsed number at a → IsSentBy settings parsed number at b → a ≡ b
 
--- so many packets are told of at most: the one compared, and ten others
+-- so many packets are reported at most: the one compared, and ten others
 abbrev pub listed_packets : ℕ
 listed_packets = 11
 
--- what let the oldest packets go that nobody has taken after so many events
+-- the origins of the oldest unmatched packets after so many events
 pub record AreOrigins (settings : Settings) (parsed : Parsed) (passed : ℕ) (packets : List Sent) (origins : List Origin) : Type 0 where
   pub all : length origins ≡ min listed_packets (length packets)
   pub each :

@@ -1,4 +1,4 @@
--- What is reported of what may lead to sending next, where a script awaits a packet that wasn't sent.
+-- The report of the events that may lead to sending next, where a script awaits a packet that wasn't sent.
 use Rattle.std.specs.Prelude.{◌≡◌, ℕ, ◌-◌, List, length, take}
 use Rattle.pd_seg.specs.declared.sack_spans.Span.{Span}
 use Rattle.pd_host.specs.LossEvidence.{dup_ack_status_in, measured_in, AreSacked}
@@ -16,7 +16,7 @@ ListsSacked s reported =
     (ranges : List Span) × AreSacked s ranges
     × (reported.ranges.items ≡ take sacked_limit ranges) × (reported.more ≡ length ranges - sacked_limit)
 
--- the sender's numbers: what a duplicate leads to, how the timeout comes from what was measured, and what is SACKed
+-- the sender's numbers: what a duplicate leads to, how the timeout comes from the measured times, and which octets are SACKed
 pub record IsOutlook (s : SenderState) (reported : Outlook) : Type 0 where
   pub dup_ack_status : reported.dup_ack_status ≡ dup_ack_status_in s
   pub timeout : reported.timeout ≡ measured_in s

@@ -35,7 +35,7 @@ use Rattle.pd_explain.specs.declared.rules.limited_numbers.LimitedNumber.TheVari
 use Rattle.pd_explain.specs.declared.rules.unsupported_shapes.UnsupportedShape.{UnsupportedShape}
 use Rattle.pd_explain.specs.declared.rules.unsupported_shapes.UnsupportedShape.TheVariants as shape
 
--- ---- what tokens are
+-- ---- roles of tokens
 
 -- a word
 abbrev pub word_role : List ℕ → TokenRole
@@ -181,7 +181,7 @@ abbrev pub is_wscale : TokenRole → Bool
 is_wscale sign_is.Wscale = true
 is_wscale _ = false
 
--- ---- what stands before a token
+-- ---- the tokens before a token
 
 -- before the first one
 abbrev pub at_first : Nesting
@@ -310,13 +310,13 @@ input_part input.StrayFin = part.Word
 input_part input.AfterReset = part.Arrow
 input_part input.AfterFins = part.Arrow
 
--- what a rule that stops a script at an event is about
+-- the part of an event that the rule which stops a script there is about
 abbrev pub part_of : Rule → Event → RulePart
 part_of (Over n) e = number_part n e
 part_of (NotRun s) e = shape_part s
 part_of (NotTaken i) e = input_part i
 
--- what one that stops it at a header item is about
+-- the part of a header item that the rule which stops it there is about
 abbrev pub header_part : HeaderKind → RulePart
 header_part header.Command = part.Command
 header_part _ = part.HeaderOption

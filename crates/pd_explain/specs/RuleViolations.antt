@@ -1,4 +1,4 @@
--- What is told of a rule that stops a script.
+-- The report of a rule that stops a script.
 use Rattle.std.specs.Prelude.{◌≡◌, ℕ, List}
 use Rattle.pd_lex.specs.declared.token.Place.{Place}
 use Rattle.pd_explain.specs.Parts.{place_of_part, IsShownAt}

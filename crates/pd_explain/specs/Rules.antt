@@ -156,7 +156,7 @@ shape_rule e = if is_some e.blocking_end then Some shape.Blocking else action_sh
 abbrev pub ShapesHaveRules : Type 0
 ShapesHaveRules = (e : Event) → is_some (shape_rule e) ≡ not (is_run e)
 
--- What a sender that halts doesn't run in its state
+-- The inputs that a sender that halts doesn't run in its state
 
 -- exactly a SYN: no other flag, start 0, no data
 abbrev pub is_exactly_syn : Segment → Bool

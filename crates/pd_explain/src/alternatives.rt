@@ -1,4 +1,4 @@
-//! What is run in the place of a call or of flags that aren't.
+//! The calls and flags that are run, in the place of those that aren't.
 ghost use Rattle.std.specs.Prelude.{◌≡◌};
 ghost use Rattle.pd_explain.specs.Alternatives.{quoted_name};
 
@@ -18,7 +18,7 @@ const CALLS: [Function; 8] = [
     Function::Close,
 ];
 
-/// What is run in the place of what a rule stops at an event: calls, the shapes of a call, or flags; none where the rule isn't
+/// Alternatives to the part that a rule stops at an event: calls, the shapes of a call, or flags; none where the rule isn't
 /// about these.
 ///
 /// # Errors

@@ -22,7 +22,7 @@ use std::alloc::{AllocError, Global};
 
 /// How many events before a stop are looked at.
 pub const MAX_EVENTS_BACK: usize = 16;
-/// How many segments are told of at most.
+/// How many segments are reported at most.
 const MAX_REPORTED: usize = 4;
 
 /// A segment that a check dropped.

@@ -43,7 +43,7 @@ pub fn law_rules()
     ensures contents { ContentsHaveRules }
 {}
 
-/// What is shown has printable octets alone, whatever they are shown for.
+/// Escaped octets are printable, whatever they stand for.
 pub fn law_escaped_is_printable()
     ensures { EscapedIsPrintable }
 {}
@@ -55,7 +55,7 @@ pub fn law_passes_have_ends()
     law_verdicts_have_reasons();
 }
 
-/// What notes rest on: that no event takes a packet out of the midst of others, or puts one there.
+/// Notes of triggers rest on this law: no event takes a packet out of the midst of others, or puts one there.
 pub fn law_packets_append()
     ensures { PacketsAppend }
 {

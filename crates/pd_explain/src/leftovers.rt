@@ -1,4 +1,4 @@
-//! What a script that passes leaves at its end.
+//! The packets that a script that passes leaves at its end.
 ghost use Rattle.std.specs.Prelude.{◌≡◌, ◌≤◌, IfOk, IfSome, Ok, length, option_map};
 ghost use Rattle.pd_run.specs.Laws.{unmatched};
 ghost use Rattle.pd_run.specs.Run.{start_of};
@@ -15,7 +15,7 @@ use pd_settings::Settings;
 use pd_text::Lines;
 use std::alloc::{AllocError, Global};
 
-/// What a script that passes leaves at its end, where it awaits no packet or leaves some.
+/// The leftovers of a script that passes, where it awaits no packet or leaves some.
 #[derive(Drop)]
 pub struct Leftovers {
     /// The line of its last event; 1 where it has none.
@@ -24,13 +24,13 @@ pub struct Leftovers {
     pub awaits: bool,
     /// The packets that were put out and not taken.
     pub unmatched: Unmatched,
-    /// What let each of those go that are listed, and the next one.
+    /// The origins of those of them that are listed, and of the next one.
     pub origins: Vec<Origin>,
     /// The sender at the end.
     pub sender: SenderSnapshot,
 }
 
-/// What a text that passes under settings leaves at its end. Nothing where it awaits a packet and leaves none, and nothing of a
+/// The leftovers of a text that passes under settings. Nothing where it awaits a packet and leaves none, and nothing of a
 /// text that doesn't pass.
 ///
 /// # Errors
@@ -54,12 +54,12 @@ pub fn find_leftovers(
 struct PassedRun {
     /// The run.
     run: RunState,
-    /// Who let each packet go that it put out.
+    /// The trigger of each packet that it put out.
     triggers: Vec<Trigger>,
 }
 
 impl PassedRun {
-    /// What let the oldest packets go that nobody has taken.
+    /// The origins of the oldest unmatched packets.
     fn origins(&self, alloc: Global) -> Result<Vec<Origin>, AllocError>
         requires { length (unmatched self.now.run) ≤ length self.now.triggers.items }
         ensures { IfOk result (λ origins. AreOriginsOf (unmatched self.now.run) self.now.triggers.items origins.items) }
@@ -114,7 +114,7 @@ fn run_from(
     Ok(Some(PassedRun { run, triggers }))
 }
 
-/// What is reported of a run after the last of its events.
+/// The leftovers of a run after the last of its events.
 fn leftovers_of(
     alloc: Global,
     parsed: &Parsed,
@@ -138,7 +138,7 @@ fn leftovers_of(
     }))
 }
 
-/// What let the oldest packets go that nobody has taken at the end.
+/// The origins of the oldest unmatched packets at the end.
 fn origins_at_end(
     alloc: Global,
     _parsed: &Parsed,

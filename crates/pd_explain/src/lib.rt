@@ -1,36 +1,36 @@
 //! Why a script's row isn't `pass`, in words.
 //!
 //! `explain` looks into the run where it stopped, or into the text where the grammar refuses it.
-//! `causes`, `refusals` and `rules` find what is wrong; `blocks` writes it as lines and as a JSON
+//! `causes`, `refusals` and `rules` find the reason; `render` writes it as lines and as a JSON
 //! object. An `Explanation` has the verdict, its line and a `Cause`: a `Refusal` of the grammar,
 //! the `RuleViolation` of a rule by which the script isn't run, or the `Failure` of an event.
-//! `explain_job` explains a job that was run. `find_leftovers` gives what a script that passes leaves
-//! (`Leftovers`).
+//! `explain_job` explains a job that was run. `find_leftovers` gives the packets that a script that
+//! passes leaves (`Leftovers`).
 //!
 //! ```text
 //!     a verdict
-//!       | pass         --> Ending: the packets that nobody has taken
+//!       | pass         --> Leftovers: the unmatched packets
 //!       | syntax       --> Refusal: the token, and what could stand there
 //!       | unsupported,
-//!       | limit        --> Ruling: the rule, and the part of the text that it is about
-//!       | fail         --> Failure: what differs, how the sender stood, what it waits for,
-//!                          who let the packets go, which segments were dropped
+//!       | limit        --> RuleViolation: the rule, and the part of the text that it is about
+//!       | fail         --> Failure: what differs, the sender's state, what it waits for,
+//!                          the packets' origins, the segments that were dropped
 //! ```
 //!
 //! The cause is that of the event, or of the text, that the verdict names: `IsCause`
-//! (specs/Explained.antt). What let a packet go is the input or the timer in whose step it was put
-//! out, and nothing else: the law `law_origins_are_unique`.
+//! (specs/Explained.antt). The origin of a packet is the input or the timer in whose step it was
+//! put out, and nothing else: the law `law_origins_are_unique`.
 //!
 //! Why it is so:
-//! - A run notes nothing for its explanation. It is run again when somebody asks, and a job is
-//!   taken up from its last checkpoint, so mostly few events are run again (the module
-//!   `taking_up`). So those who ask for no reason pay nothing for it.
-//! - Text and JSON are written from the same facts of a cause (the module `law_invariant` in `blocks`), so
-//!   both say the same.
-//! - What could stand where a text is refused is found by reading the text with each candidate. So
-//!   it follows from the grammar's reader, and nothing else has to say what may stand where.
-//! - What is shown of a script is printable (`shown`), so that no script writes to a terminal what
-//!   its reader didn't ask for.
+//! - A run notes nothing for its explanation. It is run again when somebody asks for a reason, and
+//!   a job is taken up from its last checkpoint, so mostly few events are run again (the module
+//!   `resume`). So those who ask for no reason pay nothing for it.
+//! - Text and JSON are written from the same facts of a cause (the module `facts` in `render`), so
+//!   both have the same contents.
+//! - A text is read with each candidate to find what could stand where it is refused. So this
+//!   follows from the grammar's reader, and nothing else has to define what may stand where.
+//! - Octets of a script are escaped (`escape`) before they are shown, so that no script writes to a
+//!   terminal what its reader didn't ask for.
 #![tactic(auto)]
 
 mod alternatives;

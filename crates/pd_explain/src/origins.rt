@@ -19,10 +19,10 @@ use pd_seg::Sent;
 use pd_settings::Settings;
 use std::alloc::{AllocError, Global};
 
-/// How many packets are told of at most: the one compared, and ten others.
+/// How many packets are reported at most: the one compared, and ten others.
 const MAX_REPORTED: usize = 11;
 
-/// What let a packet go.
+/// The origin of a packet.
 #[derive(Clone, Copy, PartialEq, Eq)]
 pub enum Origin {
     /// The input at this line: a packet that arrived, or a call.
@@ -31,7 +31,7 @@ pub enum Origin {
     Timer(u64),
 }
 
-/// Who let a packet go.
+/// The trigger of a packet.
 #[derive(Clone, Copy)]
 pub enum Trigger {
     /// The timer.
@@ -154,7 +154,7 @@ fn put_triggers(
     repeat_trigger(triggers, input, Trigger::Line(line))
 }
 
-/// Adds a sender so many times.
+/// Adds a trigger so many times.
 fn repeat_trigger(
     triggers: &mut Vec<Trigger>,
     count: usize,
@@ -168,7 +168,7 @@ fn repeat_trigger(
     Ok(())
 }
 
-/// How many packets of a run stand untaken.
+/// How many packets of a run are unmatched.
 fn count_unmatched(run: &RunState) -> usize
     ensures { result ≡ length (unmatched run.now) }
 {
@@ -185,7 +185,7 @@ fn count_with_matched(run: &RunState, event: &Event) -> Result<usize, AllocError
     }
 }
 
-/// How many packets stand untaken after all expiries up to the moment at which an event acts.
+/// How many packets are unmatched after all expiries up to the moment at which an event acts.
 fn count_expired(run: &RunState, event: &Event) -> Result<usize, AllocError>
     requires live { run.now.host.ended ≡ None }
     requires clock { run.now.clock < 2 ^ 61 }
@@ -224,7 +224,7 @@ pub fn is_due(run: &RunState, until: u64) -> bool
     }
 }
 
-/// How many packets of a host stand untaken after all expiries up to a moment.
+/// How many packets of a host are unmatched after all expiries up to a moment.
 fn count_after(host: &Host, until: u64) -> Result<usize, AllocError>
     requires live { host.now.ended ≡ None }
     requires early { until < 2 ^ 62 }
@@ -259,7 +259,7 @@ pub fn is_awaited(action: &Action) -> bool
     }
 }
 
-/// What let the oldest untaken packets go, of which the last senders are known.
+/// The origins of the oldest unmatched packets, of which the last triggers are known.
 ///
 /// # Errors
 /// `AllocError` where a growth is refused.

@@ -23,14 +23,14 @@ pub struct Refusal {
     /// In which column of `text` the refused token begins, or something is missing, counted from 0; nothing at the end of the
     /// text.
     pub mark: Option<usize>,
-    /// What stands there, where it has a name.
+    /// The foreign syntax that stands there, where it has a name.
     pub foreign_syntax: Option<ForeignSyntax>,
-    /// What could be there, in words.
+    /// The candidates for that place, in words.
     pub expected: Vec<Vec<u8>>,
 }
 
 impl Refusal {
-    /// What stands there, in words, where it has a name.
+    /// The foreign syntax that stands there, in words, where it has a name.
     pub fn found(&self) -> Option<&'static str> {
         match self.foreign_syntax {
             Some(foreign_syntax) => Some(foreign_syntax.words()),
@@ -67,7 +67,7 @@ pub(crate) fn find_refusal(
     })
 }
 
-/// What stands where no script goes on, after a token with this octet, if that is a symbol.
+/// The foreign syntax where no script goes on, after a token with this octet, if that is a symbol.
 fn foreign_syntax_in(lines: &Lines, refused: Option<Place>, after: u8) -> Option<ForeignSyntax> {
     match refused {
         Some(place) => ForeignSyntax::at(rest_at(lines, place), after),

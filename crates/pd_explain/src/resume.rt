@@ -30,12 +30,12 @@ pub struct ResumedRun {
     pub run: RunState,
 }
 
-/// Where a run stops, and who let the packets go that were put out last before that.
+/// Where a run stops, and the triggers of the packets that were put out last before that.
 #[derive(Drop)]
 pub struct TracedStop {
     /// Where it stops.
     pub stop: StopPoint,
-    /// Who let them go, the stop's among them.
+    /// Their triggers, the stop's among them.
     pub triggers: Vec<Trigger>,
 }
 
@@ -47,7 +47,7 @@ impl TracedStop {
         run_at(&self.stop).host().outbox().len() <= self.triggers.len()
     }
 
-    /// What let the oldest packets go that nobody has taken at the stop.
+    /// The origins of the oldest unmatched packets at the stop.
     ///
     /// # Errors
     /// `AllocError` where a growth is refused.
@@ -60,7 +60,7 @@ impl TracedStop {
     }
 }
 
-/// The last state that a track kept before the events of a line from which on the packets that stand untaken are taken: mostly at
+/// The last state that a track kept before the events of a line from which on the unmatched packets are taken: mostly at
 /// most three events before the first of that line. Nothing where it kept none.
 ///
 /// # Errors
@@ -131,8 +131,8 @@ fn resume_after(track: &Track, checkpoints: usize) -> Result<Option<ResumedRun>,
     }))
 }
 
-/// After how many fourth events the last state was kept where so many packets stand untaken, at most, as the events take that come
-/// after it and before a line; 0 where none was. So all that stand untaken on that line were put out after it.
+/// After how many fourth events the last state was kept where so many packets are unmatched, at most, as the events take that come
+/// after it and before a line; 0 where none was. So all that are unmatched on that line were put out after it.
 fn last_checkpoint(track: &Track, line: usize) -> usize
     ensures { result ≤ 1024 }
 {
@@ -184,8 +184,8 @@ fn count_among(events: &[ParsedEvent], line: usize) -> usize {
 }
 
 /// Where the run of a script that was read stops on a line, of those on which events begin: at the first event there that has a
-/// reason. And who let the packets go that nobody has taken there. It is run from where it is taken up, where that tells all of
-/// them, else from its first event. Nothing where no event stops the run there.
+/// reason. With it come the triggers of the unmatched packets there. The run begins where it is taken up, if that gives all of
+/// them, else at its first event. Nothing where no event stops the run there.
 ///
 /// # Errors
 /// `AllocError` where a growth is refused.

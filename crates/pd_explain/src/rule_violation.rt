@@ -20,7 +20,7 @@ pub struct RuleViolation {
     pub rule: Rule,
     /// The part of the text that it is about.
     pub part: ShownPart,
-    /// What is run in the place of that, in words.
+    /// The calls or flags that are run in the place of that, in words.
     pub alternatives: Vec<Vec<u8>>,
 }
 

@@ -21,7 +21,7 @@ use pd_script::{Event, HeaderItem, HeaderKind};
 pub enum Rule {
     /// A number is over its limit: `limit`.
     Over(LimitedNumber),
-    /// What is written isn't run, whatever the sender's state: `unsupported`.
+    /// A shape that isn't run, whatever the sender's state: `unsupported`.
     NotRun(UnsupportedShape),
     /// The sender doesn't run this in its state: `unsupported`.
     NotTaken(UnsupportedInput),
@@ -56,7 +56,7 @@ impl Rule {
         }
     }
 
-    /// What stands there, in words, where others know it by another name.
+    /// The meaning that others give to it, in words.
     pub fn found(self) -> Option<&'static str> {
         match self {
             Rule::NotRun(UnsupportedShape::Flag) => {

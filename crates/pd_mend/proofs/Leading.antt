@@ -67,7 +67,7 @@ is_unmade settings text left (Stopped unmendable) way u = absurd u
 is_unmade settings text left TooLarge way u = (left, u.0, way.leads, u.1, u.2)
 is_unmade settings text left OutOfMemory way u = tt
 
--- a text that is finished is refused for want of memory alone
+-- a text that is finished is refused only if out of memory
 
 pub spared_unmade : (settings : Settings) (text left : List (List ℕ)) (refusal : MendError) → OnTheWay settings text left → IsUnmade settings left refusal → IsFinished settings text → refusal ≡ OutOfMemory
 spared_unmade settings text left (Stopped unmendable) way u f = absurd u

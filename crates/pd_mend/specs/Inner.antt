@@ -37,7 +37,7 @@ IsPut text edit = (edit.remove ≡ 0) ⊎ IsRetiming text edit
 abbrev pub IsChange : List (List ℕ) → List Event → ℕ → LineEdit → Type 0
 IsChange text events line edit = IsPut text edit ⊎ ((edit.remove ≡ 1) × ((edit.from ≡ line) ⊎ IsFollowed events line edit.from))
 
--- an ending tells of no packet that might have been awaited
+-- the leftovers name no packet that might have been awaited
 abbrev pub awaits_no_more : Option Leftovers → Bool
 awaits_no_more None = true
 awaits_no_more (Some leftovers) = not leftovers.awaits

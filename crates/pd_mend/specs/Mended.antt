@@ -1,4 +1,4 @@
--- What mending a text comes to.
+-- The results of mending a text.
 use Rattle.std.specs.Prelude.{◌≡◌, ℕ, true, List, Some}
 use Rattle.pd_text.specs.Edit.{edit_refusal}
 use Rattle.pd_text.specs.declared.faults.TextFault.TheVariants as text_fault

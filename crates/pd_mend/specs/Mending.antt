@@ -55,7 +55,7 @@ pub record IsAtStop (settings : Settings) (text : List (List ℕ)) (edit : LineE
 abbrev pub is_of_time : ℕ → Bool
 is_of_time octet = (nat_le 48 octet && nat_le octet 57) || octet == 46 || octet == 43 || octet == 32 || octet == 9
 
--- what follows the time with which a line begins
+-- the octets after the time with which a line begins
 abbrev pub after_time : List ℕ → List ℕ
 after_time octets = drop (prefix_len is_of_time octets) octets
 

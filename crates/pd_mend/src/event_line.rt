@@ -66,7 +66,7 @@ impl<'a> EventLine<'a> {
         }
     }
 
-    /// What is before the event on its line.
+    /// The octets before the event on its line.
     pub fn before(&self) -> &'a [u8] {
         let columns = Columns {
             from: 0,
@@ -75,7 +75,7 @@ impl<'a> EventLine<'a> {
         part(self.octets, columns)
     }
 
-    /// What is after it there.
+    /// The octets after it there.
     pub fn after(&self) -> &'a [u8] {
         rest(self.octets, self.columns().to)
     }

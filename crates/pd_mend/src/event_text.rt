@@ -9,7 +9,7 @@ use std::alloc::{AllocError, Global};
 /// An awaited packet as a line has it, with the comment that ends that line.
 #[derive(Drop)]
 pub struct EventText {
-    /// What is awaited.
+    /// The awaited packet.
     pub packet: Packet,
     /// Its time.
     line_time: Time,

@@ -12,11 +12,11 @@ pub const MAX_AHEAD: usize = 24;
 pub struct ExpectedPacket<'a> {
     /// The packet as the script writes it.
     pub packet: &'a Packet,
-    /// The first and the last moment, as far as the times before it say; nothing for `*`.
+    /// The first and the last moment, as far as the times before it are known; nothing for `*`.
     pub time_range: Option<(u64, u64)>,
 }
 
-/// What a script awaits before its next input.
+/// The packets that a script awaits before its next input.
 #[derive(Drop)]
 pub struct ExpectedAhead<'a> {
     /// The first of the packets, in their order.
@@ -32,7 +32,7 @@ impl ExpectedPacket<'_> {
     }
 }
 
-/// What events await before the next input, from a base on.
+/// The packets that events await before the next input, from a base on.
 ///
 /// # Errors
 /// `AllocError` where a growth is refused.

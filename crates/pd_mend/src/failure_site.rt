@@ -17,7 +17,7 @@ pub struct FailureSite<'a> {
     pub lines: &'a Lines,
     /// The settings of the run.
     pub settings: &'a Settings,
-    /// What the text was read as.
+    /// The script as which the text was read.
     pub parsed: &'a Parsed,
     /// Where the run stops, and why.
     pub stop: &'a StopPoint,

@@ -1,28 +1,28 @@
 //! The least change with which a script passes: its run is mended line by line, where it stops.
 //!
-//! `mend_script` gives a `Mended` text, or why there is none (`MendError`). A `Mender` makes one mend
-//! after the other. A `FailureSite` is the event at which the run stopped, as it stands on its line;
-//! `mends` finds out what makes it hold (`Mend`), and `alignment` which awaited packet is which of
-//! those that were sent. `LineMap` says from which line of the given text each line comes.
+//! `mend_script` gives a `Mended` text, or why there is none (`MendError`). A `Mender` makes one
+//! mend after the other. A `FailureSite` is the event at which the run stopped, as it stands on its
+//! line; `mend_of` finds a `Mend` by which it holds, and `alignment` which awaited packet is which
+//! of those that were sent. `LineMap` gives the line of the given text from which each line comes.
 //!
 //! ```text
 //!     text --run--> it passes and takes all packets, or awaits none ---------> Mended
-//!      ^              | it fails at a line: Site --> Mend --.
-//!      |              | it passes and leaves packets -------+--> an edit --apply--.
-//!      |              | no mend helps ---------------------------> Stuck          |
-//!      '--------------------------------------------------------------------------'
+//!      ^              | it fails at a line: FailureSite --> Mend --.
+//!      |              | it passes and leaves packets --------------+--> an edit --apply--.
+//!      |              | no mend helps ----------------------------------> Unmendable     |
+//!      '---------------------------------------------------------------------------------'
 //!     if lines turned out to move, the given text is mended once more with what is known of them
 //! ```
 //!
-//! What comes out `IsMended` (specs/Mended.antt): edits lead to it, each of which is at a stop or
-//! puts lines in (`IsMend`, specs/Mending.antt), it passes, and it takes all packets if it awaits
-//! any. All other lines stay: the law `law_other_lines_stay`.
+//! The text that comes out `IsMended` (specs/Mended.antt): edits lead to it, each of which is at a
+//! stop or puts lines in (`IsMend`, specs/Mending.antt), it passes, and it takes all packets if it
+//! awaits any. All other lines stay: the law `law_other_lines_stay`.
 //!
 //! Why it is so:
 //! - Mends aren't a function of the client over `edit` and `--explain --json`: that would need a
 //!   second account in Python of which packet is which and how a line is written anew in its
-//!   columns, and `pdrecord` needs them, too. In Rattle the last word on a mended text is a
-//!   contract.
+//!   columns, and `pdrecord` needs them, too. In Rattle a contract decides whether a text is
+//!   mended.
 //! - Which line is changed, and how, isn't proved, since every proposal is run.
 //! - A mend goes from stop to stop, and isn't read off a whole recording. Which line is wrong, a
 //!   time or an input after it, shows only in how far the script gets. That a line that was taken

@@ -19,7 +19,7 @@ pub enum MendError {
 pub struct Unmendable {
     /// The text as mends left it.
     pub lines: Lines,
-    /// What its run comes to.
+    /// The verdict of its run.
     pub verdict: Verdict,
     /// The line of the text as it was given that the verdict is about.
     pub line: usize,

@@ -45,7 +45,7 @@ pub fn mend_script(
 ) -> Result<Mended, MendError>
     ensures mended { IfOk result (λ mended. IsMended settings.now lines.now mended.lines mended.events) }
 
-    // In the grammar's words.
+    // By the grammar.
     ensures grammar { IfOk result (λ mended. IsVerdictOf mended.lines settings.now (Pass mended.events)) }
     ensures refused { IfErr result (RefusesToMend settings.now lines.now) }
 

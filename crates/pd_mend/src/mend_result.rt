@@ -1,4 +1,4 @@
-//! What a call answers, in the place of its written result.
+//! The answer of a call, in the place of its written result.
 use crate::failure_site::FailureSite;
 use crate::line_mends::one_line;
 use crate::mend::Mend;

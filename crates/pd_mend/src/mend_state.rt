@@ -1,4 +1,4 @@
-//! What is known of earlier mends, and what was asked for.
+//! The effects of earlier mends, and whether packets that don't come are taken away.
 use crate::displaced::Displaced;
 use crate::event_text::EventText;
 use crate::failure_site::FailureSite;
@@ -9,7 +9,7 @@ use pd_script::{Action, Packet};
 use pd_seg::Sent;
 use std::alloc::{AllocError, Global};
 
-/// What is known of earlier mends, and what was asked for.
+/// The effects of earlier mends, and whether packets that don't come are taken away.
 #[derive(Drop)]
 pub struct MendState {
     /// Whether a packet that doesn't come is taken away.
@@ -18,7 +18,7 @@ pub struct MendState {
     displaced: Displaced,
     /// The lines that are known to move.
     pub moved_lines: MovedLines,
-    /// What was taken out and written so far.
+    /// The lines that were taken out and written so far.
     move_log: MoveLog,
     /// Whether the event after the one that stops the run was moved, so that this one can be taken out.
     pub is_shifted: bool,
@@ -64,7 +64,7 @@ impl MendState {
         }
     }
 
-    /// What is left of the event's line where it is taken out.
+    /// How much is left of the event's line where it is taken out.
     ///
     /// # Errors
     /// `AllocError` where a growth is refused.

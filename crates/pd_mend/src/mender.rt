@@ -23,7 +23,7 @@ use std::alloc::{AllocError, Global};
 pub struct Mender {
     /// Where the lines come from.
     line_map: LineMap,
-    /// What is known of the mends before.
+    /// The effects of the mends before.
     mend_state: MendState,
 }
 

@@ -1,4 +1,4 @@
-//! What becomes of a packet that isn't sent in time.
+//! The mends of a packet that isn't sent in time.
 use crate::differences::Differences;
 use crate::expected_ahead::look_ahead;
 use crate::failure_site::FailureSite;
@@ -65,7 +65,7 @@ fn likelier(
     Ok(if is_late { late } else { gone })
 }
 
-/// The packet that is sent next, however late, in the run that took it: what a run meets that awaits another one.
+/// The packet that is sent next, however late, with the run that took it: a run that awaits another packet meets it.
 fn next_packet(site: &FailureSite<'_>) -> Result<Option<(Sent, RunState)>, AllocError> {
     match text_awaiting_never(site)? {
         Some(lines) => differing_packet(site, &lines),

@@ -8,7 +8,7 @@ use std::alloc::{AllocError, Global};
 /// A line that moves.
 #[derive(Drop)]
 struct MovedLine {
-    /// What the line has.
+    /// The event on the line.
     text: EventText,
     /// The packet that it awaits.
     sent: Sent,

@@ -11,7 +11,7 @@ pub struct FieldEdits<'a> {
     octets: &'a [u8],
     /// How many of its octets were taken over.
     at: usize,
-    /// What was written.
+    /// The octets written so far.
     out: Vec<u8>,
     /// How many blanks come next.
     blanks: usize,
@@ -24,7 +24,7 @@ pub struct FieldEdits<'a> {
 }
 
 impl<'a> FieldEdits<'a> {
-    /// Of a line, before its first field; what follows that gets this column, if one is named.
+    /// Of a line, before its first field; the octets after it get this column, if one is named.
     pub fn new(alloc: Global, octets: &'a [u8], column: Option<usize>) -> FieldEdits<'a> {
         FieldEdits {
             octets,
@@ -53,7 +53,7 @@ impl<'a> FieldEdits<'a> {
         Ok(())
     }
 
-    /// The line, of which an event ends at a place: what follows it directly keeps its column too.
+    /// The line, of which an event ends at a place: the octets right after it keep their column too.
     ///
     /// # Errors
     /// `AllocError` where a growth is refused.

@@ -10,7 +10,7 @@ use pd_script::Time;
 use pd_seg::Segment;
 use std::alloc::AllocError;
 
-/// What is written anew of a packet.
+/// The fields of a packet that are written anew.
 #[derive(Clone, Copy)]
 pub struct PacketRewrite<'a> {
     /// The packet that was sent.

@@ -97,7 +97,7 @@ pub fn retiming(text: &Lines, from: usize, insert: LineList) -> Option<LineEdit>
     })
 }
 
-/// What follows the time with which a line begins, and the blanks after it.
+/// The octets after the time with which a line begins, and after the blanks that follow it.
 fn after_time(octets: &[u8]) -> &[u8]
     ensures { result.now ≡ after_time octets.now }
 {

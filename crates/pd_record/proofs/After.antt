@@ -1,4 +1,4 @@
--- What follows some events, and after others after these.
+-- The events after some, and after others after these.
 use Rattle.std.proofs.Common.{◌≡◌, ◌↔◌, List, [], ◌++◌, Option, Some, None, sym, subst, append_assoc, append-nil}
 use denote.Bor.{Bor}
 use Rattle.pd_script.specs.declared.script_events.Event.{Event}

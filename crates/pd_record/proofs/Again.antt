@@ -53,7 +53,7 @@ Repeats x n r s = (e : Event) → without_line x ≡ without_line e → (took : 
 abbrev pub gone : RecorderView → RunStateView → RecorderView
 gone t s = record t { run = s; count = t.count + 1 }
 
--- ---- what was recorded at a moment
+-- ---- events that were recorded at a moment
 
 -- the state after it, and what it is
 abbrev pub IsTaken : RecorderView → ℕ → ℕ → Action → RecorderView × RecordedEvent → RunStateView → Type 0
@@ -184,7 +184,7 @@ packet_again puts_after n line r s may sent next base h free e same =
     subst (λ (y : Event). (took : EventRecordingView) × (recorded c y ≡ Ok (calm (n + 1) s, took)) × (events_recorded took ≡ y ∷ [])) (same_event (event_at c line sent.at action) e same)
     (took [] (Some own), again, refl)
 
--- ---- what was recorded of something, over a whole run
+-- ---- the recording of something, over a whole run
 
 -- a run that goes on after so many events, whose clock isn't before its base
 pub record IsReady (n : ℕ) (r : RunStateView) : Type 0 where
@@ -222,7 +222,7 @@ both_again xs ys n r m q k s a b = record {
 one_again : (x : Event) (n : ℕ) (r s : RunStateView) → Repeats x n r s → IsReady (n + 1) s → r.clock ≤ s.clock → AreAgain (x ∷ []) n r (n + 1) s
 one_again x n r s repeats ready later = record { repeats = (s, repeats, refl); ready = ready; count = omega arith; later = later }
 
--- what the proof rests on
+-- the hypotheses of the proof
 pub record Bases : Type 0 where
   pub after : AdvancesPutOutAfter
   pub one_by_one : SendsOneByOne
@@ -427,7 +427,7 @@ again_all (x ∷ xs) (e ∷ es) per_event n m r s same all many =
       ap (λ (list : List Event). list ++ events_of_all more.0) one.2 ∙ ap (λ (list : List Event). e ∷ list) more.2,
     )
 
--- what a tape that waits for nothing is closed with
+-- the recording with which a recorder that waits for nothing ends
 closed_calm : (m : ℕ) (s : RunStateView) (per_event : List EventRecordingView) → leaves_next (λ due. nat_le due s.clock) s ≡ None → closed (calm m s, per_event) ≡ Ok (tracked per_event [])
 closed_calm m s per_event none = ap (then_do (λ (y : RecorderView × List RecordedEvent). ok (tracked per_event y.1))) (nothing_left (calm m s) 0 s.clock none)
 

@@ -15,7 +15,7 @@ use Rattle.pd_record.specs.Recorder.{RecorderView, refusal_at, with_unmet}
 use Rattle.pd_record.specs.Inner.{Sound, IsReached}
 use Rattle.pd_record.specs.declared.record_error.RecordError.TheVariants.{TooManyEvents, TooLongGap}
 
--- what isn't refused is no 4,097th event, and comes at most 3,600 seconds after the one before
+-- an event that isn't refused is no 4,097th one, and comes at most 3,600 seconds after the one before
 pub not_refused : (t : RecorderView) (at : ℕ) → refusal_at t at ≡ None → (t.count < 4096) × (at ≤ t.run.base + 3600000000)
 not_refused t at = go (nat_le 4096 t.count) (nat_lt 3600000000 (at - t.run.base)) refl refl
   where

@@ -64,7 +64,7 @@ departures_append (x ∷ xs) ys =
     ap (λ (l : List (ℕ × Packet)). departure_at x.at x.event.action ++ l) (departures_append xs ys)
     ∙ sym (append_assoc (departure_at x.at x.event.action) (departures_in xs) (departures_in ys))
 
--- what was recorded of one event of the script
+-- the recording of one event of the script
 abbrev of_took : EventRecordingView → List RecordedEvent
 of_took x = x.before ++ own_event_in x.own
 
@@ -197,7 +197,7 @@ came_out x = Ok x
 same_came : {A : Type 0} (o : Result A Halt) (x y : A) → o ≡ Ok x → o ≡ Ok y → x ≡ y
 same_came o x y a b = let same : came_out x ≡ came_out y = sym a ∙ b in cc
 
--- what an arrival or a call does to a state at a moment
+-- the effect of an arrival or a call on a state at a moment
 abbrev Acting : Type 1
 Acting = ℕ → SenderState → SenderState → Type 0
 
@@ -265,7 +265,7 @@ acts_now acts q u x at moment none h =
       sym (ap (λ (z : RunStateView). z.header_tolerance) h.4),
     )
 
--- what was recorded of an input at a moment
+-- the recording of an input at a moment
 record OwnActs (acts : Acting) (at : ℕ) (a : Action) (q : RecorderView) (z : RecorderView × OwnEvent) : Type 0 where
   after : RunStateView
   acts_so : acts at q.run.host.state after.host.state
@@ -306,7 +306,7 @@ call_own line at call q z ready early none h =
     subst (OwnActs (CalledAt call) at (Calls call) q) its
     (record { after = was.0; acts_so = so.0; clock = so.1; header_tolerance = so.2; tape = refl; input = refl; packet = refl })
 
--- what a script that is run comes to
+-- the verdict of a script that is run
 on_run : {A : Type 0} (refused : ℕ → A) (stopped : Verdict → A) (go : RunStateView → A) (settings : Settings) (p : Parsed) (r : RunStateView)
     → p.fault ≡ None → start_of p.header.items settings ≡ Ok r → on_script refused stopped go settings p ≡ go r
 on_run refused stopped go settings p r fault start = rw (fault, start) refl
@@ -423,7 +423,7 @@ module _ (laws : Bases) where
   passed_on n m e es r (Err v) is h =
       absurd (no_stop e.line m v (stop_reason r e) (laws.reasons r e ∙ ap verdict_by_step is) h)
 
-  -- what was recorded of the events that are left, and what a run takes of them
+  -- the recording of the events that are left, and the packets that a run takes of them
   abbrev AllGo : List Event → RunStateView → List Sent → List EventRecordingView → Type 0
   AllGo es r w per_event =
       (inputs_in (all_own_events per_event) ≡ inputs_from es r)
@@ -464,7 +464,7 @@ module _ (laws : Bases) where
 
   -- ---- whole texts
 
-  -- what is untaken at the end are packets alone
+  -- only packets are unmatched at the end
   no_inputs : (line until : ℕ) (t : RecorderView) (y : RecorderView × List RecordedEvent) → IsReady t.count t.run → t.run.clock ≤ until
       → ((a : SenderState) × (advanced until t.run.host.state ≡ Ok a)) → left_by line until t ≡ Ok y → inputs_in y.1 ≡ []
   no_inputs line until t y ready early came h =

@@ -30,7 +30,7 @@ use Rattle.pd_host.proofs.Outcomes.{mapped, alike}
 use Rattle.pd_host.proofs.Repeats.{repeated-none, repeated-more}
 use Rattle.pd_host.proofs.SentOn.{finds, sends, fill_finds, fill_sends}
 
--- ---- what came, seen from elsewhere
+-- ---- results, seen from elsewhere
 
 -- if something came, it came there too, and is the image of that
 abbrev pub CameBy : {S : Type 0} → (S → S) → Result S Halt → Result S Halt → Type 0
@@ -61,7 +61,7 @@ guarded_by : {S : Type 0} (f : S → S) (b d : Bool) (x y : S) → (b ≡ true �
 guarded_by f true d x y room is = (y, ap (λ (p : Bool). if p then Ok y else Err Limit) (room refl), is)
 guarded_by f false d x y room is = tt
 
--- ---- what is done until nothing more is found may be done more often
+-- ---- steps that are taken until nothing more is found may be taken more often
 
 all_found : {S X : Type 0} (o : Option X) (s c : S) → (if is_some o then Err Limit else Ok s) ≡ Ok c → (o ≡ None) × (s ≡ c)
 all_found None s c h = (refl, cc)
@@ -168,7 +168,7 @@ filled_freed w now filling s =
     (repeated_by (in_front_too w) (fill_finds filling) (fill_sends now filling) (places_left (in_front w s)) (places_left s) t (fewer w s)
     (λ u. refl) (λ sent u. fill_freed w now filling sent u.0.endpoint.connection u))
 
--- ---- what an ACK leads to
+-- ---- the effects of an ACK
 
 put_freed : (w : List Sent) (now : ℕ) (segment : Span) (before after : ConnectionView) (s : SenderState)
     → CameBy (in_front w) (put_segment now segment before after (in_front w s)) (put_segment now segment before after s)
@@ -258,7 +258,7 @@ one_more one until at s h =
     let longer : length (s.endpoint.outbox ++ put.0 ∷ []) ≡ length s.endpoint.outbox + 1 = length-append s.endpoint.outbox (put.0 ∷ []) in
     ap (λ (l : List Sent). length l) put.1 ∙ omega (arith, longer)
 
--- what the expiries up to one moment leave, from which those up to a later one come to the same
+-- the state that the expiries up to one moment leave, from which those up to a later one come to the same
 abbrev Between : ℕ → ℕ → ℕ → SenderState → SenderState → Type 0
 Between at until n s a = (u : SenderState) × (repeated (find_due at) expire n s ≡ Ok u) × (advanced until u ≡ Ok a)
 

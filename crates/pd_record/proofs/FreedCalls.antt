@@ -25,7 +25,7 @@ use Rattle.pd_record.proofs.Freed.{CameBy, either_by, in_front, ordinary_freed}
 abbrev pub beside_answer : List Sent → SenderState × Answer → SenderState × Answer
 beside_answer w x = (in_front w x.0, x.1)
 
--- what a call replied, without the packets in front
+-- the answer of a call, without the packets in front
 abbrev Freed : List Sent → RecordedAnswer → RecordedAnswer → Type 0
 Freed w r q = CameBy (beside_answer w) r q
 

@@ -1,4 +1,4 @@
--- What steps of recorded events leave, and which packet leaves next.
+-- The states that steps of recorded events leave, and which packet leaves next.
 use Rattle.std.proofs.Common.{◌≡◌, ℕ, suc, ◌+◌, ◌-◌, ◌<◌, ◌≤◌, ◌==◌, max, nat_le, Bool, true, false, not, if◌then◌else◌, Option, Some, None, List, [], ◌∷◌, ◌++◌, length, slice_get, Result, Ok, Err, refl, sym, ap, subst, ◌∙◌, ◌⊎◌, inl, inr, rules, arith}
 use Rattle.std.specs.Prelude.{IfSome, option_and_then}
 use Rattle.std.proofs.lemmas.Bool.{le-leb}
@@ -55,7 +55,7 @@ after_call r s e call is h = answered_acted r s e call (answers r e call) (subst
 
 -- ---- packets that leave
 
--- what an expected packet awaited, and that it was taken
+-- the packet that an expected one awaited, and that it was taken
 abbrev Taken : RunStateView → RunStateView → Event → Packet → Type 0
 Taken r s e p =
     (q : RunStateView) × (sent : Sent) × (awaited (comparison_noted r) e ≡ Ok q) × (slice_get q.host.state.endpoint.outbox 0 ≡ Some sent)
@@ -83,7 +83,7 @@ after_leaving r s e p h =
 pub after_packet : (r s : RunStateView) (e : Event) (p : Packet) → e.action ≡ Outbound p → step r e ≡ Ok s → Taken r s e p
 after_packet r s e p is h = after_leaving r s e p (subst (λ (a : Action). performed r e a ≡ Ok s) is (step_performs r s e h))
 
--- what was awaited: the packet was there, or the next expiry sent it
+-- the awaited packet was there, or the next expiry sent it
 abbrev pub Awaited : RunStateView → RunStateView → Event → Type 0
 Awaited r q e = (length r.host.state.endpoint.outbox ≡ 0) × (at : ℕ) × (t : SenderState) × (deadline_of r.host.state ≡ Some at) × (advanced at r.host.state ≡ Ok t) × (q ≡ record (with_state r t) { clock = at })
     × (may_be_in_time (time_range_of r.base e.time) (tolerance_of r) at ≡ true)
@@ -129,7 +129,7 @@ pub none_in : (xs : List Sent) → slice_get xs 0 ≡ None → length xs ≡ 0
 none_in [] h = refl
 none_in (x ∷ xs) h = absurd cc
 
--- it is untaken, or an expiry that may come sends it
+-- it is unmatched, or an expiry that may come sends it
 abbrev pub Stands : RunStateView → Sent → Type 0
 Stands r sent = slice_get r.host.state.endpoint.outbox 0 ≡ Some sent
 
@@ -170,7 +170,7 @@ expires_next may other r sent h comes =
     ap (λ (o : Option Sent). or_expired r.host.state o (due_where other (deadline_of r.host.state))) h.0
     ∙ (ap (or_expired r.host.state None) due ∙ (ap oldest_of h.5 ∙ h.6))
 
--- ---- what an expiry sends carries its moment
+-- ---- a packet that an expiry sends carries its moment
 
 repeat_found : {S X : Type 0} (find : S → Option X) (act : X → S → S) (n m : ℕ) (s : S) (x : X) → n ≡ suc m → find s ≡ Some x
     → repeated find act n s ≡ repeated find act m (act x s)

@@ -10,7 +10,7 @@ pub none_left : (o : Option Sent) → ((x : Sent) → o ≡ Some x → ⊥) → 
 none_left None h = refl
 none_left (Some x) h = absurd (h x refl)
 
--- what leaves next, up to a moment
+-- the packet that leaves next, up to a moment
 abbrev Next : ℕ → RecorderView → Option Sent
 Next until t = leaves_next (λ due. nat_le due until) t.run
 

@@ -88,7 +88,7 @@ none_found xs settings r h = go (find refused xs) refl
     go None is = is
     go (Some item) is = absurd (let stops : start_of xs settings ≡ Err (Unsupported item.line) = rw is refl in cc)
 
--- headers that say the same begin the same run
+-- headers with the same items begin the same run
 pub same_start : (xs ys : List HeaderItem) (settings : Settings) (r : RunStateView) → kinds_of xs ≡ kinds_of ys → start_of xs settings ≡ Ok r → start_of ys settings ≡ Ok r
 same_start xs ys settings r same h =
     let none : find refused xs ≡ None = none_found xs settings r h in

@@ -1,4 +1,4 @@
--- What an expected packet takes where it passes, and what is left by a moment.
+-- The packet that an expected one takes where it passes, and the packets that are left by a moment.
 use Rattle.std.proofs.Common.{◌≡◌, ℕ, zero, suc, ◌≤◌, nat_le, Bool, true, false, if◌then◌else◌, Option, Some, None, List, [], ◌∷◌, ◌++◌, length, map, take, drop, slice_get, Result, Ok, refl, sym, ap, subst, ◌∙◌, ◌⊎◌, inl, inr, append_assoc, append-nil}
 use Rattle.std.proofs.lemmas.Bool.{leb-true}
 use Rattle.pd_script.specs.declared.packets.Packet.{Packet}
@@ -52,14 +52,14 @@ same_moment o x y a b = let same : Some x ≡ Some y = sym a ∙ b in cc
 
 -- ---- an expected packet that passes
 
--- it was untaken, or the next expiry sent it
+-- it was unmatched, or the next expiry sent it
 abbrev pub Waits : RunStateView → RunStateView → Event → SenderState → Type 0
 Waits r s e before =
     ((before ≡ r.host.state) × (s.clock ≡ r.clock))
     ⊎ ((length r.host.state.endpoint.outbox ≡ 0) × (at : ℕ) × (deadline_of r.host.state ≡ Some at) × (advanced at r.host.state ≡ Ok before)
     × (may_be_in_time (time_range_of r.base e.time) (tolerance_of r) at ≡ true) × (s.clock ≡ at))
 
--- what it took, and the run after it
+-- the packet that it took, and the run after it
 pub record Met (r s : RunStateView) (e : Event) (sent : Sent) : Type 0 where
   pub before : SenderState
   pub first : slice_get before.endpoint.outbox 0 ≡ Some sent
@@ -165,13 +165,13 @@ same_before r s q u e x sent other same clock m n = go m.waits n.waits
         let state : ran n.before ≡ ran m.before = sym came ∙ a.3 in
         (cc, b.5 ∙ (moment ∙ sym a.5))
 
--- ---- what is left by a moment
+-- ---- the packets that are left by a moment
 
 -- the moment of a packet
 abbrev pub moment : Sent → ℕ
 moment sent = sent.at
 
--- what was recorded of packets that left, from one tape to another: all that the expiries up to a moment send
+-- the recording of packets that left, from one state of the recorder to another: all that the expiries up to a moment send
 pub record LeftOver (until : ℕ) (t : RecorderView) (more : List RecordedEvent) (left : List Sent) (u : RecorderView) (a : SenderState) : Type 0 where
   pub state : a ≡ in_front left u.run.host.state
   pub inputs : inputs_in more ≡ []

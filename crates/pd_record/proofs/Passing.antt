@@ -1,4 +1,4 @@
--- What was recorded passes: each of its events was a step of the run.
+-- A recording passes: each of its events was a step of the run.
 use Rattle.std.proofs.Common.{◌≡◌, ℕ, zero, suc, ◌+◌, Option, Some, None, List, [], ◌∷◌, ◌++◌, length, Result, Ok, Err, refl, sym, ap, subst, ◌∙◌, append_assoc, append-nil, arith}
 use Rattle.pd_script.specs.declared.packets.Packet.{Packet}
 use Rattle.pd_script.specs.declared.script_events.Action.{Action}
@@ -39,7 +39,7 @@ passes n (e ∷ es) r s h =
     let more : (n + 1) + length es ≡ n + length (e ∷ es) = omega arith in
     ap (on_step (verdict_from (n + 1) es) (λ v. v)) h.1 ∙ (passes (n + 1) es h.0 s h.2 ∙ ap (λ (k : ℕ). Pass k) more)
 
--- ---- what came of two parts came of each
+-- ---- a result of two parts has one of each
 
 abbrev pub ok : {A : Type 0} → A → Answers A
 ok x = Ok x
@@ -57,7 +57,7 @@ no_refusal answer (Some refusal) x h = absurd cc
 
 -- ---- one event of the recording
 
--- what was recorded of something was run through
+-- the events that were recorded of something were run through
 abbrev pub Went : {X : Type 0} → (X → List Event) → RecorderView → RecorderView × X → Type 0
 Went seen t y = Through (seen y.1) t.run y.0.run
 
@@ -83,7 +83,7 @@ happened_goes t line at action y h =
 
 -- ---- packets that leave
 
--- what leaves is recorded after what was recorded before, and was run through
+-- a packet that leaves is recorded after the events recorded before, and was run through
 abbrev Leaves : RecorderView → List RecordedEvent → RecorderView × List RecordedEvent → Type 0
 Leaves t before y = (more : List RecordedEvent) × (y.1 ≡ before ++ more) × Through (events_in more) t.run y.0.run
 
@@ -188,7 +188,7 @@ events_go (e ∷ es) per_event t y h =
 abbrev pub tracked : List EventRecordingView → List RecordedEvent → RecordedScriptView
 tracked per_event rest = record { per_event = per_event; rest = rest }
 
--- what was recorded after a tape on which nothing was
+-- the events that were recorded after a recorder that had recorded none
 closed_goes : (es : List Event) (t : RecorderView) (recorded_script : RecordedScriptView) → then_do closed (records es [] t) ≡ Ok recorded_script
     → (s : RunStateView) × Through (events_of recorded_script) t.run s
 closed_goes es t recorded_script h =

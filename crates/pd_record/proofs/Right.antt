@@ -39,7 +39,7 @@ right_recording laws text settings recorded_script script x is h read many =
       twice = subst (λ (n : ℕ). IsRecording x.lines settings x.lines n) (sym many) again;
     }
 
--- what holds of an answer by what is known of it
+-- the properties of an answer by what is known of it
 pub on_ok : {P Q : Recording → Type 0} (r : Result Recording RecordError) → IfOk r P → ((x : Recording) → P x → Q x) → IfOk r Q
 on_ok (Ok x) h go = go x h
 on_ok (Err refusal) h go = tt

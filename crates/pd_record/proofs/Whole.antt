@@ -30,7 +30,7 @@ records_refused es rest e per_event t refusal split h =
     ap (λ (l : List Event). records l per_event t) split
     ∙ ap (then_do (λ (x : RecorderView × EventRecordingView). records rest (per_event ++ x.1 ∷ []) x.0)) h
 
--- what is no script is refused with its verdict
+-- a text that is no script is refused with its verdict
 pub no_script : (settings : Settings) (parsed : Parsed) → IsSome parsed.fault
     → recording_in settings parsed ≡ Err (Stopped (verdict_in settings parsed))
 no_script settings parsed = go parsed.fault refl
@@ -39,7 +39,7 @@ no_script settings parsed = go parsed.fault refl
     go None is some = absurd cc
     go (Some line) is some = rw is refl
 
--- what is recorded of a text, by the script that was read of it
+-- the recording of a text, by the script that was read of it
 pub recorded_as_read : (text : List (List ℕ)) (settings : Settings) (script : Script) → IsRead (script_of text) (Some script)
     → recording_of text settings ≡ recorded_script_of script.header.items script.events.items settings
 recorded_as_read text settings script is = ap (recording_in settings) is

@@ -29,7 +29,7 @@ pub record IsRecording (text : List (List ℕ)) (settings : Settings) (recording
   -- where the text passes, the recording follows its run
   pub follows : (n : ℕ) → verdict_of text settings ≡ Pass n → FollowsRun text settings recorded_script
 
--- a text stays as it is when it is recorded under settings: what is recorded of it are its own events, but for their lines, and
+-- a text stays as it is when it is recorded under settings: its recording has its own events, but for their lines, and
 -- it is laid out as recordings are
 pub record IsSettled (text : List (List ℕ)) (settings : Settings) : Type 0 where
   pub recorded_script : RecordedScriptView
@@ -38,7 +38,7 @@ pub record IsSettled (text : List (List ℕ)) (settings : Settings) : Type 0 whe
   pub canonical : IsCanonical text
 
 -- why a text isn't recorded: it is no script, or its recording is refused. Where the recording is too large, or differs from
--- what was recorded, there is no other reason to refuse it; for want of memory nothing more is claimed
+-- the recorded events, there is no other reason to refuse it; if out of memory nothing more is claimed
 abbrev pub Refuses : Answers RecordedScriptView → RecordError → Type 0
 Refuses outcome OutOfMemory = Unit {0}
 Refuses outcome Differs = IfErr outcome (λ other. other ≡ Differs)

@@ -18,7 +18,7 @@ use Rattle.pd_record.specs.Recorder.{EventRecordingView}
 use Rattle.pd_record.specs.declared.recorded.OwnEvent.{OwnEvent}
 use Rattle.pd_record.specs.declared.recorded.RecordedEvent.{RecordedEvent}
 
--- what comes to a sender: a packet, or a call of a function with arguments
+-- an input of a sender: a packet, or a call of a function with arguments
 pub data Input : Type 0 where
   arrives : Packet → Input
   calls : Function → List Argument → Input
@@ -34,7 +34,7 @@ abbrev pub inputs_from : List Event → RunStateView → List (ℕ × Input)
 inputs_from [] r = []
 inputs_from (e ∷ es) r = input_at (action_time r e) e.action ++ on_step (inputs_from es) (λ v. []) (step r e)
 
--- the packet that a run takes at an action, if it expects one: the oldest that is untaken, else what the next expiry sends
+-- the packet that a run takes at an action, if it expects one: the oldest unmatched one, else the one that the next expiry sends
 abbrev pub matched_at : RunStateView → Event → Action → List Sent
 matched_at r e (Outbound packet) = on_step (λ s. take 1 s.host.state.endpoint.outbox) (λ v. []) (awaited (comparison_noted r) e)
 matched_at r e _ = []
@@ -52,7 +52,7 @@ inputs_of text settings = let parsed = script_of text in on_script (λ line. [])
 abbrev pub matched_of_run : List (List ℕ) → Settings → List Sent
 matched_of_run text settings = let parsed = script_of text in on_script (λ line. []) (λ v. []) (matched_from parsed.events) settings parsed
 
--- what is in the place of an event of the script
+-- the event in the place of one of the script
 abbrev pub own_event_in : Option OwnEvent → List RecordedEvent
 own_event_in None = []
 own_event_in (Some own) = own.recorded ∷ []

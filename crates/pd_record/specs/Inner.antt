@@ -12,7 +12,7 @@ use Rattle.pd_record.specs.declared.record_error.RecordError.{RecordError}
 use Rattle.pd_record.specs.declared.record_error.RecordError.TheVariants.{OutOfMemory}
 use Rattle.pd_record.specs.Recorder.{RecorderView, Answers}
 
--- what was recorded and the tape after it, or why nothing is; for want of memory nothing is claimed
+-- the recorded events and the recorder after them, or why there are none; if out of memory nothing is claimed
 abbrev pub Gives : {A B : Type 0} → (A → B) → Answers (RecorderView × B) → Result A RecordError → RecorderView → Type 0
 Gives seen outcome (Ok x) new = outcome ≡ Ok (new, seen x)
 Gives seen outcome (Err refusal) new = refusal ≢ OutOfMemory → outcome ≡ Err refusal

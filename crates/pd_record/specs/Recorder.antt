@@ -1,4 +1,4 @@
--- What is recorded, event by event.
+-- The recording, event by event.
 use Rattle.std.specs.Prelude.{ℕ, zero, suc, ◌+◌, ◌-◌, max, nat_le, nat_lt, Bool, slice_get, List, [], ◌∷◌, ◌++◌, Option, Some, None, option_map, unwrap_or, is_none, Result, Ok, Err, if◌then◌else◌}
 use Rattle.pd_settings.specs.declared.settings.Settings.{Settings}
 use Rattle.pd_script.specs.declared.calls.Call.{Call}
@@ -33,7 +33,7 @@ use Rattle.pd_record.specs.declared.recorded.OwnEvent.{OwnEvent}
 use Rattle.pd_record.specs.declared.recorded.RecordedEvent.{RecordedEvent}
 use Rattle.pd_record.specs.declared.recorded.RecordedAnswer.{RecordedAnswer}
 
--- what holds between two events of a script: the run of what was recorded so far and the number of its events, the base of
+-- the recorder between two events of a script: the run of the events recorded so far and their number, the base of
 -- the script's times in microseconds, and the moments of the packets that were recorded and that no expected packet has met,
 -- the oldest first
 pub record RecorderView : Type 0 where
@@ -42,12 +42,12 @@ pub record RecorderView : Type 0 where
   pub base : ℕ
   pub unmet : List ℕ
 
--- what is recorded of one event of a script: the packets that are before it, and what is in its place, if anything does
+-- the recording of one event of a script: the packets that are before it, and the event in its place, if there is one
 pub record EventRecordingView : Type 0 where
   pub before : List RecordedEvent
   pub own : Option OwnEvent
 
--- what is recorded, or why nothing is
+-- the recording, or why there is none
 abbrev pub Answers : Type 0 → Type 0
 Answers A = Result A RecordError
 
@@ -95,25 +95,25 @@ stepped t e = gone_to t (step t.run e)
 abbrev pub recorded_as : ℕ → Event → RecordedEvent
 recorded_as at e = record { event = e; at = at }
 
--- what happens at a moment is recorded; halts are reported at a line of the script
+-- an event at a moment is recorded; halts are reported at a line of the script
 abbrev pub happened : RecorderView → ℕ → ℕ → Action → Answers (RecorderView × RecordedEvent)
 happened t line at action =
     unless (then_do (λ u. Ok (u, recorded_as at (event_at t line at action))) (stepped t (event_at t line at action))) (refusal_at t at)
 
 -- ---- packets that leave
 
--- the oldest packet that is untaken after expiries
+-- the oldest packet that is unmatched after expiries
 abbrev pub oldest_of : Result SenderState Halt → Option Sent
 oldest_of (Ok s) = slice_get s.endpoint.outbox 0
 oldest_of (Err halt) = None
 
--- the packet that is untaken, else what the next expiry sends, if one may come
+-- the packet that is unmatched, else the one that the next expiry sends, if one may come
 abbrev pub or_expired : SenderState → Option Sent → Option ℕ → Option Sent
 or_expired s (Some sent) due = Some sent
 or_expired s None None = None
 or_expired s None (Some at) = oldest_of (advanced at s)
 
--- the packet that leaves next: the oldest that is untaken, else what the next expiry sends, if one may come
+-- the packet that leaves next: the oldest that is unmatched, else the one that the next expiry sends, if one may come
 abbrev pub next_packet : SenderState → Option ℕ → Option Sent
 next_packet s due = or_expired s (slice_get s.endpoint.outbox 0) due
 
@@ -140,7 +140,7 @@ comes_on further line before t None = Ok (t, before)
 comes_on further line before t (Some sent) =
     then_do (λ x. further (before ++ x.1 ∷ []) (with_unmet x.0 sent.at)) (departs t line sent)
 
--- packets that are untaken, and those that the expiries up to a moment send, are recorded one by one after others; so many
+-- packets that are unmatched, and those that the expiries up to a moment send, are recorded one by one after others; so many
 -- at most
 unfoldable pub comes : ℕ → ℕ → ℕ → List RecordedEvent → RecorderView → Answers (RecorderView × List RecordedEvent)
 comes zero line until before t = Err TooManyEvents
@@ -161,7 +161,7 @@ with_base base t = record t { base = base }
 abbrev pub action_time : RecorderView → Event → ℕ
 action_time t e = max (time_of t.base e.time) t.run.clock
 
--- what left before an input comes before it; afterwards the base is the input's time
+-- packets that left before an input come before it; afterwards the base is the input's time
 abbrev pub inputs : (RecorderView → Answers (RecorderView × OwnEvent)) → RecorderView → Event → Answers (RecorderView × EventRecordingView)
 inputs act t e =
     then_do (λ x. then_do (λ y. Ok (with_base (time_of t.base e.time) y.0, record { before = x.1; own = Some y.1 })) (act x.0))
@@ -171,12 +171,12 @@ inputs act t e =
 abbrev pub arrives : ℕ → ℕ → Packet → RecorderView → Answers (RecorderView × OwnEvent)
 arrives line at packet t = then_do (λ x. Ok (x.0, record { recorded = x.1; recorded_answer = None })) (happened t line at (Inbound packet))
 
--- what the sender answers, or the halt at a line
+-- the sender's answer, or the halt at a line
 abbrev pub answered : ℕ → Result (SenderState × Answer) Halt → Answers Answer
 answered line (Ok x) = Ok x.1
 answered line (Err halt) = Err (Stopped (verdict_by line halt))
 
--- what the sender answers to a call at a moment
+-- the sender's answer to a call at a moment
 abbrev pub answer_at : RecorderView → ℕ → ℕ → Call → Answers Answer
 answer_at t line at call = unless (answered line (then_on (called call at) (advanced at t.run.host.state))) (refusal_at t at)
 
@@ -184,7 +184,7 @@ answer_at t line at call = unless (answered line (then_on (called call at) (adva
 abbrev pub with_answer : Call → Answer → Call
 with_answer call answer = record call { result = expected_result_of answer }
 
--- what a call answers, and whether it is the written result
+-- a call's answer, and whether it is the written result
 abbrev pub recorded_answer_of : Call → Answer → RecordedAnswer
 recorded_answer_of call answer = record { answer = answer; is_expected = is_none (result_mismatch call.result answer) }
 
@@ -225,13 +225,13 @@ expects t e = meets_oldest t e t.unmet
 abbrev pub precheck_at : RecorderView → Event → Option RecordError
 precheck_at t e = option_map (λ bar. Stopped (precheck_verdict e.line bar)) (failed_precheck t.base e)
 
--- what is recorded of an action
+-- the recording of an action
 abbrev pub performed : RecorderView → Event → Action → Answers (RecorderView × EventRecordingView)
 performed t e (Inbound packet) = inputs (arrives e.line (action_time t e) packet) t e
 performed t e (Outbound packet) = expects t e
 performed t e (Calls call) = inputs (calls e.line (action_time t e) call) t e
 performed t e _ = Err (Stopped (verdict.Unsupported e.line))
 
--- what is recorded of an event of the script
+-- the recording of an event of the script
 abbrev pub recorded : RecorderView → Event → Answers (RecorderView × EventRecordingView)
 recorded t e = unless (performed t e e.action) (precheck_at t e)

@@ -11,25 +11,25 @@ use Rattle.pd_record.specs.declared.record_error.RecordError.TheVariants.{Stoppe
 use Rattle.pd_record.specs.declared.recorded.OwnEvent.{OwnEvent}
 use Rattle.pd_record.specs.declared.recorded.RecordedEvent.{RecordedEvent}
 
--- what is recorded of a script: of each of its events, and at its end
+-- the recording of a script: of each of its events, and at its end
 pub record RecordedScriptView : Type 0 where
   pub per_event : List EventRecordingView
   pub rest : List RecordedEvent
 
--- what is recorded of events in their order, after what was recorded of others
+-- the recording of events in their order, after the recording of others
 abbrev pub records : List Event → List EventRecordingView → RecorderView → Answers (RecorderView × List EventRecordingView)
 records [] per_event t = Ok (t, per_event)
 records (e ∷ es) per_event t = then_do (λ x. records es (per_event ++ x.1 ∷ []) x.0) (recorded t e)
 
--- what is untaken after the last event is recorded at the end
+-- the packets that are unmatched after the last event are recorded at the end
 abbrev pub closed : RecorderView × List EventRecordingView → Answers RecordedScriptView
 closed x = then_do (λ y. Ok (record { per_event = x.1; rest = y.1 })) (left_by 0 x.0.run.clock x.0)
 
--- what is recorded of a script's events, under its header
+-- the recording of a script's events, under its header
 abbrev pub recorded_script_of : List HeaderItem → List Event → Settings → Answers RecordedScriptView
 recorded_script_of header events settings = then_do (λ t. then_do closed (records events [] t)) (recorder_at_start header settings)
 
--- what is recorded of a script that was read; nothing where it has a fault
+-- the recording of a script that was read; nothing where it has a fault
 abbrev pub recording_in : Settings → Parsed → Answers RecordedScriptView
 recording_in settings parsed = unless_refused parsed.fault
   where
@@ -37,7 +37,7 @@ recording_in settings parsed = unless_refused parsed.fault
     unless_refused (Some line) = Err (Stopped (Syntax line))
     unless_refused None = recorded_script_of parsed.header.items parsed.events settings
 
--- what is recorded of a text under settings
+-- the recording of a text under settings
 abbrev pub recording_of : List (List ℕ) → Settings → Answers RecordedScriptView
 recording_of text settings = recording_in settings (script_of text)
 
@@ -45,7 +45,7 @@ recording_of text settings = recording_in settings (script_of text)
 abbrev pub events_in : List RecordedEvent → List Event
 events_in = map (λ x. x.event)
 
--- what is in the place of an event of the script
+-- the event in the place of one of the script
 abbrev pub event_in : Option OwnEvent → List Event
 event_in None = []
 event_in (Some own) = own.recorded.event ∷ []

@@ -1,4 +1,4 @@
-//! Where recording a script stops, for those who tell why.
+//! Where recording a script stops, for those who explain it.
 ghost use Rattle.std.specs.Prelude.{◌≡◌, ◌≤◌, IfOk, length};
 ghost use Rattle.pd_record.specs.Stops.{recording_stop, stop_on, stop_from};
 ghost use Rattle.pd_record.specs.Inner.{Sound};

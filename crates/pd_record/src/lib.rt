@@ -1,11 +1,11 @@
-//! Recordings: a script's inputs with all that the sender answers and puts out, as a script that passes.
+//! Recordings: a script's inputs with the sender's answers and packets, as a script that passes.
 //!
 //! `record` gives the `Recording` of a text: its lines, how many events it has and, for a trace, a
-//! `TraceEntry` of each event that says how the sender stood (`SenderSnapshot`). `RecordError` says why there
-//! is none, and `find_recording_stop` where on a line recording stops.
+//! `TraceEntry` of each event that has the sender's state (`SenderSnapshot`). `RecordError` gives
+//! the reason why there is none, and `find_recording_stop` where on a line recording stops.
 //!
 //! ```text
-//!     text --> events --> Recorder: what is recorded of each event, step by step
+//!     text --> events --> Recorder: the recording of each event, step by step
 //!      |                     | no trace is asked for, these are the text's own events, and
 //!      |                     | it has the layout of recordings: the text itself
 //!      |                     v else
@@ -13,14 +13,14 @@
 //!                                                     '-- yes --> the recording
 //! ```
 //!
-//! What is recorded is defined on the sender's rules alone: `recording_of` (specs/Recording.antt).
-//! A recording is read as just these events, passes, and is a recording of itself: `IsRecording`
+//! A recording is defined on the sender's rules alone: `recording_of` (specs/Recording.antt).
+//! It is read as just these events, passes, and is a recording of itself: `IsRecording`
 //! (specs/Answered.antt).
 //!
 //! Why it is so:
-//! - A `Recorder` takes each step of the recording itself, as soon as it is known. So what was
-//!   recorded so far always passes, and no second run has to show it.
-//! - What the sender would send or answer next is found on a copy (the module `probes`), since an
+//! - A `Recorder` takes each step of the recording itself, as soon as it is known. So the events
+//!   recorded so far always pass, and no second run has to show it.
+//! - The next packet or answer of the sender is found on a copy (the module `preview`), since an
 //!   event has its time and its result before its step is taken.
 //! - A recording is read and compared before it is answered, and isn't proved right by how it was
 //!   written.

@@ -11,7 +11,7 @@ use std::alloc::{AllocError, Global};
 /// A script with the places of its events.
 #[derive(Drop)]
 pub struct Script {
-    /// What is before the events.
+    /// The header, before the events.
     pub header: Header,
     /// The events in order, at most 4,096.
     pub events: Vec<Event>,

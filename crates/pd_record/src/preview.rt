@@ -1,4 +1,4 @@
-//! What a sender would send or answer next, found on a copy of it.
+//! The next packet or answer of a sender, found on a copy of it.
 ghost use Rattle.std.specs.Prelude.{◌≡◌, ◌<◌, ◌^◌, None, IfOk, IfSome};
 ghost use Rattle.pd_host.specs.Calls.{called};
 ghost use Rattle.pd_host.specs.Expiries.{advanced};
@@ -14,7 +14,7 @@ use pd_script::Call;
 use pd_seg::{Answer, Sent};
 use std::alloc::AllocError;
 
-/// The packet that leaves next: the oldest that is untaken, else what the next expiry sends, if it comes at a moment.
+/// The packet that leaves next: the oldest that is unmatched, else the one that the next expiry sends, if it comes at a moment.
 ///
 /// # Errors
 /// `AllocError` where a growth is refused.
@@ -37,7 +37,7 @@ pub fn next_packet(host: &Host, due: Option<u64>) -> Result<Option<Sent>, AllocE
     }
 }
 
-/// What a sender answers to a call at a moment, told at a line.
+/// A sender's answer to a call at a moment, reported at a line.
 ///
 /// # Errors
 /// `Stopped` where the sender halts, and `OutOfMemory`.

@@ -1,4 +1,4 @@
-//! What is recorded of a script's events.
+//! Recordings of a script's events.
 ghost use Rattle.std.specs.Prelude.{◌≡◌};
 
 use pd_host::{ConnState, ConnectionSnapshot, Host};
@@ -44,12 +44,12 @@ pub struct RecordedEvent {
     pub at: u64,
 }
 
-/// What is recorded of one event of a script.
+/// The recording of one event of a script.
 #[derive(Drop)]
 pub struct EventRecording {
     /// The packets that are before an input: those that left before it, and that no expected packet has met.
     pub before: Vec<RecordedEvent>,
-    /// What is in the event's place: an input, or the packet that an expected one met, unless it was recorded before.
+    /// The event in its place: an input, or the packet that an expected one met, unless it was recorded before.
     pub own: Option<OwnEvent>,
 }
 
@@ -61,7 +61,7 @@ impl Model for EventRecording {
     ghost view = { λ t. record { before = t.before.items; own = t.own } };
 }
 
-/// What a call answers.
+/// The answer of a call.
 #[derive(Clone, Copy)]
 pub struct RecordedAnswer {
     /// The answer.
@@ -70,10 +70,10 @@ pub struct RecordedAnswer {
     pub is_expected: bool,
 }
 
-/// What is in the place of an event of a script.
+/// The event in the place of one of a script.
 #[derive(Drop)]
 pub struct OwnEvent {
-    /// What is recorded.
+    /// The recorded event.
     pub recorded: RecordedEvent,
     /// Of a call what it answers.
     pub recorded_answer: Option<RecordedAnswer>,

@@ -1,4 +1,4 @@
-//! What is recorded of a whole script.
+//! The recording of a whole script.
 ghost use Rattle.std.specs.Prelude.{◌≡◌, ◌≤◌, ◌++◌, ◌∷◌, [], length, IfOk, OnOk};
 ghost use Rattle.pd_record.specs.Recording.{event_in, events_in, events_of, events_of_all, events_recorded, records, recorded_script_of};
 ghost use Rattle.pd_record.specs.Inner.{Finds, Gives, Sound};
@@ -11,16 +11,16 @@ use pd_settings::Settings;
 use std::alloc::{AllocError, Global};
 use std::marker::Model;
 
-/// What is recorded of a script.
+/// The recording of a script.
 #[derive(Drop)]
 pub struct RecordedScript {
-    /// What is recorded of each of its events.
+    /// The recording of each of its events.
     pub per_event: Vec<EventRecording>,
-    /// What is recorded at its end.
+    /// The packets recorded at its end.
     pub rest: Vec<RecordedEvent>,
     /// How many events are recorded in all.
     pub count: usize,
-    /// How the sender stood after each of them, in order, where a trace tells it.
+    /// The sender's state after each of them, in order, where a trace has it.
     pub senders: Option<Vec<SenderSnapshot>>,
 }
 

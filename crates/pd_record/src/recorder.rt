@@ -28,7 +28,7 @@ use std::marker::Model;
 const MAX_GAP: u64 = 3_600_000_000;
 
 /// Records the events of a script one after the other. It takes each step of the recording itself as soon as it is known, so
-/// what was recorded so far always passes.
+/// the events recorded so far always pass.
 #[derive(Drop)]
 pub struct Recorder {
     /// The run of what was recorded so far.
@@ -41,7 +41,7 @@ pub struct Recorder {
     base: u64,
     /// The moments of the packets that were recorded and that no expected packet has met, the oldest first.
     unmet: VecDeque<u64>,
-    /// How the sender stood after each recorded event, where a trace tells it.
+    /// The sender's state after each recorded event, where a trace has it.
     senders: Option<Vec<SenderSnapshot>>,
 }
 
@@ -240,7 +240,7 @@ impl Recorder {
         Err(RecordError::TooManyEvents)
     }
 
-    /// The packet that leaves next, if it is untaken, or an expiry up to a moment sends it.
+    /// The packet that leaves next, if it is unmatched, or an expiry up to a moment sends it.
     fn next_packet_until(&self, until: u64) -> Result<Option<Sent>, AllocError>
         requires sound { Sound self.now }
         ensures { IfOk result (λ sent. sent ≡ leaves_next (λ due. nat_le due until) self.now.run) }
@@ -252,7 +252,7 @@ impl Recorder {
         next_packet(self.run.host(), due)
     }
 
-    /// The packet that leaves next, if it is untaken, or an expiry that may come in time for an expected one sends it.
+    /// The packet that leaves next, if it is unmatched, or an expiry that may come in time for an expected one sends it.
     fn next_packet_in_time(&self, event: &Event) -> Result<Option<Sent>, AllocError>
         requires sound { Sound self.now }
         requires early { self.now.base < 2 ^ 60 }
@@ -296,7 +296,7 @@ impl Recorder {
         })
     }
 
-    /// What the sender answers to a call at a moment.
+    /// The sender's answer to a call at a moment.
     fn answer_at(&self, line: usize, at: u64, call: &Call) -> Result<Answer, RecordError>
         requires sound { Sound self.now }
         requires early { at < 2 ^ 61 }
@@ -381,7 +381,7 @@ impl Recorder {
         Ok(RecordedEvent { event, at })
     }
 
-    /// Notes how the sender stands, where a trace tells it.
+    /// Notes the sender's state, where a trace has it.
     fn note_sender(&mut self) -> Result<(), AllocError>
         ensures { self.new ≡ self.old }
     {

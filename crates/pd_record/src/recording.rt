@@ -108,7 +108,7 @@ fn write(
     }
 }
 
-/// What was recorded, in lines.
+/// The recording, in lines.
 fn written(
     alloc: Global,
     lines: &Lines,

@@ -9,11 +9,11 @@ pub struct Recording {
     pub lines: Lines,
     /// How many events it has.
     pub events: usize,
-    /// What a trace tells of each of its events, in order; nothing where no trace was asked for.
+    /// The trace of each of its events, in order; nothing where no trace is written.
     pub trace_entries: Vec<TraceEntry>,
 }
 
-/// What a trace tells of an event.
+/// The trace of an event.
 #[derive(Clone, Copy)]
 pub struct TraceEntry {
     /// How many lines stand up to the event's end.
@@ -26,7 +26,7 @@ pub struct TraceEntry {
     pub origin: Option<Origin>,
 }
 
-/// What let a packet go.
+/// The input or timer that let a packet go.
 #[derive(Clone, Copy)]
 pub enum Origin {
     /// The input that begins at a line of the trace.

@@ -1,4 +1,4 @@
-//! Texts that are recordings already: what is recorded of them are their own events, and they are laid out as recordings are.
+//! Texts that are recordings already: their recordings have their own events, and they are laid out as recordings are.
 ghost use Rattle.std.specs.Prelude.{◌≡◌, ◌++◌, ◌∷◌, ◌↔◌, [], false, Some, IfOk, IsTrue};
 ghost use Rattle.pd_layout.specs.Canonical.{IsCanonical};
 ghost use Rattle.pd_layout.specs.ReadAs.{AreSameEvents};

@@ -1,4 +1,4 @@
--- What is written below the line of a refusal.
+-- The lines below the line of a refusal.
 use Rattle.std.proofs.Common.{◌≡◌, ℕ, List, [], ◌++◌, refl}
 use Rattle.pd_explain.specs.BlockLines.{AreIndented}
 use Rattle.pd_record.specs.declared.record_error.RecordError.{RecordError}

@@ -1,4 +1,4 @@
--- What is gathered of an input.
+-- The lines that are gathered of an input.
 use Rattle.std.proofs.Common.{◌≡◌, ℕ, ◌+◌, ◌<◌, ◌≤◌, ◌&&◌, nat_le, Bool, true, false, not, List, [], ◌∷◌, ◌++◌, length, Option, Some, None, option_and_then, refl, sym, ap, ◌∙◌, arith, cond, append_assoc, append-nil, length-append}
 use Rattle.std.specs.Str.Lines.{lines, strip_carriage_return}
 use Rattle.std.specs.Io.KnownBytes.{prepend_known}
@@ -74,7 +74,7 @@ so_begin g line_reader (Some x) e f = rw f (so_first g x e)
 pub so_text : (g h text : Option (List (List ℕ))) (x y z : List ℕ) → text ≡ option_and_then fitted h → SoFar g x y → Gathers false g h y z → text ≡ script_in x
 so_text g h text x y z e s t = e ∙ (ap (λ (o : Option (List (List ℕ))). option_and_then fitted o) (so_last g h x y z s t) ∙ fitted_again (without_trace (lines x)))
 
--- what one line leads to
+-- the state after one line
 
 pub gathers_whole : (g h : Option (List (List ℕ))) (line x y : List ℕ) → h ≡ with_line line g → (lines x ≡ line ∷ lines y) × (length line ≤ 65536) → Gathers true g h x y
 gathers_whole g h line x y e t = (line, t.0, e)

@@ -1,4 +1,4 @@
--- What comes of a text that is recorded by the least change.
+-- The outcome of a text that is recorded by the least change.
 use Rattle.std.proofs.Common.{◌≡◌, ℕ, false, List, subst}
 use Rattle.std.specs.declared.vec.Vec.{Vec}
 use Rattle.std.specs.declared.alloc.Global.{Global}

@@ -1,4 +1,4 @@
--- What is written of files, one after the other.
+-- The sections that are written of files, one after the other.
 use Rattle.std.proofs.Common.{◌≡◌, ℕ, Bool, true, false, ◌&&◌, ◌+◌, ◌<◌, List, [], ◌∷◌, ◌++◌, length, take, drop, get_or, Bor, Option, Some, None, IfSome, Ok, Err, IsErrAnd, Result, inl, inr, refl, ap, subst, sym, ◌∙◌, append_assoc, append-nil}
 use Rattle.std.proofs.lemmas.List.{drop_more}
 use Rattle.std.specs.Io.KnownBytes.{Appends}
@@ -76,7 +76,7 @@ pub writes_cut : (settings : Settings) (tr : RecordMode) (octets_in : List ℕ �
 writes_cut settings tr octets_in first others d stop w v u h k =
     (first, others, d, h.0, k.0, k.1, refl, h.1, k.2, appends_then w v u h.0 k.0 h.2 k.3)
 
--- what comes of the script that a file holds
+-- the outcome of the script that a file holds
 pub comes_of : (settings : Settings) (tr : RecordMode) (octets_in left : Option (List ℕ)) (lines : Option (List (List ℕ))) (outcome : Outcome) → left ≡ octets_in → IfSome left (λ octets. lines ≡ script_in octets) → IsOutcome settings tr lines outcome → IfSome octets_in (λ all. IsOutcome settings tr (script_in all) outcome)
 comes_of settings tr None left lines outcome e h o = tt
 comes_of settings tr (Some all) None lines outcome e h o = absurd cc

@@ -1,4 +1,4 @@
--- The words of the program that records are simple ones.
+-- The options of the program that records are simple ones.
 use Rattle.std.proofs.Common.{◌≡◌, true, refl}
 use Rattle.clap.specs.Words.{is_simple, is_simple_and_free}
 use Rattle.clap.proofs.OnLiterals.{clap_on_literals}

@@ -1,4 +1,4 @@
--- What the program that records writes of files.
+-- The output of the program that records, for files.
 use Rattle.std.specs.Prelude.{◌≡◌, ℕ, Bool, true, false, ◌&&◌, ◌==◌, ◌⊎◌, List, [], ◌∷◌, ◌++◌, take, count_by, codes, Option, Result, Ok, Err, IfSome, if◌then◌else◌}
 use Rattle.std.specs.Fmt.{decimal}
 use Rattle.std.specs.Io.KnownBytes.{Appends}
@@ -25,7 +25,7 @@ lines_in octets = count_by (λ octet. octet == 10) octets
 abbrev pub title : List ℕ → List ℕ → List ℕ → List ℕ
 title word octets name = word ++ decimal (lines_in octets) ++ codes " " ++ name ++ codes "\n"
 
--- what is written of the script of a file: its recording, or the lines that tell why there is none, after a title
+-- the section of a file's script: its recording, or the lines that report why there is none, after a title
 abbrev pub section : List ℕ → Outcome → List ℕ
 section name (Recorded octets) = title (codes "recorded ") octets.items name ++ octets.items
 section name (Refused said) = title (codes "refused ") said.items name ++ said.items
@@ -98,7 +98,7 @@ EndsBefore fault exit out_before out_after err_before err_after =
     (exit.status ≡ 2) × Appends out_before out_after [] × WritesTo exit.stderr_ok err_before err_after (fault_line (codes "pdrecord") fault)
 
 -- a run over files of these names, under settings that were read, came to an end with what belongs to what the files hold;
--- settings that are no good end it with their fault, and nothing is written of files; so does want of memory before the first
+-- settings that are no good end it with their fault, and nothing is written of files; so does a lack of memory before the first
 abbrev pub FinishesFiles : Result Settings ProgramFault → RecordMode → (List ℕ → Option (List ℕ)) → List (List ℕ) → Exit → Option (List ℕ) → Option (List ℕ) → Option (List ℕ) → Option (List ℕ) → Type 0
 FinishesFiles (Ok settings) mode octets_in names exit out_before out_after err_before err_after =
     ((end : Result Bool FileFault) × Writes settings mode octets_in names end out_before out_after × EndsAfter end exit err_before err_after)

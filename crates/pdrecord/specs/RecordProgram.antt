@@ -1,4 +1,4 @@
--- What the program that records writes, and its status.
+-- The output of the program that records, and its status.
 use Rattle.std.specs.Prelude.{◌≡◌, ℕ, Bool, true, false, ◌⊎◌, List, [], ◌++◌, take, codes, Option, Some, None, Result, Ok, Err, IfSome}
 use Rattle.std.specs.Io.KnownBytes.{Appends}
 use Rattle.pd_settings.specs.declared.settings.Settings.{Settings}
@@ -29,7 +29,7 @@ use Rattle.pdrecord.specs.declared.outcome.Outcome.TheVariants.{Recorded, Refuse
 use Rattle.pdrecord.specs.declared.record_options.RecordMode.{RecordMode}
 use Rattle.pdrecord.specs.declared.record_options.RecordMode.TheVariants.{Whole, Traced, Minimal}
 
--- the line that says why a script isn't recorded
+-- the line that reports why a script isn't recorded
 abbrev pub refusal_line : List ℕ → List ℕ
 refusal_line why = codes "pdrecord: " ++ why ++ codes "\n"
 
@@ -41,7 +41,7 @@ at_line line (Syntax old) = Syntax line
 at_line line (Unsupported old) = Unsupported line
 at_line line (Limit old) = Limit line
 
--- these words tell a refusal, a verdict with some line
+-- these octets report a refusal, a verdict with some line
 abbrev pub IsReasonText : RecordError → List ℕ → Type 0
 IsReasonText (unrecorded.Stopped verdict) why = (line : ℕ) × (why ≡ verdict_text (at_line line verdict))
 IsReasonText unrecorded.TooLarge why = why ≡ codes "2 TooLarge"
@@ -55,13 +55,13 @@ abbrev pub Explains : RecordError → List ℕ → Type 0
 Explains (unrecorded.Stopped verdict) below = AreIndented below
 Explains refusal below = below ≡ []
 
--- this comes of a refusal: the line that tells it, and what explains it below that
+-- this comes of a refusal: the line that reports it, and those that explain it below that
 abbrev pub IsRefused : RecordError → Outcome → Type 0
 IsRefused refusal (Recorded octets) = ⊥
 IsRefused refusal (Refused said) =
     (why : List ℕ) × (below : List ℕ) × IsReasonText refusal why × Explains refusal below × (said.items ≡ refusal_line why ++ below)
 
--- this comes of a text that is recorded whole, with a trace or without: the octets of its recording, or the lines that tell why
+-- this comes of a text that is recorded whole, with a trace or without: the octets of its recording, or the lines that report why
 -- there is none
 abbrev pub IsWhole : Settings → Bool → List (List ℕ) → Outcome → Type 0
 IsWhole settings trace text (Recorded octets) =
@@ -75,8 +75,8 @@ unmended (not_mended.Stopped unmendable) = unrecorded.Stopped unmendable.verdict
 unmended not_mended.TooLarge = unrecorded.TooLarge
 unmended not_mended.OutOfMemory = unrecorded.OutOfMemory
 
--- this comes of a text that is recorded by the least change: the octets of what it is mended to, which is the text itself where that
--- passes and takes all packets, or the lines that tell why it isn't mended
+-- this comes of a text that is recorded by the least change: the octets of the mended text, which is the text itself where that
+-- passes and takes all packets, or the lines that report why it isn't mended
 abbrev pub IsMendedText : Settings → List (List ℕ) → Outcome → Type 0
 IsMendedText settings text (Recorded octets) =
     (mended : List (List ℕ)) × (count : ℕ) × IsMended settings text mended count
@@ -105,7 +105,7 @@ IsUnmade OutOfMemory = Unit {0}
 IsUnmade Differs = Unit {0}
 IsUnmade fault = ⊥
 
--- this comes of an input, recorded in a way; settings that are no good end it with their fault or for want of memory, and 17
+-- this comes of an input, recorded in a way; settings that are no good end it with their fault, or out of memory, and 17
 -- only an input of which a read failed, or that took all reads
 abbrev pub Comes : Type 0 → Result Settings ProgramFault → RecordMode → Result Outcome ProgramFault → List ℕ → Type 0
 Comes failed (Ok settings) mode (Ok outcome) input = IsOutcome settings mode (script_in input) outcome
@@ -114,7 +114,7 @@ Comes failed (Ok settings) mode (Err fault) input = ⊥
 Comes failed (Err fault) mode end input = (end ≡ Err fault) ⊎ (end ≡ Err (Serving OutOfMemory))
 
 -- a recording is written whole with status 0, or some of its first octets with that of a failed write; without one nothing is
--- written, and the lines that tell why are written, with status 1 for a refusal and 2 for a fault
+-- written, and the lines that report why are written, with status 1 for a refusal and 2 for a fault
 abbrev pub Ends : Result Outcome ProgramFault → Exit → Option (List ℕ) → Option (List ℕ) → Option (List ℕ) → Option (List ℕ) → Type 0
 Ends (Ok (Recorded whole)) exit out_before out_after err_before err_after =
     ((exit.status ≡ 0) × (exit.stderr_ok ≡ true) × Appends out_before out_after whole.items × Appends err_before err_after [])

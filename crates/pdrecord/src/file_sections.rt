@@ -14,7 +14,7 @@ use pd_settings::Settings;
 use std::alloc::{AllocError, Global};
 use std::io::Write;
 
-/// What is written of a file.
+/// The section of a file.
 #[derive(Drop)]
 struct Section {
     octets: Vec<u8>,
@@ -73,7 +73,7 @@ fn put_section<R: InputStream + Drop, F: FileSource<R>, W: Write>(
     Ok(section.is_recorded)
 }
 
-/// What is written of the file of a name.
+/// The section of the file of a name.
 ///
 /// # Errors
 /// `Read` where it can't be opened or read, `Differs` and `OutOfMemory`.

@@ -1,4 +1,4 @@
-//! What comes of a script that is recorded by the least change.
+//! The outcome of a script that is recorded by the least change.
 ghost use Rattle.std.specs.Prelude.{◌≡◌, IfOk, IfErr};
 ghost use Rattle.pd_run.specs.Run.{verdict_of};
 ghost use Rattle.pd_explain.specs.BlockLines.{AreIndented};
@@ -16,7 +16,7 @@ use pd_settings::Settings;
 use pd_text::Lines;
 use std::alloc::{AllocError, Global};
 
-/// What comes of a text that is recorded by the least change.
+/// The outcome of a text that is recorded by the least change.
 ///
 /// # Errors
 /// `Differs` and `OutOfMemory`.
@@ -49,7 +49,7 @@ pub fn mended(
     }
 }
 
-/// A mended text, of which no trace tells.
+/// A mended text, without a trace.
 fn recording_of(alloc: Global, mended: Mended) -> Recording
     ensures { result.lines ≡ mended.lines }
 {
@@ -60,7 +60,7 @@ fn recording_of(alloc: Global, mended: Mended) -> Recording
     }
 }
 
-/// What comes of a text at which no mend helps: its verdict at a line, and what explains it.
+/// The outcome of a text at which no mend helps: its verdict at a line, and the lines that explain it.
 #[tactic(auto, using(crate::proofs::Below::is_stopped))]
 fn refused(
     alloc: Global,
@@ -79,7 +79,7 @@ fn refused(
     Ok(Outcome::Refused(message))
 }
 
-/// A verdict at a line, in words.
+/// A verdict at a line, as a report has it.
 fn reason_text(alloc: Global, verdict: Verdict, line: usize) -> Result<Vec<u8>, ServeFault>
     ensures reason_given { IfOk result (λ reason. IsReasonText (RecordError.Stopped verdict) reason.items) }
     ensures only { IfErr result IsUnmade }
@@ -89,7 +89,7 @@ fn reason_text(alloc: Global, verdict: Verdict, line: usize) -> Result<Vec<u8>, 
     Ok(row)
 }
 
-/// What explains the verdict of a text at which no mend helps. What let packets go isn't told: its lines are those of the mended text.
+/// The lines that explain the verdict of a text at which no mend helps, without origins, whose lines would be the mended text's.
 #[tactic(auto, using(crate::proofs::Below::no_lines))]
 fn lines_below(
     alloc: Global,

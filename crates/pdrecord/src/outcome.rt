@@ -1,4 +1,4 @@
-//! What comes of a script.
+//! The outcome of a script.
 ghost use Rattle.std.specs.Prelude.{◌≡◌, ℕ, List, IfOk, IfErr, codes};
 ghost use Rattle.pd_explain.specs.BlockLines.{AreIndented};
 ghost use Rattle.pd_protocol.specs.Verdicts.{verdict_text};
@@ -14,19 +14,19 @@ use pd_settings::Settings;
 use pd_text::Lines;
 use std::alloc::{AllocError, Global};
 
-/// What comes of a script.
+/// The outcome of a script.
 #[derive(Drop)]
 pub enum Outcome {
     /// The octets of its recording.
     Recorded(Vec<u8>),
-    /// The line that says why it isn't recorded, and those that explain it.
+    /// The line that reports why it isn't recorded, and those that explain it.
     Refused(Vec<u8>),
 }
 
-/// What comes of a script that isn't recorded.
+/// The outcome of a script that isn't recorded.
 ///
 /// # Errors
-/// `Differs` where its recording wasn't what was recorded; `OutOfMemory`.
+/// `Differs` where its recording differs from the recorded events; `OutOfMemory`.
 #[tactic(auto, using(crate::proofs::Below::is_refused))]
 pub fn refusal_of(
     alloc: Global,
@@ -44,7 +44,7 @@ pub fn refusal_of(
     Ok(Outcome::Refused(message))
 }
 
-/// The lines below the one that says why a script isn't recorded: those of a block where the script is why, else none.
+/// The lines below the one that reports why a script isn't recorded: those of a block where the script is why, else none.
 #[tactic(auto, using(crate::proofs::Below::explains_none))]
 fn lines_below(
     alloc: Global,
@@ -78,7 +78,7 @@ fn block_below(
     }
 }
 
-/// Why a script isn't recorded, in words.
+/// Why a script isn't recorded, as the program reports it.
 fn reason_text(
     alloc: Global,
     refusal: RecordError,
@@ -126,7 +126,7 @@ pub fn at_line(verdict: Verdict, line: usize) -> Verdict
     }
 }
 
-/// The line that says why a script isn't recorded.
+/// The line that reports why a script isn't recorded.
 pub fn refusal_line(alloc: Global, reason: &[u8]) -> Result<Vec<u8>, AllocError>
     ensures { IfOk result (λ line. line.items ≡ refusal_line reason.now) }
 {

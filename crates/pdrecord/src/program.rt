@@ -27,14 +27,14 @@ use std::alloc::Global;
 use std::convert::AsStr;
 use std::io::Write;
 
-/// The program's own name, by which it says its faults.
+/// The program's own name, under which it reports its faults.
 pub const PROGRAM: &str = "pdrecord";
 
 /// The status where the script isn't recorded.
 const NOT_RECORDED: u8 = 1;
 
-/// Runs the program that records on its words, of which the first is its own name, where no files are. Words that `clap`
-/// refuses, and `--help`, print its own text on `err`, with the status 2.
+/// Runs the program that records on its arguments, of which the first is its own name, where no files are. Where `clap` refuses
+/// them, and for `--help`, it prints its own text on `err`, with the status 2.
 pub fn run_recording<S: AsStr, R: InputStream, W: Write, E: Write>(
     alloc: Global,
     arguments: &[S],
@@ -72,7 +72,7 @@ pub fn run_with_files<
     }
 }
 
-/// Records what words choose: the scripts of files, or else the input.
+/// Records what the options choose: the scripts of files, or else the input.
 fn run_with_options<R: InputStream, Q: InputStream + Drop, F: FileSource<Q>, W: Write, E: Write>(
     alloc: Global,
     options: &RecordOptions<'_>,
@@ -92,7 +92,7 @@ fn run_with_options<R: InputStream, Q: InputStream + Drop, F: FileSource<Q>, W: 
     }
 }
 
-/// Records the input and writes the recording, or says why there is none.
+/// Records the input and writes the recording, or reports why there is none.
 fn run_on_input<R: InputStream, W: Write, E: Write>(
     alloc: Global,
     options: &RecordOptions<'_>,
@@ -140,7 +140,7 @@ fn finish_files<E: Write>(end: Result<bool, FileFault<'_>>, err: &mut E) -> Exit
     }
 }
 
-/// Ends a run at a fault with a file: says its line.
+/// Ends a run at a fault with a file, and reports it.
 fn fail_with_file<E: Write>(stop: FileFault<'_>, err: &mut E) -> Exit
     ensures status { result.status ≡ 2 }
     ensures stderr { WritesTo result.stderr_ok (E.contents err.old) (E.contents err.new) (file_fault_line stop.entry.name.now stop.entry.fault) }
@@ -154,7 +154,7 @@ fn fail_with_file<E: Write>(stop: FileFault<'_>, err: &mut E) -> Exit
     fail(stop.name, err, ProgramFault::Serving(stop.fault))
 }
 
-/// Ends a run: writes a recording, or says why there is none.
+/// Ends a run: writes a recording, or reports why there is none.
 fn finish<W: Write, E: Write>(end: Result<Outcome, ProgramFault>, out: &mut W, err: &mut E) -> Exit
     ensures { Ends end result (W.contents out.old) (W.contents out.new) (E.contents err.old) (E.contents err.new) }
 {
@@ -188,7 +188,7 @@ fn record_input<R: InputStream>(
     Ok(outcome)
 }
 
-/// What comes of a script that was read.
+/// The outcome of a script that was read.
 ///
 /// # Errors
 /// `Differs` and `OutOfMemory`.
@@ -211,7 +211,7 @@ pub fn outcome_of(
     }
 }
 
-/// What comes of a text that is recorded whole, with a trace or without.
+/// The outcome of a text that is recorded whole, with a trace or without.
 fn record_whole(
     alloc: Global,
     input: &ScriptInput,

@@ -1,4 +1,4 @@
-//! Why recording a script stops, as the cause that a block tells.
+//! Why recording a script stops, as the cause that a block reports.
 use pd_explain::{Cause, Failed, cause_at, event_place, explain};
 use pd_host::Halt;
 use pd_record::{RecordingStop, find_recording_stop};
@@ -91,7 +91,7 @@ fn cause_of_event(
     Ok(Some(counted_from(cause, base)))
 }
 
-/// A cause; a time told to lie too early counts from this moment, in microseconds since the start of the run.
+/// A cause; a time that is too early counts from this moment, in microseconds since the start of the run.
 fn counted_from(cause: Cause, base: u64) -> Cause {
     let mut cause = cause;
     if let Cause::Failed(failure) = &mut cause {

@@ -69,7 +69,7 @@ pub fn event_sent(alloc: Global, sent: &Sent, base: u64) -> Result<Vec<u8>, Allo
     with_comment(alloc, line, sent.at)
 }
 
-/// The time of a moment from the base; `*` where it lies before that, which no written time can say.
+/// The time of a moment from the base; `*` where it lies before that, which no written time can express.
 fn time_since(base: u64, at: u64) -> Time
     ensures { result ≡ time_since base at }
 {
@@ -106,7 +106,7 @@ fn lined_up(
     laid(alloc, time, &parts, other_time, &others)
 }
 
-/// The same of the parts: what is on the right of a part is laid first.
+/// The same of the parts: a part is laid after the one on its right.
 fn laid(
     alloc: Global,
     time: &[u8],

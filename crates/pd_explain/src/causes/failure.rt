@@ -1,4 +1,4 @@
-//! What is reported of an event that didn't happen as written. Texts are octets as a script has them, neither shown nor cut.
+//! The report of an event that didn't happen as written. Texts are octets as a script has them, neither escaped nor cut.
 use crate::causes::not_sent_reason::NotSentReason;
 use crate::causes::outlook::Outlook;
 use crate::dropped::DroppedSegment;
@@ -9,12 +9,12 @@ use pd_match::Kind;
 /// An event that didn't happen as written.
 #[derive(Drop)]
 pub struct Failure {
-    /// What failed.
+    /// How the event failed.
     pub failed: Failed,
     /// The packets that were put out and not taken, the one compared left out.
     pub unmatched: Unmatched,
-    /// What let the packet go that was compared, if one was, and then each of those that are listed. None of a run that isn't a
-    /// script's.
+    /// The origin of the packet that was compared, if one was, and then of each of those that are listed. None of a run that isn't
+    /// a script's.
     pub origins: Vec<Origin>,
     /// Where a packet differs or is missing, the last segments that checks dropped before the event: four at most, of those that
     /// arrived in the 16 events before it. None of a run that isn't a script's.
@@ -24,7 +24,7 @@ pub struct Failure {
 }
 
 impl Failure {
-    /// What let the packet go that was compared, if one was.
+    /// The origin of the packet that was compared, if one was.
     pub(crate) fn compared_origin(&self) -> Option<Origin> {
         match self.failed {
             Failed::Packet(_) => self.origins.first().copied(),
@@ -32,7 +32,7 @@ impl Failure {
         }
     }
 
-    /// What let each of the packets go that are listed as untaken.
+    /// The origins of the packets that are listed as unmatched.
     pub(crate) fn listed_origins(&self) -> &[Origin] {
         match (&self.failed, self.origins.as_slice()) {
             (Failed::Packet(_), [_, listed @ ..]) => listed,
@@ -41,7 +41,7 @@ impl Failure {
     }
 }
 
-/// What failed.
+/// How an event failed.
 #[derive(Drop)]
 pub enum Failed {
     /// The packet that was sent differs from the script's.
@@ -96,7 +96,7 @@ pub struct MissingPacket {
     pub reason: NotSentReason,
     /// The same in words, with the numbers concerned.
     pub words: Vec<u8>,
-    /// What may lead to sending next.
+    /// The events that may lead to sending next.
     pub outlook: Outlook,
 }
 

@@ -1,4 +1,4 @@
-//! What of an event didn't happen as written, found where it stopped a run.
+//! The failure of an event, found where it stopped a run.
 ghost use Rattle.std.specs.Prelude.{◌≡◌, ◌<◌, ◌≤◌, ◌^◌, false, is_some, IfOk, IfSome};
 ghost use Rattle.std.specs.List.{list_any};
 ghost use Rattle.pd_host.specs.Expiries.{deadline_of};
@@ -31,7 +31,7 @@ use pd_script::{Action, Event, Packet, Time};
 use pd_seg::{Answer, Sent};
 use std::alloc::{AllocError, Global};
 
-/// What of an event that stopped a run, and is written so, didn't happen as written; nothing where a rule stopped it.
+/// The failure of an event that stopped a run, and is written so; nothing where a rule stopped it.
 ///
 /// # Errors
 /// `AllocError` where a growth is refused.
@@ -96,7 +96,7 @@ pub fn run_at(stop: &StopPoint) -> &RunState
     }
 }
 
-/// What failed, with the sender at the stop and its packets that were put out and not taken, the one compared left out.
+/// The failure, with the sender at the stop and its packets that were put out and not taken, the one compared left out.
 fn failure(alloc: Global, stop: &StopPoint, failed: Failed) -> Result<Failure, AllocError>
     ensures failed { IfOk result (λ failure. failure.failed ≡ failed) }
     ensures sender { IfOk result (λ failure. failure.sender ≡ snapshot_of (sender_at stop.now.before stop.now.stop_reason)) }
@@ -142,7 +142,7 @@ fn first_time(time: Time) -> u64 {
     }
 }
 
-/// What is reported of an awaited event, which is shown so.
+/// The report of an awaited event, which is shown so.
 fn missing_packet(
     alloc: Global,
     event: &Event,

@@ -14,7 +14,7 @@ pub enum NotSentReason {
     /// The awaited packet has no octets, so it is an answer to something that didn't come. It is looked at once a connection is
     /// established and wasn't reset.
     NoOctets,
-    /// What holds the sender back.
+    /// The blocker that holds the sender back.
     Held(SendBlocker),
 }
 

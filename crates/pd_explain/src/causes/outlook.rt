@@ -1,4 +1,4 @@
-//! What may lead to sending next, where a script awaits a packet that wasn't sent.
+//! The events that may lead to sending next, where a script awaits a packet that wasn't sent.
 ghost use Rattle.std.specs.Prelude.{◌≡◌, ◌-◌, IfOk, length, take};
 ghost use Rattle.pd_explain.specs.Outlook.{sacked_limit, ListsSacked, IsOutlook};
 
@@ -12,10 +12,10 @@ use std::alloc::{AllocError, Global};
 /// The most SACKed ranges that are listed one by one.
 const MAX_SACKED: usize = 4;
 
-/// What may lead to sending next.
+/// The events that may lead to sending next.
 #[derive(Drop)]
 pub struct Outlook {
-    /// What a duplicate leads to; nothing where no octet is outstanding or recovery goes on.
+    /// The effect of a duplicate; nothing where no octet is outstanding or recovery goes on.
     pub dup_ack_status: Option<DupAckStatus>,
     /// The same in words; none where nothing has come that shows a loss.
     pub duplicates_words: Vec<u8>,
@@ -23,7 +23,7 @@ pub struct Outlook {
     pub timeout: Option<Timeout>,
     /// The same in words; none where the timer doesn't run.
     pub timeout_words: Vec<u8>,
-    /// What is SACKed.
+    /// The octets that are SACKed.
     pub sacked: SackedRanges,
     /// The same in words; none where nothing is.
     pub sacked_words: Vec<u8>,
@@ -38,7 +38,7 @@ pub struct SackedRanges {
     pub more: usize,
 }
 
-/// What may lead a sender to sending next.
+/// The events that may lead a sender to sending next.
 ///
 /// # Errors
 /// `AllocError` where a growth is refused.
@@ -58,7 +58,7 @@ pub fn outlook_of(alloc: Global, host: &Host) -> Result<Outlook, AllocError>
     })
 }
 
-/// What is SACKed at a sender.
+/// The octets that are SACKed at a sender.
 fn sacked_of(alloc: Global, host: &Host) -> Result<SackedRanges, AllocError>
     ensures { IfOk result (ListsSacked host.now.state) }
 {

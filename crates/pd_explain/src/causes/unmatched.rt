@@ -17,7 +17,7 @@ use pd_script::{Action, Event, Packet, Time};
 use pd_seg::Sent;
 use std::alloc::{AllocError, Global};
 
-/// The most untaken packets that are listed one by one.
+/// The most unmatched packets that are listed one by one.
 const MAX_LISTED: usize = 10;
 
 /// The packets of a run that were put out and not taken, the oldest so many left out.
@@ -44,8 +44,8 @@ pub fn list_unmatched(
     Ok(Unmatched { packets, more })
 }
 
-/// How many of a run's untaken packets no line asks for: those that come before the first which an event awaits. Each moves the base
-/// of times as one that an event takes does. 0 where the awaited one isn't among them.
+/// How many of a run's unmatched packets no line expects: those that come before the first which an event awaits. Each moves the
+/// base of times as one that an event takes does. 0 where the awaited one isn't among them.
 pub fn count_unexpected(event: &Event, run: &RunState) -> usize
     ensures { CountsUnexpected event.now run.now result }
 {

@@ -84,7 +84,7 @@ pub fn shown_at(alloc: Global, lines: &Lines, place: Place) -> Result<ShownPart,
     })
 }
 
-/// What is left of a line from a place on.
+/// The rest of a line from a place on.
 pub fn rest_at(lines: &Lines, place: Place) -> &[u8]
     ensures { result.now ≡ drop place.at (line_in lines.now place.line) }
 {

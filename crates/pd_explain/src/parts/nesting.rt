@@ -1,10 +1,11 @@
-//! What stands before a token of an event.
+//! The brackets and commas before a token of an event.
 ghost use Rattle.std.specs.Prelude.{◌≡◌};
 ghost use Rattle.pd_explain.specs.Parts.{at_first, one_more, depth_after, commas_after, colons_after, after_role};
 
 use crate::parts::token_roles::TokenRole;
 
-/// What stands before a token. Each count stops at 32, which those of a script that is read don't reach where they tell.
+/// The brackets, commas and colons before a token, and the token just before it. Each count stops at 32, which no count that
+/// matters reaches in a script that is read.
 #[derive(Clone, Copy)]
 pub struct Nesting {
     /// The token just before it.

@@ -6,7 +6,7 @@ use crate::parts::rule_part::RulePart;
 use crate::rules::{LimitedNumber, Rule, UnsupportedInput, UnsupportedShape, is_time_long};
 use pd_script::{Event, HeaderKind};
 
-/// What a rule that stops a script at an event is about.
+/// The part of an event that the rule which stops a script there is about.
 pub fn part_of(rule: Rule, event: &Event) -> RulePart
     ensures { result ≡ part_of rule event.now }
 {
@@ -17,7 +17,7 @@ pub fn part_of(rule: Rule, event: &Event) -> RulePart
     }
 }
 
-/// What one that stops it at a header item is about.
+/// The part of a header item that the rule which stops a script there is about.
 pub fn header_part(kind: HeaderKind) -> RulePart
     ensures { result ≡ header_part kind }
 {

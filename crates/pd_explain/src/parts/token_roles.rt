@@ -1,4 +1,4 @@
-//! What a token is to the search for the part that a rule is about.
+//! The role of a token in the search for the part that a rule is about.
 ghost use Rattle.std.specs.Prelude.{◌≡◌};
 ghost use Rattle.std.specs.Str.{bytes_eq};
 ghost use Rattle.pd_explain.specs.Parts.{role_of, word_role, octet_role, option_role, is_above, is_whole_number, is_word, is_named_option, ends_flags, is_before_edge, is_dots, is_command, is_code, is_header_option, is_arrow, is_colon, is_comma, is_parenthesis, is_ack, is_win, is_mss, is_wscale};
@@ -6,7 +6,7 @@ ghost use Rattle.pd_explain.specs.Parts.{role_of, word_role, octet_role, option_
 use pd_lex::{Token, TokenKind};
 use pd_script::HeaderKind;
 
-/// What a token is, as far as parts of an event differ by it.
+/// The role of a token, as far as parts of an event differ by it.
 #[derive(Clone, Copy)]
 pub enum TokenRole {
     /// A whole number; one above the greatest `u64` counts as that.
@@ -54,7 +54,7 @@ pub enum TokenRole {
 }
 
 impl TokenRole {
-    /// What a token is.
+    /// The role of a token.
     pub fn of(token: &Token<'_>) -> TokenRole
         ensures { result ≡ role_of token.now.kind token.now.text.now }
     {
@@ -109,14 +109,14 @@ impl TokenRole {
         )
     }
 
-    /// What flags may end with.
+    /// The tokens with which flags may end.
     pub fn ends_flags(self) -> bool
         ensures { result ≡ ends_flags self }
     {
         matches!(self, TokenRole::Word | TokenRole::Point)
     }
 
-    /// What the number of a SACK block may follow.
+    /// The tokens that the number of a SACK block may follow.
     pub fn is_before_edge(self) -> bool
         ensures { result ≡ is_before_edge self }
     {

@@ -1,4 +1,4 @@
-//! What could be where no script goes on: candidates, each tried by reading a text with it.
+//! The candidates where no script goes on, each tried by reading a text with it.
 ghost use Rattle.std.specs.Prelude.{◌≡◌, ◌++◌, codes, IfOk};
 ghost use Rattle.std.specs.Fmt.{decimal};
 
@@ -12,7 +12,7 @@ const ONLY_INSIDE: &[u8] = b";";
 /// A word that is no name that counts.
 const SOME_WORD: &[u8] = b"f";
 
-/// What follows the name of a call, and no name of an error.
+/// The candidates after the name of a call, and after no name of an error.
 const SOME_CALL: &[u8] = b"f()=";
 
 /// A time, as no event but the next begins.
@@ -27,18 +27,18 @@ const INSIDE: [(&str, &str); 5] = [
     ("}", "`}`"),
 ];
 
-/// What comes first in the list.
+/// The first candidates of the list.
 const FIRST: [(&str, &str); 3] = [
     ("--a", "an option of the header"),
     ("~", "`~`"),
     ("...", "`...`"),
 ];
 
-/// What comes before the numbers.
+/// The candidates before the numbers.
 const BEFORE_NUMBERS: [(&str, &str); 3] = [("``", "a command"), ("%{}%", "code"), (".", "`.`")];
 
-/// What comes after the numbers.
-const BEHIND_NUMBERS: [(&str, &str); 5] = [
+/// The candidates after the numbers.
+const AFTER_NUMBERS: [(&str, &str); 5] = [
     ("0x0", "a hexadecimal number up to 0xffffffff"),
     ("-", "`-`"),
     (":", "`:`"),
@@ -46,7 +46,7 @@ const BEHIND_NUMBERS: [(&str, &str); 5] = [
     (")", "`)`"),
 ];
 
-/// The words that have a meaning each at its place; where any word may stand they aren't told.
+/// The words that have a meaning each at its place; where any word may stand they aren't listed.
 const NAMES: [(&str, &str); 11] = [
     ("ack", "`ack`"),
     ("win", "`win`"),
@@ -61,7 +61,7 @@ const NAMES: [(&str, &str); 11] = [
     ("ecr", "`ecr`"),
 ];
 
-/// What comes last but for a time and the end of the text.
+/// The last candidates but for a time and the end of the text.
 const LAST: [(&str, &str); 4] = [("=", "`=`"), (",", "`,`"), ("<", "`<`"), (">", "`>`")];
 
 /// The candidates that were tried.
@@ -70,12 +70,12 @@ struct Candidates<'a> {
     alloc: Global,
     /// The octets after which they are tried.
     before: &'a [u8],
-    /// What those are called with which a script goes on.
+    /// The names of those with which a script goes on.
     expected: Vec<Vec<u8>>,
 }
 
-/// What could follow the octets of a script's first tokens, in the order of the tables. The end less the start is given
-/// where a packet's length comes next.
+/// The candidates that could follow the octets of a script's first tokens, in the order of the tables. The end less the start is
+/// given where a packet's length comes next.
 ///
 /// # Errors
 /// `AllocError` where a growth is refused.
@@ -140,14 +140,14 @@ impl Candidates<'_> {
     }
 
     fn try_after_numbers(&mut self, is_word: bool) -> Result<(), AllocError> {
-        self.try_all(&BEHIND_NUMBERS)?;
+        self.try_all(&AFTER_NUMBERS)?;
         if !is_word {
             self.try_all(&NAMES)?;
         }
         self.try_all(&LAST)
     }
 
-    /// What follows a whole event: the time of the next one, and the end of the text.
+    /// The candidates after a whole event: the time of the next one, and the end of the text.
     fn try_end(&mut self, begins_event: bool) -> Result<(), AllocError> {
         if begins_event {
             self.put_expected("a time")?;

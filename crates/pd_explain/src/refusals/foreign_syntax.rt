@@ -1,8 +1,8 @@
-//! What others write in scripts and no script has, named.
+//! Syntax that people write in scripts and the grammar doesn't have, named.
 ghost use Rattle.std.specs.Prelude.{◌≡◌};
 ghost use Rattle.pd_explain.specs.ForeignSyntax.{foreign_syntax_of, foreign_syntax_at};
 
-/// What stands where no script goes on, and has a meaning elsewhere.
+/// Syntax where no script goes on, which has a meaning elsewhere.
 #[derive(Clone, Copy)]
 pub enum ForeignSyntax {
     /// The byte order mark of UTF-8.
@@ -18,7 +18,7 @@ pub enum ForeignSyntax {
 }
 
 impl ForeignSyntax {
-    /// What some octets begin with, which follow a token with this octet, if that is a symbol.
+    /// The foreign syntax with which some octets begin, which follow a token with this octet, if that is a symbol.
     pub fn at(octets: &[u8], after: u8) -> Option<ForeignSyntax>
         ensures { result ≡ foreign_syntax_at after octets.now }
     {
@@ -29,7 +29,7 @@ impl ForeignSyntax {
         }
     }
 
-    /// What it is, in words.
+    /// Its description, in words.
     pub fn words(self) -> &'static str {
         match self {
             ForeignSyntax::ByteOrderMark => "a byte order mark; a script begins without one",

@@ -1,4 +1,4 @@
-//! What is left of a refused text from its last event on, up to the refused line.
+//! The rest of a refused text from its last event on, up to the refused line.
 ghost use Rattle.std.specs.Prelude.{◌≡◌};
 ghost use Rattle.pd_explain.specs.MarkedPlace.{place_marked};
 
@@ -49,7 +49,7 @@ struct LastEventToken {
 #[derive(Drop)]
 pub struct LastEvent {
     /// The tokens' octets in one line, apart from each other where they are apart in the text, with as many events before
-    /// them as tell.
+    /// them as make a difference.
     octets: Vec<u8>,
     /// How many of the octets are those events.
     opening: usize,
@@ -72,7 +72,7 @@ fn events_before(alloc: Global, lines: &Lines) -> Result<(usize, Place), AllocEr
     Ok((MAX_EVENTS - 1, place))
 }
 
-/// How many events tell as much as these: whether there is one, and whether only one more may follow.
+/// How many events make the same difference as these: whether there is one, and whether only one more may follow.
 fn enough_events(events: usize) -> usize {
     if events == MAX_EVENTS - 1 {
         events

@@ -1,4 +1,4 @@
-//! What blocks say of a segment that a check dropped.
+//! The text of blocks on a segment that a check dropped.
 use crate::causes::sentences::{Phrase, put_phrases};
 use crate::dropped::DroppedSegment;
 use Phrase::{Number, Words};

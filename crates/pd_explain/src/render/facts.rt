@@ -21,11 +21,11 @@ pub struct Fact<'a> {
     pub label: &'static str,
     /// Its key in JSON.
     pub key: &'static str,
-    /// What is reported.
+    /// The value.
     pub value: FactValue<'a>,
 }
 
-/// What is reported.
+/// The value of a fact.
 #[derive(Clone, Copy)]
 pub enum FactValue<'a> {
     /// Octets, as a script has them.
@@ -57,7 +57,7 @@ fn number_fact<'a>(label: &'static str, key: &'static str, number: u32) -> Fact<
     named_fact(label, key, Number(u64::from(number)))
 }
 
-/// What is reported of a cause, but for a refusal of the grammar.
+/// The facts of a cause, but for a refusal of the grammar.
 ///
 /// # Errors
 /// `AllocError` where a growth is refused.
@@ -203,7 +203,7 @@ fn put_rto_settings<'a>(facts: &mut Facts<'a>, timeout: Timeout) -> Result<(), A
     }
 }
 
-/// Adds what a duplicate leads to, where that is told.
+/// Adds the effect of a duplicate, where that is reported.
 fn put_duplicates<'a>(facts: &mut Facts<'a>, outlook: &'a Outlook) -> Result<(), AllocError> {
     let words = &outlook.duplicates_words;
     match outlook.dup_ack_status {

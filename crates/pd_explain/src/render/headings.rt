@@ -1,4 +1,4 @@
-//! What a row came to, in words.
+//! The result of a row, in words.
 use crate::causes::{Cause, Failed};
 use crate::explain_verdict::Explanation;
 use crate::leftovers::Leftovers;
@@ -17,7 +17,7 @@ pub fn verdict_name(verdict: Verdict) -> &'static str {
     }
 }
 
-/// What a verdict says.
+/// The words of a verdict.
 fn verdict_words(verdict: Verdict) -> &'static str {
     match verdict {
         Verdict::Pass(_) => "all events passed",
@@ -42,7 +42,7 @@ fn kind_words(kind: Kind) -> &'static str {
     }
 }
 
-/// What an explanation says first: what its verdict says, or that no line asks for packets before the awaited one.
+/// The first words of an explanation: those of its verdict, or that no line expects packets before the awaited one.
 ///
 /// # Errors
 /// `AllocError` where a growth is refused.
@@ -74,7 +74,7 @@ fn unexpected_in(cause: &Cause) -> usize {
     }
 }
 
-/// What a script that passes leaves at its end.
+/// The words for the packets that a script that passes leaves at its end.
 ///
 /// # Errors
 /// `AllocError` where a growth is refused.

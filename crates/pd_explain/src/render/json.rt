@@ -33,7 +33,7 @@ pub fn explanation_json(
     line_of(alloc, object)
 }
 
-/// What a script that passes leaves at its end, as one JSON object, ended by a newline.
+/// The packets that a script that passes leaves at its end, as one JSON object, ended by a newline.
 ///
 /// # Errors
 /// `AllocError` where a growth is refused.
@@ -79,7 +79,7 @@ fn put_leftovers(
     )
 }
 
-/// Adds what is said first.
+/// Adds the first words.
 fn put_what(alloc: Global, object: &mut Members, words: &[u8]) -> Result<(), AllocError> {
     put(object, alloc, "what", letters(alloc, words)?)
 }
@@ -222,7 +222,7 @@ fn letters(alloc: Global, text: &[u8]) -> Result<Value, AllocError> {
     Ok(Value::String(string))
 }
 
-/// What let a packet go, as an object.
+/// The origin of a packet, as an object.
 fn origin_value(alloc: Global, origin: Origin) -> Result<Value, AllocError> {
     let fact = match origin {
         Origin::Line(line) => named_fact("", "line", FactValue::Number(line as u64)),
@@ -233,7 +233,7 @@ fn origin_value(alloc: Global, origin: Origin) -> Result<Value, AllocError> {
     Ok(Value::Object(object))
 }
 
-/// What let packets go, as a list.
+/// The origins of packets, as a list.
 fn origin_values(alloc: Global, origins: &[Origin], count: usize) -> Result<Value, AllocError> {
     let mut list = Vec::new(alloc);
     for origin in origins.iter().take(count) {

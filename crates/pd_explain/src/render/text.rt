@@ -73,7 +73,7 @@ fn leftovers_lines(alloc: Global, leftovers: &Leftovers) -> Result<Vec<u8>, Allo
     Ok(out)
 }
 
-/// The lines of a block below its first one, which tell the cause.
+/// The lines of a block below its first one, which report the cause.
 ///
 /// # Errors
 /// `AllocError` where a growth is refused.
@@ -187,7 +187,7 @@ fn put_inserts(alloc: Global, out: &mut Vec<u8>, cause: &Cause) -> Result<(), Al
     }
 }
 
-/// The same of a packet that differs: it is the first of them, and others that are untaken follow it.
+/// The same of a packet that differs: it is the first of them, and other unmatched ones follow it.
 #[tactic(auto, using(crate::proofs::BlockLemmas::no_lines, crate::proofs::BlockLemmas::then_lines))]
 fn put_unexpected(
     alloc: Global,
@@ -345,7 +345,7 @@ fn put_unmatched(
     Ok(())
 }
 
-/// Whether PRR's counts are among what is told of a sender.
+/// Whether PRR's counts are among the facts of a sender.
 fn has_reduction(sender: &SenderSnapshot) -> bool {
     match sender.connection_snapshot {
         Some(connection_snapshot) => match connection_snapshot.windows {
@@ -413,7 +413,7 @@ fn put_violation(
     put_some(alloc, out, "mend", violation.rule.mend())
 }
 
-/// Adds what is run, where that is told.
+/// Adds the calls or flags that are run, where they are reported.
 #[tactic(auto, using(crate::proofs::BlockLemmas::no_lines))]
 fn put_alternatives(
     alloc: Global,
@@ -509,7 +509,7 @@ fn put_list(
     put_line(alloc, out, &line)
 }
 
-/// What is before an item of a list of so many.
+/// The text before an item of a list of so many.
 fn before_item(place: usize, count: usize) -> &'static str {
     if place == 0 {
         " "

@@ -25,9 +25,9 @@ pub enum LimitedNumber {
     Window,
     /// How many options it has.
     Options,
-    /// What `mss` names.
+    /// The number after `mss`.
     Mss,
-    /// What `wscale` names.
+    /// The number after `wscale`.
     Shift,
     /// How many blocks a `sack` has.
     Blocks,
@@ -35,7 +35,7 @@ pub enum LimitedNumber {
     Edge,
     /// The third argument of a `write`.
     Write,
-    /// How many packets are untaken.
+    /// How many packets are unmatched.
     Outbox,
 }
 

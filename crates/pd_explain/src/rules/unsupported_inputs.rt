@@ -1,4 +1,4 @@
-//! What the sender doesn't run in the state that it is in.
+//! Inputs that the sender doesn't run in the state that it is in.
 ghost use Rattle.std.specs.Prelude.{◌≡◌, None};
 ghost use Rattle.pd_match.specs.Agreement.{flags_of};
 ghost use Rattle.pd_host.specs.Connection.{ConnectionView};
@@ -10,7 +10,7 @@ ghost use Rattle.pd_explain.specs.Rules.{opening_rule, is_closed_by, contents_ru
 use pd_host::{ConnState, Host};
 use pd_script::{Action, Function, Packet, PacketFlags};
 
-/// What the sender doesn't run in the state that it is in.
+/// Inputs that the sender doesn't run in the state that it is in.
 #[derive(Clone, Copy)]
 pub enum UnsupportedInput {
     /// A second `socket`.

@@ -1,4 +1,4 @@
-//! What isn't run wherever it is written.
+//! Shapes of events and header items that aren't run, wherever they are written.
 ghost use Rattle.std.specs.Prelude.{◌≡◌};
 ghost use Rattle.pd_run.specs.Times.{is_single};
 ghost use Rattle.pd_explain.specs.Rules.{call_shape, packet_shape, action_shape, shape_rule};
@@ -6,7 +6,7 @@ ghost use Rattle.pd_explain.specs.Rules.{call_shape, packet_shape, action_shape,
 use pd_host::is_run;
 use pd_script::{Action, Call, Event, Function, Packet, Time};
 
-/// What isn't run wherever it is written.
+/// Shapes of events and header items that aren't run, wherever they are written.
 #[derive(Clone, Copy)]
 pub enum UnsupportedShape {
     /// An option of the header, but for a valid tolerance.

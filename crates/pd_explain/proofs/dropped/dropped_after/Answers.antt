@@ -1,4 +1,4 @@
--- One more event of the run, and what is told of after the last.
+-- One more event of the run, and the segments that are reported after the last.
 use Rattle.std.proofs.Common.{◌≡◌, ℕ, ◌<◌, ◌≤◌, ◌++◌, ◌∷◌, [], List, Option, Ok, Err, Some, IfOk, map, length, slice_get, drop, subst, sym, ap, ◌∙◌, true≢false, arith}
 use Rattle.std.proofs.lemmas.List.{length-map}
 use Rattle.pd_settings.specs.declared.settings.Settings.{Settings}

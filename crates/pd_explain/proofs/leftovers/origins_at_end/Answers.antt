@@ -1,4 +1,4 @@
--- What is told of packets at the end.
+-- The origins of packets at the end.
 use Rattle.std.proofs.Common.{◌≤◌, length, arith}
 use Rattle.pd_run.specs.Laws.{unmatched}
 use Rattle.pd_explain.proofs.OriginLemmas.{are_origins}

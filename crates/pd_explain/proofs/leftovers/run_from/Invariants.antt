@@ -1,4 +1,4 @@
--- What is left from here has the end of the whole run, and who let the packets go is known.
+-- The rest of the run has the end of the whole run, and the triggers of the packets are known.
 use Rattle.std.proofs.Common.{◌≡◌, drop, length, slice_get, Some}
 use Rattle.pd_run.specs.Laws.{IsUnderway, unmatched}
 use Rattle.pd_explain.specs.Leftovers.{end_from}

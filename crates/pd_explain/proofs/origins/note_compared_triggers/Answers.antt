@@ -1,4 +1,4 @@
--- What is counted of an event that stopped a run is what it put out.
+-- The packets that are counted of an event that stopped a run are those that it put out.
 use Rattle.std.proofs.Common.{◌≡◌, ◌++◌, OnOk, subst, ◌∙◌}
 use Rattle.pd_explain.proofs.TriggerLemmas.{counts}
 use Rattle.pd_explain.proofs.origins.note_compared_triggers.Goals as goal

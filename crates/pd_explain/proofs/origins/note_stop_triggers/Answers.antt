@@ -1,4 +1,4 @@
--- Who let the packets go of an event whose packet or answer was compared.
+-- The triggers of the packets of an event whose packet or answer was compared.
 use Rattle.std.proofs.Common.{◌≡◌, ◌++◌, OnOk, subst, sym}
 use Rattle.pd_explain.proofs.NotedStop.{differs_noted, answers_noted}
 use Rattle.pd_explain.proofs.origins.note_stop_triggers.Goals as goal

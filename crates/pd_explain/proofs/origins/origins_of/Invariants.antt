@@ -1,4 +1,4 @@
--- So many are told of.
+-- So many origins are reported.
 use Rattle.std.proofs.Common.{◌≡◌, ℕ, ◌+◌, ◌-◌, length, slice_get, Some}
 use Rattle.pd_seg.specs.declared.segments.Sent.{Sent}
 use Rattle.pd_explain.specs.Inner.{origin_by}

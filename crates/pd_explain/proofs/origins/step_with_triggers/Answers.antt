@@ -1,4 +1,4 @@
--- What is counted of an event that passes is what it put out.
+-- The packets that are counted of an event that passes are those that it put out.
 use Rattle.std.proofs.Common.{◌≡◌, ◌++◌, Ok, subst, ap, ◌∙◌}
 use Rattle.pd_script.specs.declared.script_events.Event.{Event}
 use Rattle.pd_run.specs.Step.{RunStateView, step, Steps}

@@ -1,4 +1,4 @@
--- What is left from here stops where the whole run does, and who let the packets go is known.
+-- The rest of the run stops where the whole run does, and the triggers of the packets are known.
 use Rattle.std.proofs.Common.{◌≡◌, ◌+◌, drop, take, length, slice_get, Some}
 use Rattle.pd_reparse.specs.Reading.{script_part}
 use Rattle.pd_run.specs.Laws.{IsUnderway, unmatched}

@@ -1,4 +1,4 @@
--- What was added so far and what is left make all.
+-- The events added so far and those that are left make all.
 use Rattle.std.proofs.Common.{◌≡◌, ◌++◌}
 use Rattle.pd_record.specs.Recording.{events_in}
 use Rattle.pd_record.proofs.recorded_script.add_all.Given as goal

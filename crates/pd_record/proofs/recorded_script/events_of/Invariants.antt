@@ -1,4 +1,4 @@
--- What was added so far and what is left make all.
+-- The events added so far and those that are left make all.
 use Rattle.std.proofs.Common.{◌≡◌, ◌++◌}
 use Rattle.pd_record.specs.Recording.{events_of_all}
 use Rattle.pd_record.proofs.recorded_script.events_of.Given as goal

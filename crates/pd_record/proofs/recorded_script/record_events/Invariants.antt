@@ -1,4 +1,4 @@
--- What was recorded so far and the events that are left make the whole recording.
+-- The recording so far and the events that are left make the whole recording.
 use Rattle.std.proofs.Common.{◌≡◌, ◌≤◌, ◌+◌, ◌*◌, [], drop}
 use Rattle.pd_record.specs.Recording.{records}
 use Rattle.pd_record.specs.Inner.{Sound}

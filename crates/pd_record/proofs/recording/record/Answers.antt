@@ -1,4 +1,4 @@
--- What is recorded of the script that was read is what is recorded of the text.
+-- The recording of the script that was read is the recording of the text.
 use Rattle.std.proofs.Common.{◌≡◌, List, Some, Ok, subst}
 use Rattle.pd_script.specs.Script.{script_of}
 use Rattle.pd_script.specs.declared.script_events.Event.{Event}

@@ -1,4 +1,4 @@
--- What follows two lists of events.
+-- The events after two lists of events.
 use Rattle.std.proofs.Common.{List, ◌++◌, subst}
 use Rattle.pd_record.specs.Inner.{GoesAfter}
 use Rattle.pd_record.specs.Recording.{event_in, events_in, events_recorded}

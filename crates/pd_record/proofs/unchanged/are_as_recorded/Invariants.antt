@@ -1,4 +1,4 @@
--- What is left follows what was read so far.
+-- The events that are left follow those that were read so far.
 use Rattle.std.proofs.Common.{◌↔◌, ◌++◌, List, drop}
 use Rattle.pd_layout.specs.ReadAs.{AreSameEvents}
 use Rattle.pd_script.specs.declared.script_events.Event.{Event}

@@ -1,4 +1,4 @@
--- What was written so far is of the first files.
+-- The octets written so far are of the first files.
 use Rattle.pdrecord.proofs.Sections.{SoFar}
 use Rattle.pdrecord.proofs.file_sections.put_sections.Given as goal
 

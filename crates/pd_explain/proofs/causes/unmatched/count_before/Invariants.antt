@@ -1,4 +1,4 @@
--- What is left is counted from here on.
+-- The packets that are left are counted from here on.
 use Rattle.std.proofs.Common.{◌≡◌, ◌<◌, ◌^◌, false}
 use Rattle.std.specs.List.{list_any}
 use Rattle.pd_run.specs.Laws.{unmatched}

@@ -1,4 +1,4 @@
--- What is left holds the part that is looked for.
+-- The rest of the tokens holds the part that is looked for.
 use Rattle.std.proofs.Common.{◌≡◌, length}
 use Rattle.pd_lex.specs.Lexing.{items}
 use Rattle.pd_explain.specs.Parts.{at_first, found}

@@ -1,4 +1,4 @@
--- What was recorded so far and what is left make all that leaves.
+-- The packets recorded so far and those that are left make all that leave.
 use Rattle.std.proofs.Common.{◌≡◌, ◌-◌, []}
 use Rattle.pd_record.specs.Recorder.{comes}
 use Rattle.pd_record.specs.Inner.{Sound}

@@ -1,4 +1,4 @@
--- What is left to look through.
+-- The tokens that are left to look through.
 use Rattle.std.proofs.Common.{◌-◌}
 use Rattle.pd_explain.proofs.refusals.last_event.LastEvent.count_accepted.Given as goal
 
