@@ -1,7 +1,7 @@
 -- The laws of all scoreboards, whatever their octets.
 use Rattle.std.specs.Prelude.{◌≡◌, ◌↔◌, ℕ, ◌+◌, ◌-◌, ◌*◌, ◌<◌, ◌≤◌, true}
 use Rattle.pd_board.specs.Octets.{contains, size_where}
-use Rattle.pd_board.specs.Loss.{is_lost, is_unsacked, undelivered, lost_edge, pipe}
+use Rattle.pd_board.specs.Loss.{is_lost, is_unsacked, undelivered_octets, lost_edge, pipe}
 use Rattle.pd_board.specs.Board.{BoardView}
 
 -- an octet below a lost one is lost
@@ -32,4 +32,4 @@ EdgeShowsLosses =
 abbrev pub CountsUndelivered : Type 0
 CountsUndelivered =
     (s t : BoardView) → Follows s t
-    → undelivered s ≡ t.top - t.una - size_where (contains s.sacked) t.una t.top + size_where (λ x. is_unsacked x s) s.una t.una
+    → undelivered_octets s ≡ t.top - t.una - size_where (contains s.sacked) t.una t.top + size_where (λ x. is_unsacked x s) s.una t.una

@@ -32,8 +32,8 @@ abbrev pub is_unsacked : ℕ → BoardView → Bool
 is_unsacked x s = not (contains s.sacked x)
 
 -- how many octets that were sent are neither acknowledged nor SACKed
-abbrev pub undelivered : BoardView → ℕ
-undelivered s = s.top - s.una - sacked_octets s
+abbrev pub undelivered_octets : BoardView → ℕ
+undelivered_octets s = s.top - s.una - sacked_octets s
 
 -- the number after the highest octet that isn't SACKed and is lost, 0 where there is none
 abbrev pub lost_edge : BoardView → ℕ

@@ -1,13 +1,13 @@
 //! The scoreboard of a sender.
 ghost use Rattle.std.specs.Prelude.{◌≡◌, ◌+◌, ◌≤◌, ◌<◌, ◌^◌, true, false, IfOk, OnOk, OnErr, IsErr, ◌↔◌};
 ghost use Rattle.pd_board.specs.Board.{IsBoardView, opened, written, sent_to, acknowledged, with_sacked_block, has_new, with_none_sacked, past_sacked_octets, without_memory};
-ghost use Rattle.pd_board.specs.Loss.{is_lost, pipe, sacked_octets, undelivered, lost_edge, sacked_above, runs_above};
+ghost use Rattle.pd_board.specs.Loss.{is_lost, pipe, sacked_octets, undelivered_octets, lost_edge, sacked_above, runs_above};
 ghost use Rattle.pd_board.specs.Retransmit.{run_at, next_lost, next_hole, rescue};
 ghost use Rattle.pd_board.specs.Runs.{AreRuns};
 
 use crate::queries::{
-    SackedAbove, after_last_sacked, after_last_unsacked, count_above, count_pipe, first_sacked,
-    first_unsacked, lost_edge,
+    SackedAbove, after_last_sacked, after_last_unsacked, count_pipe, count_sacked_from,
+    first_sacked, first_unsacked, lost_edge,
 };
 use crate::ranges::Ranges;
 use pd_seg::Span;
@@ -221,17 +221,17 @@ impl Board {
             return false;
         }
         let first = self.una.max(x + 1);
-        count_above(&self.ranges, self.una, first, self.top).shows_loss(self.smss)
+        count_sacked_from(&self.ranges, self.una, first, self.top).shows_loss(self.smss)
     }
 
     /// How many SACKed octets lie above `x`, and how many runs of them wholly above it (RFC 6675, section 4, IsLost).
-    pub fn above(&self, x: u32) -> SackedAbove
+    pub fn sacked_counts_above(&self, x: u32) -> SackedAbove
         requires low { self.now.una ≤ x }
         requires high { x ≤ self.now.top }
         ensures octets { result.octets ≡ sacked_above x self.now }
         ensures runs { result.runs ≡ runs_above x self.now }
     {
-        count_above(&self.ranges, self.una, x + 1, self.top)
+        count_sacked_from(&self.ranges, self.una, x + 1, self.top)
     }
 
     /// How many octets from `una` on and below `top` SACK blocks reported.
@@ -243,8 +243,8 @@ impl Board {
     }
 
     /// How many octets that were sent are neither acknowledged nor SACKed.
-    pub fn undelivered(&self) -> u32
-        ensures { result ≡ undelivered self.now }
+    pub fn undelivered_octets(&self) -> u32
+        ensures { result ≡ undelivered_octets self.now }
     {
         (self.top - self.una).saturating_sub(self.sacked_octets())
     }

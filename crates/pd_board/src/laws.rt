@@ -6,5 +6,5 @@ pub fn law_losses()
     ensures lost { LostIsDownwardClosed }
     ensures pipe { PipeCountsTwiceAtMost }
     ensures edge { EdgeShowsLosses }
-    ensures undelivered { CountsUndelivered }
+    ensures undelivered_octets { CountsUndelivered }
 {}

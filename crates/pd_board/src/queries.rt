@@ -29,7 +29,7 @@ impl SackedAbove {
 }
 
 /// Counts the runs that begin at `first` or above it, and the octets there.
-pub fn count_above(ranges: &Ranges, una: u32, first: u32, top: u32) -> SackedAbove
+pub fn count_sacked_from(ranges: &Ranges, una: u32, first: u32, top: u32) -> SackedAbove
     requires ranges { AreRanges una (top + 1) ranges.now }
     requires low { una ≤ first }
     requires small { top < 2 ^ 31 }
@@ -90,7 +90,7 @@ pub fn lost_edge(ranges: &Ranges, una: u32, top: u32, smss: u16) -> u32
         if !above.shows_loss(smss) {
             return edge;
         }
-        edge = after_gap(place, range.start, edge);
+        edge = gap_end_or_previous(place, range.start, edge);
         runs -= 1;
         octets -= range.end - range.start;
         place = range.end;
@@ -99,7 +99,7 @@ pub fn lost_edge(ranges: &Ranges, una: u32, top: u32, smss: u16) -> u32
 }
 
 /// The number after the octets from `from` on and below `to`, or `before` where there are none.
-fn after_gap(from: u32, to: u32, before: u32) -> u32
+fn gap_end_or_previous(from: u32, to: u32, before: u32) -> u32
     ensures { result ≡ cond (nat_lt from to) to before }
 {
     if from < to { to } else { before }

@@ -54,7 +54,7 @@ impl Ranges {
         if first_unsacked(self, first, end) == end {
             return Ok(false);
         }
-        let spans = merged(&self.spans, first, end)?;
+        let spans = with_merged_range(&self.spans, first, end)?;
         self.octets = count_octets(&spans);
         self.spans = spans;
         Ok(true)
@@ -67,9 +67,9 @@ impl Ranges {
         ensures within { (a b : ℕ) → AreRanges a b self.old → start < b → AreRanges start b self.new }
         ensures octets { (x : ℕ) → start ≤ x → in_ranges self.new x ≡ in_ranges self.old x }
     {
-        let passed = count_passed(&self.spans, start);
-        drop_front(&mut self.spans, passed);
-        raise_first(&mut self.spans, start);
+        let passed = count_ranges_below(&self.spans, start);
+        drop_first_ranges(&mut self.spans, passed);
+        raise_first_range_start(&mut self.spans, start);
         self.octets = count_octets(&self.spans);
     }
 
@@ -98,7 +98,7 @@ impl Ranges {
 }
 
 /// The ranges with one more, which joins those that it meets or touches.
-fn merged(ranges: &Vec<Span>, first: u32, last: u32) -> Result<Vec<Span>, AllocError>
+fn with_merged_range(ranges: &Vec<Span>, first: u32, last: u32) -> Result<Vec<Span>, AllocError>
     requires ranges { Between 0 ranges.now.items (2 ^ 31) }
     requires order { first < last }
     requires high { last < 2 ^ 31 }
@@ -137,7 +137,7 @@ fn count_octets(ranges: &Vec<Span>) -> u32
 }
 
 /// How many ranges end at `start` or below it.
-fn count_passed(ranges: &Vec<Span>, start: u32) -> usize
+fn count_ranges_below(ranges: &Vec<Span>, start: u32) -> usize
     ensures { drop result ranges.now.items ≡ ranges_after start ranges.now.items }
 {
     let mut passed: usize = 0;
@@ -151,7 +151,7 @@ fn count_passed(ranges: &Vec<Span>, start: u32) -> usize
 }
 
 /// Drops the first ranges.
-fn drop_front(ranges: &mut Vec<Span>, count: usize)
+fn drop_first_ranges(ranges: &mut Vec<Span>, count: usize)
     ensures { ranges.new.items ≡ drop count ranges.old.items }
 {
     let count = count.min(ranges.len());
@@ -161,7 +161,7 @@ fn drop_front(ranges: &mut Vec<Span>, count: usize)
 }
 
 /// The first range begins at `start` at least.
-fn raise_first(ranges: &mut Vec<Span>, start: u32)
+fn raise_first_range_start(ranges: &mut Vec<Span>, start: u32)
     ensures { ranges.new.items ≡ raised start ranges.old.items }
 {
     if ranges.is_empty() {

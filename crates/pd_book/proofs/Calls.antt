@@ -21,15 +21,15 @@ use Rattle.pd_book.specs.Acts.{texts, text_of, now, without, jobs, job, started,
 use Rattle.pd_book.specs.Legal.{MayBeRecorded}
 use Rattle.pd_book.specs.History.{History}
 use Rattle.pd_book.specs.Faults.{of_text}
-use Rattle.pd_book.specs.Refusals.{taken_room, full, text_refusal}
+use Rattle.pd_book.specs.Refusals.{taken_room, room_refusal, line_edit_refusal}
 use Rattle.pd_book.specs.StoredScripts.{ScriptEntry, with_state, with_edit}
-use Rattle.pd_book.specs.Replay.{scripts_of, settle, make_pending, IsReplay}
+use Rattle.pd_book.specs.Replay.{scripts_of, settle, make_abandoned_pending, IsReplay}
 use Rattle.pd_book.proofs.NamedText.{set_named}
 use Rattle.pd_book.proofs.Faithful.{lookup-kept}
 use Rattle.pd_book.proofs.Replayed.{next_text}
 
 -- where there is room for so many more
-pub has_room : (m : ℕ) (s : History) → full m s ≡ None → taken_room s + m ≤ 65536
+pub has_room : (m : ℕ) (s : History) → room_refusal m s ≡ None → taken_room s + m ≤ 65536
 has_room m s h = leb-true (taken_room s + m) 65536 (go (nat_le (taken_room s + m) 65536) h)
   where
     go : (b : Bool) → cond b None (Some HistoryFull) ≡ None → b ≡ true
@@ -61,7 +61,7 @@ no_fault f (Some x) h = absurd cc
 
 -- the book after an edit
 pub edit_kept : (opening : Settings) (past past' : List Act) (current : Settings) (kept kept' : List ScriptEntry) (tasks : List Task) (count cap cap' : ℕ) (n : List ℕ) (d : LineEdit) (t : List (List ℕ))
-    → IsReplay opening past current kept tasks count cap → text_refusal (lookup (bytes_eq n) (texts past)) d ≡ None → AreLines d.insert → t ≡ edited (text_of past n) d
+    → IsReplay opening past current kept tasks count cap → line_edit_refusal (lookup (bytes_eq n) (texts past)) d ≡ None → AreLines d.insert → t ≡ edited (text_of past n) d
     → kept' ≡ option_map_or (λ (s : StoredScript). set_value (bytes_eq n) kept (record { text = t; state = Pending })) (lookup (bytes_eq n) kept) kept → IsDistinct bytes_eq (keys_of kept)
     → past' ≡ Edit n d ∷ past → length past + length tasks + 1 ≤ 65536 → length past + length tasks + 1 ≤ cap'
     → IsReplay opening past' current kept' tasks count cap'
@@ -73,10 +73,10 @@ edit_kept opening past past' current kept kept' tasks count cap cap' n d t r all
     go : (o : Option StoredScript) → lookup (bytes_eq n) kept ≡ o → IsReplay opening past' current kept' tasks count cap'
     go None q =
         let none : lookup (bytes_eq n) (texts past) ≡ None = found ∙ ap (option_map (λ (s : StoredScript). s.text)) q in
-        let bad : text_refusal None d ≡ None = rw none at allowed in absurd cc
+        let bad : line_edit_refusal None d ≡ None = rw none at allowed in absurd cc
     go (Some s) q =
         let here : lookup (bytes_eq n) (texts past) ≡ Some s.text = found ∙ ap (option_map (λ (x : StoredScript). x.text)) q in
-        let may : text_refusal (Some s.text) d ≡ None = rw here at allowed in
+        let may : line_edit_refusal (Some s.text) d ≡ None = rw here at allowed in
         let is : text_of past n ≡ s.text = ap (λ (o : Option (List (List ℕ))). unwrap_or o []) here in
         let text : t ≡ edited s.text d = te ∙ ap (λ (x : List (List ℕ)). edited x d) is in
         let f : StoredScript → StoredScript = λ x. record { text = edited x.text d; state = Pending } in
@@ -174,8 +174,8 @@ finish_kept opening past past' current kept kept' tasks tasks' count cap cap' h 
 
 pub abandon_kept : (opening : Settings) (past past' : List Act) (current : Settings) (kept kept' : List ScriptEntry) (tasks tasks' : List Task) (count cap cap' : ℕ) (h : Task) (j : ℕ)
     → IsReplay opening past current kept tasks count cap → job opening past j ≡ Some h
-    → past' ≡ Abandon j ∷ past → kept' ≡ make_pending (Some h) kept → tasks' ≡ without j tasks → cap ≤ cap'
+    → past' ≡ Abandon j ∷ past → kept' ≡ make_abandoned_pending (Some h) kept → tasks' ≡ without j tasks → cap ≤ cap'
     → IsReplay opening past' current kept' tasks' count cap'
 abandon_kept opening past past' current kept kept' tasks tasks' count cap cap' h j re found p k hs big =
     ended_kept opening past past' current kept kept' tasks tasks' count cap cap' h j (Abandon j) re found (h, found) refl refl refl p
-    (k ∙ (ap (make_pending (Some h)) re.scripts ∙ ap (λ (o : Option Task). make_pending o (scripts_of opening past)) (sym found))) hs big
+    (k ∙ (ap (make_abandoned_pending (Some h)) re.scripts ∙ ap (λ (o : Option Task). make_abandoned_pending o (scripts_of opening past)) (sym found))) hs big

@@ -12,7 +12,7 @@ use Rattle.pd_book.specs.declared.act.Ruling.TheVariants.{Taken, Stale}
 use Rattle.pd_book.specs.declared.stored_script.ScriptState.{ScriptState}
 use Rattle.pd_book.specs.declared.stored_script.ScriptState.TheVariants.{Pending, Running, Answered}
 use Rattle.pd_track.specs.declared.task.Task.{Task}
-use Rattle.pd_book.specs.Acts.{has_script, since, finished, ended, job, jobs, is_unchanged}
+use Rattle.pd_book.specs.Acts.{has_script, since, finished, ended, job, jobs, is_unchanged_since_start}
 use Rattle.pd_book.specs.Legal.{Legal}
 use Rattle.pd_book.specs.StoredScripts.{ScriptEntry, in_state}
 use Rattle.pd_book.proofs.Searches.{find_filter, apart, differs}
@@ -175,18 +175,18 @@ and_both true b h k = k
 and_both false b h k = absurd cc
 
 -- the job of a script that changed began on no script since its last change
-not_begun : (opening : Settings) (past : List Act) (k : ℕ) (h : Task) → Legal opening past → job opening past k ≡ Some h → is_unchanged past h ≡ false
+not_begun : (opening : Settings) (past : List Act) (k : ℕ) (h : Task) → Legal opening past → job opening past k ≡ Some h → is_unchanged_since_start past h ≡ false
     → (e : ScriptEntry) → Stands opening past e → (b : Bool) → began past e.0 k ≡ b → b ≡ false
 not_begun opening past k h l j f e s true q =
     let x = hit opening past k (open_job opening past k h l j) e.0 e.1.text e.1.state q s.1 in
     let is : h ≡ task_of opening past e.0 e.1.text k = cc (j, x.task) in
-    let yes : is_unchanged past h ≡ true = subst (λ (y : Task). is_unchanged past y ≡ true) (sym is) (and_both (has_script past e.0) (began past e.0 k) (ap is_some s.0) q) in absurd cc
+    let yes : is_unchanged_since_start past h ≡ true = subst (λ (y : Task). is_unchanged_since_start past y ≡ true) (sym is) (and_both (has_script past e.0) (began past e.0 k) (ap is_some s.0) q) in absurd cc
 not_begun opening past k h l j f e s false q = refl
 
-pub stale_each : (opening : Settings) (past : List Act) (k : ℕ) (h : Task) → Legal opening past → job opening past k ≡ Some h → is_unchanged past h ≡ false
+pub stale_each : (opening : Settings) (past : List Act) (k : ℕ) (h : Task) → Legal opening past → job opening past k ≡ Some h → is_unchanged_since_start past h ≡ false
     → (e : ScriptEntry) → Stands opening past e → Stands opening (Finish k Stale ∷ past) e
 stale_each opening past k h l j f e s = other_finish opening past k Stale (open_job opening past k h l j) e (not_begun opening past k h l j f e s (began past e.0 k) refl) s
 
-pub left_each : (opening : Settings) (past : List Act) (k : ℕ) (h : Task) → Legal opening past → job opening past k ≡ Some h → is_unchanged past h ≡ false
+pub left_each : (opening : Settings) (past : List Act) (k : ℕ) (h : Task) → Legal opening past → job opening past k ≡ Some h → is_unchanged_since_start past h ≡ false
     → (e : ScriptEntry) → Stands opening past e → Stands opening (Abandon k ∷ past) e
 left_each opening past k h l j f e s = other_abandon opening past k (open_job opening past k h l j) e (not_begun opening past k h l j f e s (began past e.0 k) refl) s

@@ -15,10 +15,10 @@ use Rattle.pd_book.specs.declared.stored_script.StoredScript.{StoredScript}
 use Rattle.pd_book.specs.declared.stored_script.ScriptState.{ScriptState}
 use Rattle.pd_book.specs.declared.stored_script.ScriptState.TheVariants.{Pending, Running, Answered}
 use Rattle.pd_track.specs.declared.task.Task.{Task}
-use Rattle.pd_book.specs.Acts.{NamedText, texts, has_script, text_of, since, answered, busy, ended, is_unchanged, job, next, waits, ruling}
+use Rattle.pd_book.specs.Acts.{NamedText, texts, has_script, text_of, since, answered, busy, ended, is_unchanged_since_start, job, next, waits, ruling}
 use Rattle.pd_book.specs.Legal.{Legal}
-use Rattle.pd_book.specs.StoredScripts.{ScriptEntry, is_pending, pending_state, runs, with_state}
-use Rattle.pd_book.specs.Replay.{scripts_of, settle, make_pending}
+use Rattle.pd_book.specs.StoredScripts.{ScriptEntry, is_pending, pending_state, is_running_job, with_state}
+use Rattle.pd_book.specs.Replay.{scripts_of, settle, make_abandoned_pending}
 use Rattle.pd_book.proofs.Searches.{all_map, all_push, all_imp, all_filter, find_is, find_all, apart}
 use Rattle.pd_book.proofs.Faithful.{named_text, texts_of, texts-scripts, has_script-kept}
 use Rattle.pd_book.proofs.Stretches.{up}
@@ -81,7 +81,7 @@ found_name n (e ∷ es) s h P a = go (bytes_eq n e.0) refl h (found_name n es s)
 
 -- a script runs an outstanding job exactly where it is fresh
 runs_at : (opening : Settings) (past : List Act) (h : Task) (t : List (List ℕ)) → ended past h.number ≡ false → (st : ScriptState) → At opening past h.name t st
-    → (b : Bool) → began past h.name h.number ≡ b → runs (Some st) h.number ≡ b
+    → (b : Bool) → began past h.name h.number ≡ b → is_running_job (Some st) h.number ≡ b
 runs_at opening past h t o Pending a true w = let x = hit opening past h.number o h.name t Pending w a in let bad = x.state in absurd cc
 runs_at opening past h t o Pending a false w = refl
 runs_at opening past h t o (Answered v) a true w = let x = hit opening past h.number o h.name t (Answered v) w a in let bad = x.state in absurd cc
@@ -94,10 +94,10 @@ runs_at opening past h t o (Running k) a false w =
     apart k h.number (λ e. let yes : began past h.name h.number ≡ true = subst (λ (i : ℕ). began past h.name i ≡ true) e a.1 in cc)
 
 pub runs_fresh : (opening : Settings) (past : List Act) (h : Task) → Legal opening past → AllByRecursion (Stands opening past) (scripts_of opening past) → job opening past h.number ≡ Some h
-    → runs (option_map (λ (s : StoredScript). s.state) (lookup (bytes_eq h.name) (scripts_of opening past))) h.number ≡ is_unchanged past h
+    → is_running_job (option_map (λ (s : StoredScript). s.state) (lookup (bytes_eq h.name) (scripts_of opening past))) h.number ≡ is_unchanged_since_start past h
 runs_fresh opening past h l a j = go (lookup (bytes_eq h.name) (scripts_of opening past)) refl
   where
-    go : (r : Option StoredScript) → lookup (bytes_eq h.name) (scripts_of opening past) ≡ r → runs (option_map (λ (s : StoredScript). s.state) r) h.number ≡ is_unchanged past h
+    go : (r : Option StoredScript) → lookup (bytes_eq h.name) (scripts_of opening past) ≡ r → is_running_job (option_map (λ (s : StoredScript). s.state) r) h.number ≡ is_unchanged_since_start past h
     go (Some s) q =
         let at = found_name h.name (scripts_of opening past) s q (Stands opening past) a in
         rw (ap is_some at.0) (runs_at opening past h s.text (open_job opening past h.number h l j) s.state at.1 (began past h.name h.number) refl)
@@ -122,12 +122,12 @@ standing opening (Finish k r ∷ past) l = go r (standing opening past l.1) l.0.
     go Taken a q =
         rw l.0.1 (all_map _ _ _ (scripts_of opening past) (taken_each opening past k l.0.0 l.1 l.0.1 (and_right (has_script past l.0.0.name) (began past l.0.0.name l.0.0.number) (taken_if _ q))) a)
     go Stale a q = all_imp _ _ (scripts_of opening past) (stale_each opening past k l.0.0 l.1 l.0.1 (stale_if _ q)) a
-standing opening (Abandon k ∷ past) l = rw l.0.1 (go (is_unchanged past l.0.0) refl (standing opening past l.1))
+standing opening (Abandon k ∷ past) l = rw l.0.1 (go (is_unchanged_since_start past l.0.0) refl (standing opening past l.1))
   where
     h : Task
     h = l.0.0
 
-    go : (b : Bool) → is_unchanged past h ≡ b → AllByRecursion (Stands opening past) (scripts_of opening past) → AllByRecursion (Stands opening (Abandon k ∷ past)) (make_pending (Some h) (scripts_of opening past))
+    go : (b : Bool) → is_unchanged_since_start past h ≡ b → AllByRecursion (Stands opening past) (scripts_of opening past) → AllByRecursion (Stands opening (Abandon k ∷ past)) (make_abandoned_pending (Some h) (scripts_of opening past))
     go b q a = rw is (by b q a)
       where
         num : h.number ≡ k
@@ -136,16 +136,16 @@ standing opening (Abandon k ∷ past) l = rw l.0.1 (go (is_unchanged past l.0.0)
         mine : job opening past h.number ≡ Some h
         mine = ap (job opening past) num ∙ l.0.1
 
-        is : runs (option_map (λ (s : StoredScript). s.state) (lookup (bytes_eq h.name) (scripts_of opening past))) h.number ≡ b
+        is : is_running_job (option_map (λ (s : StoredScript). s.state) (lookup (bytes_eq h.name) (scripts_of opening past))) h.number ≡ b
         is = runs_fresh opening past h l.1 a mine ∙ q
 
-        by : (c : Bool) → is_unchanged past h ≡ c → AllByRecursion (Stands opening past) (scripts_of opening past)
+        by : (c : Bool) → is_unchanged_since_start past h ≡ c → AllByRecursion (Stands opening past) (scripts_of opening past)
             → AllByRecursion (Stands opening (Abandon k ∷ past)) (cond c (with_state (bytes_eq h.name) Pending (scripts_of opening past)) (scripts_of opening past))
         by true q a = all_map _ _ _ (scripts_of opening past) (abandoned_each opening past k h l.1 l.0.1 (and_right (has_script past h.name) (began past h.name h.number) q)) a
         by false q a = all_imp _ _ (scripts_of opening past) (left_each opening past k h l.1 l.0.1 q) a
 
 pub ruling_kept : (opening : Settings) (past : List Act) (h : Task) → Legal opening past → job opening past h.number ≡ Some h
-    → runs (option_map (λ (s : StoredScript). s.state) (lookup (bytes_eq h.name) (scripts_of opening past))) h.number ≡ is_unchanged past h
+    → is_running_job (option_map (λ (s : StoredScript). s.state) (lookup (bytes_eq h.name) (scripts_of opening past))) h.number ≡ is_unchanged_since_start past h
 ruling_kept opening past h l j = runs_fresh opening past h l (standing opening past l) j
 
 waits_is : (opening : Settings) (past : List Act) (e : ScriptEntry) → Stands opening past e → waits past (named_text e) ≡ is_pending e

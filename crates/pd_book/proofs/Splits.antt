@@ -17,7 +17,7 @@ use Rattle.pd_book.specs.declared.act.Act.TheVariants.{Add, Edit, Remove, Set, S
 use Rattle.pd_book.specs.declared.act.Ruling.{Ruling}
 use Rattle.pd_book.specs.declared.act.Ruling.TheVariants.{Taken, Stale}
 use Rattle.pd_book.specs.declared.row.Row.{Row}
-use Rattle.pd_book.specs.Acts.{NamedText, texts, text_of, has_script, now, changes, since, starts, finishes, finished, ended, answered, is_unchanged, waits, ruling}
+use Rattle.pd_book.specs.Acts.{NamedText, texts, text_of, has_script, now, changes, since, starts, finishes, finished, ended, answered, is_unchanged_since_start, waits, ruling}
 use Rattle.pd_book.specs.Report.{ReportView, IsGrammarsRun, IsFromScratch, row, shown, scratch_row, scratch}
 use Rattle.pd_book.specs.Legal.{Legal}
 use Rattle.pd_book.specs.Headline.{AnsweredSinceChange, UnchangedSinceStart, CurrentWhenAnswered, RowsAreScripts, VerdictsAreGrammars, ScratchWhenAllAnswered, WholeWhenAllAnswered, pending, AreOrPending, RowsAreOfScratch, RowsAreOfWhole, TakenWhenUnchanged}
@@ -353,7 +353,7 @@ taken opening past l j task open_task = (there, back)
 
     there : ruling past task ≡ Taken → UnchangedSinceStart task past
     there h =
-        let b = begun (λ (i : ℕ). i == task.number) n (since n past) (and_right (has_script past n) (began past n task.number) (taken_when (is_unchanged past task) h)) in
+        let b = begun (λ (i : ℕ). i == task.number) n (since n past) (and_right (has_script past n) (began past n task.number) (taken_when (is_unchanged_since_start past task) h)) in
         let p = parted n past in
         let num : b.number ≡ task.number = (Decides-eqb b.number task.number).0 b.passes in
         let same : AllByRecursion (Same n) (b.later ++ Start b.number n ∷ b.earlier) = subst (λ (xs : List Act). AllByRecursion (Same n) xs) b.split p.same in record {

@@ -131,9 +131,9 @@ abbrev pub job : Settings → List Act → ℕ → Option Task
 job opening past j = find (λ (task : Task). j == task.number) (jobs opening past)
 
 -- the script of an outstanding job stands and hasn't changed since the job's start
-abbrev pub is_unchanged : List Act → Task → Bool
-is_unchanged past task = has_script past task.name && list_any (starts (λ j. j == task.number) task.name) (since task.name past)
+abbrev pub is_unchanged_since_start : List Act → Task → Bool
+is_unchanged_since_start past task = has_script past task.name && list_any (starts (λ j. j == task.number) task.name) (since task.name past)
 
 -- the ruling on a finish of an outstanding job
 abbrev pub ruling : List Act → Task → Ruling
-ruling past task = if is_unchanged past task then Taken else Stale
+ruling past task = if is_unchanged_since_start past task then Taken else Stale

@@ -24,8 +24,8 @@ abbrev pub taken_room : History → ℕ
 taken_room history = length history.past + length (jobs history.opening history.past)
 
 -- there is no room for this many more, of 65,536
-abbrev pub full : ℕ → History → Option BookFault
-full more history = if nat_le (taken_room history + more) 65536 then None else Some HistoryFull
+abbrev pub room_refusal : ℕ → History → Option BookFault
+room_refusal more history = if nat_le (taken_room history + more) 65536 then None else Some HistoryFull
 
 -- the first refusal, else the second
 abbrev pub or_else : Option BookFault → Option BookFault → Option BookFault
@@ -42,16 +42,16 @@ name_refusal past name =
 
 -- an add: the name may be added, and there is room
 abbrev pub add_refusal : History → List ℕ → Option BookFault
-add_refusal history name = or_else (name_refusal history.past name) (full 1 history)
+add_refusal history name = or_else (name_refusal history.past name) (room_refusal 1 history)
 
 -- why an edit of this text, if there is one, is refused
-abbrev pub text_refusal : Option (List (List ℕ)) → LineEdit → Option BookFault
-text_refusal None edit = Some NoSuchScript
-text_refusal (Some text) edit = option_map of_text (fault_of_edit text edit)
+abbrev pub line_edit_refusal : Option (List (List ℕ)) → LineEdit → Option BookFault
+line_edit_refusal None edit = Some NoSuchScript
+line_edit_refusal (Some text) edit = option_map of_text (fault_of_edit text edit)
 
 -- an edit: the script stands, the edit lies within its text and leaves a text within the limits, and there is room
 abbrev pub edit_refusal : History → List ℕ → LineEdit → Option BookFault
-edit_refusal history name edit = or_else (text_refusal (present_text history.past name) edit) (full 1 history)
+edit_refusal history name edit = or_else (line_edit_refusal (present_text history.past name) edit) (room_refusal 1 history)
 
 -- why a script that doesn't stand isn't removed
 abbrev pub missing_refusal : List Act → List ℕ → Option BookFault
@@ -59,7 +59,7 @@ missing_refusal past name = if has_script past name then None else Some NoSuchSc
 
 -- a remove: the script stands, and there is room
 abbrev pub remove_refusal : History → List ℕ → Option BookFault
-remove_refusal history name = or_else (missing_refusal history.past name) (full 1 history)
+remove_refusal history name = or_else (missing_refusal history.past name) (room_refusal 1 history)
 
 -- why a value for this key, if there is one, is refused
 abbrev pub value_refusal : Settings → Option Key → Value → Option BookFault
@@ -68,11 +68,11 @@ value_refusal settings (Some key) value = if is_none (replaced settings key valu
 
 -- a set: the key names a setting, the value lies in its range, and there is room
 abbrev pub set_refusal : History → List ℕ → Value → Option BookFault
-set_refusal history name value = or_else (value_refusal (now history.opening history.past) (key_named name) value) (full 1 history)
+set_refusal history name value = or_else (value_refusal (now history.opening history.past) (key_named name) value) (room_refusal 1 history)
 
 -- a start that gives a job takes room for its act and for the job's end
 abbrev pub start_refusal : History → Option BookFault
-start_refusal history = if is_some (next history.past) then full 2 history else None
+start_refusal history = if is_some (next history.past) then room_refusal 2 history else None
 
 -- the fault of a call that failed: its refusal, or else out of memory
 abbrev pub fault_of : Option BookFault → BookFault

@@ -36,11 +36,11 @@ abbrev pub in_state : StoredScript → ScriptState → StoredScript
 in_state script state = record { text = script.text; state = state }
 
 -- the script, if there is one, runs this job
-abbrev pub runs : Option ScriptState → ℕ → Bool
-runs None j = false
-runs (Some Pending) j = false
-runs (Some (Answered v)) j = false
-runs (Some (Running k)) j = k == j
+abbrev pub is_running_job : Option ScriptState → ℕ → Bool
+is_running_job None j = false
+is_running_job (Some Pending) j = false
+is_running_job (Some (Answered v)) j = false
+is_running_job (Some (Running k)) j = k == j
 
 -- the scripts after a write to the first of this name
 abbrev pub written_at : List ℕ → (StoredScript → StoredScript) → List ScriptEntry → List ScriptEntry

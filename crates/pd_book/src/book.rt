@@ -11,13 +11,13 @@ ghost use Rattle.pd_book.specs.Headline.{CurrentWhenAnswered, RowsAreScripts, Ve
 ghost use Rattle.pd_book.specs.History.{after_act};
 ghost use Rattle.pd_book.specs.Replies.{GivesAdd, GivesEdit, GivesRemove, GivesSet};
 ghost use Rattle.pd_book.specs.TrackCache.{without_track};
-ghost use Rattle.pd_book.specs.Refusals.{full, add_refusal, text_refusal, edit_refusal, remove_refusal, value_refusal, set_refusal, fault_of};
+ghost use Rattle.pd_book.specs.Refusals.{room_refusal, add_refusal, line_edit_refusal, edit_refusal, remove_refusal, value_refusal, set_refusal, fault_of};
 
 mod jobs;
 
 use crate::act::Act;
 use crate::faults::BookFault;
-use crate::records::{Records, record};
+use crate::records::{Records, record_act};
 use crate::report::Report;
 use crate::shared_edit::SharedEdit;
 use crate::track_cache::TrackCache;
@@ -95,9 +95,9 @@ impl Book {
     }
 
     /// Why there is no room for `more` acts and jobs.
-    fn full(&self, more: usize) -> Option<BookFault>
+    fn room_refusal(&self, more: usize) -> Option<BookFault>
         requires { more ≤ 2 }
-        ensures { result ≡ full more self.now.history }
+        ensures { result ≡ room_refusal more self.now.history }
     {
         if self.records.acts.len() + self.records.tasks.len() + more <= MAX_ACTS {
             None
@@ -133,8 +133,8 @@ impl Book {
         ensures tracks { self.new.tracks ≡ self.old.tracks }
     {
         match Text::new(*self.records.acts.allocator(), lines) {
-            Ok(text) => self.add_text(name, Some(text)),
-            Err(_) => self.add_text(name, None),
+            Ok(text) => self.check_and_insert_script(name, Some(text)),
+            Err(_) => self.check_and_insert_script(name, None),
         }
     }
 
@@ -142,7 +142,7 @@ impl Book {
     ///
     /// # Errors
     /// As for `add`.
-    pub fn add_shared(&mut self, name: Name, text: Text) -> Result<(), BookFault>
+    pub fn add_with_shared_text(&mut self, name: Name, text: Text) -> Result<(), BookFault>
         ensures gives { GivesAdd self.old.history name text result self.new.history }
         ensures ok { OnOk result (self.new.history ≡ after_act self.old.history (Act.Add name text)) }
         ensures allowed { OnOk result (add_refusal self.old.history name ≡ None) }
@@ -150,11 +150,11 @@ impl Book {
         ensures same { OnErr result (self.new ≡ self.old) }
         ensures tracks { self.new.tracks ≡ self.old.tracks }
     {
-        self.add_text(name, Some(text))
+        self.check_and_insert_script(name, Some(text))
     }
 
     /// Adds a script of this text; `None` if out of memory.
-    fn add_text(&mut self, name: Name, text: Option<Text>) -> Result<(), BookFault>
+    fn check_and_insert_script(&mut self, name: Name, text: Option<Text>) -> Result<(), BookFault>
         ensures ok { OnOk result (IsSomeAnd text (λ text. self.new.history ≡ after_act self.old.history (Act.Add name text))) }
         ensures allowed { OnOk result (add_refusal self.old.history name ≡ None) }
         ensures err { IfErr result (λ e. e ≡ fault_of (add_refusal self.old.history name)) }
@@ -165,7 +165,7 @@ impl Book {
             return Err(fault);
         }
         match text {
-            Some(text) => self.insert_script(name, text),
+            Some(text) => self.insert_and_record_script(name, text),
             None => Err(BookFault::OutOfMemory),
         }
     }
@@ -176,12 +176,12 @@ impl Book {
     {
         match self.name_refusal(name) {
             Some(fault) => Some(fault),
-            None => self.full(1),
+            None => self.room_refusal(1),
         }
     }
 
     /// Keeps a script whose adding isn't refused.
-    fn insert_script(&mut self, name: Name, text: Text) -> Result<(), BookFault>
+    fn insert_and_record_script(&mut self, name: Name, text: Text) -> Result<(), BookFault>
         requires allowed { add_refusal self.old.history name ≡ None }
         ensures ok { OnOk result (self.new.history ≡ after_act self.old.history (Act.Add name text)) }
         ensures err { IfErr result (λ e. e ≡ BookFault.OutOfMemory) }
@@ -193,7 +193,7 @@ impl Book {
         self.records.acts.reserve(self.records.tasks.len() + 1)?;
         let act = Act::Add(name.share()?, text.share()?);
         self.records.scripts.add(name, text)?;
-        record(&mut self.records.acts, act);
+        record_act(&mut self.records.acts, act);
         Ok(())
     }
 
@@ -209,53 +209,61 @@ impl Book {
         ensures same { OnErr result (self.new ≡ self.old) }
         ensures tracks { self.new.tracks ≡ self.old.tracks }
     {
-        let (key, settings) = self.replaced(key, value)?;
-        match self.full(1) {
+        let (key, settings) = self.key_and_changed_settings(key, value)?;
+        match self.room_refusal(1) {
             Some(fault) => Err(fault),
-            None => Ok(self.store_setting(key, value, settings)?),
+            None => Ok(self.store_and_record_setting(key, value, settings)?),
         }
     }
 
     /// The key of this name, and the settings in which its setting has this value.
-    fn replaced(&self, key: &[u8], value: Value) -> Result<(Key, Settings), BookFault>
+    fn key_and_changed_settings(
+        &self,
+        key: &[u8],
+        value: Value,
+    ) -> Result<(Key, Settings), BookFault>
         ensures key { IfOk result (λ new. key_named key.now ≡ Some new.0) }
         ensures settings { IfOk result (λ new. replaced (now self.now.history.opening self.now.history.past) new.0 value ≡ Some new.1) }
         ensures err { IfErr result (λ e. value_refusal (now self.now.history.opening self.now.history.past) (key_named key.now) value ≡ Some e) }
     {
-        let Some(key) = Key::named(key) else {
+        let Some(key) = Key::from_name(key) else {
             return Err(BookFault::UnknownKey);
         };
-        match self.settings.replace(key, value) {
+        match self.settings.with_value_at(key, value) {
             Some(settings) => Ok((key, settings)),
             None => Err(BookFault::BadValue),
         }
     }
 
     /// Keeps a setting for which there is room.
-    fn store_setting(
+    fn store_and_record_setting(
         &mut self,
         key: Key,
         value: Value,
         settings: Settings,
     ) -> Result<(), AllocError>
         requires settings { replaced (now self.old.history.opening self.old.history.past) key value ≡ Some settings }
-        requires room { full 1 self.old.history ≡ None }
+        requires room { room_refusal 1 self.old.history ≡ None }
         ensures ok { OnOk result (self.new.history ≡ after_act self.old.history (Act.Set key value)) }
         ensures same { OnErr result (self.new ≡ self.old) }
         ensures tracks { self.new.tracks ≡ self.old.tracks }
     {
         self.records.acts.reserve(self.records.tasks.len() + 1)?;
         self.settings = settings;
-        self.records.scripts.clear();
-        record(&mut self.records.acts, Act::Set(key, value));
+        self.records.scripts.make_all_pending();
+        record_act(&mut self.records.acts, Act::Set(key, value));
         Ok(())
     }
 
     /// The text of a script after an edit; `None` if out of memory.
-    pub(crate) fn edited(&self, name: &Name, edit: &LineEdit) -> Result<Option<Lines>, BookFault>
+    pub(crate) fn edited_lines(
+        &self,
+        name: &Name,
+        edit: &LineEdit,
+    ) -> Result<Option<Lines>, BookFault>
         ensures ok { IfOk result (λ lines. IfSome lines (λ lines. lines ≡ edited (text_of self.now.history.past name.now) edit.now)) }
-        ensures allowed { OnOk result (text_refusal (present_text self.now.history.past name.now) edit.now ≡ None) }
-        ensures err { IfErr result (λ e. text_refusal (present_text self.now.history.past name.now) edit.now ≡ Some e) }
+        ensures allowed { OnOk result (line_edit_refusal (present_text self.now.history.past name.now) edit.now ≡ None) }
+        ensures err { IfErr result (λ e. line_edit_refusal (present_text self.now.history.past name.now) edit.now ≡ Some e) }
         ensures lines { AreLines edit.now.insert }
     {
         edit.law_invariant();
@@ -300,15 +308,15 @@ impl Book {
         ensures tracks { self.new.tracks ≡ self.old.tracks }
     {
         let lines = self.text_after_edit(name, edit)?;
-        let edit = SharedEdit::copy_of(*self.records.acts.allocator(), edit)?;
-        self.replace_text(name, edit, lines)
+        let edit = SharedEdit::from_copied_edit(*self.records.acts.allocator(), edit)?;
+        self.replace_and_record_text(name, edit, lines)
     }
 
     /// Edits the text of a script, where others keep the edit too.
     ///
     /// # Errors
     /// As for `edit`.
-    pub fn edit_shared(&mut self, name: &Name, edit: SharedEdit) -> Result<(), BookFault>
+    pub fn edit_with_shared_edit(&mut self, name: &Name, edit: SharedEdit) -> Result<(), BookFault>
         ensures gives { GivesEdit self.old.history name.now edit result self.new.history }
         ensures ok { OnOk result (self.new.history ≡ after_act self.old.history (Act.Edit name.now edit)) }
         ensures allowed { OnOk result (edit_refusal self.old.history name.now edit ≡ None) }
@@ -317,19 +325,19 @@ impl Book {
         ensures tracks { self.new.tracks ≡ self.old.tracks }
     {
         let lines = self.text_after_edit(name, edit.edit())?;
-        self.replace_text(name, edit, lines)
+        self.replace_and_record_text(name, edit, lines)
     }
 
     /// The text of a script after an edit for which there is room.
     fn text_after_edit(&self, name: &Name, edit: &LineEdit) -> Result<Lines, BookFault>
         ensures ok { IfOk result (λ lines. lines ≡ edited (text_of self.now.history.past name.now) edit.now) }
-        ensures allowed { OnOk result (text_refusal (present_text self.now.history.past name.now) edit.now ≡ None) }
-        ensures room { OnOk result (full 1 self.now.history ≡ None) }
+        ensures allowed { OnOk result (line_edit_refusal (present_text self.now.history.past name.now) edit.now ≡ None) }
+        ensures room { OnOk result (room_refusal 1 self.now.history ≡ None) }
         ensures err { IfErr result (λ e. e ≡ fault_of (edit_refusal self.now.history name.now edit.now)) }
         ensures lines { AreLines edit.now.insert }
     {
-        let edited = self.edited(name, edit)?;
-        if let Some(fault) = self.full(1) {
+        let edited = self.edited_lines(name, edit)?;
+        if let Some(fault) = self.room_refusal(1) {
             return Err(fault);
         }
         match edited {
@@ -339,9 +347,14 @@ impl Book {
     }
 
     /// Keeps what an edit leaves that isn't refused.
-    fn replace_text(&mut self, name: &Name, edit: SharedEdit, lines: Lines) -> Result<(), BookFault>
-        requires allowed { text_refusal (present_text self.old.history.past name.now) edit ≡ None }
-        requires room { full 1 self.old.history ≡ None }
+    fn replace_and_record_text(
+        &mut self,
+        name: &Name,
+        edit: SharedEdit,
+        lines: Lines,
+    ) -> Result<(), BookFault>
+        requires allowed { line_edit_refusal (present_text self.old.history.past name.now) edit ≡ None }
+        requires room { room_refusal 1 self.old.history ≡ None }
         requires text { lines ≡ edited (text_of self.old.history.past name.now) edit }
         requires inserted { AreLines edit.insert }
         ensures ok { OnOk result (self.new.history ≡ after_act self.old.history (Act.Edit name.now edit)) }
@@ -353,7 +366,7 @@ impl Book {
         let text = Text::new(*self.records.acts.allocator(), lines)?;
         let act = Act::Edit(self.interned_name(name)?, edit);
         self.records.scripts.replace_text(name, text);
-        record(&mut self.records.acts, act);
+        record_act(&mut self.records.acts, act);
         Ok(())
     }
 
@@ -372,14 +385,14 @@ impl Book {
         if !self.has_script(name) {
             return Err(BookFault::NoSuchScript);
         }
-        if let Some(fault) = self.full(1) {
+        if let Some(fault) = self.room_refusal(1) {
             return Err(fault);
         }
         self.records.acts.reserve(self.records.tasks.len() + 1)?;
         let act = Act::Remove(self.interned_name(name)?);
         self.records.scripts.remove(name);
         self.tracks.remove(name);
-        record(&mut self.records.acts, act);
+        record_act(&mut self.records.acts, act);
         Ok(())
     }
 

@@ -2,7 +2,7 @@
 ghost use Rattle.std.specs.Prelude.{◌≡◌};
 ghost use Rattle.pd_settings.specs.Keys.{key_named};
 ghost use Rattle.pd_book.specs.Acts.{present_text, now};
-ghost use Rattle.pd_book.specs.Refusals.{name_refusal, text_refusal, missing_refusal, value_refusal};
+ghost use Rattle.pd_book.specs.Refusals.{name_refusal, line_edit_refusal, missing_refusal, value_refusal};
 
 use crate::book::{Book, MAX_SCRIPTS};
 use crate::faults::BookFault;
@@ -27,10 +27,10 @@ impl Book {
     }
 
     /// Why a script isn't edited so: `NoSuchScript`, `BadRange` or `TooLarge`, the first that applies.
-    pub fn text_refusal(&self, name: &Name, edit: &LineEdit) -> Option<BookFault>
-        ensures { result ≡ text_refusal (present_text self.now.history.past name.now) edit.now }
+    pub fn line_edit_refusal(&self, name: &Name, edit: &LineEdit) -> Option<BookFault>
+        ensures { result ≡ line_edit_refusal (present_text self.now.history.past name.now) edit.now }
     {
-        match self.edited(name, edit) {
+        match self.edited_lines(name, edit) {
             Ok(_) => None,
             Err(fault) => Some(fault),
         }
@@ -51,10 +51,10 @@ impl Book {
     pub fn value_refusal(&self, key: &[u8], value: Value) -> Option<BookFault>
         ensures { result ≡ value_refusal (now self.now.history.opening self.now.history.past) (key_named key.now) value }
     {
-        let Some(key) = Key::named(key) else {
+        let Some(key) = Key::from_name(key) else {
             return Some(BookFault::UnknownKey);
         };
-        if self.settings.replace(key, value).is_none() {
+        if self.settings.with_value_at(key, value).is_none() {
             return Some(BookFault::BadValue);
         }
         None

@@ -5,8 +5,8 @@ ghost use Rattle.std.specs.List.{IsDistinct};
 ghost use Rattle.std.specs.Map.{lookup, remove_entry, keys_of, values_of};
 ghost use Rattle.std.specs.Map.Iter.{deref_pair};
 ghost use Rattle.std.specs.Str.{bytes_eq};
-ghost use Rattle.pd_book.specs.StoredScripts.{in_state, is_pending, verdict_in, runs, written_at, with_state, without_name, all_pending, kept_row};
-ghost use Rattle.pd_book.specs.Replay.{make_pending};
+ghost use Rattle.pd_book.specs.StoredScripts.{in_state, is_pending, verdict_in, is_running_job, written_at, with_state, without_name, all_pending, kept_row};
+ghost use Rattle.pd_book.specs.Replay.{make_abandoned_pending};
 
 use crate::row::Row;
 use crate::stored_script::{ScriptState, StoredScript};
@@ -113,10 +113,10 @@ impl Scripts {
     pub fn remove(&mut self, name: &Name)
         ensures { self.new ≡ without_name name.now self.old }
     {
-        self.take_out(name);
+        self.remove_by_name(name);
     }
 
-    fn take_out(&mut self, name: &Name)
+    fn remove_by_name(&mut self, name: &Name)
         ensures taken { self.new ≡ remove_entry (bytes_eq name.now) self.old }
         ensures gone { lookup (bytes_eq name.now) self.new ≡ None }
     {
@@ -142,8 +142,8 @@ impl Scripts {
     }
 
     /// Whether the script of this name runs this job.
-    pub fn runs(&self, name: &Name, number: u64) -> bool
-        ensures { result ≡ runs (option_map (λ s. s.state) (lookup (bytes_eq name.now) self.now)) number }
+    pub fn is_running_job(&self, name: &Name, number: u64) -> bool
+        ensures { result ≡ is_running_job (option_map (λ s. s.state) (lookup (bytes_eq name.now) self.now)) number }
     {
         match self.state(name) {
             Some(ScriptState::Running(running)) => running == number,
@@ -192,16 +192,16 @@ impl Scripts {
     }
 
     /// Makes the script of an abandoned task pending, if it runs that job.
-    pub fn make_pending(&mut self, task: &Task)
-        ensures { self.new ≡ make_pending (Some task.now) self.old }
+    pub fn make_abandoned_pending(&mut self, task: &Task)
+        ensures { self.new ≡ make_abandoned_pending (Some task.now) self.old }
     {
-        if self.runs(&task.name, task.number) {
+        if self.is_running_job(&task.name, task.number) {
             self.set_state(&task.name, ScriptState::Pending);
         }
     }
 
     /// Makes each script pending.
-    pub fn clear(&mut self)
+    pub fn make_all_pending(&mut self)
         ensures { self.new ≡ all_pending self.old }
     {
         self.by_name.retain(|_, script| {

@@ -38,7 +38,7 @@ impl SharedEdit {
     ///
     /// # Errors
     /// `AllocError` where memory for it is refused.
-    pub fn copy_of(alloc: Global, edit: &LineEdit) -> Result<SharedEdit, AllocError>
+    pub fn from_copied_edit(alloc: Global, edit: &LineEdit) -> Result<SharedEdit, AllocError>
         ensures { IfOk result (λ shared. shared ≡ edit.now) }
     {
         SharedEdit::new(alloc, edit.copy()?)

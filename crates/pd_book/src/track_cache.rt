@@ -86,7 +86,7 @@ impl TrackCache {
         ensures { result ≡ is_better_than_cached text.now (source_of done.now) (track_of done.now.name self.now) }
     {
         match self.track(done.name()) {
-            Some(kept) => shared(kept, text) < shared(done.track(), text),
+            Some(kept) => shared_line_count(kept, text) < shared_line_count(done.track(), text),
             None => true,
         }
     }
@@ -96,7 +96,7 @@ impl TrackCache {
         ensures { (self.new ≡ (if should_cache then cached_first done.now.name (source_of done.now) self.old else self.old)) ⊎ (self.new ≡ self.old) }
     {
         if should_cache {
-            let _ = self.put(alloc, done);
+            let _ = self.put_at_front(alloc, done);
         }
     }
 
@@ -107,8 +107,8 @@ impl TrackCache {
         self.evicted.take()
     }
 
-    fn put(&mut self, alloc: Global, done: &Done) -> Result<(), AllocError>
-        ensures put { OnOk result (self.new ≡ cached_first done.now.name (source_of done.now) self.old) }
+    fn put_at_front(&mut self, alloc: Global, done: &Done) -> Result<(), AllocError>
+        ensures put_at_front { OnOk result (self.new ≡ cached_first done.now.name (source_of done.now) self.old) }
         ensures same { OnErr result (self.new ≡ self.old) }
     {
         let name = done.name().share()?;
@@ -140,7 +140,7 @@ fn push(
     name: Name,
     track: Track,
 ) -> Result<Option<Track>, AllocError>
-    ensures put { OnOk result (cache.new ≡ lru_cache (put_entries bytes_eq cache.old name track) cache.old.cap) }
+    ensures put_at_front { OnOk result (cache.new ≡ lru_cache (put_entries bytes_eq cache.old name track) cache.old.cap) }
     ensures same { OnErr result (cache.new ≡ cache.old) }
 {
     match cache.push(name, track) {
@@ -151,7 +151,7 @@ fn push(
 }
 
 /// With how many lines the track's text begins as this one does.
-fn shared(track: &Track, text: &Text) -> usize
+fn shared_line_count(track: &Track, text: &Text) -> usize
     ensures { result ≡ common_prefix track.now.text text.now }
 {
     track.text().lines().same_front(text.lines())

@@ -11,7 +11,7 @@ use Rattle.pd_book.specs.declared.faults.BookFault.{BookFault}
 use Rattle.pd_book.specs.declared.faults.BookFault.TheVariants as book
 use Rattle.pd_book.specs.Acts.{NamedText, texts, present_text, now, set_to, edited_at}
 use Rattle.pd_book.specs.Headline.{AreOrPending, RowsAreOfScratch, ScratchIsOne}
-use Rattle.pd_book.specs.Refusals.{full, taken_room, or_else, name_refusal, text_refusal, missing_refusal, value_refusal}
+use Rattle.pd_book.specs.Refusals.{room_refusal, taken_room, or_else, name_refusal, line_edit_refusal, missing_refusal, value_refusal}
 use Rattle.pd_book.specs.Report.{shown, scratch}
 use Rattle.pd_book.specs.History.{History, after_act}
 use Rattle.pd_protocol.specs.Commands.{InputItem, does, stops, commands}
@@ -29,7 +29,7 @@ abbrev Possible : History → Command → List ℕ → History → Type 0
 Possible accepted command printed after = (next : History) × MayPrint accepted command printed next × HaveSame after next
 
 -- a full history is the only refusal of room
-full_is : (more : ℕ) (history : History) (fault : BookFault) → full more history ≡ Some fault → fault ≡ book.HistoryFull
+full_is : (more : ℕ) (history : History) (fault : BookFault) → room_refusal more history ≡ Some fault → fault ≡ book.HistoryFull
 full_is more history fault e = go (nat_le (taken_room history + more) 65536) e
   where
     go : (b : Bool) → cond b None (Some book.HistoryFull) ≡ Some fault → fault ≡ book.HistoryFull
@@ -37,14 +37,14 @@ full_is more history fault e = go (nat_le (taken_room history + more) 65536) e
     go false k = cc
 
 possible_act : (history accepted after : History) (refusal : Option BookFault) (a : Option Act) (printed : List ℕ) → HaveSame history accepted → (refusal ≡ None → is_some a ≡ true) → ((x : Act) → HaveSame (after_act history x) (after_act accepted x))
-    → acted history (or_else refusal (full 1 history)) a ≡ (printed, after) → (next : History) × MayAct accepted refusal a printed next × HaveSame after next
+    → acted history (or_else refusal (room_refusal 1 history)) a ≡ (printed, after) → (next : History) × MayAct accepted refusal a printed next × HaveSame after next
 possible_act history accepted after (Some fault) a printed same some more e =
     let is : after ≡ history = sym (ap (λ (p : List ℕ × History). p.1) e) in
     (accepted, (sym (ap (λ (p : List ℕ × History). p.0) e), refl), rw is same)
 possible_act history accepted after None None printed same some more e = let bad : false ≡ true = some refl in absurd cc
-possible_act history accepted after None (Some x) printed same some more e = go (full 1 history) refl e
+possible_act history accepted after None (Some x) printed same some more e = go (room_refusal 1 history) refl e
   where
-    go : (room : Option BookFault) → full 1 history ≡ room → acted history room (Some x) ≡ (printed, after) → (next : History) × MayAct accepted None (Some x) printed next × HaveSame after next
+    go : (room : Option BookFault) → room_refusal 1 history ≡ room → acted history room (Some x) ≡ (printed, after) → (next : History) × MayAct accepted None (Some x) printed next × HaveSame after next
     go None r k =
         let is : after ≡ after_act history x = sym (ap (λ (p : List ℕ × History). p.1) k) in
         (after_act accepted x, inl (sym (ap (λ (p : List ℕ × History). p.0) k), refl), rw is (more x))
@@ -76,8 +76,8 @@ possible one history accepted after (Add name (Some text)) printed same rows set
     let here : name_refusal history.past name ≡ name_refusal accepted.past name = rw same.0 refl in
     rw (← here) (possible_act history accepted after (name_refusal history.past name) (Some (act.Add name text)) printed same (λ n. refl) (same_after_act history accepted same) (ok_same _ _ e))
 possible one history accepted after (Edit name (Some edit)) printed same rows settles e =
-    let here : text_refusal (present_text history.past name) edit ≡ text_refusal (present_text accepted.past name) edit = rw same.0 refl in
-    rw (← here) (possible_act history accepted after (text_refusal (present_text history.past name) edit) (Some (act.Edit name edit)) printed same (λ n. refl) (same_after_act history accepted same) (ok_same _ _ e))
+    let here : line_edit_refusal (present_text history.past name) edit ≡ line_edit_refusal (present_text accepted.past name) edit = rw same.0 refl in
+    rw (← here) (possible_act history accepted after (line_edit_refusal (present_text history.past name) edit) (Some (act.Edit name edit)) printed same (λ n. refl) (same_after_act history accepted same) (ok_same _ _ e))
 possible one history accepted after (Remove name) printed same rows settles e =
     let here : missing_refusal history.past name ≡ missing_refusal accepted.past name = rw same.0 refl in
     rw (← here) (possible_act history accepted after (missing_refusal history.past name) (Some (act.Remove name)) printed same (λ n. refl) (same_after_act history accepted same) (ok_same _ _ e))

@@ -7,13 +7,13 @@ use Rattle.pd_protocol.specs.declared.faults.ServeFault.{ServeFault}
 use Rattle.pd_protocol.specs.declared.faults.ServeFault.TheVariants.{HistoryFull, NoWorkers, Differs, OutOfMemory}
 
 -- why a report isn't shown, as a fault of serving
-abbrev pub of_show : ShowFault → ServeFault
-of_show show.Differs = Differs
-of_show show.OutOfMemory = OutOfMemory
+abbrev pub serve_fault_of_show : ShowFault → ServeFault
+serve_fault_of_show show.Differs = Differs
+serve_fault_of_show show.OutOfMemory = OutOfMemory
 
 -- why a desk refuses, as a fault of serving
-abbrev pub of_desk : DeskFault → ServeFault
-of_desk desk.NoWorkers = NoWorkers
-of_desk desk.Differs = Differs
-of_desk desk.HistoryFull = HistoryFull
-of_desk desk.OutOfMemory = OutOfMemory
+abbrev pub serve_fault_of_desk : DeskFault → ServeFault
+serve_fault_of_desk desk.NoWorkers = NoWorkers
+serve_fault_of_desk desk.Differs = Differs
+serve_fault_of_desk desk.HistoryFull = HistoryFull
+serve_fault_of_desk desk.OutOfMemory = OutOfMemory

@@ -20,7 +20,7 @@ use std::alloc::{AllocError, Global};
 ///
 /// # Errors
 /// `AllocError` where a growth is refused.
-pub(crate) fn explanation_of(
+pub(crate) fn explanation_or_leftovers(
     alloc: Global,
     explain_options: &ExplainOptions<'_>,
     done: &Done,
@@ -32,9 +32,9 @@ pub(crate) fn explanation_of(
         return Ok(Vec::new(alloc));
     }
     if is_pass(done.verdict()) {
-        return leftovers_of(alloc, explain_options, done);
+        return leftovers_if_asked(alloc, explain_options, done);
     }
-    reason_of(alloc, explain_options.json, done)
+    failure_explanation(alloc, explain_options.json, done)
 }
 
 fn is_pass(verdict: Verdict) -> bool
@@ -44,7 +44,7 @@ fn is_pass(verdict: Verdict) -> bool
 }
 
 /// Why a job doesn't pass.
-fn reason_of(alloc: Global, json: bool, done: &Done) -> Result<Vec<u8>, AllocError> {
+fn failure_explanation(alloc: Global, json: bool, done: &Done) -> Result<Vec<u8>, AllocError> {
     match explain_job(alloc, done)? {
         Some(explanation) if json => explanation_json(alloc, done.name(), &explanation),
         Some(explanation) => explanation_text(alloc, done.name(), &explanation),
@@ -53,7 +53,7 @@ fn reason_of(alloc: Global, json: bool, done: &Done) -> Result<Vec<u8>, AllocErr
 }
 
 /// The leftovers at the end of a job that passes, where they are asked for.
-fn leftovers_of(
+fn leftovers_if_asked(
     alloc: Global,
     explain_options: &ExplainOptions<'_>,
     done: &Done,

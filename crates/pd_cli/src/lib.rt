@@ -49,8 +49,8 @@ mod workers;
 
 pub use laws::{law_reporting, law_reports};
 pub use pd_protocol::{
-    Exit, ExplainOptions, InputStream, Options, ProgramFault, ServeFault, arguments, options,
-    refuse, refuse_arguments,
+    Exit, ExplainOptions, InputStream, Options, ProgramFault, ServeFault, arguments,
+    exit_with_clap_error, exit_with_unreadable_arguments, options,
 };
 pub use program::{PROGRAM, run, run_alone};
 pub use report_text::render;

@@ -5,7 +5,7 @@ ghost use Rattle.pd_cli.specs.Steps.{RepliesTo};
 
 use crate::handler::CommandHandler;
 use crate::observer::JobObserver;
-use crate::settle::{settle_and_show, show};
+use crate::settle::{render_book, settle_and_render_book};
 use pd_book::{Book, BookFault, SharedEdit};
 use pd_protocol::ServeFault;
 use pd_settings::Value;
@@ -43,8 +43,8 @@ impl<L: JobObserver> CommandHandler for LocalHandler<L> {
 
     fn add(&mut self, name: Name, text: Option<Lines>) -> Result<Vec<u8>, ServeFault> {
         match text {
-            Some(text) => reply(self.alloc, self.book.add(name, text)),
-            None => reply(self.alloc, Err(BookFault::TooLarge)),
+            Some(text) => reply_to_result(self.alloc, self.book.add(name, text)),
+            None => reply_to_result(self.alloc, Err(BookFault::TooLarge)),
         }
     }
 
@@ -52,32 +52,32 @@ impl<L: JobObserver> CommandHandler for LocalHandler<L> {
         match edit {
             Some(edit) => {
                 let edit = SharedEdit::new(self.alloc, edit)?;
-                reply(self.alloc, self.book.edit_shared(name, edit))
+                reply_to_result(self.alloc, self.book.edit_with_shared_edit(name, edit))
             }
-            None => reply(self.alloc, Err(BookFault::TooLarge)),
+            None => reply_to_result(self.alloc, Err(BookFault::TooLarge)),
         }
     }
 
     fn remove(&mut self, name: &Name) -> Result<Vec<u8>, ServeFault> {
-        reply(self.alloc, self.book.remove(name))
+        reply_to_result(self.alloc, self.book.remove(name))
     }
 
     fn set(&mut self, key: &Name, value: Value) -> Result<Vec<u8>, ServeFault> {
-        reply(self.alloc, self.book.set(key.as_slice(), value))
+        reply_to_result(self.alloc, self.book.set(key.as_slice(), value))
     }
 
     fn show(&mut self) -> Result<Vec<u8>, ServeFault> {
-        Ok(show(self.alloc, &self.book)?.0)
+        Ok(render_book(self.alloc, &self.book)?.0)
     }
 
     fn settle(&mut self) -> Result<(Vec<u8>, bool), ServeFault> {
-        settle_and_show(self.alloc, &mut self.book, &mut self.observer)
+        settle_and_render_book(self.alloc, &mut self.book, &mut self.observer)
     }
 }
 
 /// The reply to an answer of the book: nothing, or the line of a refusal.
-fn reply(alloc: Global, answer: Result<(), BookFault>) -> Result<Vec<u8>, ServeFault>
-    ensures reply { IfOk result (λ octets. RepliesTo answer octets.items) }
+fn reply_to_result(alloc: Global, answer: Result<(), BookFault>) -> Result<Vec<u8>, ServeFault>
+    ensures reply_to_result { IfOk result (λ octets. RepliesTo answer octets.items) }
     ensures only { IfErr result (λ fault. fault ≡ ServeFault.OutOfMemory) }
 {
     match answer {

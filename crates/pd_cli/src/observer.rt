@@ -15,7 +15,7 @@ pub(crate) trait JobObserver {
     ///
     /// # Errors
     /// `AllocError` where a growth for what is reported is refused.
-    fn finished(&mut self, done: &Done, steps: u64) -> Result<(), AllocError>
+    fn on_job_finished(&mut self, done: &Done, steps: u64) -> Result<(), AllocError>
         ensures observed { OnOk result (observes self.old self.new (record { number = done.now.number; name = done.now.name; steps = steps })) }
         ensures same { OnErr result (self.new ≡ self.old) };
 }
@@ -27,7 +27,7 @@ pub(crate) struct NoObserver;
 impl JobObserver for NoObserver {
     ghost observes = { λ _ _ _. Unit {0} };
 
-    fn finished(&mut self, _done: &Done, _steps: u64) -> Result<(), AllocError> {
+    fn on_job_finished(&mut self, _done: &Done, _steps: u64) -> Result<(), AllocError> {
         Ok(())
     }
 }

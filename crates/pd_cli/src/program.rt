@@ -18,8 +18,8 @@ use crate::workers::serve;
 use pd_book::{Book, law_headline};
 use pd_desk::OpenGate;
 use pd_protocol::{
-    Exit, FAULT_STATUS, InputStream, Options, ProgramFault, ServeFault, fail, options, refuse,
-    settings_of,
+    Exit, FAULT_STATUS, InputStream, Options, ProgramFault, ServeFault, exit_with_clap_error,
+    exit_with_fault, options, settings_from_toml,
 };
 use pd_settings::Settings;
 use std::alloc::Global;
@@ -49,12 +49,12 @@ pub fn run<H: Threads + Wait + Sync, S: AsStr, R: InputStream, W: Write, E: Writ
 {
     let chosen = match options(alloc, words) {
         Ok(options) => options,
-        Err(error) => return refuse(alloc, PROGRAM, &error, err),
+        Err(error) => return exit_with_clap_error(alloc, PROGRAM, &error, err),
     };
     if chosen.workers == 0 {
         return run_alone(alloc, &chosen, reader, out, err);
     }
-    run_beside(rt, alloc, &chosen, reader, out, err)
+    run_beside_workers(rt, alloc, &chosen, reader, out, err)
 }
 
 /// Runs the program without workers: it serves the input, reports what the options ask for, and prints at the end why it
@@ -71,14 +71,14 @@ pub fn run_alone<R: InputStream, W: Write, E: Write>(
     ensures { let input = R.remaining reader.old in
         Finishes (R.has_failed reader.new) result 0 (report_options_of options.now) options.now.settings.now input (W.contents out.old) (W.contents out.new) (E.contents err.old) (E.contents err.new) }
 {
-    match settings_of(alloc, options.settings) {
+    match settings_from_toml(alloc, options.settings) {
         Ok(settings) => {
             let (err, stderr_ok, end) = serve_and_report(
                 alloc, options, settings, reader, out, err,
             );
-            exit_of(stderr_ok, end, err)
+            exit_after_serving(stderr_ok, end, err)
         }
-        Err(fault) => fail(PROGRAM, err, fault),
+        Err(fault) => exit_with_fault(PROGRAM, err, fault),
     }
 }
 
@@ -118,7 +118,7 @@ fn serve_and_report<'a, R: InputStream, W: Write, E: Write>(
 }
 
 /// Runs the program beside workers: it serves the input, and says at the end why it doesn't go on.
-fn run_beside<H: Threads + Wait + Sync, R: InputStream, W: Write, E: Write>(
+fn run_beside_workers<H: Threads + Wait + Sync, R: InputStream, W: Write, E: Write>(
     rt: &H,
     alloc: Global,
     options: &Options<'_>,
@@ -134,17 +134,17 @@ fn run_beside<H: Threads + Wait + Sync, R: InputStream, W: Write, E: Write>(
         (report_options : ReportOptions) → Finishes (R.has_failed reader.new) result options.now.workers report_options options.now.settings.now input (W.contents out.old) (W.contents out.new) (E.contents err.old) (E.contents err.new) }
 {
     let (cache, workers) = (options.cache, options.workers);
-    match settings_of(alloc, options.settings) {
+    match settings_from_toml(alloc, options.settings) {
         Ok(settings) => {
             let end = serve(rt, alloc, settings, cache, workers, reader, out, &OpenGate);
-            exit_of(true, end, err)
+            exit_after_serving(true, end, err)
         }
-        Err(fault) => fail(PROGRAM, err, fault),
+        Err(fault) => exit_with_fault(PROGRAM, err, fault),
     }
 }
 
 /// Ends a run that served its input, with whether all was written so far: says the fault of serving where there is one.
-fn exit_of<E: Write>(stderr_ok: bool, end: Result<bool, ServeFault>, err: &mut E) -> Exit
+fn exit_after_serving<E: Write>(stderr_ok: bool, end: Result<bool, ServeFault>, err: &mut E) -> Exit
     ensures status { result.status ≡ status_of (end_of end) }
     ensures stderr { WritesMore stderr_ok result.stderr_ok (E.contents err.old) (E.contents err.new) (stderr_of (end_of end)) }
 {
@@ -153,7 +153,7 @@ fn exit_of<E: Write>(stderr_ok: bool, end: Result<bool, ServeFault>, err: &mut E
             status: if passed { 0 } else { 1 },
             stderr_ok,
         },
-        Err(fault) if stderr_ok => fail(PROGRAM, err, ProgramFault::Serving(fault)),
+        Err(fault) if stderr_ok => exit_with_fault(PROGRAM, err, ProgramFault::Serving(fault)),
         Err(_) => Exit {
             status: FAULT_STATUS,
             stderr_ok: false,

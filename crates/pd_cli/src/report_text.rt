@@ -3,7 +3,7 @@ ghost use Rattle.std.specs.Prelude.{◌≡◌, ◌++◌, IfOk, OnOk};
 ghost use Rattle.pd_cli.specs.Report.{rendered, row_line, totals, totals_line, is_of, number};
 
 use pd_book::{Report, Row};
-use pd_protocol::{put_number, put_verdict};
+use pd_protocol::{put_verdict, put_word_and_number};
 use pd_run::Verdict;
 use std::alloc::{AllocError, Global};
 
@@ -29,7 +29,7 @@ pub fn render(alloc: Global, report: &Report) -> Result<Vec<u8>, AllocError>
     for row in report.rows() {
         put_row(&mut out, row)?;
     }
-    Totals::of(report.rows()).put_line(&mut out)?;
+    Totals::of_rows(report.rows()).put_line(&mut out)?;
     Ok(out)
 }
 
@@ -60,7 +60,7 @@ pub enum RowKind {
 
 impl RowKind {
     /// Whether a row with this verdict is of the class.
-    pub fn holds(self, verdict: Option<Verdict>) -> bool
+    pub fn includes_verdict(self, verdict: Option<Verdict>) -> bool
         ensures { result ≡ is_of self verdict }
     {
         match (self, verdict) {
@@ -96,7 +96,7 @@ struct Totals {
 
 impl Totals {
     /// Those of rows, each of which is looked at once.
-    fn of(rows: &[Row]) -> Totals
+    fn of_rows(rows: &[Row]) -> Totals
         ensures { result ≡ totals rows.now }
     {
         let mut totals = Totals {
@@ -125,13 +125,13 @@ impl Totals {
     fn put_line(self, out: &mut Vec<u8>) -> Result<(), AllocError>
         ensures { OnOk result (out.new.items ≡ out.old.items ++ totals_line self) }
     {
-        put_number(out, b"total ", self.total)?;
-        put_number(out, b" pass ", self.pass)?;
-        put_number(out, b" fail ", self.fail)?;
-        put_number(out, b" syntax ", self.syntax)?;
-        put_number(out, b" unsupported ", self.unsupported)?;
-        put_number(out, b" limit ", self.limit)?;
-        put_number(out, b" pending ", self.pending)?;
+        put_word_and_number(out, b"total ", self.total)?;
+        put_word_and_number(out, b" pass ", self.pass)?;
+        put_word_and_number(out, b" fail ", self.fail)?;
+        put_word_and_number(out, b" syntax ", self.syntax)?;
+        put_word_and_number(out, b" unsupported ", self.unsupported)?;
+        put_word_and_number(out, b" limit ", self.limit)?;
+        put_word_and_number(out, b" pending ", self.pending)?;
         out.extend_from_slice(b"\n")
     }
 }

@@ -4,7 +4,7 @@ ghost use Rattle.pd_protocol.specs.ChosenOptions.{report_options_of};
 ghost use Rattle.pd_cli.specs.StepLines.{FinishedJob, step_line};
 ghost use Rattle.pd_cli.specs.Reported.{MayReport};
 
-use crate::explanations::explanation_of;
+use crate::explanations::explanation_or_leftovers;
 use crate::observer::JobObserver;
 use pd_book::Done;
 use pd_protocol::{Options, try_write};
@@ -33,7 +33,7 @@ impl<'a, 'b, E: Write> JobObserver for Reporter<'a, 'b, E> {
 
     ghost observes = { λ old new job. (new.err.ghost_name ≡ old.err.ghost_name) × (report_options_of new.options.now ≡ report_options_of old.options.now) × (lines : List ℕ) × MayReport (report_options_of old.options.now) job lines × WritesMore old.stderr_ok new.stderr_ok (E.contents old.err.now) (E.contents new.err.now) lines };
 
-    fn finished(&mut self, done: &Done, steps: u64) -> Result<(), AllocError> {
+    fn on_job_finished(&mut self, done: &Done, steps: u64) -> Result<(), AllocError> {
         if self.stderr_ok {
             let lines = report_of(self.alloc, self.options, done, steps)?;
             self.stderr_ok = try_write(self.err, lines.as_slice());
@@ -56,7 +56,7 @@ fn report_of(
         put_step_line(alloc, &mut lines, done.number(), done.name(), steps)?;
     }
     if let Some(explain_options) = &options.explain {
-        let block = explanation_of(alloc, explain_options, done)?;
+        let block = explanation_or_leftovers(alloc, explain_options, done)?;
         lines.extend_from_slice(block.as_slice())?;
     }
     Ok(lines)

@@ -102,7 +102,7 @@ pub(crate) fn serve_all<A: CommandHandler, R: InputStream, W: Write>(
     loop {
         match next_command(alloc, &mut line_reader, reader)? {
             Some(command) => serve_command(handler, command, writer)?,
-            None => return serve_end(handler, writer),
+            None => return settle_at_end_of_input(handler, writer),
         }
     }
 }
@@ -123,7 +123,7 @@ fn serve_command<A: CommandHandler, W: Write>(
 }
 
 /// Settles at the end of the input, and writes the last report.
-fn serve_end<A: CommandHandler, W: Write>(
+fn settle_at_end_of_input<A: CommandHandler, W: Write>(
     handler: &mut A,
     writer: &mut W,
 ) -> Result<bool, ServeFault>

@@ -24,7 +24,7 @@ fn law_at_rest(book: &Book)
 }
 
 /// Starts and finishes one job, and gives it to an observer; false says that nothing is owed.
-fn turn<L: JobObserver>(
+fn run_next_job<L: JobObserver>(
     alloc: Global,
     book: &mut Book,
     observer: &mut L,
@@ -44,7 +44,7 @@ fn turn<L: JobObserver>(
     match run_job(alloc, job, &mut stepper) {
         Ok(done) => {
             let _ruling = book.finish(&done).unwrap();
-            observer.finished(&done, stepper.count())?;
+            observer.on_job_finished(&done, stepper.count())?;
             Ok(true)
         }
         Err(_) => Err(ServeFault::OutOfMemory),
@@ -62,7 +62,7 @@ fn settle<L: JobObserver>(
     ensures quiet { OnOk result (IsQuiet book.new.history) }
     ensures observed { ObservesSettling L.observes result book.old.history book.new.history observer.old observer.new }
 {
-    while turn(alloc, book, observer)? {}
+    while run_next_job(alloc, book, observer)? {}
     Ok(())
 }
 
@@ -70,7 +70,7 @@ fn settle<L: JobObserver>(
 ///
 /// # Errors
 /// `AllocError` where a growth is refused.
-pub fn show(alloc: Global, book: &Book) -> Result<(Vec<u8>, bool), AllocError>
+pub fn render_book(alloc: Global, book: &Book) -> Result<(Vec<u8>, bool), AllocError>
     ensures octets { IfOk result (λ shown. shown.0.items ≡ rendered (report book.now.history)) }
     ensures passed { IfOk result (λ shown. shown.1 ≡ all_pass (report book.now.history)) }
 {
@@ -84,7 +84,7 @@ pub fn show(alloc: Global, book: &Book) -> Result<(Vec<u8>, bool), AllocError>
 /// # Errors
 /// `HistoryFull` where the history has no room for a start; `OutOfMemory` where a start, a job, the observer or the report
 /// finds no memory.
-pub fn settle_and_show<L: JobObserver>(
+pub fn settle_and_render_book<L: JobObserver>(
     alloc: Global,
     book: &mut Book,
     observer: &mut L,
@@ -97,7 +97,7 @@ pub fn settle_and_show<L: JobObserver>(
     ensures observed { ObservesNumbered L.observes result book.old.history book.new.history observer.old observer.new }
 {
     settle(alloc, book, observer)?;
-    Ok(show(alloc, book)?)
+    Ok(render_book(alloc, book)?)
 }
 
 /// Whether each row of a report passes.
@@ -107,5 +107,5 @@ pub fn all_pass(report: &Report) -> bool
     report
         .rows()
         .iter()
-        .all(|row| RowKind::Pass.holds(row.verdict))
+        .all(|row| RowKind::Pass.includes_verdict(row.verdict))
 }

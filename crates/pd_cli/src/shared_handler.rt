@@ -5,12 +5,12 @@ ghost use Rattle.pd_text.specs.declared.line_edit.LineEdit.{LineEdit};
 ghost use Rattle.pd_book.specs.declared.act.Act.{Act};
 ghost use Rattle.pd_cli.specs.BesideSteps.{Declines, FailsBeside};
 
-use crate::desk_faults::{of_desk, of_show};
+use crate::desk_faults::{serve_fault_of_desk, serve_fault_of_show};
 use crate::handler::CommandHandler;
 use crate::local_handler::refusal_line;
 use crate::report_text::render;
 use crate::settle::all_pass;
-use crate::verify_report::compare;
+use crate::verify_report::check_against_own_copy;
 use pd_book::{Act, Book, BookFault, SharedEdit};
 use pd_desk::Desk;
 use pd_protocol::{Command, ServeFault};
@@ -58,10 +58,10 @@ impl<'a, H: Wait> CommandHandler for SharedHandler<'a, H> {
         };
         match self.desk.add(self.rt, self.seat, name.share()?, text) {
             Ok(()) => {
-                let text = added_text(self.seat)?;
-                accepted(self.alloc, self.own.add_shared(name, text))
+                let text = last_added_text(self.seat)?;
+                reply_to_accepted_act(self.alloc, self.own.add_with_shared_text(name, text))
             }
-            Err(fault) => declined(self.alloc, fault, self.own.name_refusal(&name)),
+            Err(fault) => reply_to_refused_act(self.alloc, fault, self.own.name_refusal(&name)),
         }
     }
 
@@ -72,43 +72,57 @@ impl<'a, H: Wait> CommandHandler for SharedHandler<'a, H> {
         match self.desk.edit(self.rt, self.seat, name, &edit) {
             Ok(()) => {
                 let (name, edit) = last_edit(self.seat)?;
-                accepted(self.alloc, self.own.edit_shared(&name, edit))
+                reply_to_accepted_act(self.alloc, self.own.edit_with_shared_edit(&name, edit))
             }
-            Err(fault) => declined(self.alloc, fault, self.own.text_refusal(name, &edit)),
+            Err(fault) => reply_to_refused_act(
+                self.alloc,
+                fault,
+                self.own.line_edit_refusal(name, &edit),
+            ),
         }
     }
 
     fn remove(&mut self, name: &Name) -> Result<Vec<u8>, ServeFault> {
         match self.desk.remove(self.rt, self.seat, name) {
-            Ok(()) => accepted(self.alloc, self.own.remove(name)),
-            Err(fault) => declined(self.alloc, fault, self.own.missing_refusal(name)),
+            Ok(()) => reply_to_accepted_act(self.alloc, self.own.remove(name)),
+            Err(fault) => reply_to_refused_act(self.alloc, fault, self.own.missing_refusal(name)),
         }
     }
 
     fn set(&mut self, key: &Name, value: Value) -> Result<Vec<u8>, ServeFault> {
         let key = key.as_slice();
         match self.desk.set(self.rt, self.seat, key, value) {
-            Ok(()) => accepted(self.alloc, self.own.set(key, value)),
-            Err(fault) => declined(self.alloc, fault, self.own.value_refusal(key, value)),
+            Ok(()) => reply_to_accepted_act(self.alloc, self.own.set(key, value)),
+            Err(fault) => reply_to_refused_act(
+                self.alloc,
+                fault,
+                self.own.value_refusal(key, value),
+            ),
         }
     }
 
     fn show(&mut self) -> Result<Vec<u8>, ServeFault> {
-        let report = self.desk.show(self.rt, self.seat).map_err(of_show)?;
-        compare(&self.own, &report)?;
+        let report = self
+            .desk
+            .show(self.rt, self.seat)
+            .map_err(serve_fault_of_show)?;
+        check_against_own_copy(&self.own, &report)?;
         Ok(render(self.alloc, &report)?)
     }
 
     fn settle(&mut self) -> Result<(Vec<u8>, bool), ServeFault> {
-        let report = self.desk.settle(self.rt, self.seat).map_err(of_desk)?;
-        compare(&self.own, &report)?;
+        let report = self
+            .desk
+            .settle(self.rt, self.seat)
+            .map_err(serve_fault_of_desk)?;
+        check_against_own_copy(&self.own, &report)?;
         let octets = render(self.alloc, &report)?;
         Ok((octets, all_pass(&report)))
     }
 }
 
 /// The text of the seat's last act, an add.
-fn added_text(seat: &Seat) -> Result<Text, ServeFault>
+fn last_added_text(seat: &Seat) -> Result<Text, ServeFault>
     ensures text { (name : List ℕ) → (text : List (List ℕ)) → (older : List Act) → seat.now.own ≡ Act.Add name text ∷ older → IfOk result (λ own. own ≡ text) }
     ensures only { (command : Command) → IfErr result (λ fault. FailsBeside fault command) }
 {
@@ -130,7 +144,7 @@ fn last_edit(seat: &Seat) -> Result<(Name, SharedEdit), ServeFault>
 }
 
 /// The reply to an act that the desk accepted: nothing, where the own copy accepts it too.
-fn accepted(alloc: Global, own: Result<(), BookFault>) -> Result<Vec<u8>, ServeFault>
+fn reply_to_accepted_act(alloc: Global, own: Result<(), BookFault>) -> Result<Vec<u8>, ServeFault>
     ensures none { IfOk result (λ octets. octets.items ≡ []) }
     ensures too { IfOk result (λ _. IsOk own) }
     ensures only { (command : Command) → IfErr result (λ fault. FailsBeside fault command) }
@@ -144,7 +158,11 @@ fn accepted(alloc: Global, own: Result<(), BookFault>) -> Result<Vec<u8>, ServeF
 
 /// The line of an act that the desk refused, where the own copy refuses it for the same reason, or the history of the desk
 /// is full and the own copy has no reason.
-fn declined(alloc: Global, fault: BookFault, own: Option<BookFault>) -> Result<Vec<u8>, ServeFault>
+fn reply_to_refused_act(
+    alloc: Global,
+    fault: BookFault,
+    own: Option<BookFault>,
+) -> Result<Vec<u8>, ServeFault>
     ensures line { IfOk result (λ octets. Declines own octets.items) }
     ensures only { (command : Command) → IfErr result (λ fault. FailsBeside fault command) }
 {

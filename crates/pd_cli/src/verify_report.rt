@@ -12,7 +12,7 @@ use pd_protocol::{Command, ServeFault};
 ///
 /// # Errors
 /// `Differs` where the settings, the names or the texts do.
-pub(crate) fn compare(own: &Book, report: &Report) -> Result<(), ServeFault>
+pub(crate) fn check_against_own_copy(own: &Book, report: &Report) -> Result<(), ServeFault>
     ensures part { OnOk result (IsPartOf own.now.history report.now) }
     ensures whole { OnOk result (IsCurrent report.now → report.now ≡ from_scratch own.now.history) }
     ensures scratch { OnOk result (IsCurrent report.now → IsScratchOf own.now.history report.now) }
@@ -20,7 +20,7 @@ pub(crate) fn compare(own: &Book, report: &Report) -> Result<(), ServeFault>
 {
     law_headline();
     let kept = own.show()?;
-    if is_of_same(report, &kept) {
+    if has_same_scripts_and_settings(report, &kept) {
         Ok(())
     } else {
         Err(ServeFault::Differs)
@@ -28,7 +28,7 @@ pub(crate) fn compare(own: &Book, report: &Report) -> Result<(), ServeFault>
 }
 
 /// Whether two reports are of the same scripts under the same settings.
-fn is_of_same(report: &Report, other: &Report) -> bool
+fn has_same_scripts_and_settings(report: &Report, other: &Report) -> bool
     ensures same { IsTrue result ↔ IsOfSame report.now other.now }
     ensures runs { All (IsRunUnder report.now.settings) report.now.rows }
 {

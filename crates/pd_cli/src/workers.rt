@@ -49,7 +49,7 @@ pub fn serve<H: Threads + Wait + Sync, R: InputStream, W: Write, G: Gate + Sync>
         reader: &mut *reader,
         writer: &mut *writer,
     };
-    let (reader, writer, answer) = run_beside(rt, alloc, &desk, gate, seats, task);
+    let (reader, writer, answer) = run_task_beside_workers(rt, alloc, &desk, gate, seats, task);
     law_returned(reader, writer);
     answer
 }
@@ -123,7 +123,7 @@ impl<'a, H: Wait, R: InputStream, W: Write> ScopedTask for SeatServing<'a, H, R,
 }
 
 /// Runs a task beside the workers of a desk, then shuts the desk and lets them leave.
-fn run_beside<
+fn run_task_beside_workers<
     'x,
     H: Threads + Wait + Sync,
     G: Gate + Sync,
@@ -138,7 +138,7 @@ fn run_beside<
         |scope| -> A
             ensures { T.gives task result }
         {
-            let work = move || work_all(rt, alloc, desk, gate, workers);
+            let work = move || run_workers_at_seats(rt, alloc, desk, gate, workers);
             if scope.spawn(work).is_err() {
                 return task.on_spawn_error();
             }
@@ -150,7 +150,7 @@ fn run_beside<
 }
 
 /// Works at all of these seats.
-fn work_all<H: Threads + Wait + Sync, G: Gate + Sync>(
+fn run_workers_at_seats<H: Threads + Wait + Sync, G: Gate + Sync>(
     rt: &H,
     alloc: Global,
     desk: &Desk,

@@ -22,22 +22,26 @@ pub struct Locked {
 
 impl Locked {
     /// Whether a verdict is owed that a worker may still give.
-    pub fn is_awaited(&self) -> bool
+    pub fn is_verdict_awaited(&self) -> bool
         ensures { IsTrue result ↔ ((self.now.worker_counts.left < self.now.worker_counts.size) × (0 < owed self.now.held.book.history.opening self.now.held.book.history.past)) }
     {
-        self.worker_counts.has_worker() && self.held.owed() > 0
+        self.worker_counts.has_remaining_worker() && self.held.owed() > 0
     }
 
     /// Whether workers have nothing to do but to wait.
-    pub fn is_idle(&self) -> bool
+    pub fn are_workers_idle(&self) -> bool
         ensures { IsTrue result ↔ ((self.now.worker_counts.is_shut ≡ false) × (is_some (next self.now.held.book.history.past) ≡ false)) }
     {
-        !self.worker_counts.is_shut() && !self.held.has_waiting()
+        !self.worker_counts.is_shut() && !self.held.has_waiting_script()
     }
 
     /// Takes the result of an outstanding job; and whether the history agrees with the seat, which is looked at only where
     /// the finish is refused.
-    pub fn finish(&mut self, seat: &mut Seat, done: &Done) -> (Result<Ruling, FinishFault>, bool)
+    pub fn finish_and_check_seat(
+        &mut self,
+        seat: &mut Seat,
+        done: &Done,
+    ) -> (Result<Ruling, FinishFault>, bool)
         ensures gives { Unless FinishFault.OutOfMemory result.0 (AfterSome (λ before after. GivesFinish before done.now result.0 after)) }
         ensures compared { Compared seat.old result.0 result.1 (λ before after. GivesFinish before done.now result.0 after) }
         ensures records { IfOk result.0 (λ ruling. seat.new ≡ with_act seat.old (Act.Finish done.now.number ruling)) }
@@ -50,7 +54,11 @@ impl Locked {
     }
 
     /// Gives up an outstanding job; and whether the history agrees with the seat, as `finish` does.
-    pub fn abandon(&mut self, seat: &mut Seat, number: u64) -> (Result<(), FinishFault>, bool)
+    pub fn abandon_and_check_seat(
+        &mut self,
+        seat: &mut Seat,
+        number: u64,
+    ) -> (Result<(), FinishFault>, bool)
         ensures gives { Unless FinishFault.OutOfMemory result.0 (AfterSome (λ before after. GivesAbandon before number result.0 after)) }
         ensures compared { Compared seat.old result.0 result.1 (λ before after. GivesAbandon before number result.0 after) }
         ensures records { OnOk result.0 (seat.new ≡ with_act seat.old (Act.Abandon number)) }

@@ -74,7 +74,7 @@ impl Desk {
                 return self.count_all_unstarted(rt, count);
             }
         }
-        self.run_all(rt, alloc, workers)
+        self.run_all_in_threads(rt, alloc, workers)
     }
 
     /// Counts so many workers as ones that can't be started.
@@ -88,7 +88,7 @@ impl Desk {
     /// Counts a worker that can't be started as one that left.
     fn count_unstarted<R: Wait>(&self, rt: &R) {
         let mut locked = self.locked.lock(rt);
-        if locked.worker_counts.enter() {
+        if locked.worker_counts.try_enter() {
             locked.worker_counts.leave();
         }
         drop(locked);
@@ -96,7 +96,7 @@ impl Desk {
     }
 
     /// Runs each task in a thread of its own, and gives the first fault in their order.
-    fn run_all<R: Threads + Wait, T: ThreadTask + Send + Drop>(
+    fn run_all_in_threads<R: Threads + Wait, T: ThreadTask + Send + Drop>(
         &self,
         rt: &R,
         alloc: Global,

@@ -25,9 +25,11 @@ impl Desk {
         ensures refuses { OnErr result (seat.new ≡ seat.old) }
         ensures room { result ≢ Err DeskFault.HistoryFull }
     {
-        let locked = self
-            .changed
-            .wait_while(rt, self.locked.lock(rt), |locked| locked.is_awaited());
+        let locked = self.changed.wait_while(
+            rt,
+            self.locked.lock(rt),
+            |locked| locked.is_verdict_awaited(),
+        );
         if locked.held.owed() > 0 {
             return Err(DeskFault::NoWorkers);
         }
@@ -60,7 +62,7 @@ impl Desk {
         requires room { S.counted stepper.old + 2 ^ 28 < 2 ^ 64 }
         ensures { Works seat.old result seat.new }
     {
-        if !self.locked.lock(rt).worker_counts.enter() {
+        if !self.locked.lock(rt).worker_counts.try_enter() {
             return Err(DeskFault::NoWorkers);
         }
         let left = self.run_jobs(rt, alloc, seat, stepper, gate);
@@ -83,24 +85,26 @@ impl Desk {
         ensures entered { result ≢ Err DeskFault.NoWorkers }
     {
         for _ in 0..MAX_ACTS {
-            let Some(job) = self.next_job(rt, seat)? else {
+            let Some(job) = self.wait_and_start_job(rt, seat)? else {
                 return Ok(());
             };
-            self.run_and_finish(rt, alloc, seat, job, stepper, gate)?;
+            self.run_and_end_job(rt, alloc, seat, job, stepper, gate)?;
         }
         Err(DeskFault::HistoryFull)
     }
 
     /// Waits for a job and starts it; `None` where the desk is shut.
-    fn next_job<R: Wait>(&self, rt: &R, seat: &mut Seat) -> Result<Option<Job>, DeskFault>
+    fn wait_and_start_job<R: Wait>(&self, rt: &R, seat: &mut Seat) -> Result<Option<Job>, DeskFault>
         ensures records { IfOk result (λ given. IfSome given (λ job. seat.new ≡ with_act seat.old (Act.Start job.task.number job.task.name))) }
         ensures none { IfOk result (λ given. IfNone given (seat.new ≡ seat.old)) }
         ensures refuses { OnErr result (seat.new ≡ seat.old) }
         ensures fault { IfErr result IsWant }
     {
-        let mut locked = self
-            .changed
-            .wait_while(rt, self.locked.lock(rt), |locked| locked.is_idle());
+        let mut locked = self.changed.wait_while(
+            rt,
+            self.locked.lock(rt),
+            |locked| locked.are_workers_idle(),
+        );
         if locked.worker_counts.is_shut() {
             return Ok(None);
         }
@@ -112,7 +116,7 @@ impl Desk {
     }
 
     /// Runs a job that was started, and ends it. Where its end is refused, somebody else has ended it.
-    fn run_and_finish<R: Wait, G: Gate, S: Stepper>(
+    fn run_and_end_job<R: Wait, G: Gate, S: Stepper>(
         &self,
         rt: &R,
         alloc: Global,
@@ -146,7 +150,7 @@ impl Desk {
         ensures finished { OnOk result (EndsJob done.now seat.old seat.new) }
         ensures left { IfErr result (λ fault. (fault ≡ DeskFault.Differs) × LeavesJob seat.old seat.new) }
     {
-        let (_, agrees) = self.finish_compared(rt, seat, done);
+        let (_, agrees) = self.finish_and_check_seat(rt, seat, done);
         if !agrees {
             return Err(DeskFault::Differs);
         }
@@ -159,7 +163,7 @@ impl Desk {
         requires started { is_unended seat.old.own number ≡ true }
         ensures { GivesUp number result seat.old seat.new }
     {
-        let (_, agrees) = self.abandon_compared(rt, seat, number);
+        let (_, agrees) = self.abandon_and_check_seat(rt, seat, number);
         if !agrees {
             return DeskFault::Differs;
         }

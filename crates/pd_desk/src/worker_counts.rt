@@ -28,7 +28,7 @@ impl WorkerCounts {
     }
 
     /// Lets a worker in while fewer entered than there are; whether it is in.
-    pub fn enter(&mut self) -> bool
+    pub fn try_enter(&mut self) -> bool
         ensures is_in { IsTrue result ↔ self.old.entered < self.old.size }
         ensures counted { self.new ≡ record self.old { entered = self.old.entered + (if result then 1 else 0) } }
     {
@@ -54,7 +54,7 @@ impl WorkerCounts {
     }
 
     /// Whether a worker is in or may still enter.
-    pub fn has_worker(&self) -> bool
+    pub fn has_remaining_worker(&self) -> bool
         ensures { IsTrue result ↔ self.now.left < self.now.size }
     {
         self.left < self.size

@@ -22,17 +22,17 @@ use Rattle.pd_print.specs.Laws.{SentPacketsAgree}
 use Rattle.pd_print.specs.Sent.{packet_of}
 use Rattle.pd_run.specs.Prechecks.{failed_precheck}
 use Rattle.pd_run.specs.Limits.{is_over_limit}
-use Rattle.pd_run.specs.Supported.{is_run, is_action_run}
+use Rattle.pd_run.specs.Supported.{is_shape_supported, is_action_supported}
 use Rattle.pd_run.specs.RunStates.{RunStateView}
 use Rattle.pd_run.specs.Step.{tolerance_of, comparison_noted, with_state, on_expiry, expires, awaited, performed, unless_failed_precheck}
-use Rattle.pd_run.specs.Times.{time_range_of, is_backwards, may_be_in_time, base_after}
+use Rattle.pd_run.specs.Times.{time_range_of, is_before_base, may_be_in_time, base_after}
 use Rattle.pd_run.specs.StopReason.{stop_reason, DifferencesAreFirst}
 use Rattle.pd_run.specs.declared.prechecks.Precheck.{Precheck}
 use Rattle.pd_run.specs.declared.prechecks.Precheck.TheVariants.{OverLimit, NotRun}
 use Rattle.pd_run.specs.declared.stop_reason.StopReason.{StopReason}
 use Rattle.pd_run.specs.declared.stop_reason.StopReason.TheVariants.{Missing, Differs}
 use Rattle.pd_run.proofs.Bounds.{given}
-use Rattle.pd_explain.specs.AlignedPackets.{time_since}
+use Rattle.pd_explain.specs.AlignedPackets.{relative_time_or_any}
 use Rattle.pd_explain.specs.ActualPackets.{with_actual, ActualPacketsPass}
 
 -- The oldest packet after expiries
@@ -136,14 +136,14 @@ onwards base at true h =
     omega (arith, ahead)
 onwards base at false h = refl
 
-ahead_of : (base at n : ℕ) (b : Bool) → is_backwards n (if b then Relative (at - base) else Any) ≡ false
+ahead_of : (base at n : ℕ) (b : Bool) → is_before_base n (if b then Relative (at - base) else Any) ≡ false
 ahead_of base at n true = refl
 ahead_of base at n false = refl
 
 -- It agrees with the packet that is written of it
 
 agrees : SentPacketsAgree → (base : ℕ) (sent : Sent) (tolerance : ℕ) (field : Kind)
-    → Agrees (packet_of sent.segment) (time_range_of base (time_since base sent.at)) sent tolerance field
+    → Agrees (packet_of sent.segment) (time_range_of base (relative_time_or_any base sent.at)) sent tolerance field
 agrees law base sent tolerance kind.Time = within base sent.at tolerance (nat_le base sent.at) refl
 agrees law base sent tolerance kind.Flags = law sent tolerance kind.Flags
 agrees law base sent tolerance kind.Seq = law sent tolerance kind.Seq
@@ -179,7 +179,7 @@ module _ (r q : RunStateView) (e : Event) (sent : Sent) (first : Oldest q.host.s
       in_reach true h =
           let came = came_of r q at (advanced at r.host.state) h in
           let moment : sent.at ≡ at = first_at at r.host.state came.0 sent none d came.1 (subst (λ (s : SenderState). Oldest s sent) came.3 first) in
-          let reach : may_be_in_time (time_range_of r.base (time_since q.base sent.at)) (tolerance_of r) at ≡ true =
+          let reach : may_be_in_time (time_range_of r.base (relative_time_or_any q.base sent.at)) (tolerance_of r) at ≡ true =
           rw (came.2, moment) (reaches r.base at (tolerance_of r) (nat_le r.base at) refl) in
           (ap (λ (b : Bool). if b then on_expiry r at (advanced at r.host.state) else Err Missing) reach ∙ h, came.2)
 
@@ -210,16 +210,16 @@ first_of false b h = absurd cc
 -- the event has no blocking time
 not_blocking : (r q : RunStateView) (e : Event) (k : Kind) (sent : Sent) → stop_reason r e ≡ Some (Differs k sent q) → is_none e.blocking_end ≡ true
 not_blocking r q e k sent h =
-    let run : is_run e ≡ true = is_passed (is_over_limit e) (is_run e) _ (unbarred (performed r e e.action) (failed_precheck r.base e) k sent q h) in
-    first_of (is_none e.blocking_end) (is_action_run e.time e.action) run
+    let run : is_shape_supported e ≡ true = is_passed (is_over_limit e) (is_shape_supported e) _ (unbarred (performed r e e.action) (failed_precheck r.base e) k sent q h) in
+    first_of (is_none e.blocking_end) (is_action_supported e.time e.action) run
 
 pub actual_packets_pass_by : DifferencesAreFirst → SentPacketsAgree → MismatchIsFirst → ActualPacketsPass
 actual_packets_pass_by differ agree compare r q e p k sent is h limits =
     let a : Event = with_actual q.base sent e in
     let differs = differ r q e p k sent is h in
     let waits = awaited_too (comparison_noted r) q e sent differs.1 differs.0 in
-    let run : is_run a ≡ true = ap (λ (b : Bool). b && true) (not_blocking r q e k sent h) in
-    let ahead : is_backwards r.base a.time ≡ false = ahead_of q.base sent.at r.base (nat_le q.base sent.at) in
+    let run : is_shape_supported a ≡ true = ap (λ (b : Bool). b && true) (not_blocking r q e k sent h) in
+    let ahead : is_before_base r.base a.time ≡ false = ahead_of q.base sent.at r.base (nat_le q.base sent.at) in
     let none : mismatch (packet_of sent.segment) (time_range_of q.base a.time) sent (tolerance_of q) ≡ None =
     no_mismatch _ _ (agrees agree q.base sent (tolerance_of q)) (compare (packet_of sent.segment) (time_range_of q.base a.time) sent (tolerance_of q)) in
     let base : base_after q.base a.time sent.at ≡ max q.base sent.at = onwards q.base sent.at (nat_le q.base sent.at) refl in

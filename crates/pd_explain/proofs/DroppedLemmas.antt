@@ -11,11 +11,11 @@ use Rattle.pd_script.specs.declared.parsed.Parsed.{Parsed}
 use Rattle.pd_script.specs.declared.script_events.Event.{Event}
 use Rattle.pd_run.specs.Run.{start_of, states_from}
 use Rattle.pd_run.specs.Step.{RunStateView, on_step, step}
-use Rattle.pd_run.specs.StopPoints.{stop_reason_on, stop_by, stop_from, stop_in}
+use Rattle.pd_run.specs.StopPoints.{stop_reason_if_on_line, stop_by, stop_from, stop_in}
 use Rattle.pd_run.specs.declared.stop_point.StopPoint.{StopPoint}
 use Rattle.pd_run.specs.declared.verdict.Verdict.{Verdict}
 use Rattle.pd_run.specs.declared.stop_reason.StopReason.{StopReason}
-use Rattle.pd_explain.specs.Dropped.{dropped_at, dropped_in, dropped_before, last, last_dropped}
+use Rattle.pd_explain.specs.Dropped.{dropped_in_event, dropped_in, dropped_before, last, last_dropped}
 use Rattle.pd_explain.specs.Inner.{Reaches}
 use Rattle.pd_explain.specs.Origins.{stages}
 use Rattle.pd_explain.specs.declared.dropped.DroppedSegment.{DroppedSegment}
@@ -55,24 +55,24 @@ last_left n b xs h =
 
 -- of each event of a script
 abbrev whole : Settings → Parsed → List (Option DroppedSegment)
-whole settings p = map (λ at. dropped_at at.0 at.1) (zip (stages settings p) p.events)
+whole settings p = map (λ at. dropped_in_event at.0 at.1) (zip (stages settings p) p.events)
 
 at_place : (settings : Settings) (p : Parsed) (n : ℕ) (r : RunStateView) (e : Event) → slice_get (stages settings p) n ≡ Some r
-    → slice_get p.events n ≡ Some e → slice_get (whole settings p) n ≡ Some (dropped_at r e)
+    → slice_get p.events n ≡ Some e → slice_get (whole settings p) n ≡ Some (dropped_in_event r e)
 at_place settings p n r e stage found =
-    slice_get-map (λ at. dropped_at at.0 at.1) (zip (stages settings p) p.events) n
-    ∙ ap (λ o. option_map (λ at. dropped_at at.0 at.1) o) (zip_at (stages settings p) p.events n r e stage found)
+    slice_get-map (λ at. dropped_in_event at.0 at.1) (zip (stages settings p) p.events) n
+    ∙ ap (λ o. option_map (λ at. dropped_in_event at.0 at.1) o) (zip_at (stages settings p) p.events n r e stage found)
 
 pub noted_more : (settings : Settings) (p : Parsed) (begun n : ℕ) (r : RunStateView) (e : Event) → begun ≤ n → slice_get (stages settings p) n ≡ Some r
-    → slice_get p.events n ≡ Some e → drop begun (dropped_in settings p (n + 1)) ≡ drop begun (dropped_in settings p n) ++ dropped_at r e ∷ []
+    → slice_get p.events n ≡ Some e → drop begun (dropped_in settings p (n + 1)) ≡ drop begun (dropped_in settings p n) ++ dropped_in_event r e ∷ []
 noted_more settings p begun n r e from stage found =
     let each : List (Option DroppedSegment) = whole settings p in
-    let there : slice_get each n ≡ Some (dropped_at r e) = at_place settings p n r e stage found in
-    let within : n < length each = slice_get_within each n (dropped_at r e) there in
-    let more : take (n + 1) each ≡ take n each ++ dropped_at r e ∷ [] =
-    take_more each n (dropped_at r e) within ∙ ap (λ y. take n each ++ y ∷ []) (get_or_from_slice_get each n (dropped_at r e) (dropped_at r e) there) in
+    let there : slice_get each n ≡ Some (dropped_in_event r e) = at_place settings p n r e stage found in
+    let within : n < length each = slice_get_within each n (dropped_in_event r e) there in
+    let more : take (n + 1) each ≡ take n each ++ dropped_in_event r e ∷ [] =
+    take_more each n (dropped_in_event r e) within ∙ ap (λ y. take n each ++ y ∷ []) (get_or_from_slice_get each n (dropped_in_event r e) (dropped_in_event r e) there) in
     let long : begun ≤ length (take n each) = omega (arith, from, within, length-take-le n each (omega (arith, within))) in
-    ap (drop begun) more ∙ drop-append-le begun (take n each) (dropped_at r e ∷ []) long
+    ap (drop begun) more ∙ drop-append-le begun (take n each) (dropped_in_event r e ∷ []) long
 
 pub noted_none : (settings : Settings) (p : Parsed) (begun : ℕ) → [] ≡ drop begun (dropped_in settings p begun)
 noted_none settings p begun =
@@ -103,7 +103,7 @@ told_left settings p begun passed reached early = by begun (begun == 0) refl ear
         let stage : passed < length (stages settings p) = slice_get_within (stages settings p) passed reached.run reached.stage in
         let zipped : passed ≤ length (zip (stages settings p) p.events) = zip_within (stages settings p) p.events passed (omega (arith, stage)) reached.within in
         length-take-le passed (whole settings p)
-        (omega (arith, zipped, length-map (zip (stages settings p) p.events) (λ (at : RunStateView × Event). dropped_at at.0 at.1)))
+        (omega (arith, zipped, length-map (zip (stages settings p) p.events) (λ (at : RunStateView × Event). dropped_in_event at.0 at.1)))
 
     by : (b : ℕ) (none : Bool) → (b == 0) ≡ none → ((b == 0) || nat_le (b + 16) passed) ≡ true
         → last_dropped (drop b (dropped_in settings p passed)) ≡ dropped_before settings p passed
@@ -118,15 +118,15 @@ told_left settings p begun passed reached early = by begun (begun == 0) refl ear
 -- How far a run gets
 
 -- after an event that stops it there is no stage
-ended : (es : List Event) (r s : RunStateView) (e : Event) (v : Verdict) (n m : ℕ) → slice_get (r ∷ states_from es r) n ≡ Some s → slice_get es n ≡ Some e
+end_reason : (es : List Event) (r s : RunStateView) (e : Event) (v : Verdict) (n m : ℕ) → slice_get (r ∷ states_from es r) n ≡ Some s → slice_get es n ≡ Some e
     → step s e ≡ Err v → slice_get (r ∷ states_from es r) (suc (n + m)) ≡ None
-ended [] r s e v n m there found stops = absurd cc
-ended (d ∷ es) r s e v zero m there found stops =
+end_reason [] r s e v n m there found stops = absurd cc
+end_reason (d ∷ es) r s e v zero m there found stops =
     let same : step r d ≡ Err v = cc in
     let none : slice_get (r ∷ states_from (d ∷ es) r) (suc m) ≡ None = rw same refl in
     let place : suc m ≡ suc (0 + m) = omega arith in
     subst (λ (k : ℕ). slice_get (r ∷ states_from (d ∷ es) r) k ≡ None) place none
-ended (d ∷ es) r s e v (suc n) m there found stops = go (λ t h. ended es t s e v n m h found stops) (step r d) there
+end_reason (d ∷ es) r s e v (suc n) m there found stops = go (λ t h. end_reason es t s e v n m h found stops) (step r d) there
   where
     go : ((t : RunStateView) → slice_get (t ∷ states_from es t) n ≡ Some s → slice_get (t ∷ states_from es t) (suc (n + m)) ≡ None)
         → (came : Result RunStateView Verdict) → slice_get (on_step (λ t. t ∷ states_from es t) (λ w. []) came) n ≡ Some s
@@ -145,7 +145,7 @@ goes_on settings p n passed s e v reached stage found less stops = by (start_of 
     by (Ok r) there further =
         let place : suc (n + (passed - n - 1)) ≡ passed = omega (arith, less) in
         let none : slice_get (r ∷ states_from p.events r) passed ≡ None =
-        subst (λ (k : ℕ). slice_get (r ∷ states_from p.events r) k ≡ None) place (ended p.events r s e v n (passed - n - 1) there found stops) in
+        subst (λ (k : ℕ). slice_get (r ∷ states_from p.events r) k ≡ None) place (end_reason p.events r s e v n (passed - n - 1) there found stops) in
         cc
     by (Err w) there further = absurd cc
 
@@ -153,7 +153,7 @@ goes_on settings p n passed s e v reached stage found less stops = by (start_of 
 staged_from : (line n : ℕ) (es : List Event) (r : RunStateView) (stop : StopPoint) → stop_from line n es r ≡ Some stop
     → (m : ℕ) × (stop.passed ≡ n + m) × (slice_get (r ∷ states_from es r) m ≡ Some stop.before)
 staged_from line n [] r stop h = absurd cc
-staged_from line n (e ∷ es) r stop h = by (λ s is. staged_from line (n + 1) es s stop is) (stop_reason_on line r e) (step r e) h
+staged_from line n (e ∷ es) r stop h = by (λ s is. staged_from line (n + 1) es s stop is) (stop_reason_if_on_line line r e) (step r e) h
   where
     by : ((s : RunStateView) → stop_from line (n + 1) es s ≡ Some stop
         → (m : ℕ) × (stop.passed ≡ n + 1 + m) × (slice_get (s ∷ states_from es s) m ≡ Some stop.before))

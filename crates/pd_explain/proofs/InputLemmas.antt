@@ -3,7 +3,7 @@ use Rattle.std.proofs.Common.{◌≡◌, ◌==◌, Bool, true, false, not, ◌&&
 use Rattle.pd_seg.specs.declared.segments.Segment.{Segment}
 use Rattle.pd_host.specs.Arrivals.{is_stray_fin}
 use Rattle.pd_host.specs.Connection.{ConnectionView}
-use Rattle.pd_host.specs.Handshake.{is_listening, is_syn_alone, is_mss_run, length_of, offered_mss}
+use Rattle.pd_host.specs.Handshake.{is_listening, is_syn_alone, is_peer_mss_supported, length_of, offered_mss}
 use Rattle.pd_host.specs.declared.descriptors.ListenState.{ListenState}
 use Rattle.pd_explain.specs.Rules.{HoldsOfFirst, OpeningsHaveRules, is_closed_by, HoldsOn, ContentsHaveRules}
 use Rattle.pd_explain.specs.declared.rules.unsupported_inputs.UnsupportedInput.TheVariants.{NotListening, NotSyn, SmallMss, Payload, SecondSyn, StrayFin, AfterReset, AfterFins}
@@ -14,7 +14,7 @@ opening : (l : ListenState) (s : Segment) (listens alone at_start empty large : 
     → is_syn_alone s.flags ≡ alone
     → (s.start == 0) ≡ at_start
     → (length_of s == 0) ≡ empty
-    → is_mss_run (offered_mss s.options) ≡ large
+    → is_peer_mss_supported (offered_mss s.options) ≡ large
     → (listens && (alone && (at_start && (empty && large)))) ≡ false
     → HoldsOfFirst l s (if not listens then NotListening else (if alone && (at_start && empty) then SmallMss else NotSyn))
 opening l s false a b c m hl ha hb hc hm e = hl
@@ -27,7 +27,7 @@ opening l s true true true true m hl ha hb hc hm e = hm ∙ e
 
 pub openings_have_rules : OpeningsHaveRules
 openings_have_rules l s e =
-    opening l s (is_listening l) (is_syn_alone s.flags) (s.start == 0) (length_of s == 0) (is_mss_run (offered_mss s.options)) refl refl refl refl refl e
+    opening l s (is_listening l) (is_syn_alone s.flags) (s.start == 0) (length_of s == 0) (is_peer_mss_supported (offered_mss s.options)) refl refl refl refl refl e
 
 -- a segment on a connection, by its tests
 contents : {X : Type 0} (x : X) (c : ConnectionView) (s : Segment) (filled syn foreign_syntax closed is_reset : Bool)

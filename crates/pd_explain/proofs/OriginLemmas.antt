@@ -17,7 +17,7 @@ use Rattle.pd_explain.specs.Failures.{Tells}
 use Rattle.pd_explain.specs.declared.causes.Cause.{Cause}
 use Rattle.pd_explain.specs.declared.causes.Cause.TheVariants as cause
 use Rattle.pd_explain.specs.Inner.{PacketsAppend, origin_by, AreTriggers, AreOriginsOf, unmatched_at}
-use Rattle.pd_explain.specs.Origins.{stages, matched_count, taken_by, after_input, IsLetGo, IsSentBy, AreOrigins, OriginsAreUnique}
+use Rattle.pd_explain.specs.Origins.{stages, packets_matched_by, taken_by, after_input, IsLetGo, IsSentBy, AreOrigins, OriginsAreUnique}
 use Rattle.pd_explain.specs.declared.origins.Origin.{Origin}
 use Rattle.pd_explain.specs.declared.origins.Origin.TheVariants as origin
 use Rattle.pd_explain.specs.declared.dropped.DroppedSegment.{DroppedSegment}
@@ -70,7 +70,7 @@ further laws (e ∷ es) r s (suc m) h = go (λ t there. further laws es t s m th
         → length (unmatched r) ≤ taken_by (take (suc m) (e ∷ es)) + length (unmatched s)
     go ih (Ok t) is there =
         let later = ih t there in
-        let first : taken_by (take (suc m) (e ∷ es)) ≡ matched_count e + taken_by (take m es) = refl in
+        let first : taken_by (take (suc m) (e ∷ es)) ≡ packets_matched_by e + taken_by (take m es) = refl in
         omega (arith, later, first, passes laws.taken r t e is, timer_grows laws r e e.action, input_grows laws r e e.action)
     go ih (Err v) is there = absurd cc
 
@@ -88,7 +88,7 @@ at_first laws d es q r s e m event state there = go (step q d) refl there
     go : (came : Result RunStateView Verdict) → step q d ≡ came → slice_get (on_step (λ t. t ∷ states_from es t) (λ v. []) came) m ≡ Some s
         → 0 + length (after_input r e) ≤ taken_by (take (suc m) (d ∷ es)) + length (unmatched s)
     go (Ok t) is later =
-        let first : taken_by (take (suc m) (d ∷ es)) ≡ matched_count d + taken_by (take m es) = refl in
+        let first : taken_by (take (suc m) (d ∷ es)) ≡ packets_matched_by d + taken_by (take m es) = refl in
         omega (arith, further laws es t s m later, first, passes laws.taken q t d is, same)
     go (Err v) is later = absurd cc
 
@@ -110,8 +110,8 @@ beyond laws (d ∷ es) q r s e (suc n) (suc m) less found here there =
         → taken_by (take (suc n) (d ∷ es)) + length (after_input r e) ≤ taken_by (take (suc m) (d ∷ es)) + length (unmatched s)
     go ih (Ok t) left right =
         let later = ih t left right in
-        let first : taken_by (take (suc n) (d ∷ es)) ≡ matched_count d + taken_by (take n es) = refl in
-        let second : taken_by (take (suc m) (d ∷ es)) ≡ matched_count d + taken_by (take m es) = refl in
+        let first : taken_by (take (suc n) (d ∷ es)) ≡ packets_matched_by d + taken_by (take n es) = refl in
+        let second : taken_by (take (suc m) (d ∷ es)) ≡ packets_matched_by d + taken_by (take m es) = refl in
         omega (arith, later, first, second)
     go ih (Err v) left right = absurd cc
 

@@ -27,13 +27,13 @@ use Rattle.pd_run.specs.Prechecks.{failed_precheck}
 use Rattle.pd_run.specs.InboundSegment.{segment_in}
 use Rattle.pd_run.specs.Laws.{unmatched, PassedPacketsAreTaken}
 use Rattle.pd_run.specs.Run.{start_of, states_from}
-use Rattle.pd_run.specs.Step.{RunStateView, on_step, comparison_noted, action_time, acted, arrives, on_arrival, answers, on_answer, expires, performed, outcome, step}
+use Rattle.pd_run.specs.Step.{RunStateView, on_step, comparison_noted, action_time, acted, arrives, on_arrival, answers, on_answer, expires, performed, event_outcome, step}
 use Rattle.pd_run.specs.declared.verdict.Verdict.{Verdict}
 use Rattle.pd_run.specs.declared.stop_reason.StopReason.{StopReason}
 use Rattle.pd_run.specs.declared.stop_reason.StopReason.TheVariants.{Answered}
 use Rattle.pd_run.proofs.Bounds.{given, agreed, unbarred, goes, step_performs}
 use Rattle.pd_explain.specs.Inner.{PacketsAppend, origin_by, triggers_of, triggers_at, AreTriggers}
-use Rattle.pd_explain.specs.Origins.{stages, is_awaited, matched_count, taken_by, packets_in, packets_after, put_out_by_timer, put_out_by_input, after_timer, after_input, IsReached, IsSentBy}
+use Rattle.pd_explain.specs.Origins.{stages, awaits_packet, packets_matched_by, taken_by, packets_in, packets_after, put_out_by_timer, put_out_by_input, after_timer, after_input, IsReached, IsSentBy}
 use Rattle.pd_explain.specs.declared.origins.Origin.TheVariants as origin
 use Rattle.pd_explain.specs.declared.origins.Trigger.{Trigger}
 use Rattle.pd_explain.specs.declared.origins.Trigger.TheVariants.{Timer, Line}
@@ -104,29 +104,29 @@ by_answer r s e call before (Ok (t, answer)) h =
 by_answer r s e call before (Err halt) h = absurd cc
 
 by_action : PassedPacketsAreTaken → (r s : RunStateView) (e : Event) (a : Action) → e.action ≡ a → step r e ≡ Ok s → performed r e a ≡ Ok s
-    → length (unmatched s) + matched_count e ≡ length (put_out_by_input r e a)
+    → length (unmatched s) + packets_matched_by e ≡ length (put_out_by_input r e a)
 by_action law r s e (Inbound p) is h went =
-    let none : matched_count e ≡ 0 = rw is refl in
+    let none : packets_matched_by e ≡ 0 = rw is refl in
     let left = by_arrival r s e (put_out_by_timer r e (Inbound p)) (arrives r e p) went in
     omega (arith, none, ap length left)
 by_action law r s e (Outbound p) is h went =
-    let one : matched_count e ≡ 1 = rw is refl in
+    let one : packets_matched_by e ≡ 1 = rw is refl in
     let took = law r s e p is h in
     let stood : put_out_by_input r e (Outbound p) ≡ unmatched took.0 = ap (on_step unmatched (λ w. unmatched r)) took.2 in
     omega (arith, one, ap length stood, ap length took.4)
 by_action law r s e (Calls call) is h went =
-    let none : matched_count e ≡ 0 = rw is refl in
+    let none : packets_matched_by e ≡ 0 = rw is refl in
     let left = by_answer r s e call (put_out_by_timer r e (Calls call)) (answers r e call) went in
     omega (arith, none, ap length left)
 by_action law r s e Command is h went = absurd cc
 by_action law r s e Code is h went = absurd cc
 
 pub passes : PassedPacketsAreTaken → (r s : RunStateView) (e : Event) → step r e ≡ Ok s
-    → length (unmatched s) + matched_count e ≡ length (after_input r e)
+    → length (unmatched s) + packets_matched_by e ≡ length (after_input r e)
 passes law r s e h = by_action law r s e e.action refl h (step_performs r s e h)
 
 pub step_unbarred : (r s : RunStateView) (e : Event) → step r e ≡ Ok s → failed_precheck r.base e ≡ None
-step_unbarred r s e h = (unbarred (performed r e e.action) (failed_precheck r.base e) s (goes e.line (outcome r e) s h)).0
+step_unbarred r s e h = (unbarred (performed r e e.action) (failed_precheck r.base e) s (goes e.line (event_outcome r e) s h)).0
 
 -- Lists
 
@@ -151,13 +151,13 @@ slice_replicate n i a x h =
     let below : i < n = omega (arith, within, length-replicate n a) in
     (below, sym (get_or_from_slice_get (replicate n a) i x a h) ∙ get_or-replicate n i a a below)
 
-pub taken_more : (es : List Event) (n : ℕ) (e : Event) → slice_get es n ≡ Some e → taken_by (take (n + 1) es) ≡ taken_by (take n es) + matched_count e
+pub taken_more : (es : List Event) (n : ℕ) (e : Event) → slice_get es n ≡ Some e → taken_by (take (n + 1) es) ≡ taken_by (take n es) + packets_matched_by e
 taken_more [] n e h = absurd cc
 taken_more (d ∷ es) zero e h = let same : d ≡ e = cc in rw same (omega arith)
 taken_more (d ∷ es) (suc n) e h =
     let later : suc n + 1 ≡ suc (n + 1) = omega arith in
-    let first : taken_by (take (suc n + 1) (d ∷ es)) ≡ matched_count d + taken_by (take (n + 1) es) = ap (λ (k : ℕ). taken_by (take k (d ∷ es))) later in
-    let second : taken_by (take (suc n) (d ∷ es)) ≡ matched_count d + taken_by (take n es) = refl in
+    let first : taken_by (take (suc n + 1) (d ∷ es)) ≡ packets_matched_by d + taken_by (take (n + 1) es) = ap (λ (k : ℕ). taken_by (take k (d ∷ es))) later in
+    let second : taken_by (take (suc n) (d ∷ es)) ≡ packets_matched_by d + taken_by (take n es) = refl in
     omega (arith, first, second, taken_more es n e h)
 
 pub stage_next : (es : List Event) (q r s : RunStateView) (n : ℕ) (e : Event) → slice_get (q ∷ states_from es q) n ≡ Some r → slice_get es n ≡ Some e
@@ -269,14 +269,14 @@ module _ (settings : Settings) (parsed : Parsed) (n : ℕ) (r : RunStateView) (e
 
 -- Counts
 
-awaited_alone : (r : RunStateView) (e : Event) (a : Action) → is_awaited a ≡ true → put_out_by_input r e a ≡ put_out_by_timer r e a
+awaited_alone : (r : RunStateView) (e : Event) (a : Action) → awaits_packet a ≡ true → put_out_by_input r e a ≡ put_out_by_timer r e a
 awaited_alone r e (Inbound p) h = absurd cc
 awaited_alone r e (Outbound p) h = refl
 awaited_alone r e (Calls call) h = absurd cc
 awaited_alone r e Command h = refl
 awaited_alone r e Code h = refl
 
-pub timer_of : (r : RunStateView) (e : Event) (a : Action) → is_awaited a ≡ false
+pub timer_of : (r : RunStateView) (e : Event) (a : Action) → awaits_packet a ≡ false
     → put_out_by_timer r e a ≡ packets_in (unmatched r) (advanced (action_time r e) r.host.state)
 timer_of r e (Inbound p) h = refl
 timer_of r e (Outbound p) h = absurd cc
@@ -287,19 +287,19 @@ timer_of r e Code h = refl
 -- the counts of an event
 pub counts : (r : RunStateView) (e : Event) (before after expired : ℕ) → failed_precheck r.base e ≡ None
     → before ≡ length (unmatched r) → after ≡ length (after_input r e)
-    → (failed_precheck r.base e ≡ None → is_awaited e.action ≡ false → expired ≡ length (after_timer r e))
-    → triggers_of ((if is_awaited e.action then after else expired) - before) (after - (if is_awaited e.action then after else expired)) e.line
+    → (failed_precheck r.base e ≡ None → awaits_packet e.action ≡ false → expired ≡ length (after_timer r e))
+    → triggers_of ((if awaits_packet e.action then after else expired) - before) (after - (if awaits_packet e.action then after else expired)) e.line
     ≡ triggers_at r e
 counts r e before after expired bar is_before all is_expired =
     ap₂ (λ (m n : ℕ). triggers_of (m - before) (n - m) e.line) timer all
     ∙ ap (λ (m : ℕ). triggers_of (length (after_timer r e) - m) (length (after_input r e) - length (after_timer r e)) e.line) is_before
   where
-    by : (b : Bool) → is_awaited e.action ≡ b → (if b then after else expired) ≡ length (after_timer r e)
+    by : (b : Bool) → awaits_packet e.action ≡ b → (if b then after else expired) ≡ length (after_timer r e)
     by true is = all ∙ ap (λ (l : List Sent). length l) (awaited_alone r e e.action is)
     by false is = is_expired bar is
 
-    timer : (if is_awaited e.action then after else expired) ≡ length (after_timer r e)
-    timer = by (is_awaited e.action) refl
+    timer : (if awaits_packet e.action then after else expired) ≡ length (after_timer r e)
+    timer = by (awaits_packet e.action) refl
 
 -- no expiry lies at or before a moment
 undue_in : (until n : ℕ) (s : SenderState) → due_by until (deadline_of s) ≡ None
@@ -318,7 +318,7 @@ pub none_due : (at moment : ℕ) (s : SenderState) → moment ≡ at → is_some
 none_due at moment s is none =
     undue at s (of_due moment (due_by at (deadline_of s)) (subst (λ (m : ℕ). is_some (due_by m (deadline_of s)) ≡ false) is none))
 
-pub not_due : (r : RunStateView) (e : Event) (moment : ℕ) → is_awaited e.action ≡ false → moment ≡ action_time r e
+pub not_due : (r : RunStateView) (e : Event) (moment : ℕ) → awaits_packet e.action ≡ false → moment ≡ action_time r e
     → is_some (due_by moment (deadline_of r.host.state)) ≡ false → length (unmatched r) ≡ length (after_timer r e)
 not_due r e moment not is none =
     let came : advanced (action_time r e) r.host.state ≡ Ok r.host.state =
@@ -326,12 +326,12 @@ not_due r e moment not is none =
     (subst (λ (m : ℕ). is_some (due_by m (deadline_of r.host.state)) ≡ false) is none)) in
     sym (ap (λ (l : List Sent). length l) (timer_of r e e.action not ∙ ap (packets_in (unmatched r)) came))
 
-pub is_due : (r : RunStateView) (e : Event) (moment : ℕ) → is_awaited e.action ≡ false → moment ≡ action_time r e
+pub has_expiry_by : (r : RunStateView) (e : Event) (moment : ℕ) → awaits_packet e.action ≡ false → moment ≡ action_time r e
     → length (packets_in (unmatched r) (advanced moment r.host.state)) ≡ length (after_timer r e)
-is_due r e moment not is =
+has_expiry_by r e moment not is =
     ap (λ (m : ℕ). length (packets_in (unmatched r) (advanced m r.host.state))) is
     ∙ sym (ap (λ (l : List Sent). length l) (timer_of r e e.action not))
 
-pub goes_by : (old new : HostView) (rule : SenderState → Result SenderState Halt) (result : Result (Unit {0}) HostEnd) → old.ended ≡ None → Goes old rule result new
+pub goes_by : (old new : HostView) (rule : SenderState → Result SenderState Halt) (result : Result (Unit {0}) HostEnd) → old.end_reason ≡ None → Goes old rule result new
     → Gives (rule old.state) result new.state
 goes_by old new rule result live h = let reported : GoesFrom None old rule result new = subst (λ o. GoesFrom o old rule result new) live h in reported.0

@@ -4,12 +4,12 @@ use Rattle.std.specs.Prelude.{⊤}
 use Rattle.std.proofs.lemmas.Bool.Decides.{nat_tests}
 use Rattle.pd_script.specs.declared.script_events.Action.{Action}
 use Rattle.pd_host.specs.Connection.{ConnectionView}
-use Rattle.pd_host.specs.SendBlockers.{wanted, is_worth_sending, blocker_of_new, blocker_at, blocker_in_recovery, blocker_since, blocker_by, blocker_on, blocker_in}
-use Rattle.pd_host.specs.Sending.{usable, unsent, is_full, is_all, is_half_max_window, leaves_now, past_sacked}
+use Rattle.pd_host.specs.SendBlockers.{last_octet_needed_in_windows, is_worth_sending, new_segment_send_blocker, ordinary_send_blocker, blocker_in_recovery, established_send_blocker, blocker_by, blocker_on, blocker_in}
+use Rattle.pd_host.specs.Sending.{usable_window, unsent_octets, can_send_full_segment, can_send_all_queued, can_send_half_max_window, can_new_segment_leave, with_next_past_sacked}
 use Rattle.pd_host.specs.declared.established.Established.{Established}
 use Rattle.pd_host.specs.declared.connection.introspection.SendBlocker.{SendBlocker}
 use Rattle.pd_host.specs.declared.connection.introspection.SendBlocker.TheVariants.{Reset, NotEstablished, Acknowledged, PipeFull, NothingNext, Recovering, AllSent, PeerWindow, CongestionWindow, PartOfSegment, Nagle, Open}
-use Rattle.pd_explain.specs.SenderSnapshots.{is_answer, reason_of}
+use Rattle.pd_explain.specs.SenderSnapshots.{expects_no_octets, reason_of}
 use Rattle.pd_explain.specs.Windows.{IsWithin, HoldsByPeer, HoldsByCongestion, LeavesPart, NamedWindowsHold}
 use Rattle.pd_explain.specs.declared.causes.not_sent_reason.NotSentReason.TheVariants.{NoOctets, Held}
 
@@ -46,30 +46,30 @@ fewer d u smss full all = grind (arith, nat_tests)
 
 module _ (c : ConnectionView) (e : Established) where
   -- new octets begin at the sending place
-  first_new : nat_lt c.board.next c.board.top ≡ false → wanted c ≡ c.board.next
+  first_new : nat_lt c.board.next c.board.top ≡ false → last_octet_needed_in_windows c ≡ c.board.next
   first_new new = second (nat_lt c.board.next c.board.top) _ c.board.next new
 
-  of_new : nat_le (c.board.una + e.rwnd) (wanted c) ≡ false → nat_le (c.board.una + e.congestion.cwnd) (wanted c) ≡ false
-      → nat_lt c.board.next c.board.top ≡ false → Says c e (blocker_of_new c e)
+  of_new : nat_le (c.board.una + e.rwnd) (last_octet_needed_in_windows c) ≡ false → nat_le (c.board.una + e.congestion.cwnd) (last_octet_needed_in_windows c) ≡ false
+      → nat_lt c.board.next c.board.top ≡ false → Says c e (new_segment_send_blocker c e)
   of_new peer window new =
-      chosen (Says c e) (not (is_worth_sending c e)) PartOfSegment (if leaves_now c e then Open else Nagle) (λ few. part few)
-      (λ _. chosen (Says c e) (leaves_now c e) Open Nagle (λ _. tt) (λ _. tt))
+      chosen (Says c e) (not (is_worth_sending c e)) PartOfSegment (if can_new_segment_leave c e then Open else Nagle) (λ few. part few)
+      (λ _. chosen (Says c e) (can_new_segment_leave c e) Open Nagle (λ _. tt) (λ _. tt))
     where
       part : not (is_worth_sending c e) ≡ true → LeavesPart c e
       part few =
-          let tests = neither (is_full c e) (is_all c e) (is_half_max_window c e) few in (
-            subst (λ (octet : ℕ). IsWithin c e.rwnd octet) (first_new new) (within c.board.una e.rwnd (wanted c) peer),
-            subst (λ (octet : ℕ). IsWithin c e.congestion.cwnd octet) (first_new new) (within c.board.una e.congestion.cwnd (wanted c) window),
-            fewer (unsent c) (usable c e) c.board.smss tests.0 tests.1,
+          let tests = neither (can_send_full_segment c e) (can_send_all_queued c e) (can_send_half_max_window c e) few in (
+            subst (λ (octet : ℕ). IsWithin c e.rwnd octet) (first_new new) (within c.board.una e.rwnd (last_octet_needed_in_windows c) peer),
+            subst (λ (octet : ℕ). IsWithin c e.congestion.cwnd octet) (first_new new) (within c.board.una e.congestion.cwnd (last_octet_needed_in_windows c) window),
+            fewer (unsent_octets c) (usable_window c e) c.board.smss tests.0 tests.1,
           )
 
-  outside : Says c e (blocker_at c e)
+  outside : Says c e (ordinary_send_blocker c e)
   outside =
       chosen (Says c e) (nat_le c.board.end c.board.next) AllSent _ (λ _. tt)
-      (λ _. chosen (Says c e) (nat_le (c.board.una + e.rwnd) (wanted c)) PeerWindow _ (λ peer. beyond c.board.una e.rwnd (wanted c) peer)
-      (λ peer. chosen (Says c e) (nat_le (c.board.una + e.congestion.cwnd) (wanted c)) CongestionWindow _
-      (λ window. (within c.board.una e.rwnd (wanted c) peer, beyond c.board.una e.congestion.cwnd (wanted c) window))
-      (λ window. chosen (Says c e) (nat_lt c.board.next c.board.top) Open (blocker_of_new c e) (λ _. tt) (λ new. of_new peer window new))))
+      (λ _. chosen (Says c e) (nat_le (c.board.una + e.rwnd) (last_octet_needed_in_windows c)) PeerWindow _ (λ peer. beyond c.board.una e.rwnd (last_octet_needed_in_windows c) peer)
+      (λ peer. chosen (Says c e) (nat_le (c.board.una + e.congestion.cwnd) (last_octet_needed_in_windows c)) CongestionWindow _
+      (λ window. (within c.board.una e.rwnd (last_octet_needed_in_windows c) peer, beyond c.board.una e.congestion.cwnd (last_octet_needed_in_windows c) window))
+      (λ window. chosen (Says c e) (nat_lt c.board.next c.board.top) Open (new_segment_send_blocker c e) (λ _. tt) (λ new. of_new peer window new))))
 
   recovering : Says c e (blocker_in_recovery c e)
   recovering = one_of_three _ _
@@ -79,10 +79,10 @@ module _ (c : ConnectionView) (e : Established) where
       one_of_three true false = tt
       one_of_three true true = tt
 
-  since : Says c e (blocker_since c e)
+  since : Says c e (established_send_blocker c e)
   since =
       chosen (Says c e) (c.board.una == c.board.end) Acknowledged _ (λ _. tt)
-      (λ _. chosen (Says c e) (c.sack && e.congestion.recovering) (blocker_in_recovery c e) (blocker_at c e) (λ _. recovering) (λ _. outside))
+      (λ _. chosen (Says c e) (c.sack && e.congestion.recovering) (blocker_in_recovery c e) (ordinary_send_blocker c e) (λ _. recovering) (λ _. outside))
 
 -- The same of the sender
 
@@ -94,16 +94,16 @@ told_is false h send_blocker e = cc
 reason_is : (expected : Action) (h send_blocker : SendBlocker) → reason_of expected h ≡ Held send_blocker → h ≡ send_blocker
 reason_is expected Reset send_blocker e = cc
 reason_is expected NotEstablished send_blocker e = cc
-reason_is expected Acknowledged send_blocker e = told_is (is_answer expected) Acknowledged send_blocker e
-reason_is expected PipeFull send_blocker e = told_is (is_answer expected) PipeFull send_blocker e
-reason_is expected NothingNext send_blocker e = told_is (is_answer expected) NothingNext send_blocker e
-reason_is expected Recovering send_blocker e = told_is (is_answer expected) Recovering send_blocker e
-reason_is expected AllSent send_blocker e = told_is (is_answer expected) AllSent send_blocker e
-reason_is expected PeerWindow send_blocker e = told_is (is_answer expected) PeerWindow send_blocker e
-reason_is expected CongestionWindow send_blocker e = told_is (is_answer expected) CongestionWindow send_blocker e
-reason_is expected PartOfSegment send_blocker e = told_is (is_answer expected) PartOfSegment send_blocker e
-reason_is expected Nagle send_blocker e = told_is (is_answer expected) Nagle send_blocker e
-reason_is expected Open send_blocker e = told_is (is_answer expected) Open send_blocker e
+reason_is expected Acknowledged send_blocker e = told_is (expects_no_octets expected) Acknowledged send_blocker e
+reason_is expected PipeFull send_blocker e = told_is (expects_no_octets expected) PipeFull send_blocker e
+reason_is expected NothingNext send_blocker e = told_is (expects_no_octets expected) NothingNext send_blocker e
+reason_is expected Recovering send_blocker e = told_is (expects_no_octets expected) Recovering send_blocker e
+reason_is expected AllSent send_blocker e = told_is (expects_no_octets expected) AllSent send_blocker e
+reason_is expected PeerWindow send_blocker e = told_is (expects_no_octets expected) PeerWindow send_blocker e
+reason_is expected CongestionWindow send_blocker e = told_is (expects_no_octets expected) CongestionWindow send_blocker e
+reason_is expected PartOfSegment send_blocker e = told_is (expects_no_octets expected) PartOfSegment send_blocker e
+reason_is expected Nagle send_blocker e = told_is (expects_no_octets expected) Nagle send_blocker e
+reason_is expected Open send_blocker e = told_is (expects_no_octets expected) Open send_blocker e
 
 unreset : (b : Bool) (x send_blocker : SendBlocker) → Reset ≢ send_blocker → (if b then Reset else x) ≡ send_blocker → x ≡ send_blocker
 unreset true x send_blocker is_reset h = absurd (is_reset h)
@@ -115,11 +115,11 @@ established c None send_blocker out h = absurd (out h)
 established c (Some e) send_blocker out h = (e, refl, subst (λ (x : SendBlocker). Says c e x) h (since c e))
 
 begun : (connection : Option ConnectionView) (send_blocker : SendBlocker) → Reset ≢ send_blocker → NotEstablished ≢ send_blocker → blocker_on connection ≡ send_blocker
-    → (c : ConnectionView) × (e : Established) × (connection ≡ Some c) × (c.established ≡ Some e) × Says (past_sacked c) e send_blocker
+    → (c : ConnectionView) × (e : Established) × (connection ≡ Some c) × (c.established ≡ Some e) × Says (with_next_past_sacked c) e send_blocker
 begun None send_blocker is_reset out h = absurd (out h)
 begun (Some c) send_blocker is_reset out h =
-    let goes_on : blocker_by (past_sacked c) c.established ≡ send_blocker = unreset c.is_reset (blocker_by (past_sacked c) c.established) send_blocker is_reset h in
-    let found = established (past_sacked c) c.established send_blocker out goes_on in
+    let goes_on : blocker_by (with_next_past_sacked c) c.established ≡ send_blocker = unreset c.is_reset (blocker_by (with_next_past_sacked c) c.established) send_blocker is_reset h in
+    let found = established (with_next_past_sacked c) c.established send_blocker out goes_on in
     (c, found.0, refl, found.1, found.2)
 
 pub named_windows_hold_so : NamedWindowsHold

@@ -11,11 +11,11 @@ use Rattle.pd_run.specs.Limits.{is_over_limit}
 use Rattle.pd_run.specs.Step.{RunStateView, step}
 use Rattle.pd_run.specs.StopReason.{stop_reason}
 use Rattle.pd_run.specs.declared.stop_reason.StopReason.TheVariants.{Differs}
-use Rattle.pd_explain.specs.AlignedPackets.{time_since}
+use Rattle.pd_explain.specs.AlignedPackets.{relative_time_or_any}
 
 -- the event with the packet that was sent, at the time from the base that is shown of it, in the place of its own
 abbrev pub with_actual : ℕ → Sent → Event → Event
-with_actual base sent e = record e { time = time_since base sent.at; action = Outbound (packet_of sent.segment) }
+with_actual base sent e = record e { time = relative_time_or_any base sent.at; action = Outbound (packet_of sent.segment) }
 
 -- the run that took its oldest packet, which was sent at this moment: the base is the later of the two
 abbrev pub past_packet : Sent → RunStateView → RunStateView

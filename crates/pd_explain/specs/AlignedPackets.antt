@@ -11,8 +11,8 @@ use Rattle.pd_print.specs.Packets.{arrow, event_text, flags_text, octets_text, n
 use Rattle.pd_print.specs.declared.packet_texts.Direction.TheVariants.{Outbound}
 
 -- the time of a moment from the base; `*` where it lies before that, which no written time can express
-abbrev pub time_since : ℕ → ℕ → Time
-time_since base at = if nat_le base at then Relative (at - base) else Any
+abbrev pub relative_time_or_any : ℕ → ℕ → Time
+relative_time_or_any base at = if nat_le base at then Relative (at - base) else Any
 
 -- a moment as a comment
 abbrev pub comment_of : ℕ → List ℕ
@@ -20,18 +20,18 @@ comment_of at = codes " // " ++ fixed_seconds_text at
 
 -- a packet that was sent as an event that happened, with its moment in a comment
 abbrev pub sent_text : ℕ → Sent → List ℕ
-sent_text base sent = event_text (time_since base sent.at) Outbound (packet_of sent.segment) ++ comment_of sent.at
+sent_text base sent = event_text (relative_time_or_any base sent.at) Outbound (packet_of sent.segment) ++ comment_of sent.at
 
 -- a part and what follows it: with blanks between them where another part is wider, up to 40 octets, and something follows
-abbrev pub followed : List ℕ → List ℕ → List ℕ → List ℕ
-followed part other [] = part
-followed part other (o ∷ rest) = part ++ (replicate (min (length other) 40 - length part) 32 ++ (o ∷ rest))
+abbrev pub pad_part_before_rest : List ℕ → List ℕ → List ℕ → List ℕ
+pad_part_before_rest part other [] = part
+pad_part_before_rest part other (o ∷ rest) = part ++ (replicate (min (length other) 40 - length part) 32 ++ (o ∷ rest))
 
 -- the event of a packet that leaves, its parts as wide as those of another one where these are wider
-abbrev pub lined_up : List ℕ → Packet → List ℕ → Packet → List ℕ
-lined_up time p other q =
-    followed time other (arrow Outbound
-    ++ followed (flags_text p.flags) (flags_text q.flags)
-    (followed (octets_text p) (octets_text q)
-    (followed (numbered (codes " ack ") p.ack) (numbered (codes " ack ") q.ack)
-    (followed (numbered (codes " win ") p.win) (numbered (codes " win ") q.win) (options_text p.options)))))
+abbrev pub align_packet_to_other : List ℕ → Packet → List ℕ → Packet → List ℕ
+align_packet_to_other time p other q =
+    pad_part_before_rest time other (arrow Outbound
+    ++ pad_part_before_rest (flags_text p.flags) (flags_text q.flags)
+    (pad_part_before_rest (octets_text p) (octets_text q)
+    (pad_part_before_rest (numbered (codes " ack ") p.ack) (numbered (codes " ack ") q.ack)
+    (pad_part_before_rest (numbered (codes " win ") p.win) (numbered (codes " win ") q.win) (options_text p.options)))))

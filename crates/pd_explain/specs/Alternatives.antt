@@ -4,5 +4,5 @@ use Rattle.pd_script.specs.Values.{function_name}
 use Rattle.pd_script.specs.declared.calls.Function.{Function}
 
 -- the name of a call in backquotes
-abbrev pub quoted_name : Function → List ℕ
-quoted_name f = codes "`" ++ function_name f ++ codes "`"
+abbrev pub quoted_call_name : Function → List ℕ
+quoted_call_name f = codes "`" ++ function_name f ++ codes "`"

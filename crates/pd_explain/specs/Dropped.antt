@@ -24,38 +24,38 @@ use Rattle.pd_explain.specs.declared.dropped.DroppedSegment.{DroppedSegment}
 
 -- a check by which a segment counts for nothing: it is dropped, answered or not; of one with an old ACK a FIN alone counts
 -- (RFC 9293, section 3.10.7.4)
-abbrev pub drops : SegmentCheck → Bool
-drops StrayRst = true
-drops OutsideWindow = true
-drops ChallengedRst = true
-drops WithoutAck = true
-drops RefusedAck = true
-drops EarlyAck = true
-drops OldAck = true
-drops _ = false
+abbrev pub check_drops_segment : SegmentCheck → Bool
+check_drops_segment StrayRst = true
+check_drops_segment OutsideWindow = true
+check_drops_segment ChallengedRst = true
+check_drops_segment WithoutAck = true
+check_drops_segment RefusedAck = true
+check_drops_segment EarlyAck = true
+check_drops_segment OldAck = true
+check_drops_segment _ = false
 
 -- the check that a packet doesn't pass which arrives when all expiries up to its moment are over
-abbrev pub failed_check_after : Packet → Result SenderState Halt → Option SegmentCheck
-failed_check_after p (Ok s) = failed_check_in (segment_in p) s
-failed_check_after p (Err halt) = None
+abbrev pub failed_check_after_expiries : Packet → Result SenderState Halt → Option SegmentCheck
+failed_check_after_expiries p (Ok s) = failed_check_in (segment_in p) s
+failed_check_after_expiries p (Err halt) = None
 
 -- the same of an event in a run
-abbrev pub failed_check_on : RunStateView → Event → Action → Option SegmentCheck
-failed_check_on r e (Inbound p) = failed_check_after p (advanced (action_time r e) r.host.state)
-failed_check_on r e _ = None
+abbrev pub failed_check_in_event : RunStateView → Event → Action → Option SegmentCheck
+failed_check_in_event r e (Inbound p) = failed_check_after_expiries p (advanced (action_time r e) r.host.state)
+failed_check_in_event r e _ = None
 
 -- the report of it, where it drops the segment
-abbrev pub dropped_by : ℕ → Option SegmentCheck → Option DroppedSegment
-dropped_by line None = None
-dropped_by line (Some failed_check) = if drops failed_check then Some (record { line = line; failed_check = failed_check }) else None
+abbrev pub dropped_segment_for_check : ℕ → Option SegmentCheck → Option DroppedSegment
+dropped_segment_for_check line None = None
+dropped_segment_for_check line (Some failed_check) = if check_drops_segment failed_check then Some (record { line = line; failed_check = failed_check }) else None
 
 -- the segment that is dropped in an event
-abbrev pub dropped_at : RunStateView → Event → Option DroppedSegment
-dropped_at r e = if is_none (failed_precheck r.base e) then dropped_by e.line (failed_check_on r e e.action) else None
+abbrev pub dropped_in_event : RunStateView → Event → Option DroppedSegment
+dropped_in_event r e = if is_none (failed_precheck r.base e) then dropped_segment_for_check e.line (failed_check_in_event r e e.action) else None
 
 -- of each of the first events of a script
 abbrev pub dropped_in : Settings → Parsed → ℕ → List (Option DroppedSegment)
-dropped_in settings parsed passed = take passed (map (λ at. dropped_at at.0 at.1) (zip (stages settings parsed) parsed.events))
+dropped_in settings parsed passed = take passed (map (λ at. dropped_in_event at.0 at.1) (zip (stages settings parsed) parsed.events))
 
 -- the last items of a list
 abbrev pub last : {A : Type 0} → ℕ → List A → List A

@@ -25,16 +25,16 @@ use Rattle.pd_explain.specs.declared.causes.Cause.{Cause}
 use Rattle.pd_explain.specs.declared.causes.Cause.TheVariants as cause
 
 -- the line of a row that isn't a pass
-abbrev pub row_line : Verdict → Option ℕ
-row_line (verdict.Pass n) = None
-row_line (verdict.Fail line kind) = Some line
-row_line (verdict.Syntax line) = Some line
-row_line (verdict.Unsupported line) = Some line
-row_line (verdict.Limit line) = Some line
+abbrev pub line_unless_pass : Verdict → Option ℕ
+line_unless_pass (verdict.Pass n) = None
+line_unless_pass (verdict.Fail line kind) = Some line
+line_unless_pass (verdict.Syntax line) = Some line
+line_unless_pass (verdict.Unsupported line) = Some line
+line_unless_pass (verdict.Limit line) = Some line
 
 -- the first header item that isn't run
-abbrev pub not_run : List HeaderItem → Option HeaderItem
-not_run items = find (λ item. is_none (tolerance_in item)) items
+abbrev pub first_unsupported_item : List HeaderItem → Option HeaderItem
+first_unsupported_item items = find (λ item. is_none (tolerance_in item)) items
 
 -- the run of a script stops on a line at this event, which gives the verdict
 pub record StopsAt (line : ℕ) (settings : Settings) (parsed : Parsed) (v : Verdict) (e : Event) (stop : StopPoint) : Type 0 where
@@ -58,7 +58,7 @@ IsHeaderCause lines kind _ = ⊥
 -- the report of a script whose run comes to a verdict at a line: the rule of the first header item that isn't run, or the
 -- cause of the stop
 abbrev pub IsCauseIn : List (List ℕ) → ℕ → Settings → Parsed → Verdict → Cause → Type 0
-IsCauseIn lines line settings parsed v reported = by_header (not_run parsed.header.items)
+IsCauseIn lines line settings parsed v reported = by_header (first_unsupported_item parsed.header.items)
   where
     by_header : Option HeaderItem → Type 0
     by_header (Some item) = IsHeaderCause lines item.kind reported

@@ -4,7 +4,7 @@ use Rattle.pd_settings.specs.declared.settings.Settings.{Settings}
 use Rattle.pd_print.specs.Packets.{arrow}
 use Rattle.pd_print.specs.declared.packet_texts.Direction.TheVariants.{Outbound}
 use Rattle.pd_print.specs.declared.parts.PacketParts.{PacketParts}
-use Rattle.pd_explain.specs.AlignedPackets.{followed}
+use Rattle.pd_explain.specs.AlignedPackets.{pad_part_before_rest}
 use Rattle.pd_explain.specs.BlockLines.{AreIndented}
 use Rattle.pd_script.specs.declared.timing.Time.{Time}
 use Rattle.pd_script.specs.declared.parsed.Parsed.{Parsed}
@@ -27,13 +27,13 @@ use Rattle.pd_explain.specs.declared.origins.Trigger.{Trigger}
 use Rattle.pd_explain.specs.declared.origins.Trigger.TheVariants.{Timer, Line}
 
 -- the event of a packet that leaves, by its parts, each as wide as that of another one
-abbrev pub laid : List ℕ → PacketParts → List ℕ → PacketParts → List ℕ
-laid time p other q =
-    followed time other (arrow Outbound
-    ++ followed p.flags.items q.flags.items
-    (followed p.octets.items q.octets.items
-    (followed p.ack.items q.ack.items
-    (followed p.win.items q.win.items p.options.items))))
+abbrev pub align_parts_to_other : List ℕ → PacketParts → List ℕ → PacketParts → List ℕ
+align_parts_to_other time p other q =
+    pad_part_before_rest time other (arrow Outbound
+    ++ pad_part_before_rest p.flags.items q.flags.items
+    (pad_part_before_rest p.octets.items q.octets.items
+    (pad_part_before_rest p.ack.items q.ack.items
+    (pad_part_before_rest p.win.items q.win.items p.options.items))))
 
 -- when a packet with a time is awaited
 abbrev pub expected_time_of : Time → RunStateView → Option ExpectedTime

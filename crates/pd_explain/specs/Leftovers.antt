@@ -12,7 +12,7 @@ use Rattle.pd_run.specs.Step.{RunStateView, on_step, step}
 use Rattle.pd_run.specs.declared.verdict.Verdict.{Verdict}
 use Rattle.pd_run.specs.declared.verdict.Verdict.TheVariants.{Pass}
 use Rattle.pd_explain.specs.AlignedPackets.{sent_text}
-pub use Rattle.pd_explain.specs.Origins.{is_awaited}
+pub use Rattle.pd_explain.specs.Origins.{awaits_packet}
 use Rattle.pd_explain.specs.Origins.{AreOrigins}
 use Rattle.pd_explain.specs.SenderSnapshots.{snapshot_of}
 use Rattle.pd_explain.specs.declared.causes.failure.Unmatched.{Unmatched}
@@ -37,12 +37,12 @@ abbrev pub PassesHaveEnds : Type 0
 PassesHaveEnds = (settings : Settings) (parsed : Parsed) → is_some (end_in settings parsed) ≡ is_pass (verdict_in settings parsed)
 
 -- some event awaits a packet
-abbrev pub awaits_any : List Event → Bool
-awaits_any events = list_any (λ (e : Event). is_awaited e.action) events
+abbrev pub awaits_any_packet : List Event → Bool
+awaits_any_packet events = list_any (λ (e : Event). awaits_packet e.action) events
 
 -- the line of the last event; 1 where there is none
-abbrev pub last_line : List Event → ℕ
-last_line events = unwrap_or (option_map (λ (e : Event). e.line) (slice_get events (length events - 1))) 1
+abbrev pub last_event_line : List Event → ℕ
+last_event_line events = unwrap_or (option_map (λ (e : Event). e.line) (slice_get events (length events - 1))) 1
 
 -- the oldest ten packets are listed, and the others counted
 abbrev pub Lists : ℕ → List Sent → Unmatched → Type 0
@@ -50,11 +50,11 @@ Lists base packets reported = (map (λ packet. packet.items) reported.packets.it
 
 -- the leftovers of a run at its end: nothing where a packet was awaited and none is left
 abbrev pub IsLeftoversOf : Settings → Parsed → RunStateView → Option Leftovers → Type 0
-IsLeftoversOf settings parsed r None = (awaits_any parsed.events ≡ true) × (unmatched r ≡ [])
+IsLeftoversOf settings parsed r None = (awaits_any_packet parsed.events ≡ true) × (unmatched r ≡ [])
 IsLeftoversOf settings parsed r (Some reported) =
-    ((awaits_any parsed.events && length (unmatched r) == 0) ≡ false)
-    × (reported.line ≡ last_line parsed.events)
-    × (reported.awaits ≡ awaits_any parsed.events)
+    ((awaits_any_packet parsed.events && length (unmatched r) == 0) ≡ false)
+    × (reported.line ≡ last_event_line parsed.events)
+    × (reported.awaits ≡ awaits_any_packet parsed.events)
     × Lists r.base (unmatched r) reported.unmatched
     × AreOrigins settings parsed (length parsed.events) (unmatched r) reported.origins.items
     × (reported.sender ≡ snapshot_of r.host)

@@ -22,18 +22,18 @@ abbrev pub stages : Settings → Parsed → List RunStateView
 stages settings parsed = on_step (λ r. r ∷ states_from parsed.events r) (λ v. []) (start_of parsed.header.items settings)
 
 -- an action awaits a packet
-abbrev pub is_awaited : Action → Bool
-is_awaited (Outbound p) = true
-is_awaited _ = false
+abbrev pub awaits_packet : Action → Bool
+awaits_packet (Outbound p) = true
+awaits_packet _ = false
 
 -- how many packets an event takes that passes: one where it awaits one
-abbrev pub matched_count : Event → ℕ
-matched_count e = if is_awaited e.action then 1 else 0
+abbrev pub packets_matched_by : Event → ℕ
+packets_matched_by e = if awaits_packet e.action then 1 else 0
 
 -- how many packets so many events take that pass
 abbrev pub taken_by : List Event → ℕ
 taken_by [] = 0
-taken_by (e ∷ es) = matched_count e + taken_by es
+taken_by (e ∷ es) = packets_matched_by e + taken_by es
 
 -- the packets that nobody has taken in the state that came, where one did, else those of before
 abbrev pub packets_in : List Sent → Result SenderState Halt → List Sent

@@ -18,6 +18,6 @@ ListsSacked s reported =
 
 -- the sender's numbers: what a duplicate leads to, how the timeout comes from the measured times, and which octets are SACKed
 pub record IsOutlook (s : SenderState) (reported : Outlook) : Type 0 where
-  pub dup_ack_status : reported.dup_ack_status ≡ dup_ack_status_in s
+  pub dup_ack_effect : reported.dup_ack_effect ≡ dup_ack_status_in s
   pub timeout : reported.timeout ≡ measured_in s
   pub sacked : ListsSacked s reported.sacked

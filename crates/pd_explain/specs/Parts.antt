@@ -66,9 +66,9 @@ symbol_role (octet ∷ []) = octet_role octet
 symbol_role _ = sign_is.Other
 
 -- an option of the header
-abbrev pub option_role : HeaderKind → TokenRole
-option_role (header.Tolerance n) = sign_is.Tolerance
-option_role _ = sign_is.HeaderOption
+abbrev pub header_option_role : HeaderKind → TokenRole
+header_option_role (header.Tolerance n) = sign_is.Tolerance
+header_option_role _ = sign_is.HeaderOption
 
 -- a token of a kind with these octets
 abbrev pub role_of : TokenKind → List ℕ → TokenRole
@@ -78,15 +78,15 @@ role_of kinds.Symbol text = symbol_role text
 role_of kinds.Dots text = sign_is.Dots
 role_of kinds.Cmd text = sign_is.Command
 role_of kinds.Code text = sign_is.Code
-role_of kinds.Opt text = option_role (option_kind text)
+role_of kinds.Opt text = header_option_role (option_kind text)
 role_of kinds.Hex text = sign_is.Other
 role_of kinds.Decimal text = sign_is.Other
 role_of kinds.Str text = sign_is.Other
 
 -- a whole number above a limit
-abbrev pub is_above : ℕ → TokenRole → Bool
-is_above limit (sign_is.Whole n) = nat_lt limit n
-is_above limit _ = false
+abbrev pub is_number_above : ℕ → TokenRole → Bool
+is_number_above limit (sign_is.Whole n) = nat_lt limit n
+is_number_above limit _ = false
 
 -- a whole number
 abbrev pub is_whole_number : TokenRole → Bool
@@ -109,17 +109,17 @@ is_word sign_is.Word = true
 is_word s = is_named_option s
 
 -- flags may end with it: letters, `.` or `-`
-abbrev pub ends_flags : TokenRole → Bool
-ends_flags sign_is.Word = true
-ends_flags sign_is.Point = true
-ends_flags _ = false
+abbrev pub can_end_flags : TokenRole → Bool
+can_end_flags sign_is.Word = true
+can_end_flags sign_is.Point = true
+can_end_flags _ = false
 
 -- an end of a SACK block may follow it: `sack`, `:` or the right end of the block before
-abbrev pub is_before_edge : TokenRole → Bool
-is_before_edge sign_is.Sack = true
-is_before_edge sign_is.Colon = true
-is_before_edge (sign_is.Whole n) = true
-is_before_edge _ = false
+abbrev pub can_precede_edge : TokenRole → Bool
+can_precede_edge sign_is.Sack = true
+can_precede_edge sign_is.Colon = true
+can_precede_edge (sign_is.Whole n) = true
+can_precede_edge _ = false
 
 -- `...`
 abbrev pub is_dots : TokenRole → Bool
@@ -184,29 +184,29 @@ is_wscale _ = false
 -- ---- the tokens before a token
 
 -- before the first one
-abbrev pub at_first : Nesting
-at_first = record { last = sign_is.Other; depth = 0; commas = 0; colons = 0 }
+abbrev pub before_first_token : Nesting
+before_first_token = record { last = sign_is.Other; depth = 0; commas = 0; colons = 0 }
 
 -- one more; a count stops at 32
-abbrev pub one_more : ℕ → ℕ
-one_more n = if nat_lt n 32 then n + 1 else n
+abbrev pub capped_increment : ℕ → ℕ
+capped_increment n = if nat_lt n 32 then n + 1 else n
 
 -- how many brackets are open
 abbrev pub depth_after : ℕ → TokenRole → ℕ
-depth_after n sign_is.Parenthesis = one_more n
-depth_after n sign_is.Bracket = one_more n
+depth_after n sign_is.Parenthesis = capped_increment n
+depth_after n sign_is.Bracket = capped_increment n
 depth_after n sign_is.Closing = n - 1
 depth_after n _ = n
 
 -- how many commas came where one bracket was open
 abbrev pub commas_after : ℕ → ℕ → TokenRole → ℕ
-commas_after depth n sign_is.Comma = if depth == 1 then one_more n else n
+commas_after depth n sign_is.Comma = if depth == 1 then capped_increment n else n
 commas_after depth n _ = n
 
 -- how many colons came since the last `sack`
 abbrev pub colons_after : ℕ → TokenRole → ℕ
 colons_after n sign_is.Sack = 0
-colons_after n sign_is.Colon = one_more n
+colons_after n sign_is.Colon = capped_increment n
 colons_after n _ = n
 
 -- before the token after this one
@@ -221,14 +221,14 @@ after_role b s = record {
 -- ---- parts
 
 -- a part of an option or of a call begins with a token, where this stands before it
-abbrev pub begins_inside : RulePart → Nesting → TokenRole → Bool
-begins_inside part.OfferedMss b s = is_mss b.last
-begins_inside part.LargeMss b s = is_mss b.last && is_above (limit_of number.Mss) s
-begins_inside part.LargeShift b s = is_wscale b.last && is_above (limit_of number.Shift) s
-begins_inside part.FifthBlock b s = (is_whole_number b.last && is_whole_number s) && (b.colons == 4)
-begins_inside part.LargeEdge b s = is_before_edge b.last && is_above (limit_of number.Edge) s
-begins_inside part.ThirdArgument b s = (is_comma b.last && (b.depth == 1)) && (b.commas == 2)
-begins_inside _ b s = false
+abbrev pub begins_in_option_or_call : RulePart → Nesting → TokenRole → Bool
+begins_in_option_or_call part.OfferedMss b s = is_mss b.last
+begins_in_option_or_call part.LargeMss b s = is_mss b.last && is_number_above (limit_of number.Mss) s
+begins_in_option_or_call part.LargeShift b s = is_wscale b.last && is_number_above (limit_of number.Shift) s
+begins_in_option_or_call part.FifthBlock b s = (is_whole_number b.last && is_whole_number s) && (b.colons == 4)
+begins_in_option_or_call part.LargeEdge b s = can_precede_edge b.last && is_number_above (limit_of number.Edge) s
+begins_in_option_or_call part.ThirdArgument b s = (is_comma b.last && (b.depth == 1)) && (b.commas == 2)
+begins_in_option_or_call _ b s = false
 
 -- a part begins with a token, where this stands before it
 abbrev pub is_part : RulePart → Nesting → TokenRole → Bool
@@ -239,18 +239,18 @@ is_part part.Code b s = is_code s
 is_part part.HeaderOption b s = is_header_option s
 is_part part.Word b s = is_word s
 is_part part.Arrow b s = is_arrow s
-is_part part.Start b s = ends_flags b.last && is_whole_number s
+is_part part.Start b s = can_end_flags b.last && is_whole_number s
 is_part part.End b s = is_colon b.last
 is_part part.Length b s = is_parenthesis b.last
 is_part part.AckNumber b s = is_ack b.last
 is_part part.Window b s = is_win b.last
 is_part part.Options b s = is_named_option s
-is_part part.OfferedMss b s = begins_inside part.OfferedMss b s
-is_part part.LargeMss b s = begins_inside part.LargeMss b s
-is_part part.LargeShift b s = begins_inside part.LargeShift b s
-is_part part.FifthBlock b s = begins_inside part.FifthBlock b s
-is_part part.LargeEdge b s = begins_inside part.LargeEdge b s
-is_part part.ThirdArgument b s = begins_inside part.ThirdArgument b s
+is_part part.OfferedMss b s = begins_in_option_or_call part.OfferedMss b s
+is_part part.LargeMss b s = begins_in_option_or_call part.LargeMss b s
+is_part part.LargeShift b s = begins_in_option_or_call part.LargeShift b s
+is_part part.FifthBlock b s = begins_in_option_or_call part.FifthBlock b s
+is_part part.LargeEdge b s = begins_in_option_or_call part.LargeEdge b s
+is_part part.ThirdArgument b s = begins_in_option_or_call part.ThirdArgument b s
 
 -- where the first of some tokens stands with which a part begins, where this stands before them
 abbrev pub found : RulePart → Nesting → List Item → Option Place
@@ -261,17 +261,17 @@ found p b (bad line ∷ ts) = None
 
 -- where the first such part from a place on begins; that place where there is none
 abbrev pub place_of_part : RulePart → List (List ℕ) → Place → Place
-place_of_part p lines from = unwrap_or (found p at_first (items lines from)) from
+place_of_part p lines from = unwrap_or (found p before_first_token (items lines from)) from
 
 -- ---- the parts that rules are about
 
 -- a time over its limit, or else the end of a blocking call
-abbrev pub time_part : Event → RulePart
-time_part e = if list_any is_long (written_times e.time) then part.First else part.Dots
+abbrev pub overlong_time_part : Event → RulePart
+overlong_time_part e = if list_any is_long (written_times e.time) then part.First else part.Dots
 
 -- a number over its limit; a full outbox is about the event
 abbrev pub number_part : LimitedNumber → Event → RulePart
-number_part number.Time e = time_part e
+number_part number.Time e = overlong_time_part e
 number_part number.Start e = part.Start
 number_part number.End e = part.End
 number_part number.Ack e = part.AckNumber
@@ -329,11 +329,11 @@ event_place r zero = r.header.end
 event_place r (suc n) = option_map_or (λ (d : ParsedEvent). d.after) (slice_get r.events n) r.header.end
 
 -- a line of a text, counted from 1; nothing outside of it
-abbrev pub line_in : List (List ℕ) → ℕ → List ℕ
-line_in lines n = unwrap_or (if nat_le 1 n then slice_get lines (n - 1) else None) []
+abbrev pub line_or_empty : List (List ℕ) → ℕ → List ℕ
+line_or_empty lines n = unwrap_or (if nat_le 1 n then slice_get lines (n - 1) else None) []
 
 -- a text is shown at a place: its line as it is shown, and how many octets of that are shown for those before the place
 pub record IsShownAt (lines : List (List ℕ)) (p : Place) (reported : ShownPart) : Type 0 where
   pub line : reported.line ≡ p.line
-  pub text : reported.text.items ≡ escaped (line_in lines p.line)
-  pub column : reported.column ≡ length (escaped (take p.at (line_in lines p.line)))
+  pub text : reported.text.items ≡ escaped (line_or_empty lines p.line)
+  pub column : reported.column ≡ length (escaped (take p.at (line_or_empty lines p.line)))

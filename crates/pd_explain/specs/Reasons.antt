@@ -6,21 +6,21 @@ use Rattle.pd_explain.specs.declared.causes.not_sent_reason.NotSentReason.{NotSe
 use Rattle.pd_explain.specs.declared.causes.not_sent_reason.NotSentReason.TheVariants.{NoOctets, Held}
 
 -- of what holds the sender back
-abbrev pub hold_key : SendBlocker → List ℕ
-hold_key send_blocker.Reset = codes "reset"
-hold_key send_blocker.NotEstablished = codes "not_established"
-hold_key send_blocker.Acknowledged = codes "acknowledged"
-hold_key send_blocker.PipeFull = codes "pipe_full"
-hold_key send_blocker.NothingNext = codes "nothing_next"
-hold_key send_blocker.Recovering = codes "recovering"
-hold_key send_blocker.AllSent = codes "all_sent"
-hold_key send_blocker.PeerWindow = codes "peer_window"
-hold_key send_blocker.CongestionWindow = codes "congestion_window"
-hold_key send_blocker.PartOfSegment = codes "part_of_segment"
-hold_key send_blocker.Nagle = codes "nagle"
-hold_key send_blocker.Open = codes "open"
+abbrev pub send_blocker_key : SendBlocker → List ℕ
+send_blocker_key send_blocker.Reset = codes "reset"
+send_blocker_key send_blocker.NotEstablished = codes "not_established"
+send_blocker_key send_blocker.Acknowledged = codes "acknowledged"
+send_blocker_key send_blocker.PipeFull = codes "pipe_full"
+send_blocker_key send_blocker.NothingNext = codes "nothing_next"
+send_blocker_key send_blocker.Recovering = codes "recovering"
+send_blocker_key send_blocker.AllSent = codes "all_sent"
+send_blocker_key send_blocker.PeerWindow = codes "peer_window"
+send_blocker_key send_blocker.CongestionWindow = codes "congestion_window"
+send_blocker_key send_blocker.PartOfSegment = codes "part_of_segment"
+send_blocker_key send_blocker.Nagle = codes "nagle"
+send_blocker_key send_blocker.Open = codes "open"
 
 -- of a reason
 abbrev pub reason_key : NotSentReason → List ℕ
 reason_key NoOctets = codes "no_octets"
-reason_key (Held send_blocker) = hold_key send_blocker
+reason_key (Held send_blocker) = send_blocker_key send_blocker

@@ -22,15 +22,15 @@ use Rattle.pd_seg.specs.declared.segments.Segment.{Segment}
 use Rattle.pd_host.specs.ConnStates.{state_of, is_closed}
 use Rattle.pd_host.specs.Arrivals.{is_stray_fin, check_contents}
 use Rattle.pd_host.specs.Connection.{ConnectionView}
-use Rattle.pd_host.specs.Handshake.{is_listening, is_syn_alone, is_mss_run, is_opening, length_of, offered_mss}
+use Rattle.pd_host.specs.Handshake.{is_listening, is_syn_alone, is_peer_mss_supported, can_begin_connection, length_of, offered_mss}
 use Rattle.pd_host.specs.Syscalls.{syscall_of}
 use Rattle.pd_host.specs.declared.halts.Halt.TheVariants as halt
 use Rattle.pd_host.specs.declared.descriptors.ListenState.{ListenState}
 use Rattle.pd_host.specs.declared.endpoint.SenderState.{SenderState}
 use Rattle.pd_run.specs.InboundSegment.{segment_in}
 use Rattle.pd_run.specs.Limits.{written_times, written_blocking_end, is_long, is_block_over, is_action_over, is_over_limit}
-use Rattle.pd_run.specs.Supported.{is_run}
-use Rattle.pd_run.specs.Times.{is_single}
+use Rattle.pd_run.specs.Supported.{is_shape_supported}
+use Rattle.pd_run.specs.Times.{is_single_moment}
 use Rattle.pd_run.specs.declared.stop_point.StopPoint.{StopPoint}
 use Rattle.pd_run.specs.declared.stop_reason.StopReason.{StopReason}
 use Rattle.pd_run.specs.declared.stop_reason.StopReason.TheVariants.{Halted}
@@ -70,58 +70,58 @@ abbrev pub where_so : Bool → LimitedNumber → Option LimitedNumber
 where_so b n = if b then Some n else None
 
 -- a number that is above its limit
-abbrev pub above : LimitedNumber → ℕ → Option LimitedNumber
-above n value = where_so (nat_lt (limit_of n) value) n
+abbrev pub if_exceeded_by : LimitedNumber → ℕ → Option LimitedNumber
+if_exceeded_by n value = where_so (nat_lt (limit_of n) value) n
 
 -- the same of one that is written
-abbrev pub some_above : LimitedNumber → Option ℕ → Option LimitedNumber
-some_above n None = None
-some_above n (Some value) = above n value
+abbrev pub if_exceeded_by_some : LimitedNumber → Option ℕ → Option LimitedNumber
+if_exceeded_by_some n None = None
+if_exceeded_by_some n (Some value) = if_exceeded_by n value
 
 -- some written time of an event is over its limit
 abbrev pub is_some_long : Time → Option BlockingEnd → Bool
 is_some_long time blocking_end = list_any is_long (written_times time) || list_any is_long (written_blocking_end blocking_end)
 
 -- of an option: its value, the number of its blocks, or an edge of one
-abbrev pub option_over : PacketOption → Option LimitedNumber
-option_over (Mss octets) = above number.Mss octets
-option_over (Wscale count) = above number.Shift count
-option_over (Sack blocks) = option_or (above number.Blocks (length blocks)) (where_so (list_any is_block_over blocks) number.Edge)
-option_over _ = None
+abbrev pub number_over_in_option : PacketOption → Option LimitedNumber
+number_over_in_option (Mss octets) = if_exceeded_by number.Mss octets
+number_over_in_option (Wscale count) = if_exceeded_by number.Shift count
+number_over_in_option (Sack blocks) = option_or (if_exceeded_by number.Blocks (length blocks)) (where_so (list_any is_block_over blocks) number.Edge)
+number_over_in_option _ = None
 
 -- of the first option that has one
 abbrev pub first_option_over : List PacketOption → Option LimitedNumber
 first_option_over [] = None
-first_option_over (option ∷ options) = option_or (option_over option) (first_option_over options)
+first_option_over (option ∷ options) = option_or (number_over_in_option option) (first_option_over options)
 
 -- of a packet's options: how many they are, before each in order
-abbrev pub options_over : Options → Option LimitedNumber
-options_over (Listed options) = option_or (above number.Options (length options)) (first_option_over options)
-options_over _ = None
+abbrev pub number_over_in_options : Options → Option LimitedNumber
+number_over_in_options (Listed options) = option_or (if_exceeded_by number.Options (length options)) (first_option_over options)
+number_over_in_options _ = None
 
 -- of a packet
-abbrev pub packet_over : Packet → Option LimitedNumber
-packet_over p =
-    option_or (option_or (option_or (option_or (above number.Start p.start)
-    (above number.End p.end))
-    (some_above number.Ack p.ack))
-    (some_above number.Window p.win))
-    (options_over p.options)
+abbrev pub number_over_in_packet : Packet → Option LimitedNumber
+number_over_in_packet p =
+    option_or (option_or (option_or (option_or (if_exceeded_by number.Start p.start)
+    (if_exceeded_by number.End p.end))
+    (if_exceeded_by_some number.Ack p.ack))
+    (if_exceeded_by_some number.Window p.win))
+    (number_over_in_options p.options)
 
 -- of an action
-abbrev pub action_over : Action → Option LimitedNumber
-action_over (action.Inbound p) = packet_over p
-action_over (action.Outbound p) = packet_over p
-action_over (action.Call call) = where_so (is_action_over (action.Call call)) number.Write
-action_over _ = None
+abbrev pub number_over_in_action : Action → Option LimitedNumber
+number_over_in_action (action.Inbound p) = number_over_in_packet p
+number_over_in_action (action.Outbound p) = number_over_in_packet p
+number_over_in_action (action.Call call) = where_so (is_action_over (action.Call call)) number.Write
+number_over_in_action _ = None
 
 -- the first number of an event that is over its limit
-abbrev pub number_over : Event → Option LimitedNumber
-number_over e = if is_some_long e.time e.blocking_end then Some number.Time else action_over e.action
+abbrev pub first_number_over_limit : Event → Option LimitedNumber
+first_number_over_limit e = if is_some_long e.time e.blocking_end then Some number.Time else number_over_in_action e.action
 
 -- a law: there is such a number exactly where one is over its limit
 abbrev pub LimitsHaveNumbers : Type 0
-LimitsHaveNumbers = (e : Event) → is_some (number_over e) ≡ is_over_limit e
+LimitsHaveNumbers = (e : Event) → is_some (first_number_over_limit e) ≡ is_over_limit e
 
 -- Shapes that aren't run
 
@@ -142,9 +142,9 @@ packet_shape p = if p.flags.other then Some shape.Flag else None
 
 -- of an action at a time
 abbrev pub action_shape : Time → Action → Option UnsupportedShape
-action_shape time (action.Inbound p) = if not (is_single time) then Some shape.InboundTime else packet_shape p
+action_shape time (action.Inbound p) = if not (is_single_moment time) then Some shape.InboundTime else packet_shape p
 action_shape time (action.Outbound p) = packet_shape p
-action_shape time (action.Call call) = if not (is_single time) then Some shape.CallTime else call_shape call
+action_shape time (action.Call call) = if not (is_single_moment time) then Some shape.CallTime else call_shape call
 action_shape time action.Command = Some shape.Command
 action_shape time action.Code = Some shape.Code
 
@@ -154,7 +154,7 @@ shape_rule e = if is_some e.blocking_end then Some shape.Blocking else action_sh
 
 -- a law: there is such a rule exactly where an event isn't run
 abbrev pub ShapesHaveRules : Type 0
-ShapesHaveRules = (e : Event) → is_some (shape_rule e) ≡ not (is_run e)
+ShapesHaveRules = (e : Event) → is_some (shape_rule e) ≡ not (is_shape_supported e)
 
 -- The inputs that a sender that halts doesn't run in its state
 
@@ -163,8 +163,8 @@ abbrev pub is_exactly_syn : Segment → Bool
 is_exactly_syn segment = is_syn_alone segment.flags && (segment.start == 0 && length_of segment == 0)
 
 -- of a first segment
-abbrev pub opening_rule : ListenState → Segment → UnsupportedInput
-opening_rule listener segment =
+abbrev pub first_segment_rule : ListenState → Segment → UnsupportedInput
+first_segment_rule listener segment =
     if not (is_listening listener) then NotListening
     else (if is_exactly_syn segment then SmallMss else NotSyn)
 
@@ -172,23 +172,23 @@ opening_rule listener segment =
 abbrev pub HoldsOfFirst : ListenState → Segment → UnsupportedInput → Type 0
 HoldsOfFirst listener _ NotListening = is_listening listener ≡ false
 HoldsOfFirst _ segment NotSyn = is_exactly_syn segment ≡ false
-HoldsOfFirst _ segment SmallMss = is_mss_run (offered_mss segment.options) ≡ false
+HoldsOfFirst _ segment SmallMss = is_peer_mss_supported (offered_mss segment.options) ≡ false
 HoldsOfFirst _ _ _ = ⊥
 
 -- a law: so is the one that is given for a first segment that begins no connection
 abbrev pub OpeningsHaveRules : Type 0
 OpeningsHaveRules =
     (listener : ListenState) (segment : Segment)
-    → is_opening listener segment ≡ false
-    → HoldsOfFirst listener segment (opening_rule listener segment)
+    → can_begin_connection listener segment ≡ false
+    → HoldsOfFirst listener segment (first_segment_rule listener segment)
 
 -- a connection is closed
 abbrev pub is_closed_by : ConnectionView → Bool
 is_closed_by c = is_closed (state_of c)
 
 -- of a segment on a connection: where it has neither data nor a SYN, and the connection goes on, its FIN is out of place
-abbrev pub contents_rule : ConnectionView → Segment → UnsupportedInput
-contents_rule c segment =
+abbrev pub connection_segment_rule : ConnectionView → Segment → UnsupportedInput
+connection_segment_rule c segment =
     if nat_lt 0 (length_of segment) then Payload
     else (if segment.flags.syn then SecondSyn
     else (if not (is_closed_by c) then StrayFin
@@ -208,25 +208,25 @@ abbrev pub ContentsHaveRules : Type 0
 ContentsHaveRules =
     (c : ConnectionView) (segment : Segment)
     → is_some (check_contents c segment) ≡ true
-    → HoldsOn c segment (contents_rule c segment)
+    → HoldsOn c segment (connection_segment_rule c segment)
 
 -- of a segment, by whether a connection was begun
 abbrev pub arrival_rule : SenderState → Segment → UnsupportedInput
 arrival_rule s segment = by s.endpoint.connection
   where
     by : Option ConnectionView → UnsupportedInput
-    by None = opening_rule s.endpoint.listener segment
-    by (Some c) = contents_rule c segment
+    by None = first_segment_rule s.endpoint.listener segment
+    by (Some c) = connection_segment_rule c segment
 
 -- of a call: the others answer
-abbrev pub refused_call : Function → UnsupportedInput
-refused_call function.Socket = SecondSocket
-refused_call _ = ListenerClose
+abbrev pub unsupported_call_rule : Function → UnsupportedInput
+unsupported_call_rule function.Socket = SecondSocket
+unsupported_call_rule _ = ListenerClose
 
 -- of an action
 abbrev pub input_rule : Action → SenderState → Option UnsupportedInput
 input_rule (action.Inbound p) s = Some (arrival_rule s (segment_in p))
-input_rule (action.Call call) s = Some (refused_call call.function)
+input_rule (action.Call call) s = Some (unsupported_call_rule call.function)
 input_rule _ s = None
 
 -- All of them
@@ -238,7 +238,7 @@ halt_rule _ _ = Over number.Outbox
 
 -- of an event that stops a run
 abbrev pub event_rule : Event → StopPoint → Rule
-event_rule e stop = by (number_over e) (shape_rule e)
+event_rule e stop = by (first_number_over_limit e) (shape_rule e)
   where
     by : Option LimitedNumber → Option UnsupportedShape → Rule
     by (Some n) _ = Over n

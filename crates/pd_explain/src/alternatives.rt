@@ -1,6 +1,6 @@
 //! The calls and flags that are run, in the place of those that aren't.
 ghost use Rattle.std.specs.Prelude.{◌≡◌};
-ghost use Rattle.pd_explain.specs.Alternatives.{quoted_name};
+ghost use Rattle.pd_explain.specs.Alternatives.{quoted_call_name};
 
 use crate::rules::{Rule, UnsupportedShape};
 use pd_script::{Action, Event, Function};
@@ -29,12 +29,12 @@ pub fn alternatives_of(
     event: &Event,
 ) -> Result<Vec<Vec<u8>>, AllocError> {
     match (rule, &event.action) {
-        (Rule::NotRun(UnsupportedShape::CallName), _) => calls(alloc),
-        (Rule::NotRun(UnsupportedShape::CallShape), Action::Call(call)) => shapes(
+        (Rule::NotRun(UnsupportedShape::CallName), _) => supported_call_names(alloc),
+        (Rule::NotRun(UnsupportedShape::CallShape), Action::Call(call)) => supported_call_shapes(
             alloc,
             call.function,
         ),
-        (Rule::NotRun(UnsupportedShape::Flag), _) => listed(
+        (Rule::NotRun(UnsupportedShape::Flag), _) => words_to_list(
             alloc,
             &["`F`", "`S`", "`R`", "`P`", "`.`"],
         ),
@@ -42,17 +42,17 @@ pub fn alternatives_of(
     }
 }
 
-fn calls(alloc: Global) -> Result<Vec<Vec<u8>>, AllocError> {
+fn supported_call_names(alloc: Global) -> Result<Vec<Vec<u8>>, AllocError> {
     let mut names = Vec::new(alloc);
     for function in CALLS {
-        names.push(Vec::from_slice(alloc, quoted_name(function).as_bytes())?)?;
+        names.push(Vec::from_slice(alloc, quoted_call_name(function).as_bytes())?)?;
     }
     Ok(names)
 }
 
 /// The name of a call in backquotes.
-fn quoted_name(function: Function) -> &'static str
-    ensures { result.now ≡ quoted_name function }
+fn quoted_call_name(function: Function) -> &'static str
+    ensures { result.now ≡ quoted_call_name function }
 {
     match function {
         Function::Socket => "`socket`",
@@ -68,9 +68,9 @@ fn quoted_name(function: Function) -> &'static str
 }
 
 /// The shapes of a call that are run.
-fn shapes(alloc: Global, function: Function) -> Result<Vec<Vec<u8>>, AllocError> {
+fn supported_call_shapes(alloc: Global, function: Function) -> Result<Vec<Vec<u8>>, AllocError> {
     if let Function::Setsockopt = function {
-        return listed(
+        return words_to_list(
             alloc,
             &[
                 "`setsockopt(fd, SOL_SOCKET, SO_REUSEADDR, any, any)`",
@@ -78,11 +78,11 @@ fn shapes(alloc: Global, function: Function) -> Result<Vec<Vec<u8>>, AllocError>
             ],
         );
     }
-    listed(alloc, &[shape(function)])
+    words_to_list(alloc, &[supported_call_shape(function)])
 }
 
 /// The one shape of another call that is run.
-fn shape(function: Function) -> &'static str {
+fn supported_call_shape(function: Function) -> &'static str {
     match function {
         Function::Socket => "`socket(any, SOCK_STREAM, IPPROTO_TCP or 0)`",
         Function::Bind => "`bind(fd, any, any)`",
@@ -96,7 +96,7 @@ fn shape(function: Function) -> &'static str {
 }
 
 /// Words as a list.
-fn listed(alloc: Global, words: &[&'static str]) -> Result<Vec<Vec<u8>>, AllocError> {
+fn words_to_list(alloc: Global, words: &[&'static str]) -> Result<Vec<Vec<u8>>, AllocError> {
     let mut list = Vec::new(alloc);
     for each in words {
         list.push(Vec::from_slice(alloc, each.as_bytes())?)?;

@@ -15,15 +15,15 @@ pub(crate) use self::failure::{
     ExpectedTime, Failure, MissingPacket, TimeBackwards, Unmatched, WrongPacket, WrongResult,
 };
 pub use self::failure::{Failed, SenderSnapshot};
-use self::find_failure::failure_of;
-pub(crate) use self::find_failure::{run_at, sender};
-pub(crate) use self::outlook::{Outlook, bound_of, computed_us, span_text};
+use self::find_failure::failure_at_stop;
+pub(crate) use self::find_failure::{run_at_stop, sender_snapshot_of};
+pub(crate) use self::outlook::{Outlook, applied_rto_bound, capped_computed_us, span_text};
 use self::source_text::source_text_at;
 pub(crate) use self::unmatched::list_unmatched;
 use crate::dropped::DroppedSegment;
 use crate::origins::Origin;
 use crate::refusals::Refusal;
-use crate::rule_violation::{RuleViolation, violation_at};
+use crate::rule_violation::{RuleViolation, violation_at_event};
 use crate::rules::event_rule;
 use pd_lex::Place;
 use pd_reparse::ParsedEvent;
@@ -46,7 +46,7 @@ pub enum Cause {
 ///
 /// # Errors
 /// `AllocError` where a growth is refused.
-pub fn cause_at(
+pub fn cause_of_event_stop(
     alloc: Global,
     lines: &Lines,
     place: Place,
@@ -57,26 +57,26 @@ pub fn cause_at(
 {
     let event = &parsed_event.event;
     let source_text = source_text_at(alloc, lines, place, parsed_event.after)?;
-    match failure_of(alloc, event, stop, source_text)? {
+    match failure_at_stop(alloc, event, stop, source_text)? {
         Some(failure) => Ok(Cause::Failed(failure)),
         None => {
             let rule = event_rule(event, stop);
-            Ok(Cause::Rule(violation_at(alloc, lines, place, event, rule)?))
+            Ok(Cause::Rule(violation_at_event(alloc, lines, place, event, rule)?))
         }
     }
 }
 
 impl Cause {
     /// The same cause, without what let packets go and which segments were dropped.
-    pub fn without_history(self, alloc: Global) -> Cause
+    pub fn without_origins_and_dropped(self, alloc: Global) -> Cause
         ensures { HasHistoryOf self [] [] result }
     {
-        with_history(self, Vec::new(alloc), Vec::new(alloc))
+        with_origins_and_dropped(self, Vec::new(alloc), Vec::new(alloc))
     }
 }
 
 /// The same cause, with what let the packets go that nobody has taken, and which segments were dropped.
-pub(crate) fn with_history(
+pub(crate) fn with_origins_and_dropped(
     cause: Cause,
     origins: Vec<Origin>,
     dropped: Vec<DroppedSegment>,

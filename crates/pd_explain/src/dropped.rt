@@ -5,10 +5,10 @@ ghost use Rattle.pd_host.specs.Expiries.{advanced};
 ghost use Rattle.pd_run.specs.Limits.{is_long, is_packet_over, written_times};
 ghost use Rattle.pd_run.specs.Step.{action_time};
 ghost use Rattle.pd_reparse.specs.Reading.{script_part};
-ghost use Rattle.pd_explain.specs.Dropped.{drops, failed_check_after, dropped_at, dropped_before, dropped_by, dropped_before_stop, last_dropped};
+ghost use Rattle.pd_explain.specs.Dropped.{check_drops_segment, failed_check_after_expiries, dropped_in_event, dropped_before, dropped_segment_for_check, dropped_before_stop, last_dropped};
 ghost use Rattle.pd_explain.specs.Inner.{IsResumed, Reaches};
 
-use crate::origins::{action_time, is_due};
+use crate::origins::{action_time, has_expiry_by};
 use crate::resume::ResumedRun;
 use pd_host::{Host, HostEnd, SegmentCheck};
 use pd_reparse::Reading;
@@ -51,8 +51,8 @@ fn find_dropped(
     ensures { IfOk result (λ dropped. dropped.items ≡ dropped_before settings.now (script_part reading.now) passed) }
 {
     match resumed {
-        Some(resumed) if is_early(resumed.passed, passed) => {
-            dropped_after(alloc, reading, settings, resumed, passed)
+        Some(resumed) if resumes_early_enough(resumed.passed, passed) => {
+            dropped_by_resumed_run(alloc, reading, settings, resumed, passed)
         }
         _ => dropped_from_start(alloc, reading, settings, passed),
     }
@@ -84,7 +84,7 @@ pub fn dropped_before_stop(
 }
 
 /// Whether a run that was taken up after so many events has those before it that are looked at.
-fn is_early(begun: usize, passed: usize) -> bool
+fn resumes_early_enough(begun: usize, passed: usize) -> bool
     ensures { result ≡ nat_le (begun + 16) passed }
 {
     passed >= MAX_EVENTS_BACK && begun <= passed - MAX_EVENTS_BACK
@@ -102,7 +102,7 @@ fn dropped_from_start(
 {
     law_runs_are_bounded();
     match RunState::new(alloc, reading.header(), settings) {
-        Ok(run) => dropped_after(
+        Ok(run) => dropped_by_resumed_run(
             alloc,
             reading,
             settings,
@@ -114,7 +114,7 @@ fn dropped_from_start(
 }
 
 /// The same by a run that is taken up.
-fn dropped_after(
+fn dropped_by_resumed_run(
     alloc: Global,
     reading: &Reading,
     settings: &Settings,
@@ -133,7 +133,7 @@ fn dropped_after(
     let mut run = resumed.run;
     for number in resumed.passed..passed {
         let event = &events.at(number).event;
-        note_dropped(&mut dropped, &run, event)?;
+        push_dropped_or_none(&mut dropped, &run, event)?;
         match stepper.step(&mut run, event, settings)? {
             StepEnd::Go => {}
             StepEnd::Stop(_) => unreachable!(),
@@ -143,69 +143,69 @@ fn dropped_after(
 }
 
 /// Notes the segment that is dropped in an event, or that none is.
-fn note_dropped(
+fn push_dropped_or_none(
     dropped: &mut Vec<Option<DroppedSegment>>,
     run: &RunState,
     event: &Event,
 ) -> Result<(), AllocError>
-    requires live { run.now.host.ended ≡ None }
+    requires live { run.now.host.end_reason ≡ None }
     requires clock { run.now.clock < 2 ^ 61 }
     requires base { run.now.base < 2 ^ 61 }
-    ensures { OnOk result (dropped.new.items ≡ dropped.old.items ++ dropped_at run.now event.now ∷ []) }
+    ensures { OnOk result (dropped.new.items ≡ dropped.old.items ++ dropped_in_event run.now event.now ∷ []) }
 {
-    dropped.push(dropped_at(run, event)?)?;
+    dropped.push(dropped_in_event(run, event)?)?;
     Ok(())
 }
 
 /// The segment that is dropped in an event.
-fn dropped_at(run: &RunState, event: &Event) -> Result<Option<DroppedSegment>, AllocError>
-    requires live { run.now.host.ended ≡ None }
+fn dropped_in_event(run: &RunState, event: &Event) -> Result<Option<DroppedSegment>, AllocError>
+    requires live { run.now.host.end_reason ≡ None }
     requires clock { run.now.clock < 2 ^ 61 }
     requires base { run.now.base < 2 ^ 61 }
-    ensures { IfOk result (λ dropped. dropped ≡ dropped_at run.now event.now) }
+    ensures { IfOk result (λ dropped. dropped ≡ dropped_in_event run.now event.now) }
 {
     if failed_precheck(run.base(), event).is_some() {
         return Ok(None);
     }
     match &event.action {
         Action::Inbound(packet) => {
-            let failed_check = failed_check_on(run, event, packet)?;
-            Ok(dropped_by(event.line, failed_check))
+            let failed_check = failed_check_in_event(run, event, packet)?;
+            Ok(dropped_segment_for_check(event.line, failed_check))
         }
         Action::Outbound(_) | Action::Call(_) | Action::Command | Action::Code => Ok(None),
     }
 }
 
 /// The check that the packet of an event doesn't pass.
-fn failed_check_on(
+fn failed_check_in_event(
     run: &RunState,
     event: &Event,
     packet: &Packet,
 ) -> Result<Option<SegmentCheck>, AllocError>
-    requires live { run.now.host.ended ≡ None }
+    requires live { run.now.host.end_reason ≡ None }
     requires clock { run.now.clock < 2 ^ 61 }
     requires base { run.now.base < 2 ^ 61 }
     requires short { list_any is_long (written_times event.now.time) ≡ false }
     requires fits { is_packet_over packet.now ≡ false }
-    ensures { IfOk result (λ failed_check. failed_check ≡ failed_check_after packet.now (advanced (action_time run.now event.now) run.now.host.state)) }
+    ensures { IfOk result (λ failed_check. failed_check ≡ failed_check_after_expiries packet.now (advanced (action_time run.now event.now) run.now.host.state)) }
 {
     let moment = action_time(run, event);
-    if is_due(run, moment) {
-        return failed_check_after(run.host(), packet, moment);
+    if has_expiry_by(run, moment) {
+        return failed_check_after_expiries(run.host(), packet, moment);
     }
     failed_check_of(run.host(), packet)
 }
 
 /// The same where expiries come before it.
-fn failed_check_after(
+fn failed_check_after_expiries(
     host: &Host,
     packet: &Packet,
     until: u64,
 ) -> Result<Option<SegmentCheck>, AllocError>
-    requires live { host.now.ended ≡ None }
+    requires live { host.now.end_reason ≡ None }
     requires early { until < 2 ^ 62 }
     requires fits { is_packet_over packet.now ≡ false }
-    ensures { IfOk result (λ failed_check. failed_check ≡ failed_check_after packet.now (advanced until host.now.state)) }
+    ensures { IfOk result (λ failed_check. failed_check ≡ failed_check_after_expiries packet.now (advanced until host.now.state)) }
 {
     let mut host = host.copy()?;
     match host.advance(until) {
@@ -215,18 +215,24 @@ fn failed_check_after(
     }
 }
 
-fn dropped_by(line: usize, failed_check: Option<SegmentCheck>) -> Option<DroppedSegment>
-    ensures { result ≡ dropped_by line failed_check }
+fn dropped_segment_for_check(
+    line: usize,
+    failed_check: Option<SegmentCheck>,
+) -> Option<DroppedSegment>
+    ensures { result ≡ dropped_segment_for_check line failed_check }
 {
     match failed_check {
-        Some(failed_check) if drops(failed_check) => Some(DroppedSegment { line, failed_check }),
+        Some(failed_check) if check_drops_segment(failed_check) => Some(DroppedSegment {
+            line,
+            failed_check,
+        }),
         _ => None,
     }
 }
 
 /// Whether a check is one by which a segment counts for nothing.
-fn drops(failed_check: SegmentCheck) -> bool
-    ensures { result ≡ drops failed_check }
+fn check_drops_segment(failed_check: SegmentCheck) -> bool
+    ensures { result ≡ check_drops_segment failed_check }
 {
     match failed_check {
         SegmentCheck::StrayRst
@@ -250,14 +256,17 @@ fn last_dropped(
 {
     let mut dropped = Vec::new(alloc);
     for event in &each[each.len().saturating_sub(MAX_EVENTS_BACK)..] {
-        keep(&mut dropped, *event)?;
+        push_if_some(&mut dropped, *event)?;
     }
     let first = dropped.len().saturating_sub(MAX_REPORTED);
     Vec::from_slice(alloc, &dropped[first..])
 }
 
 /// Keeps the segment of an event, if there is one.
-fn keep(list: &mut Vec<DroppedSegment>, dropped: Option<DroppedSegment>) -> Result<(), AllocError>
+fn push_if_some(
+    list: &mut Vec<DroppedSegment>,
+    dropped: Option<DroppedSegment>,
+) -> Result<(), AllocError>
     ensures { OnOk result (list.new.items ≡ list.old.items ++ filter_map (λ it. it) (dropped ∷ [])) }
 {
     if let Some(segment) = dropped {

@@ -37,7 +37,7 @@ fn put_escaped(out: &mut Vec<u8>, octets: &[u8]) -> Result<(), AllocError>
     ensures { OnOk result (out.new.items ≡ out.old.items ++ escaped octets.now) }
 {
     for octet in octets {
-        put_octet(out, *octet)?;
+        put_escaped_octet(out, *octet)?;
     }
     Ok(())
 }
@@ -54,7 +54,7 @@ pub(crate) fn escaped(alloc: Global, octets: &[u8]) -> Result<Vec<u8>, AllocErro
     Ok(text)
 }
 
-fn put_octet(out: &mut Vec<u8>, octet: u8) -> Result<(), AllocError>
+fn put_escaped_octet(out: &mut Vec<u8>, octet: u8) -> Result<(), AllocError>
     ensures { OnOk result (out.new.items ≡ out.old.items ++ escaped_octet octet) }
 {
     if is_printable(octet) {
@@ -86,37 +86,37 @@ pub(crate) fn truncated_around(
 ) -> Result<(Vec<u8>, usize), AllocError>
     ensures { IfOk result (λ cut. are_printable line.now ≡ true → are_printable cut.0.items ≡ true) }
 {
-    let start = start_of(line, mark);
-    let end = end_from(line, start);
+    let start = truncation_start(line, mark);
+    let end = truncation_end(line, start);
     let mut cut = Vec::new(alloc);
-    put_cut(&mut cut, start > 0)?;
+    put_ellipsis_if_cut(&mut cut, start > 0)?;
     let column = mark.saturating_sub(start).saturating_add(cut.len());
-    put_part(&mut cut, part(line, start, end))?;
-    put_cut(&mut cut, end < line.len())?;
+    append_part(&mut cut, clamped_part(line, start, end))?;
+    put_ellipsis_if_cut(&mut cut, end < line.len())?;
     Ok((cut, column))
 }
 
 /// Adds a part of a line.
 #[tactic(auto, using(crate::proofs::EscapeLemmas::joined))]
-fn put_part(out: &mut Vec<u8>, part: &[u8]) -> Result<(), AllocError>
-    ensures { OnOk result (are_printable out.old.items ≡ true → are_printable part.now ≡ true → are_printable out.new.items ≡ true) }
+fn append_part(out: &mut Vec<u8>, clamped_part: &[u8]) -> Result<(), AllocError>
+    ensures { OnOk result (are_printable out.old.items ≡ true → are_printable clamped_part.now ≡ true → are_printable out.new.items ≡ true) }
 {
-    out.extend_from_slice(part)
+    out.extend_from_slice(clamped_part)
 }
 
 /// Adds what is in the place of what is cut off, if something is.
-fn put_cut(out: &mut Vec<u8>, is_cut: bool) -> Result<(), AllocError>
+fn put_ellipsis_if_cut(out: &mut Vec<u8>, is_cut: bool) -> Result<(), AllocError>
     ensures { OnOk result (are_printable out.old.items ≡ true → are_printable out.new.items ≡ true) }
 {
     if is_cut {
-        put_part(out, b"..")?;
+        append_part(out, b"..")?;
     }
     Ok(())
 }
 
 /// The octets from a place up to another.
 #[tactic(auto, using(crate::proofs::EscapeLemmas::ranged))]
-pub(crate) fn part(line: &[u8], start: usize, end: usize) -> &[u8]
+pub(crate) fn clamped_part(line: &[u8], start: usize, end: usize) -> &[u8]
     ensures { are_printable line.now ≡ true → are_printable result.now ≡ true }
 {
     let end = end.min(line.len());
@@ -126,28 +126,28 @@ pub(crate) fn part(line: &[u8], start: usize, end: usize) -> &[u8]
 
 /// Where what is shown of a line begins: at its begin where the mark is near, else a little before the mark, or so that it
 /// ends with the line.
-fn start_of(line: &[u8], mark: usize) -> usize {
+fn truncation_start(line: &[u8], mark: usize) -> usize {
     if mark < MAX_PRINTED - BEFORE_MARK / 2 {
         return 0;
     }
     let wanted = mark.saturating_sub(BEFORE_MARK);
     let start = wanted.min(line.len().saturating_sub(MAX_PRINTED));
-    match torn_at(line, start) {
+    match torn_escape_start(line, start) {
         Some(escape) => escape.saturating_add(ESCAPED),
         None => start,
     }
 }
 
 /// Where what is shown from a place on ends.
-fn end_from(line: &[u8], start: usize) -> usize {
+fn truncation_end(line: &[u8], start: usize) -> usize {
     let end = start.saturating_add(MAX_PRINTED).min(line.len());
-    torn_at(line, end).unwrap_or(end)
+    torn_escape_start(line, end).unwrap_or(end)
 }
 
 /// Where the `\xHH` begins that a cut before an octet would tear.
-fn torn_at(line: &[u8], at: usize) -> Option<usize> {
+fn torn_escape_start(line: &[u8], at: usize) -> Option<usize> {
     for back in 1..ESCAPED {
-        if at >= back && is_escape(part(line, at - back, line.len())) {
+        if at >= back && begins_with_escape(clamped_part(line, at - back, line.len())) {
             return Some(at - back);
         }
     }
@@ -155,7 +155,7 @@ fn torn_at(line: &[u8], at: usize) -> Option<usize> {
 }
 
 /// Whether a line begins with `\xHH`.
-fn is_escape(line: &[u8]) -> bool {
+fn begins_with_escape(line: &[u8]) -> bool {
     match line {
         [b'\\', b'x', high, low, ..] => high.is_ascii_hexdigit() && low.is_ascii_hexdigit(),
         _ => false,

@@ -6,14 +6,14 @@ ghost use Rattle.pd_run.specs.StopPoints.{line_of, stop_in};
 ghost use Rattle.pd_script.specs.Script.{script_of};
 ghost use Rattle.pd_explain.specs.Causes.{IsCauseOf};
 ghost use Rattle.pd_explain.specs.Dropped.{dropped_before_stop};
-ghost use Rattle.pd_explain.specs.Explained.{row_line, not_run, HasHistory, IsCauseIn, IsCause, IsHeaderCause};
+ghost use Rattle.pd_explain.specs.Explained.{line_unless_pass, first_unsupported_item, HasHistory, IsCauseIn, IsCause, IsHeaderCause};
 ghost use Rattle.pd_explain.specs.Inner.{IsResumed, IsTraced, knows_all_origins};
 
-use crate::causes::{Cause, cause_at, with_history};
+use crate::causes::{Cause, cause_of_event_stop, with_origins_and_dropped};
 use crate::dropped::{DroppedSegment, dropped_before_stop};
 use crate::parts::event_place;
 use crate::refusals::find_refusal;
-use crate::resume::{ResumedRun, TracedStop, resume_before, resume_early, trace_stop};
+use crate::resume::{ResumedRun, TracedStop, resume_for_dropped, resume_for_origins, trace_stop};
 use crate::rule_violation::header_violation;
 use pd_lex::Place;
 use pd_reparse::{ParsedEvent, Reading, law_readings, read};
@@ -47,14 +47,14 @@ pub fn explain(
     verdict: Verdict,
 ) -> Result<Option<Explanation>, AllocError>
     requires { verdict ≡ verdict_of lines.now settings.now }
-    ensures reported { IfOk result (λ reported. option_map (λ e. e.verdict) reported ≡ option_map (λ _. verdict) (row_line verdict)) }
-    ensures at { IfOk result (λ reported. option_map (λ e. e.line) reported ≡ row_line verdict) }
+    ensures reported { IfOk result (λ reported. option_map (λ e. e.verdict) reported ≡ option_map (λ _. verdict) (line_unless_pass verdict)) }
+    ensures at { IfOk result (λ reported. option_map (λ e. e.line) reported ≡ line_unless_pass verdict) }
     ensures cause { IfOk result (λ reported. IfSome reported (λ e. IsCause lines.now settings.now verdict e.cause)) }
 {
-    let Some(line) = row_line(verdict) else {
+    let Some(line) = line_unless_pass(verdict) else {
         return Ok(None);
     };
-    let cause = cause_of(alloc, lines, settings, verdict, line)?;
+    let cause = cause_of_verdict(alloc, lines, settings, verdict, line)?;
     Ok(Some(Explanation {
         line,
         verdict,
@@ -68,12 +68,12 @@ pub fn explain(
 /// # Errors
 /// `AllocError` where a growth is refused.
 pub fn explain_job(alloc: Global, done: &Done) -> Result<Option<Explanation>, AllocError>
-    ensures reported { IfOk result (λ reported. option_map (λ e. e.verdict) reported ≡ option_map (λ _. verdict_of done.now.text done.now.settings) (row_line (verdict_of done.now.text done.now.settings))) }
-    ensures at { IfOk result (λ reported. option_map (λ e. e.line) reported ≡ row_line (verdict_of done.now.text done.now.settings)) }
+    ensures reported { IfOk result (λ reported. option_map (λ e. e.verdict) reported ≡ option_map (λ _. verdict_of done.now.text done.now.settings) (line_unless_pass (verdict_of done.now.text done.now.settings))) }
+    ensures at { IfOk result (λ reported. option_map (λ e. e.line) reported ≡ line_unless_pass (verdict_of done.now.text done.now.settings)) }
     ensures cause { IfOk result (λ reported. IfSome reported (λ e. IsCause done.now.text done.now.settings (verdict_of done.now.text done.now.settings) e.cause)) }
 {
     let verdict = done.verdict();
-    let Some(line) = row_line(verdict) else {
+    let Some(line) = line_unless_pass(verdict) else {
         return Ok(None);
     };
     let cause = cause_of_job(alloc, done, verdict, line)?;
@@ -85,8 +85,8 @@ pub fn explain_job(alloc: Global, done: &Done) -> Result<Option<Explanation>, Al
 }
 
 /// The line of a row that isn't a pass.
-fn row_line(verdict: Verdict) -> Option<usize>
-    ensures { result ≡ row_line verdict }
+fn line_unless_pass(verdict: Verdict) -> Option<usize>
+    ensures { result ≡ line_unless_pass verdict }
 {
     match verdict {
         Verdict::Pass(_) => None,
@@ -96,7 +96,7 @@ fn row_line(verdict: Verdict) -> Option<usize>
 }
 
 /// Why a text comes to its verdict at a line.
-fn cause_of(
+fn cause_of_verdict(
     alloc: Global,
     lines: &Lines,
     settings: &Settings,
@@ -104,14 +104,14 @@ fn cause_of(
     line: usize,
 ) -> Result<Cause, AllocError>
     requires verdict { verdict ≡ verdict_of lines.now settings.now }
-    requires line { row_line verdict ≡ Some line }
+    requires line { line_unless_pass verdict ≡ Some line }
     ensures { IfOk result (IsCause lines.now settings.now verdict) }
 {
     match verdict {
         Verdict::Syntax(_) => Ok(Cause::Syntax(find_refusal(alloc, lines, line)?)),
         _ => {
             let reading = read(alloc, lines)?;
-            cause_of_stop(alloc, lines, settings, verdict, line, &reading, None, None)
+            cause_in_header_or_run(alloc, lines, settings, verdict, line, &reading, None, None)
         }
     }
 }
@@ -124,7 +124,7 @@ fn cause_of_job(
     line: usize,
 ) -> Result<Cause, AllocError>
     requires verdict { verdict ≡ verdict_of done.now.text done.now.settings }
-    requires line { row_line verdict ≡ Some line }
+    requires line { line_unless_pass verdict ≡ Some line }
     ensures { IfOk result (IsCause done.now.text done.now.settings verdict) }
 {
     let lines = done.text().lines();
@@ -132,9 +132,9 @@ fn cause_of_job(
         Verdict::Syntax(_) => Ok(Cause::Syntax(find_refusal(alloc, lines, line)?)),
         _ => {
             let track = done.track();
-            let resumed = resume_before(track, line)?;
-            let resumed_early = resume_early(track, verdict, line)?;
-            cause_of_stop(
+            let resumed = resume_for_origins(track, line)?;
+            let resumed_early = resume_for_dropped(track, verdict, line)?;
+            cause_in_header_or_run(
                 alloc,
                 lines,
                 track.settings(),
@@ -150,7 +150,7 @@ fn cause_of_job(
 
 /// Why the run of a script that was read comes to its verdict at a line. The run is taken up on its way, once more early where
 /// segments are looked for that were dropped, or else is run from its first event.
-fn cause_of_stop(
+fn cause_in_header_or_run(
     alloc: Global,
     lines: &Lines,
     settings: &Settings,
@@ -169,9 +169,9 @@ fn cause_of_stop(
 {
     // The laws do no work here and below: that a stop is found rests on them.
     law_readings();
-    match item_not_run(reading.header()) {
-        Some(item) => cause_of_header(alloc, lines, &item),
-        None => cause_of_run(
+    match first_unsupported_item(reading.header()) {
+        Some(item) => cause_of_header_item(alloc, lines, &item),
+        None => cause_of_run_stop(
             alloc,
             lines,
             settings,
@@ -185,14 +185,18 @@ fn cause_of_stop(
 }
 
 /// Why a script isn't run: for an item of its header.
-fn cause_of_header(alloc: Global, lines: &Lines, item: &HeaderItem) -> Result<Cause, AllocError>
+fn cause_of_header_item(
+    alloc: Global,
+    lines: &Lines,
+    item: &HeaderItem,
+) -> Result<Cause, AllocError>
     ensures { IfOk result (IsHeaderCause lines.now item.now.kind) }
 {
     Ok(Cause::Rule(header_violation(alloc, lines, item)?))
 }
 
 /// The same of a script whose header is run.
-fn cause_of_run(
+fn cause_of_run_stop(
     alloc: Global,
     lines: &Lines,
     settings: &Settings,
@@ -205,7 +209,7 @@ fn cause_of_run(
     requires verdict { verdict ≡ verdict_of lines.now settings.now }
     requires line { line_of verdict ≡ Some line }
     requires reading { reading.now ≡ reading_of lines.now }
-    requires header { not_run (script_part reading.now).header.items ≡ None }
+    requires header { first_unsupported_item (script_part reading.now).header.items ≡ None }
     requires resumed { IfSome resumed (λ t. IsResumed settings.now (script_of lines.now) t.passed t.run) }
     requires resumed_early { IfSome resumed_early (λ t. IsResumed settings.now (script_of lines.now) t.passed t.run) }
     ensures { IfOk result (IsCauseIn lines.now line settings.now (script_of lines.now) verdict) }
@@ -213,7 +217,7 @@ fn cause_of_run(
     law_verdicts_have_reasons();
     law_readings();
     match trace_stop(alloc, reading, settings, resumed, line)? {
-        Some(traced) => cause_of_found(
+        Some(traced) => cause_of_traced_stop(
             alloc,
             lines,
             settings,
@@ -228,7 +232,7 @@ fn cause_of_run(
 }
 
 /// The same where the run was traced to its stop.
-fn cause_of_found(
+fn cause_of_traced_stop(
     alloc: Global,
     lines: &Lines,
     settings: &Settings,
@@ -241,7 +245,7 @@ fn cause_of_found(
     requires verdict { _verdict ≡ verdict_of lines.now settings.now }
     requires line { line_of _verdict ≡ Some _line }
     requires reading { reading.now ≡ reading_of lines.now }
-    requires header { not_run (script_part reading.now).header.items ≡ None }
+    requires header { first_unsupported_item (script_part reading.now).header.items ≡ None }
     requires resumed_early { IfSome resumed_early (λ t. IsResumed settings.now (script_of lines.now) t.passed t.run) }
     requires stop { stop_in _line settings.now (script_part reading.now) ≡ Some traced.now.stop }
     requires traced { IsTraced settings.now (script_part reading.now) traced.now.stop traced.now.triggers.items }
@@ -253,7 +257,7 @@ fn cause_of_found(
     let place = event_place(reading, traced.stop.passed);
     let parsed_event = reading.events().at(traced.stop.passed);
     let dropped = dropped_before_stop(alloc, reading, settings, resumed_early, &traced.stop)?;
-    cause_of_traced(
+    cause_with_origins_and_dropped(
         alloc,
         lines,
         settings,
@@ -267,7 +271,7 @@ fn cause_of_found(
 
 /// Why an event stopped a run that was traced, with what let the packets go that nobody has taken there, and which segments were
 /// dropped.
-fn cause_of_traced(
+fn cause_with_origins_and_dropped(
     alloc: Global,
     lines: &Lines,
     _settings: &Settings,
@@ -282,14 +286,14 @@ fn cause_of_traced(
     requires dropped { dropped.items ≡ dropped_before_stop _settings.now (script_part _reading.now) traced.now.stop }
     ensures { IfOk result (λ cause. IsCauseOf lines.now place parsed_event.now.event traced.now.stop cause × HasHistory _settings.now (script_part _reading.now) traced.now.stop cause) }
 {
-    let cause = cause_at(alloc, lines, place, parsed_event, &traced.stop)?;
-    let origins = traced.origins(alloc)?;
-    Ok(with_history(cause, origins, dropped))
+    let cause = cause_of_event_stop(alloc, lines, place, parsed_event, &traced.stop)?;
+    let origins = traced.origins_of_unmatched(alloc)?;
+    Ok(with_origins_and_dropped(cause, origins, dropped))
 }
 
 /// The first header item that isn't run.
-fn item_not_run(header: &Header) -> Option<HeaderItem>
-    ensures { result ≡ not_run header.now.items }
+fn first_unsupported_item(header: &Header) -> Option<HeaderItem>
+    ensures { result ≡ first_unsupported_item header.now.items }
 {
     header
         .as_slice()

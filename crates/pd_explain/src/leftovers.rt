@@ -2,13 +2,13 @@
 ghost use Rattle.std.specs.Prelude.{◌≡◌, ◌≤◌, IfOk, IfSome, Ok, length, option_map};
 ghost use Rattle.pd_run.specs.Laws.{unmatched};
 ghost use Rattle.pd_run.specs.Run.{start_of};
-ghost use Rattle.pd_explain.specs.Leftovers.{awaits_any, end_from, end_in, last_line, IsLeftovers, IsLeftoversOf};
+ghost use Rattle.pd_explain.specs.Leftovers.{awaits_any_packet, end_from, end_in, last_event_line, IsLeftovers, IsLeftoversOf};
 ghost use Rattle.pd_explain.specs.Inner.{AreOriginsOf, HasTriggersToEnd};
 ghost use Rattle.pd_explain.specs.Origins.{AreOrigins};
 
-use crate::causes::{SenderSnapshot, Unmatched, list_unmatched, sender};
+use crate::causes::{SenderSnapshot, Unmatched, list_unmatched, sender_snapshot_of};
 use crate::laws::law_packets_append;
-use crate::origins::{Origin, Trigger, is_awaited, origins_of, step_with_triggers};
+use crate::origins::{Origin, Trigger, awaits_packet, origins_of, step_with_triggers};
 use pd_run::{Plain, RunState, StepEnd, law_runs_are_bounded};
 use pd_script::{Event, Parsed, parse};
 use pd_settings::Settings;
@@ -60,7 +60,7 @@ struct PassedRun {
 
 impl PassedRun {
     /// The origins of the oldest unmatched packets.
-    fn origins(&self, alloc: Global) -> Result<Vec<Origin>, AllocError>
+    fn origins_of_unmatched(&self, alloc: Global) -> Result<Vec<Origin>, AllocError>
         requires { length (unmatched self.now.run) ≤ length self.now.triggers.items }
         ensures { IfOk result (λ origins. AreOriginsOf (unmatched self.now.run) self.now.triggers.items origins.items) }
     {
@@ -83,13 +83,13 @@ fn run_to_end(
         return Ok(None);
     }
     match RunState::new(alloc, &parsed.header, settings) {
-        Ok(start) => run_from(alloc, parsed, settings, start),
+        Ok(start) => run_all_events(alloc, parsed, settings, start),
         Err(_) => Ok(None),
     }
 }
 
 /// The run after the last event, and who let its packets go.
-fn run_from(
+fn run_all_events(
     alloc: Global,
     parsed: &Parsed,
     settings: &Settings,
@@ -125,16 +125,16 @@ fn leftovers_of(
     ensures { IfOk result (IsLeftoversOf settings.now parsed.now end.now.run) }
 {
     let events = parsed.events.as_slice();
-    let awaits = awaits_any(events);
+    let awaits = awaits_any_packet(events);
     if awaits && end.run.host().outbox().is_empty() {
         return Ok(None);
     }
     Ok(Some(Leftovers {
-        line: last_line(events),
+        line: last_event_line(events),
         awaits,
         unmatched: list_unmatched(alloc, &end.run, 0)?,
         origins: origins_at_end(alloc, parsed, settings, end)?,
-        sender: sender(&end.run),
+        sender: sender_snapshot_of(&end.run),
     }))
 }
 
@@ -148,19 +148,19 @@ fn origins_at_end(
     requires { HasTriggersToEnd _settings.now _parsed.now end.now.run end.now.triggers.items }
     ensures { IfOk result (λ origins. AreOrigins _settings.now _parsed.now (length _parsed.now.events) (unmatched end.now.run) origins.items) }
 {
-    let origins = end.origins(alloc)?;
+    let origins = end.origins_of_unmatched(alloc)?;
     Ok(origins)
 }
 
 /// Whether an event awaits a packet.
-fn awaits_any(events: &[Event]) -> bool
-    ensures { result ≡ awaits_any events.now }
+fn awaits_any_packet(events: &[Event]) -> bool
+    ensures { result ≡ awaits_any_packet events.now }
 {
-    events.iter().any(|event| is_awaited(&event.action))
+    events.iter().any(|event| awaits_packet(&event.action))
 }
 
-fn last_line(events: &[Event]) -> usize
-    ensures { result ≡ last_line events.now }
+fn last_event_line(events: &[Event]) -> usize
+    ensures { result ≡ last_event_line events.now }
 {
     match events.get(events.len().saturating_sub(1)) {
         Some(event) => event.line,

@@ -48,7 +48,7 @@ mod resume;
 mod rule_violation;
 mod rules;
 
-pub use causes::{Cause, Failed, SenderSnapshot, cause_at};
+pub use causes::{Cause, Failed, SenderSnapshot, cause_of_event_stop};
 pub use explain_verdict::{explain, explain_job};
 pub use laws::{
     law_actual_packets_pass, law_escaped_is_printable, law_named_windows_hold,

@@ -8,7 +8,7 @@ ghost use Rattle.pd_run.specs.Laws.{unmatched};
 ghost use Rattle.pd_run.specs.Limits.{is_long, written_times};
 ghost use Rattle.pd_run.specs.Step.{action_time, step, IsStepEnd, stop_reason};
 ghost use Rattle.pd_run.specs.declared.stepper.StepEnd.TheVariants.{Go};
-ghost use Rattle.pd_explain.specs.Origins.{is_awaited, matched_count, packets_in, after_timer, after_input};
+ghost use Rattle.pd_explain.specs.Origins.{awaits_packet, packets_matched_by, packets_in, after_timer, after_input};
 ghost use Rattle.pd_explain.specs.Inner.{AreOriginsOf, origin_by, triggers_at, triggers_by, triggers_of};
 
 use crate::laws::law_packets_append;
@@ -52,7 +52,7 @@ pub fn step_with_triggers(
     triggers: &mut Vec<Trigger>,
 ) -> Result<StepEnd, AllocError>
     requires room { stepper.old < 2 ^ 64 - 1 }
-    requires live { run.old.host.ended ≡ None }
+    requires live { run.old.host.end_reason ≡ None }
     requires clock { run.old.clock < 2 ^ 61 }
     requires base { run.old.base < 2 ^ 61 }
     requires short { IsShort run.old.host.state }
@@ -62,11 +62,11 @@ pub fn step_with_triggers(
 {
     law_packets_append();
     let before = count_unmatched(run);
-    let expired = count_expired(run, event)?;
+    let expired = count_unmatched_after_expiries(run, event)?;
     let end = stepper.step(run, event, settings)?;
     if let StepEnd::Go = end {
-        let after = count_with_matched(run, event)?;
-        put_event(triggers, event, before, expired, after)?;
+        let after = count_unmatched_and_matched(run, event)?;
+        put_event_triggers(triggers, event, before, expired, after)?;
     }
     Ok(end)
 }
@@ -80,7 +80,7 @@ pub fn note_stop_triggers(
     event: &Event,
     stop: &StopPoint,
 ) -> Result<(), AllocError>
-    requires live { stop.now.before.host.ended ≡ None }
+    requires live { stop.now.before.host.end_reason ≡ None }
     requires clock { stop.now.before.clock < 2 ^ 61 }
     requires base { stop.now.before.base < 2 ^ 61 }
     requires stops { stop_reason stop.now.before event.now ≡ Some stop.now.stop_reason }
@@ -106,34 +106,34 @@ fn note_compared_triggers(
     before: &RunState,
     run: &RunState,
 ) -> Result<(), AllocError>
-    requires live { before.now.host.ended ≡ None }
+    requires live { before.now.host.end_reason ≡ None }
     requires clock { before.now.clock < 2 ^ 61 }
     requires base { before.now.base < 2 ^ 61 }
     ensures { failed_precheck before.now.base event.now ≡ None → length (unmatched run.now) ≡ length (after_input before.now event.now) → OnOk result (triggers.new.items ≡ triggers.old.items ++ triggers_at before.now event.now) }
 {
     law_packets_append();
     let stood = count_unmatched(before);
-    let expired = count_expired(before, event)?;
+    let expired = count_unmatched_after_expiries(before, event)?;
     let after = count_unmatched(run);
-    put_event(triggers, event, stood, expired, after)
+    put_event_triggers(triggers, event, stood, expired, after)
 }
 
 /// Adds who let the packets go that an event put out, by how many stood before, after its expiries and after it.
-fn put_event(
+fn put_event_triggers(
     triggers: &mut Vec<Trigger>,
     event: &Event,
     before: usize,
     expired: usize,
     after: usize,
 ) -> Result<(), AllocError>
-    ensures { OnOk result (triggers.new.items ≡ triggers.old.items ++ triggers_of ((if is_awaited event.now.action then after else expired) - before) (after - (if is_awaited event.now.action then after else expired)) event.now.line) }
+    ensures { OnOk result (triggers.new.items ≡ triggers.old.items ++ triggers_of ((if awaits_packet event.now.action then after else expired) - before) (after - (if awaits_packet event.now.action then after else expired)) event.now.line) }
 {
-    let by_timer = if is_awaited(&event.action) {
+    let by_timer = if awaits_packet(&event.action) {
         after
     } else {
         expired
     };
-    put_triggers(
+    put_timer_then_line_triggers(
         triggers,
         by_timer.saturating_sub(before),
         after.saturating_sub(by_timer),
@@ -142,7 +142,7 @@ fn put_event(
 }
 
 /// Adds who let so many packets go: first the timer, and then the input of a line.
-fn put_triggers(
+fn put_timer_then_line_triggers(
     triggers: &mut Vec<Trigger>,
     timer: usize,
     input: usize,
@@ -176,29 +176,29 @@ fn count_unmatched(run: &RunState) -> usize
 }
 
 /// The same with the one that an event took.
-fn count_with_matched(run: &RunState, event: &Event) -> Result<usize, AllocError>
-    ensures { IfOk result (λ count. count ≡ length (unmatched run.now) + matched_count event.now) }
+fn count_unmatched_and_matched(run: &RunState, event: &Event) -> Result<usize, AllocError>
+    ensures { IfOk result (λ count. count ≡ length (unmatched run.now) + packets_matched_by event.now) }
 {
-    match count_unmatched(run).checked_add(matched_count(event)) {
+    match count_unmatched(run).checked_add(packets_matched_by(event)) {
         Some(count) => Ok(count),
         None => Err(AllocError),
     }
 }
 
 /// How many packets are unmatched after all expiries up to the moment at which an event acts.
-fn count_expired(run: &RunState, event: &Event) -> Result<usize, AllocError>
-    requires live { run.now.host.ended ≡ None }
+fn count_unmatched_after_expiries(run: &RunState, event: &Event) -> Result<usize, AllocError>
+    requires live { run.now.host.end_reason ≡ None }
     requires clock { run.now.clock < 2 ^ 61 }
     requires base { run.now.base < 2 ^ 61 }
-    ensures { IfOk result (λ count. failed_precheck run.now.base event.now ≡ None → is_awaited event.now.action ≡ false → count ≡ length (after_timer run.now event.now)) }
+    ensures { IfOk result (λ count. failed_precheck run.now.base event.now ≡ None → awaits_packet event.now.action ≡ false → count ≡ length (after_timer run.now event.now)) }
 {
     let before = count_unmatched(run);
-    if is_awaited(&event.action) || failed_precheck(run.base(), event).is_some() {
+    if awaits_packet(&event.action) || failed_precheck(run.base(), event).is_some() {
         return Ok(before);
     }
     let moment = action_time(run, event);
-    if is_due(run, moment) {
-        return count_after(run.host(), moment);
+    if has_expiry_by(run, moment) {
+        return count_unmatched_after_advance(run.host(), moment);
     }
     Ok(before)
 }
@@ -215,7 +215,7 @@ pub fn action_time(run: &RunState, event: &Event) -> u64
 }
 
 /// Whether an expiry lies at or before a moment.
-pub fn is_due(run: &RunState, until: u64) -> bool
+pub fn has_expiry_by(run: &RunState, until: u64) -> bool
     ensures { result ≡ is_some (due_by until (deadline_of run.now.host.state)) }
 {
     match run.host().deadline() {
@@ -225,8 +225,8 @@ pub fn is_due(run: &RunState, until: u64) -> bool
 }
 
 /// How many packets of a host are unmatched after all expiries up to a moment.
-fn count_after(host: &Host, until: u64) -> Result<usize, AllocError>
-    requires live { host.now.ended ≡ None }
+fn count_unmatched_after_advance(host: &Host, until: u64) -> Result<usize, AllocError>
+    requires live { host.now.end_reason ≡ None }
     requires early { until < 2 ^ 62 }
     ensures { IfOk result (λ count. count ≡ length (packets_in host.now.state.endpoint.outbox (advanced until host.now.state))) }
 {
@@ -240,15 +240,15 @@ fn count_after(host: &Host, until: u64) -> Result<usize, AllocError>
 }
 
 /// How many packets an event takes that passes.
-pub fn matched_count(event: &Event) -> usize
-    ensures { result ≡ matched_count event.now }
+pub fn packets_matched_by(event: &Event) -> usize
+    ensures { result ≡ packets_matched_by event.now }
 {
-    if is_awaited(&event.action) { 1 } else { 0 }
+    if awaits_packet(&event.action) { 1 } else { 0 }
 }
 
 /// Whether an action awaits a packet.
-pub fn is_awaited(action: &Action) -> bool
-    ensures { result ≡ is_awaited action.now }
+pub fn awaits_packet(action: &Action) -> bool
+    ensures { result ≡ awaits_packet action.now }
 {
     match action {
         Action::Outbound(_) => true,

@@ -6,7 +6,7 @@ mod rule_part;
 mod token_roles;
 
 pub use self::locate::event_place;
-pub(crate) use self::locate::{ShownPart, place_of_part, rest_at, shown_at};
+pub(crate) use self::locate::{ShownPart, place_of_part, rest_of_line_at, shown_line_at};
 pub(crate) use self::nesting::Nesting;
 pub(crate) use self::part_of_rule::{header_part, part_of};
 pub(crate) use self::rule_part::RulePart;

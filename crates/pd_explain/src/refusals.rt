@@ -5,10 +5,10 @@ mod foreign_syntax;
 mod last_event;
 mod probe;
 
-use self::candidates::expected;
+use self::candidates::list_expected;
 use self::foreign_syntax::ForeignSyntax;
 use self::last_event::LastEvent;
-use crate::parts::{rest_at, shown_at};
+use crate::parts::{rest_of_line_at, shown_line_at};
 use pd_lex::Place;
 use pd_text::Lines;
 use std::alloc::{AllocError, Global};
@@ -31,7 +31,7 @@ pub struct Refusal {
 
 impl Refusal {
     /// The foreign syntax that stands there, in words, where it has a name.
-    pub fn found(&self) -> Option<&'static str> {
+    pub fn found_in_words(&self) -> Option<&'static str> {
         match self.foreign_syntax {
             Some(foreign_syntax) => Some(foreign_syntax.words()),
             None => None,
@@ -49,28 +49,36 @@ pub(crate) fn find_refusal(
     line: usize,
 ) -> Result<Refusal, AllocError> {
     let last_event = LastEvent::read(alloc, lines, line)?;
-    let accepted = last_event.count_accepted(alloc)?;
-    let refused = last_event.refused_at(lines, line, accepted);
-    let marked = last_event.marked_at(alloc, refused, accepted)?;
-    let place_shown = shown_at(alloc, lines, marked.unwrap_or(Place::line_start(line)))?;
-    let expected = expected(
+    let accepted = last_event.count_accepted_tokens(alloc)?;
+    let refused = last_event.place_of_refused(lines, line, accepted);
+    let marked = last_event.place_to_mark(alloc, refused, accepted)?;
+    let place_shown = shown_line_at(alloc, lines, marked.unwrap_or(Place::line_start(line)))?;
+    let expected = list_expected(
         alloc,
-        last_event.first(accepted),
-        last_event.difference(accepted),
+        last_event.octets_of_first_tokens(accepted),
+        last_event.expected_packet_length(accepted),
     )?;
     Ok(Refusal {
         line: place_shown.line,
         text: place_shown.text,
         mark: marked.map(|_| place_shown.column),
-        foreign_syntax: foreign_syntax_in(lines, refused, last_event.symbol_before(accepted)),
+        foreign_syntax: foreign_syntax_at_refusal(
+            lines,
+            refused,
+            last_event.symbol_before(accepted),
+        ),
         expected,
     })
 }
 
 /// The foreign syntax where no script goes on, after a token with this octet, if that is a symbol.
-fn foreign_syntax_in(lines: &Lines, refused: Option<Place>, after: u8) -> Option<ForeignSyntax> {
+fn foreign_syntax_at_refusal(
+    lines: &Lines,
+    refused: Option<Place>,
+    after: u8,
+) -> Option<ForeignSyntax> {
     match refused {
-        Some(place) => ForeignSyntax::at(rest_at(lines, place), after),
+        Some(place) => ForeignSyntax::at_start_of(rest_of_line_at(lines, place), after),
         None => None,
     }
 }

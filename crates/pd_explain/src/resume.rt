@@ -6,16 +6,16 @@ ghost use Rattle.pd_run.specs.StopPoints.{stop_in};
 ghost use Rattle.pd_script.specs.Script.{script_of};
 ghost use Rattle.pd_explain.specs.Inner.{AreOriginsOf, IsResumed, IsTraced, knows_all_origins, unmatched_at};
 
-use crate::causes::run_at;
+use crate::causes::run_at_stop;
 use crate::dropped::MAX_EVENTS_BACK;
 use crate::laws::law_packets_append;
 use crate::origins::{
-    Origin, Trigger, matched_count, note_stop_triggers, origins_of, step_with_triggers,
+    Origin, Trigger, note_stop_triggers, origins_of, packets_matched_by, step_with_triggers,
 };
 use pd_reparse::{ParsedEvent, Reading, SharedList};
 use pd_run::{
     Kind, Plain, RunState, StepEnd, StopPoint, Verdict, law_runs_are_bounded,
-    law_verdicts_have_reasons, stop_reason_on,
+    law_verdicts_have_reasons, stop_reason_if_on_line,
 };
 use pd_settings::Settings;
 use pd_track::Track;
@@ -44,18 +44,18 @@ impl TracedStop {
     fn knows_all_origins(&self) -> bool
         ensures { result ≡ knows_all_origins self.now.stop self.now.triggers.items }
     {
-        run_at(&self.stop).host().outbox().len() <= self.triggers.len()
+        run_at_stop(&self.stop).host().outbox().len() <= self.triggers.len()
     }
 
     /// The origins of the oldest unmatched packets at the stop.
     ///
     /// # Errors
     /// `AllocError` where a growth is refused.
-    pub fn origins(&self, alloc: Global) -> Result<Vec<Origin>, AllocError>
+    pub fn origins_of_unmatched(&self, alloc: Global) -> Result<Vec<Origin>, AllocError>
         requires { knows_all_origins self.now.stop self.now.triggers.items ≡ true }
         ensures { IfOk result (λ origins. AreOriginsOf (unmatched_at self.now.stop) self.now.triggers.items origins.items) }
     {
-        let run = run_at(&self.stop);
+        let run = run_at_stop(&self.stop);
         origins_of(alloc, run.host().outbox(), self.triggers.as_slice())
     }
 }
@@ -65,10 +65,10 @@ impl TracedStop {
 ///
 /// # Errors
 /// `AllocError` where a growth is refused.
-pub fn resume_before(track: &Track, line: usize) -> Result<Option<ResumedRun>, AllocError>
+pub fn resume_for_origins(track: &Track, line: usize) -> Result<Option<ResumedRun>, AllocError>
     ensures { IfOk result (λ resumed. IfSome resumed (λ t. IsResumed track.now.settings (script_of track.now.text) t.passed t.run)) }
 {
-    resume_after(track, last_checkpoint(track, line))
+    resume_at_checkpoint(track, last_checkpoint_for_origins(track, line))
 }
 
 /// The last state that a track kept before those events ahead of a line that are looked at for segments that were dropped, where
@@ -76,7 +76,7 @@ pub fn resume_before(track: &Track, line: usize) -> Result<Option<ResumedRun>, A
 ///
 /// # Errors
 /// `AllocError` where a growth is refused.
-pub fn resume_early(
+pub fn resume_for_dropped(
     track: &Track,
     verdict: Verdict,
     line: usize,
@@ -84,23 +84,23 @@ pub fn resume_early(
     ensures { IfOk result (λ resumed. IfSome resumed (λ t. IsResumed track.now.settings (script_of track.now.text) t.passed t.run)) }
 {
     match verdict {
-        Verdict::Fail(_, kind) if is_of_packet(kind) => {
-            resume_after(track, last_early_checkpoint(track, line))
+        Verdict::Fail(_, kind) if is_packet_failure_kind(kind) => {
+            resume_at_checkpoint(track, last_checkpoint_for_dropped(track, line))
         }
         _ => Ok(None),
     }
 }
 
 /// Whether a packet fails so.
-fn is_of_packet(kind: Kind) -> bool {
+fn is_packet_failure_kind(kind: Kind) -> bool {
     !matches!(kind, Kind::Result | Kind::Backwards)
 }
 
 /// After how many fourth events that state was kept; 0 where none was.
-fn last_early_checkpoint(track: &Track, line: usize) -> usize
+fn last_checkpoint_for_dropped(track: &Track, line: usize) -> usize
     ensures { result ≤ 1024 }
 {
-    let earlier = count_earlier(track.reading().events(), line).min(4096);
+    let earlier = count_events_before_line(track.reading().events(), line).min(4096);
     let last = earlier.saturating_sub(MAX_EVENTS_BACK) / 4;
     for back in 0..last {
         if track.checkpoint(last - back - 1).is_some() {
@@ -111,7 +111,7 @@ fn last_early_checkpoint(track: &Track, line: usize) -> usize
 }
 
 /// The state that a track kept after so many fourth events, if it kept one.
-fn resume_after(track: &Track, checkpoints: usize) -> Result<Option<ResumedRun>, AllocError>
+fn resume_at_checkpoint(track: &Track, checkpoints: usize) -> Result<Option<ResumedRun>, AllocError>
     requires { checkpoints ≤ 1024 }
     ensures { IfOk result (λ resumed. IfSome resumed (λ t. IsResumed track.now.settings (script_of track.now.text) t.passed t.run)) }
 {
@@ -133,11 +133,11 @@ fn resume_after(track: &Track, checkpoints: usize) -> Result<Option<ResumedRun>,
 
 /// After how many fourth events the last state was kept where so many packets are unmatched, at most, as the events take that come
 /// after it and before a line; 0 where none was. So all that are unmatched on that line were put out after it.
-fn last_checkpoint(track: &Track, line: usize) -> usize
+fn last_checkpoint_for_origins(track: &Track, line: usize) -> usize
     ensures { result ≤ 1024 }
 {
     let events = track.reading().events();
-    let earlier = count_earlier(events, line).min(4096);
+    let earlier = count_events_before_line(events, line).min(4096);
     let last = earlier / 4;
     let mut until = earlier;
     let mut matched = 0usize;
@@ -159,24 +159,24 @@ fn count_matched(events: &SharedList<ParsedEvent>, from: usize, until: usize) ->
     let mut matched = 0usize;
     for place in from..until {
         if let Some(parsed_event) = events.get(place) {
-            matched = matched.saturating_add(matched_count(&parsed_event.event));
+            matched = matched.saturating_add(packets_matched_by(&parsed_event.event));
         }
     }
     matched
 }
 
 /// How many events begin before a line.
-fn count_earlier(events: &SharedList<ParsedEvent>, line: usize) -> usize {
-    let (blocks, rest) = events.parts();
-    let mut count = count_among(rest, line);
+fn count_events_before_line(events: &SharedList<ParsedEvent>, line: usize) -> usize {
+    let (blocks, rest) = events.blocks_and_rest();
+    let mut count = count_before_line_among(rest, line);
     for block in blocks {
-        count = count.saturating_add(count_among(block.as_slice(), line));
+        count = count.saturating_add(count_before_line_among(block.as_slice(), line));
     }
     count
 }
 
 /// The same of events that are together.
-fn count_among(events: &[ParsedEvent], line: usize) -> usize {
+fn count_before_line_among(events: &[ParsedEvent], line: usize) -> usize {
     events
         .iter()
         .filter(|parsed_event| parsed_event.event.line < line)
@@ -202,17 +202,17 @@ pub fn trace_stop(
     ensures whole { IfOk result (λ found. IfSome found (λ t. knows_all_origins t.stop t.triggers.items ≡ true)) }
 {
     if let Some(resumed) = resumed {
-        match stop_after(alloc, reading, settings, resumed, line)? {
+        match trace_stop_from_resumed(alloc, reading, settings, resumed, line)? {
             None => return Ok(None),
             Some(found) if found.knows_all_origins() => return Ok(Some(found)),
             Some(_) => {}
         }
     }
-    trace_all(alloc, reading, settings, line)
+    trace_stop_from_start(alloc, reading, settings, line)
 }
 
 /// The same from the first event on.
-fn trace_all(
+fn trace_stop_from_start(
     alloc: Global,
     reading: &Reading,
     settings: &Settings,
@@ -224,7 +224,7 @@ fn trace_all(
 {
     law_runs_are_bounded();
     match RunState::new(alloc, reading.header(), settings) {
-        Ok(run) => stop_after(
+        Ok(run) => trace_stop_from_resumed(
             alloc,
             reading,
             settings,
@@ -236,7 +236,7 @@ fn trace_all(
 }
 
 /// Where a run that is taken up stops on a line.
-fn stop_after(
+fn trace_stop_from_resumed(
     alloc: Global,
     reading: &Reading,
     settings: &Settings,
@@ -257,7 +257,7 @@ fn stop_after(
     let mut run = resumed.run;
     for passed in resumed.passed..events.len() {
         let event = &events.at(passed).event;
-        if let Some(stop_reason) = stop_reason_on(&run, event, line)? {
+        if let Some(stop_reason) = stop_reason_if_on_line(&run, event, line)? {
             let stop = StopPoint {
                 passed,
                 before: run,

@@ -6,7 +6,7 @@ ghost use Rattle.pd_explain.specs.Rules.{header_rule};
 ghost use Rattle.pd_explain.specs.RuleViolations.{IsRuleViolation};
 
 use crate::alternatives::alternatives_of;
-use crate::parts::{RulePart, ShownPart, header_part, part_of, place_of_part, shown_at};
+use crate::parts::{RulePart, ShownPart, header_part, part_of, place_of_part, shown_line_at};
 use crate::rules::{Rule, header_rule};
 use pd_lex::Place;
 use pd_script::{Event, HeaderItem};
@@ -28,7 +28,7 @@ pub struct RuleViolation {
 ///
 /// # Errors
 /// `AllocError` where a growth is refused.
-pub fn violation_at(
+pub fn violation_at_event(
     alloc: Global,
     lines: &Lines,
     place: Place,
@@ -74,5 +74,5 @@ fn shown_part(
 ) -> Result<ShownPart, AllocError>
     ensures { IfOk result (IsShownAt lines.now (place_of_part part lines.now place)) }
 {
-    shown_at(alloc, lines, place_of_part(lines, place, part))
+    shown_line_at(alloc, lines, place_of_part(lines, place, part))
 }

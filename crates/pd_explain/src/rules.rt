@@ -6,7 +6,7 @@ mod limited_numbers;
 mod unsupported_inputs;
 mod unsupported_shapes;
 
-use self::limited_numbers::number_over;
+use self::limited_numbers::first_number_over_limit;
 pub(crate) use self::limited_numbers::{LimitedNumber, is_time_long};
 pub(crate) use self::unsupported_inputs::UnsupportedInput;
 use self::unsupported_inputs::input_rule;
@@ -47,7 +47,7 @@ impl Rule {
     }
 
     /// How a script may be mended, in words, where no edit by hand is the way.
-    pub fn mend(self) -> Option<&'static str> {
+    pub fn mend_in_words(self) -> Option<&'static str> {
         match self {
             Rule::NotRun(UnsupportedShape::HeaderCommand | UnsupportedShape::HeaderOption) => {
                 Some("`pdsuite import` takes a kernel's set-up over as settings")
@@ -57,7 +57,7 @@ impl Rule {
     }
 
     /// The meaning that others give to it, in words.
-    pub fn found(self) -> Option<&'static str> {
+    pub fn found_in_words(self) -> Option<&'static str> {
         match self {
             Rule::NotRun(UnsupportedShape::Flag) => {
                 Some("E, W and C are flags of ECN (RFC 3168), and U is the urgent one")
@@ -92,7 +92,7 @@ pub(crate) fn header_rule(item: &HeaderItem) -> Rule
 pub fn event_rule(event: &Event, stop: &StopPoint) -> Rule
     ensures { result ≡ event_rule event.now stop.now }
 {
-    if let Some(number) = number_over(event) {
+    if let Some(number) = first_number_over_limit(event) {
         return Rule::Over(number);
     }
     if let Some(shape) = shape_rule(event) {

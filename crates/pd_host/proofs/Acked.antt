@@ -16,7 +16,7 @@ use Rattle.pd_recover.specs.declared.ack.Ack.{Ack}
 use Rattle.pd_recover.specs.declared.ack.Delivery.{Delivery}
 use Rattle.pd_recover.specs.declared.ack_action.AckAction.{AckAction}
 use Rattle.pd_recover.specs.declared.ack_action.AckAction.TheVariants.{Ordinary, StepC, Entry, LimitedTransmit, NewSegment, FastRetransmit, Nothing}
-use Rattle.pd_host.specs.AckEffects.{newly_acked, with_number, blocks_of, with_blocks_marked, blocks_marked, with_blocks, with_timing, is_current, with_new_window, with_ack, ack_of_segment, taking, delivery, cwnd_after, congestion_updated}
+use Rattle.pd_host.specs.AckEffects.{newly_acked, with_number, blocks_of, with_blocks_marked, blocks_marked, with_blocks, with_timing, can_update_window, with_new_window, with_ack, ack_of_segment, taking, delivery, cwnd_after, congestion_updated}
 use Rattle.pd_host.specs.Arrivals.{failed_check_of}
 use Rattle.pd_host.specs.Connection.{ConnectionView}
 use Rattle.pd_host.specs.Handshake.{before_eol}
@@ -156,7 +156,7 @@ module _ (b : Settings) (now : ℕ) where
   -- the window
   window_live : (c : ConnectionView) (e : Established) (segment : Segment) → IsOn e c → IsLive b now (whole (with_new_window segment e c))
   window_live c e segment h =
-      by_test (λ (p : ConnectionView × Established). IsLive b now (whole p)) (is_current e segment) _ (c, e)
+      by_test (λ (p : ConnectionView × Established). IsLive b now (whole p)) (can_update_window e segment) _ (c, e)
       (λ _.
       let k : IsInBounds b c.board.smss c.board.top c.max_window e = at_some (IsInBounds b c.board.smss c.board.top c.max_window) c.established e h.is h.live.reached.bounds in
       record {

@@ -3,7 +3,7 @@ use Rattle.std.proofs.Common.{ℕ, ◌==◌, min, Bool, true, false, not, ◌&&�
 use Rattle.pd_seg.specs.declared.call_results.Answer.{Answer}
 use Rattle.pd_seg.specs.declared.call_results.Answer.TheVariants.{Number, Error}
 use Rattle.pd_seg.specs.declared.call_results.Errno.TheVariants.{Eagain, Epipe}
-use Rattle.pd_host.specs.Calls.{Descriptor, Listening, Connected, Reply, answered, with_listener, with_stored, with_answer, socket_reply, bind_reply, listen_reply, accept_reply, handed_out, no_delay_reply, free_of, with_queued, write_settings, queued, written_on, write_reply, closed_stream, closed_on, close_reply, operated, on_open, open_descriptor, reply_to, requested, called, is_pending, is_waiting, stream_of, with_stream, with_nagle}
+use Rattle.pd_host.specs.Calls.{Descriptor, Listening, Connected, Reply, answered, with_listener, with_stored, with_answer, socket_reply, bind_reply, listen_reply, accept_reply, handed_out, no_delay_reply, free_of, with_queued, write_settings, queued, written_on, write_reply, closed_stream, closed_on, close_reply, operated, on_open, open_descriptor, reply_to, requested, called, has_unaccepted_connection, is_unaccepted, stream_of, with_stream, with_nagle}
 use Rattle.pd_host.specs.Syscalls.{syscall_of}
 use Rattle.pd_host.specs.Connection.{ConnectionView}
 use Rattle.pd_host.specs.InputLaws.{IsAfter, CallsPutOutAfter}
@@ -17,7 +17,7 @@ use Rattle.pd_host.specs.declared.syscall.SocketOperation.TheVariants.{Bind, Lis
 use Rattle.pd_host.specs.declared.syscall.Syscall.{Syscall}
 use Rattle.pd_host.specs.declared.syscall.Syscall.TheVariants.{Socket, On}
 use Rattle.pd_host.specs.declared.endpoint.SenderState.{SenderState}
-use Rattle.pd_host.specs.declared.descriptors.StreamState.TheVariants as stream
+use Rattle.pd_host.specs.declared.descriptors.StreamState.TheVariants as stream_state
 use Rattle.pd_host.proofs.After.{none_after}
 use Rattle.pd_host.proofs.Outcomes.{Leaves, came, leaves_too, either}
 use Rattle.pd_host.proofs.SentOn.{IsSentOn, nothing_sent, ordinary_sends}
@@ -65,8 +65,8 @@ listen_after now s _ _ = none_after now s s refl
 handed_after : (now : ℕ) (s : SenderState) (c : Option ConnectionView) → Replies (IsAfter now s) (handed_out s c)
 handed_after now s None = none_after now s s refl
 handed_after now s (Some c) =
-    let handed : SenderState = with_stored (Some (with_stream stream.Open c)) s in
-    either_reply (IsAfter now s) (is_some c.established && is_waiting (stream_of c)) (answered handed (Number 4)) (answered s (Error Eagain))
+    let handed : SenderState = with_stored (Some (with_stream stream_state.Open c)) s in
+    either_reply (IsAfter now s) (is_some c.established && is_unaccepted (stream_of c)) (answered handed (Number 4)) (answered s (Error Eagain))
     (none_after now s handed refl) (none_after now s s refl)
 
 accept_after : (now : ℕ) (s : SenderState) (l : ListenState) (d : Descriptor) → Replies (IsAfter now s) (accept_reply s l d)
@@ -100,7 +100,7 @@ closed_after now s c =
 
 close_after : (now : ℕ) (s : SenderState) (d : Descriptor) → Replies (IsAfter now s) (close_reply now s d)
 close_after now s Listening =
-    either_reply (IsAfter now s) (is_pending s.endpoint.connection) (Err Unsupported) (answered (with_listener Closed s) (Number 0)) tt
+    either_reply (IsAfter now s) (has_unaccepted_connection s.endpoint.connection) (Err Unsupported) (answered (with_listener Closed s) (Number 0)) tt
     (none_after now s (with_listener Closed s) refl)
 close_after now s (Connected c) = closed_after now s c
 

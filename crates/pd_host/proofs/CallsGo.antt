@@ -4,7 +4,7 @@ use Rattle.pd_script.specs.declared.calls.Call.{Call}
 use Rattle.pd_seg.specs.declared.call_results.Answer.{Answer}
 use Rattle.pd_seg.specs.declared.call_results.Answer.TheVariants.{Number, Error}
 use Rattle.pd_seg.specs.declared.call_results.Errno.TheVariants.{Eagain, Epipe}
-use Rattle.pd_host.specs.Calls.{Descriptor, Listening, Connected, Reply, answered, with_listener, with_stored, with_answer, socket_reply, bind_reply, listen_reply, accept_reply, handed_out, no_delay_reply, free_of, with_queued, write_settings, queued, written_on, write_reply, closed_stream, with_fin, closed_on, close_reply, operated, on_open, open_descriptor, reply_to, requested, called, is_pending, is_waiting, stream_of, with_stream, with_nagle}
+use Rattle.pd_host.specs.Calls.{Descriptor, Listening, Connected, Reply, answered, with_listener, with_stored, with_answer, socket_reply, bind_reply, listen_reply, accept_reply, handed_out, no_delay_reply, free_of, with_queued, write_settings, queued, written_on, write_reply, closed_stream, with_fin, closed_on, close_reply, operated, on_open, open_descriptor, reply_to, requested, called, has_unaccepted_connection, is_unaccepted, stream_of, with_stream, with_nagle}
 use Rattle.pd_host.specs.Connection.{ConnectionView}
 use Rattle.pd_host.specs.Syscalls.{syscall_of}
 use Rattle.pd_host.specs.Sending.{ordinary, ordinary_outside_recovery, is_recovering}
@@ -20,7 +20,7 @@ use Rattle.pd_host.specs.declared.syscall.Syscall.{Syscall}
 use Rattle.pd_host.specs.declared.syscall.Syscall.TheVariants.{Socket, On}
 use Rattle.pd_host.specs.declared.endpoint.SenderState.{SenderState}
 use Rattle.pd_host.specs.declared.descriptors.StreamState.{StreamState}
-use Rattle.pd_host.specs.declared.descriptors.StreamState.TheVariants as stream
+use Rattle.pd_host.specs.declared.descriptors.StreamState.TheVariants as stream_state
 use Rattle.pd_host.proofs.CallsAfter.{Replies, either_reply, reply_leaves}
 use Rattle.pd_host.proofs.CallsKept.{IsOpenOn, open_on}
 use Rattle.pd_host.proofs.Goes.{window_end, Goes, ordinary_goes}
@@ -56,7 +56,7 @@ stored s x y e h = stored_in s s x y refl e h
 
 -- what calls change of a connection
 
-stream_window : (d : StreamState) (c : ConnectionView) (o : Option Established) → window_end c (option_map {T = Established} (λ e. record e { stream = d }) o) ≡ window_end c o
+stream_window : (d : StreamState) (c : ConnectionView) (o : Option Established) → window_end c (option_map {T = Established} (λ e. record e { stream_state = d }) o) ≡ window_end c o
 stream_window d c None = refl
 stream_window d c (Some e) = refl
 
@@ -87,9 +87,9 @@ finished c = record { rtt_segment = refl; sent = refl; taken = fin_window c.esta
 after_both : (x y z : Option ConnectionView) → IsAlike x y → IsAlike y z → IsAlike x z
 after_both x y z h k = record { rtt_segment = h.rtt_segment ∙ k.rtt_segment; sent = h.sent ∙ k.sent; taken = h.taken ∙ k.taken }
 
-closed_so : (b : Bool) (c : ConnectionView) → IsAlike (Some (with_stream stream.Closed (if b then c else with_fin c))) (Some c)
-closed_so true c = streamed stream.Closed c
-closed_so false c = after_both (Some (with_stream stream.Closed (with_fin c))) (Some (with_fin c)) (Some c) (streamed stream.Closed (with_fin c)) (finished c)
+closed_so : (b : Bool) (c : ConnectionView) → IsAlike (Some (with_stream stream_state.Closed (if b then c else with_fin c))) (Some c)
+closed_so true c = streamed stream_state.Closed c
+closed_so false c = after_both (Some (with_stream stream_state.Closed (with_fin c))) (Some (with_fin c)) (Some c) (streamed stream_state.Closed (with_fin c)) (finished c)
 
 module _ (now : ℕ) (R : SenderState → SenderState → Type 0) (rules : Goes now R) where
   -- a call leaves a quiet state, and sends from there on
@@ -122,9 +122,9 @@ module _ (now : ℕ) (R : SenderState → SenderState → Type 0) (rules : Goes 
   handed_goes : (s : SenderState) (o : Option ConnectionView) → s.endpoint.connection ≡ o → Replies (Went s) (handed_out s o)
   handed_goes s None e = stayed s
   handed_goes s (Some c) e =
-      let x : Option ConnectionView = Some (with_stream stream.Open c) in
-      either_reply (Went s) (is_some c.established && is_waiting (stream_of c)) (answered (with_stored x s) (Number 4)) (answered s (Error Eagain))
-      (with_stored x s, stored s x (Some c) e (streamed stream.Open c), rules.none (with_stored x s)) (stayed s)
+      let x : Option ConnectionView = Some (with_stream stream_state.Open c) in
+      either_reply (Went s) (is_some c.established && is_unaccepted (stream_of c)) (answered (with_stored x s) (Number 4)) (answered s (Error Eagain))
+      (with_stored x s, stored s x (Some c) e (streamed stream_state.Open c), rules.none (with_stored x s)) (stayed s)
 
   accept_goes : (s : SenderState) (l : ListenState) (d : Descriptor) → Replies (Went s) (accept_reply s l d)
   accept_goes s Listens Listening = handed_goes s s.endpoint.connection refl
@@ -170,7 +170,7 @@ module _ (now : ℕ) (R : SenderState → SenderState → Type 0) (rules : Goes 
 
   close_goes : (s : SenderState) (d : Descriptor) → IsOpenOn s d → Replies (Went s) (close_reply now s d)
   close_goes s Listening unclosed =
-      either_reply (Went s) (is_pending s.endpoint.connection) (Err Unsupported) (answered (with_listener Closed s) (Number 0)) tt
+      either_reply (Went s) (has_unaccepted_connection s.endpoint.connection) (Err Unsupported) (answered (with_listener Closed s) (Number 0)) tt
       (changed s (with_listener Closed s) refl refl)
   close_goes s (Connected c) unclosed = closed_goes s c unclosed.0
 

@@ -6,7 +6,7 @@ use Rattle.pd_seg.specs.declared.segments.Segment.{Segment}
 use Rattle.pd_seg.specs.declared.segments.Sent.{Sent}
 use Rattle.pd_host.specs.Arrivals.{is_stray_fin, check_window, check_rst, check_ack_flag, check_handshake, check_ack, first_failed_check, failed_check_of, passed_on, arrived_on}
 use Rattle.pd_host.specs.Calls.{with_stream, with_fin}
-use Rattle.pd_host.specs.ConnStates.{state_since, state_of, is_closed}
+use Rattle.pd_host.specs.ConnStates.{state_after_handshake, state_of, is_closed}
 use Rattle.pd_host.specs.Connection.{ConnectionView}
 use Rattle.pd_host.specs.Expiries.{due_by, deadline_of, expired}
 use Rattle.pd_host.specs.Handshake.{length_of}
@@ -17,7 +17,7 @@ use Rattle.pd_host.specs.declared.connection.states.ConnState.TheVariants.{Close
 use Rattle.pd_host.specs.declared.halts.Halt.TheVariants.{Limit}
 use Rattle.pd_host.specs.declared.connection.segment_check.SegmentCheck.{SegmentCheck}
 use Rattle.pd_host.specs.declared.connection.segment_check.SegmentCheck.TheVariants.{NotRun}
-use Rattle.pd_host.specs.declared.descriptors.StreamState.TheVariants as stream
+use Rattle.pd_host.specs.declared.descriptors.StreamState.TheVariants as stream_state
 use Rattle.pd_host.proofs.CallsKept.{called_where}
 use Rattle.pd_host.proofs.Growth.{calls_queue_what_they_ask}
 use Rattle.pd_host.proofs.Kept.{by_test, nothing_found}
@@ -64,7 +64,7 @@ reset_rules : (c : ConnectionView) (segment : Segment) → c.is_reset ≡ true �
 reset_rules c segment e =
     not_run (nat_lt 0 (length_of segment)) segment.flags.syn (is_stray_fin c segment) (is_closed (state_of c))
     (check_window c segment ∷ check_rst c segment ∷ check_ack_flag segment ∷ check_handshake c segment ∷ check_ack c segment ∷ [])
-    (reset_closes c.is_reset (state_since c c.established) e)
+    (reset_closes c.is_reset (state_after_handshake c c.established) e)
 
 off : (x is_reset : Bool) → is_reset ≡ true → (x && not is_reset) ≡ false
 off true true e = refl
@@ -89,7 +89,7 @@ module _ (now : ℕ) where
     queued = λ n c q h unclosed still. clash c.is_reset h still;
     finished = λ c q h unclosed still. clash c.is_reset h still;
     abandoned = λ c h unclosed was.
-        by_test (λ (d : ConnectionView). (with_stream stream.Closed d).is_reset ≡ true) c.is_reset c (with_fin c) (λ _. h) (λ _. h);
+        by_test (λ (d : ConnectionView). (with_stream stream_state.Closed d).is_reset ≡ true) c.is_reset c (with_fin c) (λ _. h) (λ _. h);
   }
 
   reset_of_some : (o : Option ConnectionView) (c : ConnectionView) → o ≡ Some c → c.is_reset ≡ true → IfSome o (λ x. x.is_reset ≡ true)

@@ -73,15 +73,15 @@ module _ (O : ℕ → List Sent → Type 0) (C : Settings → ℕ → Connection
   at_last b now None in_time d e = tt
   at_last b now (Some c) in_time d e = rules.idle b now until c in_time d e
 
-  ended : (t : SenderState) → AtEnd HoldsBy (λ t. due_by until (deadline_of t)) t → HoldsAt until t
-  ended t h = record {
+  end_reason : (t : SenderState) → AtEnd HoldsBy (λ t. due_by until (deadline_of t)) t → HoldsAt until t
+  end_reason t h = record {
     packets = rules.rest h.0.moment until t.endpoint.outbox h.0.in_time h.0.holds.packets;
     connection = at_last t.settings h.0.moment t.endpoint.connection h.0.in_time h.0.holds.connection h.1;
   }
 
   pub advanced_holds : (now : ℕ) (s t : SenderState) → now ≤ until → HoldsAt now s → advanced until s ≡ Ok t → HoldsAt until t
   advanced_holds now s t in_time h is =
-      ended t (came (AtEnd HoldsBy (λ u. due_by until (deadline_of u))) (advanced until s) t
+      end_reason t (came (AtEnd HoldsBy (λ u. due_by until (deadline_of u))) (advanced until s) t
       (repeated_keeps HoldsBy (λ u. due_by until (deadline_of u)) (λ at u. expired at u.endpoint.connection u)
       (λ u at k e. on_connection at u.endpoint.connection u k k.holds.connection e)
       (places_left s) s (record { moment = now; in_time = in_time; holds = h })) is)

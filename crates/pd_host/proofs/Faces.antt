@@ -2,11 +2,11 @@
 use Rattle.std.proofs.Common.{◌≡◌, ℕ, ◌==◌, max, Bool, if◌then◌else◌, Option, None, Some, refl, sym, ap, ◌∙◌}
 use Rattle.std.specs.Prelude.{option_map}
 use Rattle.pd_seg.specs.declared.segments.Segment.{Segment}
-use Rattle.pd_host.specs.AckEffects.{newly_acked, is_current, with_number, with_blocks, with_timing, with_ack, taking}
+use Rattle.pd_host.specs.AckEffects.{newly_acked, can_update_window, with_number, with_blocks, with_timing, with_ack, taking}
 use Rattle.pd_host.specs.Arrivals.{with_peer_fin}
-use Rattle.pd_host.specs.ConnStates.{synchronized, state_since, state_of, state_on}
+use Rattle.pd_host.specs.ConnStates.{synchronized_state, state_after_handshake, state_of, state_on}
 use Rattle.pd_host.specs.Connection.{ConnectionView}
-use Rattle.pd_host.specs.Handshake.{window_in, with_window}
+use Rattle.pd_host.specs.Handshake.{scaled_window_in, with_window}
 use Rattle.pd_host.specs.declared.connection.states.ConnState.{ConnState}
 use Rattle.pd_host.specs.declared.connection.states.ConnState.TheVariants.{Closed, SynReceived}
 use Rattle.pd_host.specs.declared.established.Established.{Established}
@@ -40,12 +40,12 @@ faces (Some c) = Some (face c)
 
 abbrev pub since : Option PeerFin → Bool → Bool → ConnState
 since None fin acked = SynReceived
-since (Some p) fin acked = synchronized p fin acked
+since (Some p) fin acked = synchronized_state p fin acked
 
 abbrev pub named : Face → ConnState
 named f = if f.is_reset then Closed else since f.peer f.fin f.acked
 
-pub since_of : (c : ConnectionView) (o : Option Established) → state_since c o ≡ since (peer_of o) c.fin (c.board.una == c.board.end)
+pub since_of : (c : ConnectionView) (o : Option Established) → state_after_handshake c o ≡ since (peer_of o) c.fin (c.board.una == c.board.end)
 since_of c None = refl
 since_of c (Some e) = refl
 
@@ -86,8 +86,8 @@ sent_faces now s t h = sym (still_faces t.endpoint.connection) ∙ ap faces h.co
 ack_peer : (now : ℕ) (segment : Segment) (e : Established) (c : ConnectionView) → (with_ack now segment e c).0.1.peer_fin ≡ e.peer_fin
 ack_peer now segment e c =
     let d : ConnectionView = with_timing now e.granularity_us (newly_acked c segment) (with_blocks segment (with_number segment c)) in
-    same_either (λ (x : ConnectionView × Established). x.1.peer_fin) (is_current e segment)
-    (record d { max_window = max d.max_window (window_in d segment) }, with_window (window_in d segment) segment e) (d, e) e.peer_fin refl refl
+    same_either (λ (x : ConnectionView × Established). x.1.peer_fin) (can_update_window e segment)
+    (record d { max_window = max d.max_window (scaled_window_in d segment) }, with_window (scaled_window_in d segment) segment e) (d, e) e.peer_fin refl refl
 
 pub taking_peer : (now : ℕ) (segment : Segment) (c : ConnectionView) (o : Option Established) → c.established ≡ o
     → peer_of (taking now segment c o).0.established ≡ peer_of o

@@ -7,10 +7,10 @@ use Rattle.pd_recover.specs.declared.ack_action.AckAction.TheVariants.{Ordinary,
 use Rattle.pd_recover.specs.declared.next_segment.NextSegment.{NextSegment}
 use Rattle.pd_recover.specs.declared.next_segment.NextSegment.TheVariants.{Lost, New, Hole, Rescue}
 use Rattle.pd_seg.specs.declared.sack_spans.Span.{Span}
-use Rattle.pd_host.specs.AckEffects.{OnTheWay, next_fill, sent_as, fill_noted_on, one_filled, pipe_of, filled, put_segment, entered_on, entry, after_ack_action}
+use Rattle.pd_host.specs.AckEffects.{OnTheWay, next_fill, sent_as, fill_noted_on, one_filled, pipe_of, filled, put_out_data_segment, entered_on, entry, after_ack_action}
 use Rattle.pd_host.specs.Connection.{ConnectionView}
 use Rattle.pd_host.specs.OutboxLimit.{has_place}
-use Rattle.pd_host.specs.Sending.{value_on, places_left, with_begun_connection, restarted_if_idle, past_sacked, sent_on, with_segment, found, sent_ordinarily, ready, ordinary}
+use Rattle.pd_host.specs.Sending.{value_on, places_left, with_begun_connection, restarted_if_idle, with_next_past_sacked, sent_on, with_segment, found, sent_ordinarily, ready, ordinary}
 use Rattle.pd_host.specs.RttSegment.{timing_started, rtt_segment_after}
 use Rattle.pd_host.specs.declared.established.Established.{Established}
 use Rattle.pd_host.specs.declared.connection.ack_effects.WindowFill.{WindowFill}
@@ -107,9 +107,9 @@ found_queued c None segment h = absurd cc
 found_queued c (Some e) segment h = ordinary_queued c e segment h
 
 ordinary_sending : (now : ℕ) (segment : Span) (c : ConnectionView) → found_on c c.established ≡ Some segment
-    → IsSending now segment c (past_sacked (sent_on now segment c))
+    → IsSending now segment c (with_next_past_sacked (sent_on now segment c))
 ordinary_sending now segment c h =
-    new_octets now segment c (past_sacked (sent_on now segment c)) refl refl refl (λ _. found_end c c.established segment h)
+    new_octets now segment c (with_next_past_sacked (sent_on now segment c)) refl refl refl (λ _. found_end c c.established segment h)
     (found_queued c c.established segment h)
 
 -- what is noted leaves the rest
@@ -193,11 +193,11 @@ module _ (now : ℕ) (R : SenderState → SenderState → Type 0) (rules : Goes 
   once : (segment : Span) (s : SenderState) (o : Option ConnectionView) → s.endpoint.connection ≡ o → found o ≡ Some segment
       → R s (sent_ordinarily now segment o s)
   once segment s None e h = rules.none s
-  once segment s (Some c) e h = rules.sent segment c (past_sacked (sent_on now segment c)) s e (ordinary_sending now segment c h)
+  once segment s (Some c) e h = rules.sent segment c (with_next_past_sacked (sent_on now segment c)) s e (ordinary_sending now segment c h)
 
   made_ready : (s : SenderState) (o : Option ConnectionView) → s.endpoint.connection ≡ o → R s (ready now o s)
   made_ready s None e = rules.none s
-  made_ready s (Some c) e = rules.moved c (past_sacked (restarted_if_idle now c)) s e (record { stays = begun_still now c; rtt_segment = refl; top = refl })
+  made_ready s (Some c) e = rules.moved c (with_next_past_sacked (restarted_if_idle now c)) s e (record { stays = begun_still now c; rtt_segment = refl; top = refl })
 
   pub ordinary_goes : (r s : SenderState) → R r s → Leaves (R r) (ordinary now s)
   ordinary_goes r s h =
@@ -221,7 +221,7 @@ module _ (now : ℕ) (R : SenderState → SenderState → Type 0) (rules : Goes 
       (places_left s) (s, pipe_of s.endpoint.connection) h)
 
   put_goes : (segment : Span) (c d : ConnectionView) (s : SenderState) → s.endpoint.connection ≡ Some c → IsSending now segment c d
-      → Leaves (R s) (put_segment now segment c d s)
+      → Leaves (R s) (put_out_data_segment now segment c d s)
   put_goes segment c d s e h =
       either (R s) (has_place s.endpoint.outbox) (Ok (with_segment now segment c d s)) (Err Limit) (rules.sent segment c d s e h) tt
 
@@ -230,7 +230,7 @@ module _ (now : ℕ) (R : SenderState → SenderState → Type 0) (rules : Goes 
       let segment : Span = run_at c.board.una c.board in
       let sent : ConnectionView = entered_on segment (timing_started now segment c) c.established in
       let moved : ConnectionView = entered_on segment c c.established in
-      either (R s) (nat_lt segment.start segment.end) (put_segment now segment c sent s) (Ok (with_begun_connection moved s))
+      either (R s) (nat_lt segment.start segment.end) (put_out_data_segment now segment c sent s) (Ok (with_begun_connection moved s))
       (put_goes segment c sent s e (entry_sending now segment c (run_end c.board c.board.una)))
       (rules.moved c moved s e (entry_moved segment c))
 
@@ -243,7 +243,7 @@ module _ (now : ℕ) (R : SenderState → SenderState → Type 0) (rules : Goes 
   led_to_goes c s (NewSegment segment) e h =
       put_goes segment c (sent_on now segment c) s e (new_octets now segment c (sent_on now segment c) refl refl refl (λ _. h.0) (λ _ _. h.1))
   led_to_goes c s (FastRetransmit segment) e h =
-      then_leaves (R s) (R s) (ordinary now) (put_segment now segment c (timing_started now segment c) s)
+      then_leaves (R s) (R s) (ordinary now) (put_out_data_segment now segment c (timing_started now segment c) s)
       (put_goes segment c (timing_started now segment c) s e (old_octets now segment c (timing_started now segment c) refl refl refl h))
       (λ t so_far. ordinary_goes s t so_far)
   led_to_goes c s Nothing e h = rules.none s

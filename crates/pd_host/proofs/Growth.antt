@@ -10,8 +10,8 @@ use Rattle.pd_seg.specs.declared.segments.Segment.{Segment}
 use Rattle.pd_board.specs.Board.{BoardView, with_sacked_block, has_new}
 use Rattle.pd_recover.specs.declared.next_segment.NextSegment.{NextSegment}
 use Rattle.pd_recover.specs.declared.next_segment.NextSegment.TheVariants.{Lost, New, Hole, Rescue}
-use Rattle.pd_host.specs.AckEffects.{is_block_sent, with_block_marked, with_blocks_marked, blocks_of, blocks_marked, with_number, with_blocks, newly_acked, with_timing, with_new_window, is_current, fill_noted_on, sent_as, entered_on, with_ack, taking}
-use Rattle.pd_host.specs.Calls.{Descriptor, Listening, Connected, Reply, answered, with_listener, with_stored, with_stream, with_queued, with_fin, with_answer, socket_reply, bind_reply, listen_reply, accept_reply, handed_out, no_delay_reply, queued, free_of, write_settings, written_on, write_reply, closed_stream, closed_on, close_reply, operated, on_open, open_descriptor, requested, called, is_pending, is_waiting, stream_of}
+use Rattle.pd_host.specs.AckEffects.{is_block_sent, with_block_marked, with_blocks_marked, blocks_of, blocks_marked, with_number, with_blocks, newly_acked, with_timing, with_new_window, can_update_window, fill_noted_on, sent_as, entered_on, with_ack, taking}
+use Rattle.pd_host.specs.Calls.{Descriptor, Listening, Connected, Reply, answered, with_listener, with_stored, with_stream, with_queued, with_fin, with_answer, socket_reply, bind_reply, listen_reply, accept_reply, handed_out, no_delay_reply, queued, free_of, write_settings, written_on, write_reply, closed_stream, closed_on, close_reply, operated, on_open, open_descriptor, requested, called, has_unaccepted_connection, is_unaccepted, stream_of}
 use Rattle.pd_host.specs.Connection.{ConnectionView}
 use Rattle.pd_host.specs.Expiries.{advanced, deadline_of, due_by, expired, expired_on}
 use Rattle.pd_host.specs.Growth.{asked_of, asked_by, ExpiriesQueueNothing, ArrivalsQueueOurSyn, CallsQueueWhatTheyAsk, CallsAskFew}
@@ -31,7 +31,7 @@ use Rattle.pd_host.specs.declared.syscall.SocketOperation.TheVariants.{Bind, Lis
 use Rattle.pd_host.specs.declared.syscall.Syscall.{Syscall}
 use Rattle.pd_host.specs.declared.syscall.Syscall.TheVariants.{Socket, On}
 use Rattle.pd_host.specs.declared.endpoint.SenderState.{SenderState}
-use Rattle.pd_host.specs.declared.descriptors.StreamState.TheVariants as stream
+use Rattle.pd_host.specs.declared.descriptors.StreamState.TheVariants as stream_state
 use Rattle.pd_host.specs.declared.connection.rtt_segment.RttSegment.{RttSegment}
 use Rattle.pd_host.proofs.CallsKept.{IsOpenOn, open_on}
 use Rattle.pd_host.proofs.ArrivalsKept.{arrived_holds}
@@ -70,7 +70,7 @@ timing_end now granularity n c =
     (measured_end now granularity c.board.una c c.rtt_segment) refl
 
 window_end : (segment : Segment) (e : Established) (c : ConnectionView) → (with_new_window segment e c).0.board.end ≡ c.board.end
-window_end segment e c = by_test (λ (p : ConnectionView × Established). p.0.board.end ≡ c.board.end) (is_current e segment) _ (c, e) (λ _. refl) (λ _. refl)
+window_end segment e c = by_test (λ (p : ConnectionView × Established). p.0.board.end ≡ c.board.end) (can_update_window e segment) _ (c, e) (λ _. refl) (λ _. refl)
 
 with_ack_end : (now : ℕ) (segment : Segment) (e : Established) (c : ConnectionView) → (with_ack now segment e c).0.0.board.end ≡ c.board.end
 with_ack_end now segment e c =
@@ -210,7 +210,7 @@ listen_ends n s _ _ h = h
 handed_ends : (n : ℕ) (s : SenderState) (o : Option ConnectionView) → s.endpoint.connection ≡ o → Ends n s → AtMost n (handed_out s o)
 handed_ends n s None is h = h
 handed_ends n s (Some c) is h =
-    by_test (AtMost n) (is_some c.established && is_waiting (stream_of c)) (answered (with_stored (Some (with_stream stream.Open c)) s) (Number 4))
+    by_test (AtMost n) (is_some c.established && is_unaccepted (stream_of c)) (answered (with_stored (Some (with_stream stream_state.Open c)) s) (Number 4))
     (answered s (Error Eagain)) (λ _. subst (λ o. queued_to o ≤ n) is h) (λ _. h)
 
 accept_ends : (n : ℕ) (s : SenderState) (l : ListenState) (d : Descriptor) → Ends n s → AtMost n (accept_reply s l d)
@@ -258,7 +258,7 @@ closed_ends now s c is =
 
 close_ends : (now : ℕ) (s : SenderState) (d : Descriptor) → IsOpenOn s d → AtMost (queued_to s.endpoint.connection + 1) (close_reply now s d)
 close_ends now s Listening unclosed =
-    by_test (AtMost (queued_to s.endpoint.connection + 1)) (is_pending s.endpoint.connection) (Err Unsupported) (answered (with_listener Closed s) (Number 0))
+    by_test (AtMost (queued_to s.endpoint.connection + 1)) (has_unaccepted_connection s.endpoint.connection) (Err Unsupported) (answered (with_listener Closed s) (Number 0))
     (λ _. tt) (λ _. more (queued_to s.endpoint.connection) 1)
 close_ends now s (Connected c) unclosed = closed_ends now s c unclosed.0
 

@@ -57,4 +57,4 @@ pub repeated_holds : {S X : Type 0} (P : S → Type 0) (find : S → Option X) (
     → ((s : S) (x : X) → P s → find s ≡ Some x → P (act x s))
     → (n : ℕ) (s : S) → P s → Comes P (repeated find act n s)
 repeated_holds P find act step n s h =
-    comes_more (AtEnd P find) P (λ t ended. ended.0) (repeated find act n s) (repeated_keeps P find act step n s h)
+    comes_more (AtEnd P find) P (λ t end_reason. end_reason.0) (repeated find act n s) (repeated_keeps P find act step n s h)

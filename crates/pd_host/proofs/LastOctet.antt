@@ -1,4 +1,4 @@
--- The FIN is the last octet that is queued, and `close` alone queues it.
+-- The FIN is the last octet that is queued, and `close_stream` alone queues it.
 use Rattle.std.proofs.Common.{◌≡◌, ◌⊎◌, inl, inr, ℕ, ◌==◌, ◌<◌, ◌≤◌, min, Bool, true, false, true≢false, ◌&&◌, nat_lt, nat_le, if◌then◌else◌, Option, None, Some, is_some, Ok, Err, refl, sym, ap, ◌∙◌, arith}
 use Rattle.std.proofs.lemmas.Bool.Decides.{nat_tests}
 use Rattle.pd_script.specs.declared.calls.Call.{Call}
@@ -6,7 +6,7 @@ use Rattle.pd_seg.specs.declared.call_results.Answer.{Answer}
 use Rattle.pd_seg.specs.declared.call_results.Answer.TheVariants.{Number, Error}
 use Rattle.pd_seg.specs.declared.call_results.Errno.TheVariants.{Eagain, Epipe}
 use Rattle.pd_seg.specs.declared.sack_spans.Span.{Span}
-use Rattle.pd_host.specs.Calls.{Descriptor, Listening, Connected, Reply, answered, with_listener, with_stored, socket_reply, bind_reply, listen_reply, accept_reply, handed_out, no_delay_reply, free_of, with_queued, write_settings, queued, written_on, write_reply, operated, on_open, open_descriptor, reply_to, requested, called, is_pending, is_waiting, is_open, stream_of, with_stream}
+use Rattle.pd_host.specs.Calls.{Descriptor, Listening, Connected, Reply, answered, with_listener, with_stored, socket_reply, bind_reply, listen_reply, accept_reply, handed_out, no_delay_reply, free_of, with_queued, write_settings, queued, written_on, write_reply, operated, on_open, open_descriptor, reply_to, requested, called, has_unaccepted_connection, is_unaccepted, is_open, stream_of, with_stream}
 use Rattle.pd_host.specs.Connection.{ConnectionView, data_end}
 use Rattle.pd_host.specs.Packets.{data_of}
 use Rattle.pd_host.specs.Syscalls.{syscall_of}
@@ -18,7 +18,7 @@ use Rattle.pd_host.specs.declared.syscall.SocketOperation.TheVariants.{Bind, Lis
 use Rattle.pd_host.specs.declared.syscall.Syscall.{Syscall}
 use Rattle.pd_host.specs.declared.syscall.Syscall.TheVariants.{Socket, On}
 use Rattle.pd_host.specs.declared.endpoint.SenderState.{SenderState}
-use Rattle.pd_host.specs.declared.descriptors.StreamState.TheVariants as stream
+use Rattle.pd_host.specs.declared.descriptors.StreamState.TheVariants as stream_state
 use Rattle.pd_host.proofs.CallsKept.{connected, IsOpenOn, open_on}
 use Rattle.pd_host.proofs.CallsAfter.{Replies, either_reply, queued_sends}
 use Rattle.pd_host.proofs.Chosen.{first_of_two, second_of_two, is_above, is_within}
@@ -49,7 +49,7 @@ ends_before c segment = lesser segment.end (data_end c)
 equal : (m n : ℕ) → (m == n) ≡ true → m ≡ n
 equal m n h = grind (arith, nat_tests)
 
--- Only `close` queues the FIN
+-- Only `close_stream` queues the FIN
 
 abbrev fins : Option ConnectionView → Bool
 fins None = false
@@ -81,8 +81,8 @@ listen_fin s _ _ = refl
 handed_fin : (s : SenderState) (o : Option ConnectionView) → s.endpoint.connection ≡ o → Replies (SameFin s) (handed_out s o)
 handed_fin s None e = refl
 handed_fin s (Some c) e =
-    either_reply (SameFin s) (is_some c.established && is_waiting (stream_of c))
-    (answered (with_stored (Some (with_stream stream.Open c)) s) (Number 4)) (answered s (Error Eagain)) (sym (ap fins e)) refl
+    either_reply (SameFin s) (is_some c.established && is_unaccepted (stream_of c))
+    (answered (with_stored (Some (with_stream stream_state.Open c)) s) (Number 4)) (answered s (Error Eagain)) (sym (ap fins e)) refl
 
 accept_fin : (s : SenderState) (l : ListenState) (d : Descriptor) → Replies (SameFin s) (accept_reply s l d)
 accept_fin s Listens Listening = handed_fin s s.endpoint.connection refl
@@ -118,7 +118,7 @@ operated_fin now fd s (Some d) (NoDelay set) e = inr (no_delay_fin s set d (open
 operated_fin now fd s (Some d) SetFlags e = inr refl
 operated_fin now fd s (Some d) (Write n) e = inr (write_fin now s n d (open_on s fd d e))
 operated_fin now fd s (Some Listening) Close e =
-    inr (either_reply (SameFin s) (is_pending s.endpoint.connection) (Err Unsupported) (answered (with_listener Closed s) (Number 0)) tt refl)
+    inr (either_reply (SameFin s) (has_unaccepted_connection s.endpoint.connection) (Err Unsupported) (answered (with_listener Closed s) (Number 0)) tt refl)
 operated_fin now fd s (Some (Connected c)) Close e =
     inl (ap (λ (n : ℕ). On n Close) (equal fd 4 (connected s.endpoint fd c e).0))
 
@@ -147,7 +147,7 @@ pub only_close_queues : (call : Call) (now : ℕ) (s t : SenderState) (a : Answe
 only_close_queues call now s t a c d hc hd before after h =
     asked now s t a (syscall_of call) (ap fins hc ∙ before, ap fins hd ∙ after) h
 
--- After `close` no call moves the connection
+-- After `close_stream` no call moves the connection
 
 abbrev SameConnection : SenderState → SenderState → Type 0
 SameConnection s t = t.endpoint.connection ≡ s.endpoint.connection
@@ -170,20 +170,20 @@ nobody_waits a true s x e = absurd (true≢false e)
 nobody_waits true false s x e = refl
 nobody_waits false false s x e = refl
 
-handed_same : (s : SenderState) (c : ConnectionView) (o : Option ConnectionView) → o ≡ Some c → stream_of c ≡ stream.Closed
+handed_same : (s : SenderState) (c : ConnectionView) (o : Option ConnectionView) → o ≡ Some c → stream_of c ≡ stream_state.Closed
     → Replies (SameConnection s) (handed_out s o)
 handed_same s c None e closed = refl
 handed_same s c (Some d) e closed =
     let same : d ≡ c = cc in
-    nobody_waits (is_some d.established) (is_waiting (stream_of d)) s (answered (with_stored (Some (with_stream stream.Open d)) s) (Number 4))
-    (ap (λ (x : ConnectionView). is_waiting (stream_of x)) same ∙ ap is_waiting closed)
+    nobody_waits (is_some d.established) (is_unaccepted (stream_of d)) s (answered (with_stored (Some (with_stream stream_state.Open d)) s) (Number 4))
+    (ap (λ (x : ConnectionView). is_unaccepted (stream_of x)) same ∙ ap is_unaccepted closed)
 
-accept_same : (s : SenderState) (c : ConnectionView) (l : ListenState) → s.endpoint.connection ≡ Some c → stream_of c ≡ stream.Closed
+accept_same : (s : SenderState) (c : ConnectionView) (l : ListenState) → s.endpoint.connection ≡ Some c → stream_of c ≡ stream_state.Closed
     → Replies (SameConnection s) (accept_reply s l Listening)
 accept_same s c Listens e closed = handed_same s c s.endpoint.connection e closed
 accept_same s c _ e closed = refl
 
-listening_same : (now : ℕ) (s : SenderState) (c : ConnectionView) (o : SocketOperation) → s.endpoint.connection ≡ Some c → stream_of c ≡ stream.Closed
+listening_same : (now : ℕ) (s : SenderState) (c : ConnectionView) (o : SocketOperation) → s.endpoint.connection ≡ Some c → stream_of c ≡ stream_state.Closed
     → Replies (SameConnection s) (operated now s Listening o)
 listening_same now s c Bind e closed = bind_same s s.endpoint.listener
 listening_same now s c Listen e closed = listen_same s s.endpoint.listener
@@ -193,12 +193,12 @@ listening_same now s c (NoDelay set) e closed = refl
 listening_same now s c SetFlags e closed = refl
 listening_same now s c (Write n) e closed = refl
 listening_same now s c Close e closed =
-    either_reply (SameConnection s) (is_pending s.endpoint.connection) (Err Unsupported) (answered (with_listener Closed s) (Number 0)) tt refl
+    either_reply (SameConnection s) (has_unaccepted_connection s.endpoint.connection) (Err Unsupported) (answered (with_listener Closed s) (Number 0)) tt refl
 
 given_some : (d c : ConnectionView) → Some d ≡ Some c → d ≡ c
 given_some d c e = cc
 
-open_same : (now fd : ℕ) (s : SenderState) (c : ConnectionView) (o : SocketOperation) (d : Option Descriptor) → s.endpoint.connection ≡ Some c → stream_of c ≡ stream.Closed
+open_same : (now fd : ℕ) (s : SenderState) (c : ConnectionView) (o : SocketOperation) (d : Option Descriptor) → s.endpoint.connection ≡ Some c → stream_of c ≡ stream_state.Closed
     → open_descriptor s.endpoint fd ≡ d → Replies (SameConnection s) (on_open now s o d)
 open_same now fd s c o None e closed h = refl
 open_same now fd s c o (Some Listening) e closed h = listening_same now s c o e closed
@@ -207,13 +207,13 @@ open_same now fd s c o (Some (Connected d)) e closed h =
     let same : d ≡ c = given_some d c (sym found.1 ∙ e) in
     absurd (true≢false (sym found.2 ∙ ap (λ (x : ConnectionView). is_open (stream_of x)) same ∙ ap is_open closed))
 
-reply_same : (now : ℕ) (s : SenderState) (c : ConnectionView) (o : Option Syscall) → s.endpoint.connection ≡ Some c → stream_of c ≡ stream.Closed
+reply_same : (now : ℕ) (s : SenderState) (c : ConnectionView) (o : Option Syscall) → s.endpoint.connection ≡ Some c → stream_of c ≡ stream_state.Closed
     → Replies (SameConnection s) (requested now s o)
 reply_same now s c None e closed = tt
 reply_same now s c (Some Socket) e closed = socket_same s s.endpoint.listener
 reply_same now s c (Some (On fd o)) e closed = open_same now fd s c o (open_descriptor s.endpoint fd) e closed refl
 
 pub closed_stays : (call : Call) (now : ℕ) (s t : SenderState) (a : Answer) (c : ConnectionView)
-    → s.endpoint.connection ≡ Some c → stream_of c ≡ stream.Closed → called call now s ≡ Ok (t, a) → t.endpoint.connection ≡ Some c
+    → s.endpoint.connection ≡ Some c → stream_of c ≡ stream_state.Closed → called call now s ≡ Ok (t, a) → t.endpoint.connection ≡ Some c
 closed_stays call now s t a c e closed h =
     came (λ (x : SenderState × Answer). SameConnection s x.0) (called call now s) (t, a) h (reply_same now s c (syscall_of call) e closed) ∙ e

@@ -9,10 +9,10 @@ use Rattle.pd_seg.specs.declared.call_results.Errno.TheVariants.{Eagain, Epipe}
 use Rattle.pd_seg.specs.declared.segments.Segment.{Segment}
 use Rattle.pd_host.specs.AckEffects.{taking, ack_taken}
 use Rattle.pd_host.specs.Arrivals.{check_outcome, arrived_on, arrived, failed_check_of, reset_of}
-use Rattle.pd_host.specs.Calls.{Descriptor, Listening, Connected, Reply, answered, with_listener, with_stored, socket_reply, bind_reply, listen_reply, accept_reply, handed_out, no_delay_reply, free_of, with_queued, write_settings, queued, written_on, write_reply, closed_stream, closed_on, close_reply, operated, on_open, open_descriptor, reply_to, requested, called, is_pending, is_waiting, stream_of, with_stream, with_nagle}
+use Rattle.pd_host.specs.Calls.{Descriptor, Listening, Connected, Reply, answered, with_listener, with_stored, socket_reply, bind_reply, listen_reply, accept_reply, handed_out, no_delay_reply, free_of, with_queued, write_settings, queued, written_on, write_reply, closed_stream, closed_on, close_reply, operated, on_open, open_descriptor, reply_to, requested, called, has_unaccepted_connection, is_unaccepted, stream_of, with_stream, with_nagle}
 use Rattle.pd_host.specs.Connection.{ConnectionView}
 use Rattle.pd_host.specs.Expiries.{expired, advanced}
-use Rattle.pd_host.specs.Handshake.{is_opening, connection_begun, answered_syn, syn_settings, establishment_settings}
+use Rattle.pd_host.specs.Handshake.{can_begin_connection, connection_begun, answered_syn, syn_settings, establishment_settings}
 use Rattle.pd_host.specs.InputLaws.{Notes, ArrivalsNote, CallsNote, AdvancesNote}
 use Rattle.pd_host.specs.Syscalls.{syscall_of}
 use Rattle.pd_host.specs.Host.{beside}
@@ -29,7 +29,7 @@ use Rattle.pd_host.specs.declared.syscall.Syscall.TheVariants.{Socket, On}
 use Rattle.pd_host.specs.declared.connection.segment_check.SegmentCheck.{SegmentCheck}
 use Rattle.pd_host.specs.declared.connection.segment_check.SegmentCheck.TheVariants.{NotRun, StrayRst, OutsideWindow, ExactRst, ChallengedRst, WithoutAck, FirstAck, RefusedAck, EarlyAck, OldAck}
 use Rattle.pd_host.specs.declared.endpoint.SenderState.{SenderState}
-use Rattle.pd_host.specs.declared.descriptors.StreamState.TheVariants as stream
+use Rattle.pd_host.specs.declared.descriptors.StreamState.TheVariants as stream_state
 use Rattle.pd_host.proofs.Advances.{expiry_finds, expiry_sends}
 use Rattle.pd_host.proofs.CallsAfter.{Replies, reply_leaves, either_reply, outside_sends, queued_sends}
 use Rattle.pd_host.proofs.Finishes.{passed_leaves}
@@ -100,7 +100,7 @@ opening now c s =
 
 on_connection : (o : Option ConnectionView) (segment : Segment) (now : ℕ) (s : SenderState) → Leaves (Notes s) (arrived_on now segment s o)
 on_connection None segment now s =
-    either (Notes s) (is_opening s.endpoint.listener segment) (answered_syn now (connection_begun now s.settings segment) s) (Err Unsupported)
+    either (Notes s) (can_begin_connection s.endpoint.listener segment) (answered_syn now (connection_begun now s.settings segment) s) (Err Unsupported)
     (opening now (connection_begun now s.settings segment) s) tt
 on_connection (Some c) segment now s =
     passed_leaves (Notes s) now segment c s (failed_check_of c segment) (λ u d e k. record { settings = k.settings; consulted_settings = k.consulted_settings })
@@ -127,8 +127,8 @@ listen_notes now s _ _ = same_notes s s refl refl
 handed_notes : (now : ℕ) (s : SenderState) (c : Option ConnectionView) → Replies (Notes s) (handed_out s c)
 handed_notes now s None = same_notes s s refl refl
 handed_notes now s (Some c) =
-    let handed : SenderState = with_stored (Some (with_stream stream.Open c)) s in
-    either_reply (Notes s) (is_some c.established && is_waiting (stream_of c)) (answered handed (Number 4)) (answered s (Error Eagain))
+    let handed : SenderState = with_stored (Some (with_stream stream_state.Open c)) s in
+    either_reply (Notes s) (is_some c.established && is_unaccepted (stream_of c)) (answered handed (Number 4)) (answered s (Error Eagain))
     (same_notes s handed refl refl) (same_notes s s refl refl)
 
 accept_notes : (now : ℕ) (s : SenderState) (l : ListenState) (d : Descriptor) → Replies (Notes s) (accept_reply s l d)
@@ -163,7 +163,7 @@ closed_notes now s c =
 
 close_notes : (now : ℕ) (s : SenderState) (d : Descriptor) → Replies (Notes s) (close_reply now s d)
 close_notes now s Listening =
-    either_reply (Notes s) (is_pending s.endpoint.connection) (Err Unsupported) (answered (with_listener Closed s) (Number 0)) tt
+    either_reply (Notes s) (has_unaccepted_connection s.endpoint.connection) (Err Unsupported) (answered (with_listener Closed s) (Number 0)) tt
     (same_notes s (with_listener Closed s) refl refl)
 close_notes now s (Connected c) = closed_notes now s c
 

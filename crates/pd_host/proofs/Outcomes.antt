@@ -51,9 +51,9 @@ kept P find act step zero s holds = stopped P (find s) s holds
 kept P find act step (suc n) s holds =
     further P act (repeated find act n) (kept P find act step n) s (find s) (λ x e. step x s e holds) holds
 
-ended : {S X : Type 0} (find : S → Option X) (s : S) (o : Option X) → find s ≡ o → Leaves (λ t. find t ≡ None) (ends (is_some o) s)
-ended find s None e = e
-ended find s (Some x) e = tt
+end_reason : {S X : Type 0} (find : S → Option X) (s : S) (o : Option X) → find s ≡ o → Leaves (λ t. find t ≡ None) (ends (is_some o) s)
+end_reason find s None e = e
+end_reason find s (Some x) e = tt
 
 after : {S X : Type 0} (find : S → Option X) (act : X → S → S) (rest : S → Result S Halt)
     → ((t : S) → Leaves (λ u. find u ≡ None) (rest t))
@@ -63,7 +63,7 @@ after find act rest more s (Some x) e = more (act x s)
 
 -- at the end nothing is found
 pub done : {S X : Type 0} (find : S → Option X) (act : X → S → S) (n : ℕ) (s : S) → Leaves (λ t. find t ≡ None) (repeated find act n s)
-done find act zero s = ended find s (find s) refl
+done find act zero s = end_reason find s (find s) refl
 done find act (suc n) s = after find act (repeated find act n) (done find act n) s (find s) refl
 
 -- The same from another state

@@ -3,7 +3,7 @@ use Rattle.std.proofs.Common.{◌≡◌, refl, ◌≤◌, ◌&&◌, ◌||◌, Bo
 use Rattle.std.specs.Prelude.{is_some}
 use Rattle.pd_seg.specs.declared.segments.Segment.{Segment}
 use Rattle.pd_host.specs.Arrivals.{first_failed_check, failed_check_of, is_in_window, is_stray_fin}
-use Rattle.pd_host.specs.ConnStates.{state_since, state_of, is_closed}
+use Rattle.pd_host.specs.ConnStates.{state_after_handshake, state_of, is_closed}
 use Rattle.pd_host.specs.Connection.{ConnectionView}
 use Rattle.pd_host.specs.Handshake.{length_of}
 use Rattle.pd_host.specs.declared.connection.states.ConnState.{ConnState}
@@ -63,7 +63,7 @@ not_first true state h = absurd cc
 not_first false state h = refl
 
 pub open_live : (c : ConnectionView) → is_closed (state_of c) ≡ false → c.is_reset ≡ false
-open_live c h = not_first c.is_reset (state_since c c.established) h
+open_live c h = not_first c.is_reset (state_after_handshake c c.established) h
 
 -- a segment that passes comes before a reset, and acknowledges what was sent
 pub record Passes (c : ConnectionView) (segment : Segment) : Type 0 where

@@ -15,7 +15,7 @@ use Rattle.pd_recover.specs.declared.next_segment.NextSegment.TheVariants.{Lost,
 use Rattle.pd_host.specs.AckEffects.{sent_as, fill_noted_by, fill_noted_on, entered_on}
 use Rattle.pd_host.specs.Connection.{ConnectionView}
 use Rattle.pd_host.specs.Invariants.{IsEnding, IsOfPhase, IsInBounds, IsTimed, IsReached}
-use Rattle.pd_host.specs.Sending.{is_idle, restarted_in, restarted_if_idle, past_sacked, sent_on}
+use Rattle.pd_host.specs.Sending.{is_idle, restarted_in, restarted_if_idle, with_next_past_sacked, sent_on}
 use Rattle.pd_host.specs.RttSegment.{overlaps, rtt_segment_after, timing_started}
 use Rattle.pd_host.specs.declared.established.Established.{Established}
 use Rattle.pd_host.specs.declared.connection.ack_effects.WindowFill.{WindowFill}
@@ -77,7 +77,7 @@ timed_then now una top top' segment (Some old) u t some h =
 
 module _ (b : Settings) (now : ℕ) where
   -- the sending place moves past SACKed octets
-  pub ready_reached : (c : ConnectionView) → IsReached b now c → IsReached b now (past_sacked c)
+  pub ready_reached : (c : ConnectionView) → IsReached b now c → IsReached b now (with_next_past_sacked c)
   ready_reached c h = record {
     agreed = h.agreed;
     board = skipped_ordered c.board h.board;

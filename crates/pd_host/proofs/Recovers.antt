@@ -18,7 +18,7 @@ use Rattle.pd_recover.specs.declared.ack_action.AckAction.TheVariants.{StepC, No
 use Rattle.pd_recover.specs.declared.next_segment.NextSegment.{NextSegment}
 use Rattle.pd_recover.specs.declared.next_segment.NextSegment.TheVariants.{Lost, New, Hole, Rescue}
 use Rattle.pd_board.specs.Loss.{is_lost}
-use Rattle.pd_host.specs.AckEffects.{newly_acked, with_number, is_block_sent, blocks_of, with_block_marked, with_blocks_marked, blocks_marked, with_timing, is_current, with_new_window, with_blocks, with_ack, sack_news_of, ack_of_segment, taking, sent_as, fill_noted_by, fill_noted_on, entered_on, delivery, congestion_updated}
+use Rattle.pd_host.specs.AckEffects.{newly_acked, with_number, is_block_sent, blocks_of, with_block_marked, with_blocks_marked, blocks_marked, with_timing, can_update_window, with_new_window, with_blocks, with_ack, sack_news_of, ack_of_segment, taking, sent_as, fill_noted_by, fill_noted_on, entered_on, delivery, congestion_updated}
 use Rattle.pd_host.specs.Arrivals.{with_peer_fin}
 use Rattle.pd_host.specs.Calls.{with_stream, with_nagle}
 use Rattle.pd_host.specs.Connection.{ConnectionView}
@@ -99,7 +99,7 @@ module _ (s : BoardView) where
       (λ _. moved_board now (with_sample now granularity c.board.una c) (measured_board now granularity c.board.una c c.rtt_segment h)) (λ _. h)
 
   window_board : (segment : Segment) (e : Established) (c : ConnectionView) → HasBoard s c → HasBoard s (with_new_window segment e c).0
-  window_board segment e c h = by_test (λ (p : ConnectionView × Established). HasBoard s p.0) (is_current e segment) _ (c, e) (λ _. h) (λ _. h)
+  window_board segment e c h = by_test (λ (p : ConnectionView × Established). HasBoard s p.0) (can_update_window e segment) _ (c, e) (λ _. h) (λ _. h)
 
 ack_board : (now : ℕ) (segment : Segment) (e : Established) (c : ConnectionView) → HasBoard (blocks_marked segment (with_number segment c)).0 (with_ack now segment e c).0.0
 ack_board now segment e c =
@@ -199,7 +199,7 @@ pub begun_below : (now : ℕ) (c : ConnectionView) → IsBelowPoint c → IsBelo
 begun_below now c h sack = begun_same c.board.una c.board.smss (is_idle now c) c.established (h sack)
 
 -- another stream, or Nagle's algorithm
-stream_same : (una : ℕ) (d : StreamState) (o : Option Established) → RecoversBelow una o → RecoversBelow una (option_map {T = Established} (λ e. record e { stream = d }) o)
+stream_same : (una : ℕ) (d : StreamState) (o : Option Established) → RecoversBelow una o → RecoversBelow una (option_map {T = Established} (λ e. record e { stream_state = d }) o)
 stream_same una d None h = h
 stream_same una d (Some e) h = h
 

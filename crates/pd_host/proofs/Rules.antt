@@ -10,18 +10,18 @@ use Rattle.pd_recover.specs.declared.ack_action.AckAction.TheVariants.{NewSegmen
 use Rattle.pd_recover.specs.declared.next_segment.NextSegment.{NextSegment}
 use Rattle.pd_host.specs.AckEffects.{taking, next_by, sent_as, fill_noted_on, entered_on}
 use Rattle.pd_host.specs.Arrivals.{failed_check_of, reset_of, with_peer_fin}
-use Rattle.pd_host.specs.Calls.{stream_of, is_open, is_waiting, with_stream, with_nagle, with_queued, free_of, closed_stream}
+use Rattle.pd_host.specs.Calls.{stream_of, is_open, is_unaccepted, with_stream, with_nagle, with_queued, free_of, closed_stream}
 use Rattle.pd_host.specs.Connection.{ConnectionView}
 use Rattle.pd_host.specs.Expiries.{due_by, resent_by, expired_by}
-use Rattle.pd_host.specs.Handshake.{is_opening, connection_begun, established_by}
-use Rattle.pd_host.specs.Sending.{value_on, ordinary_segment, restarted_if_idle, past_sacked, sent_on}
+use Rattle.pd_host.specs.Handshake.{can_begin_connection, connection_begun, established_by}
+use Rattle.pd_host.specs.Sending.{value_on, ordinary_segment, restarted_if_idle, with_next_past_sacked, sent_on}
 use Rattle.pd_host.specs.RttSegment.{timing_started}
 use Rattle.pd_host.specs.declared.established.Established.{Established}
 use Rattle.pd_host.specs.declared.connection.ack_effects.WindowFill.{WindowFill}
 use Rattle.pd_host.specs.declared.descriptors.ListenState.{ListenState}
 use Rattle.pd_host.specs.declared.connection.segment_check.SegmentCheck.TheVariants.{FirstAck}
 use Rattle.pd_host.specs.declared.endpoint.SenderState.{SenderState}
-use Rattle.pd_host.specs.declared.descriptors.StreamState.TheVariants as stream
+use Rattle.pd_host.specs.declared.descriptors.StreamState.TheVariants as stream_state
 
 -- a property of the packets that nobody has taken, and of the connection under the settings
 pub record Holds (O : List Sent → Type 0) (C : Settings → ConnectionView → Type 0) (s : SenderState) : Type 0 where
@@ -41,8 +41,8 @@ next_on filling pipe c o = value_on None (next_by filling pipe) c o
 
 -- ordinary sending
 pub record KeptBySending (now : ℕ) (C : ConnectionView → Type 0) : Type 0 where
-  pub ready : (c : ConnectionView) → C c → C (past_sacked (restarted_if_idle now c))
-  pub sent : (c : ConnectionView) (segment : Span) → C c → found_on c c.established ≡ Some segment → C (past_sacked (sent_on now segment c))
+  pub ready : (c : ConnectionView) → C c → C (with_next_past_sacked (restarted_if_idle now c))
+  pub sent : (c : ConnectionView) (segment : Span) → C c → found_on c c.established ≡ Some segment → C (with_next_past_sacked (sent_on now segment c))
 
 -- the segment at una
 abbrev pub first_run : ConnectionView → Span
@@ -68,7 +68,7 @@ pub record KeptByAcks (now : ℕ) (C D : ConnectionView → Type 0) : Type 0 whe
 
 -- a connection begins
 abbrev pub HoldsFirst : ℕ → (Settings → ConnectionView → Type 0) → Type 0
-HoldsFirst now C = (b : Settings) (listener : ListenState) (segment : Segment) → is_opening listener segment ≡ true → C b (connection_begun now b segment)
+HoldsFirst now C = (b : Settings) (listener : ListenState) (segment : Segment) → can_begin_connection listener segment ≡ true → C b (connection_begun now b segment)
 
 -- arrivals on a connection: C holds between inputs, and D while one is answered by data
 pub record KeptByArrivals (now : ℕ) (b : Settings) (C D : ConnectionView → Type 0) : Type 0 where
@@ -83,7 +83,7 @@ pub record KeptByArrivals (now : ℕ) (b : Settings) (C D : ConnectionView → T
 pub record KeptByCalls (now : ℕ) (b : Settings) (Q C D : ConnectionView → Type 0) : Type 0 where
   pub sending : KeptBySending now D
   pub sent : (c : ConnectionView) → D c → C c
-  pub accepted : (c : ConnectionView) → C c → (is_some c.established && is_waiting (stream_of c)) ≡ true → C (with_stream stream.Open c)
+  pub accepted : (c : ConnectionView) → C c → (is_some c.established && is_unaccepted (stream_of c)) ≡ true → C (with_stream stream_state.Open c)
   pub nagle : (on : Bool) (c : ConnectionView) → C c → C (with_nagle on c)
   pub queued : (n : ℕ) (c : ConnectionView) → Q c → C c → is_open (stream_of c) ≡ true → c.is_reset ≡ false → D (with_queued (min n (free_of b.sndbuf c)) c)
   pub finished : (c : ConnectionView) → Q c → C c → is_open (stream_of c) ≡ true → c.is_reset ≡ false → D (closed_stream c)

@@ -8,14 +8,14 @@ use Rattle.pd_board.specs.Octets.{contains, greatest_where, after}
 use Rattle.pd_board.specs.Board.{BoardView}
 use Rattle.pd_recover.specs.declared.next_segment.NextSegment.{NextSegment}
 use Rattle.pd_recover.specs.declared.next_segment.NextSegment.TheVariants.{Lost, New, Hole, Rescue}
-use Rattle.pd_recover.specs.NextSeg.{lost_run, new_data, hole_run, rescue_run, next_send, step_c_segment, limited_segment, has_room}
+use Rattle.pd_recover.specs.NextSeg.{lost_run, new_segment_on_board, hole_run, rescue_run, next_send, step_c_segment, limited_transmit_segment, has_room_for_segment}
 use Rattle.pd_recover.specs.Cong.{CongView}
 use Rattle.pd_recover.proofs.Chosen.{AllOf, one_of, either_of, map_of, allowed_of}
 use Rattle.pd_recover.proofs.Found.{least, greatest}
 use Rattle.pd_host.specs.AckEffects.{next_by}
 use Rattle.pd_host.specs.Connection.{ConnectionView}
 use Rattle.pd_host.specs.Invariants.{IsOrdered}
-use Rattle.pd_host.specs.Sending.{next_retransmitted, next_new, leaves_now, sendable, window_edge}
+use Rattle.pd_host.specs.Sending.{next_retransmit_segment, next_new_segment, can_new_segment_leave, sendable_octets, window_edge}
 use Rattle.pd_host.specs.Sending as sending
 use Rattle.pd_host.specs.declared.established.Established.{Established}
 use Rattle.pd_host.specs.declared.connection.ack_effects.WindowFill.{WindowFill}
@@ -65,7 +65,7 @@ run_again s x from to = record {
   outstanding = omega (arith, from, to);
 }
 
-pub data_new : (rwnd : ℕ) (s : BoardView) → AllOf (IsNew s) (new_data rwnd s)
+pub data_new : (rwnd : ℕ) (s : BoardView) → AllOf (IsNew s) (new_segment_on_board rwnd s)
 data_new rwnd s =
     allowed_of (IsNew s) _ _ (λ passed.
     let some : s.top < s.top + min s.smss (s.end - s.top) = lt _ _ (first_of_two _ _ passed) in
@@ -88,24 +88,24 @@ rescue_again s some =
 pub next_fits : (rwnd : ℕ) (s : BoardView) (w : CongView) → IsOrdered s → AllOf (IsNext s) (next_send rwnd s w)
 next_fits rwnd s w known =
     either_of (IsNext s) (lost_run s w) _ (map_of (IsNext s) (λ x. Lost (run_at x s)) (next_lost w.high_rxt s) (λ x e. let h = least _ s.una s.top x e in run_again s x h.from h.to))
-    (either_of (IsNext s) (option_map (λ segment. New segment) (new_data rwnd s)) _ (map_of (IsNext s) (λ segment. New segment) (new_data rwnd s) (data_new rwnd s))
+    (either_of (IsNext s) (option_map (λ segment. New segment) (new_segment_on_board rwnd s)) _ (map_of (IsNext s) (λ segment. New segment) (new_segment_on_board rwnd s) (data_new rwnd s))
     (either_of (IsNext s) (hole_run s w) (rescue_run s w) (map_of (IsNext s) (λ x. Hole (run_at x s)) (next_hole w.high_rxt s) (λ x e. let h = least _ s.una s.top x e in run_again s x h.from h.to))
     (allowed_of (IsNext s) _ _ (λ _. map_of (IsNext s) (λ segment. Rescue segment) (rescue s) (rescue_again s (omega (arith, known.smss_low)))))))
 
 step_c_fits : (rwnd pipe : ℕ) (s : BoardView) (w : CongView) → IsOrdered s → AllOf (IsNext s) (step_c_segment rwnd pipe s w)
-step_c_fits rwnd pipe s w known = allowed_of (IsNext s) (has_room pipe s w) _ (λ _. next_fits rwnd s w known)
+step_c_fits rwnd pipe s w known = allowed_of (IsNext s) (has_room_for_segment pipe s w) _ (λ _. next_fits rwnd s w known)
 
-limited_new : (rwnd pipe : ℕ) (s : BoardView) (w : CongView) → AllOf (IsNew s) (limited_segment rwnd pipe s w)
-limited_new rwnd pipe s w = allowed_of (IsNew s) (has_room pipe s w) _ (λ _. data_new rwnd s)
+limited_new : (rwnd pipe : ℕ) (s : BoardView) (w : CongView) → AllOf (IsNew s) (limited_transmit_segment rwnd pipe s w)
+limited_new rwnd pipe s w = allowed_of (IsNew s) (has_room_for_segment pipe s w) _ (λ _. data_new rwnd s)
 
 pub filling_fits : (filling : WindowFill) (pipe : ℕ) (c : ConnectionView) (e : Established) → IsOrdered c.board → AllOf (IsNext c.board) (next_by filling pipe c e)
 filling_fits NextSeg pipe c e known = step_c_fits e.rwnd pipe c.board e.congestion known
 filling_fits NewData pipe c e known =
-    map_of (IsNext c.board) (λ segment. New segment) (limited_segment e.rwnd pipe c.board e.congestion) (limited_new e.rwnd pipe c.board e.congestion)
+    map_of (IsNext c.board) (λ segment. New segment) (limited_transmit_segment e.rwnd pipe c.board e.congestion) (limited_new e.rwnd pipe c.board e.congestion)
 
 -- ordinary sending
 
-again_leaves : (c : ConnectionView) (e : Established) → IsOrdered c.board → c.board.next < c.board.top → AllOf (CanLeave c.board) (next_retransmitted c e)
+again_leaves : (c : ConnectionView) (e : Established) → IsOrdered c.board → c.board.next < c.board.top → AllOf (CanLeave c.board) (next_retransmit_segment c e)
 again_leaves c e h below =
     let run = run_within c.board.next c.board h.next_top in
     allowed_of (CanLeave c.board) (nat_le (run_at c.board.next c.board).end (window_edge c e)) _ (λ _. one_of (CanLeave c.board) _ (record {
@@ -115,10 +115,10 @@ again_leaves c e h below =
       some = λ no. absurd (omega (arith, no, below));
     }))
 
-new_can_leave : (c : ConnectionView) (e : Established) → IsOrdered c.board → c.board.top ≤ c.board.next → AllOf (CanLeave c.board) (next_new c e)
+new_can_leave : (c : ConnectionView) (e : Established) → IsOrdered c.board → c.board.top ≤ c.board.next → AllOf (CanLeave c.board) (next_new_segment c e)
 new_can_leave c e h above =
-    allowed_of (CanLeave c.board) (nat_lt 0 (sendable c e) && leaves_now c e) _ (λ passed.
-    let some : 0 < sendable c e = lt _ _ (first_of_two _ _ passed) in
+    allowed_of (CanLeave c.board) (nat_lt 0 (sendable_octets c e) && can_new_segment_leave c e) _ (λ passed.
+    let some : 0 < sendable_octets c e = lt _ _ (first_of_two _ _ passed) in
     one_of (CanLeave c.board) _ (record {
       from = omega (arith, h.una_next);
       to = omega (arith, h.next_top, h.top_end);
@@ -129,6 +129,6 @@ new_can_leave c e h above =
 pub ordinary_leaves : (c : ConnectionView) (e : Established) → IsOrdered c.board → AllOf (CanLeave c.board) (sending.ordinary_segment c e)
 ordinary_leaves c e h = by_place (nat_lt c.board.next c.board.top) refl
   where
-    by_place : (b : Bool) → nat_lt c.board.next c.board.top ≡ b → AllOf (CanLeave c.board) (if b then next_retransmitted c e else next_new c e)
+    by_place : (b : Bool) → nat_lt c.board.next c.board.top ≡ b → AllOf (CanLeave c.board) (if b then next_retransmit_segment c e else next_new_segment c e)
     by_place true t = again_leaves c e h (lt _ _ t)
     by_place false t = new_can_leave c e h (ge _ _ t)

@@ -4,7 +4,7 @@ use Rattle.pd_seg.specs.declared.sack_spans.Span.{Span}
 use Rattle.pd_seg.specs.declared.segments.Sent.{Sent}
 use Rattle.pd_host.specs.Connection.{ConnectionView}
 use Rattle.pd_host.specs.Expiries.{due_by, segment_again, connection_expired, advanced}
-use Rattle.pd_host.specs.Sending.{places_left, found, sent_until_done, past_sacked, sent_on, repeated}
+use Rattle.pd_host.specs.Sending.{places_left, found, sent_until_done, with_next_past_sacked, sent_on, repeated}
 use Rattle.pd_host.specs.Steps.{with_connection_and_packets}
 use Rattle.pd_host.specs.declared.endpoint.SenderState.{SenderState}
 use Rattle.pd_host.proofs.Advances.{expiry_finds, expiry_sends}
@@ -17,7 +17,7 @@ use Rattle.pd_host.proofs.SentOn.{finds, sends}
 -- Ordinary sending, one segment further
 pub sending_goes : (now : ℕ) (s : SenderState) (c d : ConnectionView) (packets new : List Sent) (segment : Span) → found (Some c) ≡ Some segment
     → with_packet now (data_of c segment) packets ≡ Ok new
-    → d ≡ past_sacked (sent_on now segment c)
+    → d ≡ with_next_past_sacked (sent_on now segment c)
     → sent_until_done now (with_connection_and_packets d new s) ≡ sent_until_done now (with_connection_and_packets c packets s)
 sending_goes now s c d packets new segment is put left =
     let p = put_ok now (data_of c segment) packets new put in
@@ -27,7 +27,7 @@ sending_goes now s c d packets new segment is put left =
     ap (λ (k : ℕ). repeated finds (sends now) k t) (one_place_less now (data_of c segment) packets p.0)
     ∙ repeated-more finds (sends now) (places_left after) t segment is in
     ap (λ (x : ConnectionView). sent_until_done now (with_connection_and_packets x new s)) left
-    ∙ ap (λ (x : List Sent). sent_until_done now (with_connection_and_packets (past_sacked (sent_on now segment c)) x s)) p.1
+    ∙ ap (λ (x : List Sent). sent_until_done now (with_connection_and_packets (with_next_past_sacked (sent_on now segment c)) x s)) p.1
     ∙ sym more
 
 pub sending_done : (now : ℕ) (s : SenderState) → finds s ≡ None → sent_until_done now s ≡ Ok s

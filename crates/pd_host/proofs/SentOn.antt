@@ -11,11 +11,11 @@ use Rattle.pd_recover.specs.NextSeg.{segment_of}
 use Rattle.pd_seg.specs.declared.sack_spans.Span.{Span}
 use Rattle.pd_seg.specs.declared.segments.Sent.{Sent}
 use Rattle.pd_timer.specs.Rto.{initial}
-use Rattle.pd_host.specs.AckEffects.{OnTheWay, next_fill, sent_as, fill_noted_on, one_filled, sender_of, pipe_of, filled, put_segment, entered_on, entry, after_ack_action}
+use Rattle.pd_host.specs.AckEffects.{OnTheWay, next_fill, sent_as, fill_noted_on, one_filled, sender_of, pipe_of, filled, put_out_data_segment, entered_on, entry, after_ack_action}
 use Rattle.pd_host.specs.Connection.{ConnectionView}
 use Rattle.pd_host.specs.Packets.{data_of}
 use Rattle.pd_host.specs.OutboxLimit.{has_place}
-use Rattle.pd_host.specs.Sending.{places_left, with_begun_connection, is_idle, restarted_in, restarted_if_idle, past_sacked, sent_on, with_segment, found, sent_ordinarily, ready, sent_until_done, ordinary}
+use Rattle.pd_host.specs.Sending.{places_left, with_begun_connection, is_idle, restarted_in, restarted_if_idle, with_next_past_sacked, sent_on, with_segment, found, sent_ordinarily, ready, sent_until_done, ordinary}
 use Rattle.pd_host.specs.RttSegment.{timing_started}
 use Rattle.pd_host.specs.declared.established.Established.{Established}
 use Rattle.pd_host.specs.declared.connection.ack_effects.WindowFill.{WindowFill}
@@ -52,7 +52,7 @@ rested : (idle : Bool) (smss : ℕ) (o : Option Established) → at_rest (restar
 rested idle smss None = refl
 rested idle smss (Some e) = refl
 
-pub begun_still : (now : ℕ) (c : ConnectionView) → still (past_sacked (restarted_if_idle now c)) ≡ still c
+pub begun_still : (now : ℕ) (c : ConnectionView) → still (with_next_past_sacked (restarted_if_idle now c)) ≡ still c
 begun_still now c =
     ap (λ (o : Option Established). record (resting c None) { established = o }) (rested (is_idle now c) c.board.smss c.established)
 
@@ -131,12 +131,12 @@ sends now segment t = sent_ordinarily now segment t.endpoint.connection t
 once : (now : ℕ) (segment : Span) (s : SenderState) (o : Option ConnectionView) → s.endpoint.connection ≡ o
     → IsSentOn now s (sent_ordinarily now segment o s)
 once now segment s None e = nothing_sent now s
-once now segment s (Some c) e = one_sent now segment c (past_sacked (sent_on now segment c)) s (sym (ap stills e))
+once now segment s (Some c) e = one_sent now segment c (with_next_past_sacked (sent_on now segment c)) s (sym (ap stills e))
 
 made_ready : (now : ℕ) (s : SenderState) (o : Option ConnectionView) → s.endpoint.connection ≡ o → IsSentOn now s (ready now o s)
 made_ready now s None e = nothing_sent now s
 made_ready now s (Some c) e =
-    only_moved now (past_sacked (restarted_if_idle now c)) s (ap (λ (d : ConnectionView). Some d) (begun_still now c) ∙ sym (ap stills e))
+    only_moved now (with_next_past_sacked (restarted_if_idle now c)) s (ap (λ (d : ConnectionView). Some d) (begun_still now c) ∙ sym (ap stills e))
 
 until_done : (now : ℕ) (r s : SenderState) → IsSentOn now r s → Leaves (IsSentOn now r) (sent_until_done now s)
 until_done now r s h =
@@ -205,7 +205,7 @@ filled_sends now filling r s h =
 -- The sending that an ACK leads to
 
 put_sends : (now : ℕ) (segment : Span) (before c : ConnectionView) (s : SenderState) → stills (Some c) ≡ stills s.endpoint.connection
-    → Leaves (IsSentOn now s) (put_segment now segment before c s)
+    → Leaves (IsSentOn now s) (put_out_data_segment now segment before c s)
 put_sends now segment before c s same =
     either (IsSentOn now s) (has_place s.endpoint.outbox) (Ok (with_segment now segment before c s)) (Err Limit)
     (one_sent now segment before c s same) tt
@@ -219,7 +219,7 @@ entry_sends now c s e =
     let segment : Span = run_at c.board.una c.board in
     let sent : ConnectionView = entered_on segment (timing_started now segment c) c.established in
     let moved : ConnectionView = entered_on segment c c.established in
-    either (IsSentOn now s) (nat_lt segment.start segment.end) (put_segment now segment c sent s) (Ok (with_begun_connection moved s))
+    either (IsSentOn now s) (nat_lt segment.start segment.end) (put_out_data_segment now segment c sent s) (Ok (with_begun_connection moved s))
     (put_sends now segment c sent s
     (ap (λ (d : ConnectionView). Some d) (entered_still segment (timing_started now segment c) c.established refl) ∙ sym (ap stills e)))
     (only_moved now moved s (ap (λ (d : ConnectionView). Some d) (entered_still segment c c.established refl) ∙ sym (ap stills e)))
@@ -233,6 +233,6 @@ led_to_sends now c s Entry e =
 led_to_sends now c s LimitedTransmit e = filled_sends now NewData s s (nothing_sent now s)
 led_to_sends now c s (NewSegment segment) e = put_sends now segment c (sent_on now segment c) s (sym (ap stills e))
 led_to_sends now c s (FastRetransmit segment) e =
-    then_leaves (IsSentOn now s) (IsSentOn now s) (ordinary now) (put_segment now segment c (timing_started now segment c) s)
+    then_leaves (IsSentOn now s) (IsSentOn now s) (ordinary now) (put_out_data_segment now segment c (timing_started now segment c) s)
     (put_sends now segment c (timing_started now segment c) s (sym (ap stills e))) (λ t h. ordinary_sends now s t h)
 led_to_sends now c s Nothing e = nothing_sent now s

@@ -9,12 +9,12 @@ use Rattle.pd_seg.specs.declared.sack_spans.Span.{Span}
 use Rattle.pd_seg.specs.declared.segments.Segment.{Segment}
 use Rattle.pd_seg.specs.declared.segments.Sent.{Sent}
 use Rattle.pd_timer.specs.Rto.{sampled}
-use Rattle.pd_host.specs.AckEffects.{newly_acked, with_blocks, with_number, with_ack, with_timing, is_current, taking, ack_taken}
+use Rattle.pd_host.specs.AckEffects.{newly_acked, with_blocks, with_number, with_ack, with_timing, can_update_window, taking, ack_taken}
 use Rattle.pd_host.specs.Arrivals.{check_outcome, arrived_on, arrived, failed_check_of, reset_of, with_peer_fin}
 use Rattle.pd_host.specs.Calls.{called}
 use Rattle.pd_host.specs.Connection.{ConnectionView}
 use Rattle.pd_host.specs.Expiries.{segment_again, connection_expired, expired, advanced}
-use Rattle.pd_host.specs.Handshake.{is_opening, connection_begun, answered_syn, syn_settings, syn_octet, established_by, establishment_settings, syn_acked, window_in, with_window}
+use Rattle.pd_host.specs.Handshake.{can_begin_connection, connection_begun, answered_syn, syn_settings, syn_octet, established_by, establishment_settings, syn_acked, scaled_window_in, with_window}
 use Rattle.pd_host.specs.Packets.{data_of, ack_of, refusal_of, syn_ack_of}
 use Rattle.pd_host.specs.Host.{beside, with_outbox}
 use Rattle.pd_host.specs.Sending.{places_left, with_begun_connection, with_segment}
@@ -306,7 +306,7 @@ moved_so true now granularity c x h = measured_timed now granularity c.board.una
 moved_so false now granularity c x h = h
 
 window_so : (b : Bool) (segment : Segment) (e : Established) (c : ConnectionView) (x : RttSegment)
-    → (if◌then◌else◌ {A = ConnectionView × Established} b (record c { max_window = max c.max_window (window_in c segment) }, with_window (window_in c segment) segment e) (c, e)).0.rtt_segment ≡ Some x
+    → (if◌then◌else◌ {A = ConnectionView × Established} b (record c { max_window = max c.max_window (scaled_window_in c segment) }, with_window (scaled_window_in c segment) segment e) (c, e)).0.rtt_segment ≡ Some x
     → c.rtt_segment ≡ Some x
 window_so true segment e c x h = h
 window_so false segment e c x h = h
@@ -316,7 +316,7 @@ ack_timed now segment e c x h =
     let told : ConnectionView = with_blocks segment (with_number segment c) in
     let n : ℕ = newly_acked c segment in
     moved_so (nat_lt 0 n) now e.granularity_us told x
-    (window_so (is_current e segment) segment e (with_timing now e.granularity_us n told) x h)
+    (window_so (can_update_window e segment) segment e (with_timing now e.granularity_us n told) x h)
 
 taking_timed : (now : ℕ) (segment : Segment) (c : ConnectionView) (o : Option Established) (x : RttSegment) → (taking now segment c o).0.rtt_segment ≡ Some x → c.rtt_segment ≡ Some x
 taking_timed now segment c None x h = h
@@ -396,7 +396,7 @@ on_connection : (o : Option ConnectionView) (segment : Segment) (now : ℕ) (s :
     → Leaves (TimesNew s) (arrived_on now segment s o)
 on_connection None segment now s e =
     let c : ConnectionView = connection_begun now s.settings segment in
-    either (TimesNew s) (is_opening s.endpoint.listener segment) (answered_syn now c s) (Err Unsupported)
+    either (TimesNew s) (can_begin_connection s.endpoint.listener segment) (answered_syn now c s) (Err Unsupported)
     (opened_so (nat_lt (length s.endpoint.outbox) 1024) now c s e refl) tt
 on_connection (Some c) segment now s e =
     passed_leaves (TimesNew s) now segment c s (failed_check_of c segment) (λ u d is k. fin_times_new now s u d is k)

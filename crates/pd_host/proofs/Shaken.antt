@@ -10,7 +10,7 @@ use Rattle.pd_recover.specs.Laws.{StaysWithin}
 use Rattle.pd_host.specs.Arrivals.{failed_check_of, reset_of}
 use Rattle.pd_host.specs.Calls.{stream_in}
 use Rattle.pd_host.specs.Connection.{ConnectionView}
-use Rattle.pd_host.specs.Handshake.{is_listening, is_syn_alone, length_of, offered_mss, is_mss_run, is_opening, smss_of, syn_options_of, connection_begun, window_in, established_with, established_by, syn_acked}
+use Rattle.pd_host.specs.Handshake.{is_listening, is_syn_alone, length_of, offered_mss, is_peer_mss_supported, can_begin_connection, smss_of, syn_options_of, connection_begun, scaled_window_in, new_established_parts, established_by, syn_acked}
 use Rattle.pd_host.specs.Invariants.{IsOfPhase, IsTimed, IsReached}
 use Rattle.pd_host.specs.RttSegment.{is_measured, measured, with_handshake_timer_ended}
 use Rattle.pd_host.specs.declared.descriptors.ListenState.{ListenState}
@@ -22,11 +22,11 @@ use Rattle.pd_host.proofs.Kept.{by_test}
 use Rattle.pd_host.proofs.Passed.{first_comes}
 use Rattle.pd_host.proofs.AckedBelow.{second_of_two, le}
 
-mss_low : (o : Option ℕ) → is_mss_run o ≡ true → 64 ≤ unwrap_or o 536
+mss_low : (o : Option ℕ) → is_peer_mss_supported o ≡ true → 64 ≤ unwrap_or o 536
 mss_low None e = omega arith
 mss_low (Some octets) e = le 64 octets e
 
-opening_mss : (listener : ListenState) (segment : Segment) → is_opening listener segment ≡ true → is_mss_run (offered_mss segment.options) ≡ true
+opening_mss : (listener : ListenState) (segment : Segment) → can_begin_connection listener segment ≡ true → is_peer_mss_supported (offered_mss segment.options) ≡ true
 opening_mss listener segment e =
     second_of_two (length_of segment == 0) _
     (second_of_two (segment.start == 0) _ (second_of_two (is_syn_alone segment.flags) _ (second_of_two (is_listening listener) _ e)))
@@ -40,7 +40,7 @@ sooner end top e u t = grind (arith, nat_tests)
 
 module _ (b : Settings) (now : ℕ) where
   -- the SYN begins the connection
-  pub begun_reached : (listener : ListenState) (segment : Segment) → is_opening listener segment ≡ true → IsReached b now (connection_begun now b segment)
+  pub begun_reached : (listener : ListenState) (segment : Segment) → can_begin_connection listener segment ≡ true → IsReached b now (connection_begun now b segment)
   begun_reached listener segment e =
       let low : 64 ≤ unwrap_or (offered_mss segment.options) 536 = mss_low (offered_mss segment.options) (opening_mss listener segment e) in
       record {
@@ -75,8 +75,8 @@ module _ (b : Settings) (now : ℕ) where
           board = acknowledged 1 c.board;
           timer = stopped t;
           rtt_segment = o;
-          max_window = max c.max_window (window_in c segment);
-          established = Some (established_with b segment c);
+          max_window = max c.max_window (scaled_window_in c segment);
+          established = Some (new_established_parts b segment c);
         })
     settled segment c t o h live is rtt_segment =
         let k : (c.board.una ≡ 0) × (c.board.top ≡ 1) × (c.board.end ≡ 1) = subst (λ x. IsOfPhase x c.board.una c.board.top c.board.end) is h.phase in
@@ -99,7 +99,7 @@ module _ (b : Settings) (now : ℕ) where
 
     -- the same connection after its sample
     abbrev finished : Segment → ConnectionView → ConnectionView → ConnectionView
-    finished segment c d = record (with_handshake_timer_ended d) { max_window = max c.max_window (window_in c segment); established = Some (established_with b segment c) }
+    finished segment c d = record (with_handshake_timer_ended d) { max_window = max c.max_window (scaled_window_in c segment); established = Some (new_established_parts b segment c) }
 
     sampled_first : (segment : Segment) (c : ConnectionView) (o : Option RttSegment) → IsReached b now c → c.is_reset ≡ false → c.established ≡ None → c.rtt_segment ≡ o
         → IfSome o (IsTimed now c.board.una c.board.top)

@@ -6,8 +6,8 @@ use Rattle.pd_script.specs.declared.calls.Call.{Call}
 use Rattle.pd_seg.specs.declared.call_results.Answer.{Answer}
 use Rattle.pd_seg.specs.declared.call_results.Answer.TheVariants.{Number, Error}
 use Rattle.pd_seg.specs.declared.call_results.Errno.TheVariants.{Eagain, Epipe}
-use Rattle.pd_host.specs.Calls.{Descriptor, Listening, Connected, answered, with_listener, with_stored, socket_reply, bind_reply, listen_reply, accept_reply, handed_out, no_delay_reply, free_of, with_queued, write_settings, queued, written_on, write_reply, closed_stream, with_fin, closed_on, close_reply, operated, on_open, open_descriptor, requested, called, is_open, is_pending, is_waiting, stream_in, stream_of, with_stream, with_nagle}
-use Rattle.pd_host.specs.ConnStates.{synchronized, state_since, state_of, state_on, conn_state}
+use Rattle.pd_host.specs.Calls.{Descriptor, Listening, Connected, answered, with_listener, with_stored, socket_reply, bind_reply, listen_reply, accept_reply, handed_out, no_delay_reply, free_of, with_queued, write_settings, queued, written_on, write_reply, closed_stream, with_fin, closed_on, close_reply, operated, on_open, open_descriptor, requested, called, is_open, has_unaccepted_connection, is_unaccepted, stream_in, stream_of, with_stream, with_nagle}
+use Rattle.pd_host.specs.ConnStates.{synchronized_state, state_after_handshake, state_of, state_on, conn_state}
 use Rattle.pd_host.specs.Connection.{ConnectionView, peer_fin_in}
 use Rattle.pd_host.specs.Expiries.{connection_expired, expired, advanced}
 use Rattle.pd_host.specs.StateDiagram.{MovesByCall}
@@ -28,7 +28,7 @@ use Rattle.pd_host.specs.declared.syscall.Syscall.{Syscall}
 use Rattle.pd_host.specs.declared.syscall.Syscall.TheVariants.{Socket, On}
 use Rattle.pd_host.specs.declared.endpoint.SenderState.{SenderState}
 use Rattle.pd_host.specs.declared.descriptors.StreamState.{StreamState}
-use Rattle.pd_host.specs.declared.descriptors.StreamState.TheVariants as stream
+use Rattle.pd_host.specs.declared.descriptors.StreamState.TheVariants as stream_state
 use Rattle.pd_host.proofs.Advances.{expiry_finds, expiry_sends}
 use Rattle.pd_host.proofs.Boards.{sure}
 use Rattle.pd_host.proofs.CallsAfter.{Replies, reply_leaves, either_reply, queued_sends, outside_sends}
@@ -43,7 +43,7 @@ use Rattle.pd_host.proofs.SentOn.{IsSentOn}
 
 expired_state : (at : ℕ) (c : ConnectionView) (o : Option Established) → c.established ≡ o → state_of (connection_expired at c o) ≡ state_of c
 expired_state at c None e = refl
-expired_state at c (Some x) e = ap (λ (y : Option Established). if c.is_reset then state.Closed else state_since c y) (sym e)
+expired_state at c (Some x) e = ap (λ (y : Option Established). if c.is_reset then state.Closed else state_after_handshake c y) (sym e)
 
 one_expired : (at : ℕ) (s : SenderState) (o : Option ConnectionView) → s.endpoint.connection ≡ o → conn_state (expired at o s) ≡ conn_state s
 one_expired at s None e = refl
@@ -107,7 +107,7 @@ restored s c d e h = h ∙ sym (ap (state_on s.endpoint.listener) e)
 streamed : (d : StreamState) (c : ConnectionView) → state_of (with_stream d c) ≡ state_of c
 streamed d c = same_state c (with_stream d c) (ap (λ (p : Option PeerFin). record { is_reset = c.is_reset; peer = p; fin = c.fin; acked = c.board.una == c.board.end }) (same c.established))
   where
-    same : (o : Option Established) → peer_of (option_map {T = Established} (λ e. record e { stream = d }) o) ≡ peer_of o
+    same : (o : Option Established) → peer_of (option_map {T = Established} (λ e. record e { stream_state = d }) o) ≡ peer_of o
     same None = refl
     same (Some e) = refl
 
@@ -121,9 +121,9 @@ switched on c = same_state c (with_nagle on c) (ap (λ (p : Option PeerFin). rec
 handed_moves : (s : SenderState) (o : Option ConnectionView) → s.endpoint.connection ≡ o → Replies (Moves (conn_state s)) (handed_out s o)
 handed_moves s None e = inl refl
 handed_moves s (Some c) e =
-    either_reply (Moves (conn_state s)) (is_some c.established && is_waiting (stream_of c))
-    (answered (with_stored (Some (with_stream stream.Open c)) s) (Number 4)) (answered s (Error Eagain))
-    (inl (restored s c (with_stream stream.Open c) e (streamed stream.Open c))) (inl refl)
+    either_reply (Moves (conn_state s)) (is_some c.established && is_unaccepted (stream_of c))
+    (answered (with_stored (Some (with_stream stream_state.Open c)) s) (Number 4)) (answered s (Error Eagain))
+    (inl (restored s c (with_stream stream_state.Open c) e (streamed stream_state.Open c))) (inl refl)
 
 accept_moves : (s : SenderState) (l : ListenState) (d : Descriptor) → Replies (Moves (conn_state s)) (accept_reply s l d)
 accept_moves s Listens Listening = handed_moves s s.endpoint.connection refl
@@ -135,8 +135,8 @@ no_delay_moves s set (Connected c) unclosed = inl (restored s c (with_nagle (not
 
 -- an open descriptor 4 shows this
 
-not_open : (d : StreamState) → is_open d ≡ true → d ≡ stream.Closed → ⊥
-not_open d e f = let w : is_open stream.Closed ≡ true = subst (λ x. is_open x ≡ true) f e in absurd cc
+not_open : (d : StreamState) → is_open d ≡ true → d ≡ stream_state.Closed → ⊥
+not_open d e f = let w : is_open stream_state.Closed ≡ true = subst (λ x. is_open x ≡ true) f e in absurd cc
 
 unfinished : (b : Settings) (now : ℕ) (c : ConnectionView) → IsReached b now c → is_open (stream_of c) ≡ true → c.fin ≡ false
 unfinished b now c h unclosed = sure c.fin (λ queued. not_open (stream_of c) unclosed (h.fin.0 queued))
@@ -169,7 +169,7 @@ write_moves now s n c e h =
 
 -- our FIN is queued
 
-fin_waits : (p : PeerFin) (x : Bool) → (p ≡ AfterOurs → false ≡ true) → MovesByCall (synchronized p false x) (synchronized p true false)
+fin_waits : (p : PeerFin) (x : Bool) → (p ≡ AfterOurs → false ≡ true) → MovesByCall (synchronized_state p false x) (synchronized_state p true false)
 fin_waits Awaited x h = inr refl
 fin_waits BeforeOurs x h = inr refl
 fin_waits AfterOurs x h = let no : false ≡ true = h refl in absurd cc
@@ -178,22 +178,22 @@ beyond : (una end : ℕ) → una ≤ end → (una == end + 1) ≡ false
 beyond una end h = grind (arith, nat_tests)
 
 closing_moves : (b : Settings) (now : ℕ) (c : ConnectionView) (e : Established) → IsReached b now c → c.established ≡ Some e → is_open (stream_of c) ≡ true
-    → c.is_reset ≡ false → MovesByCall (state_of c) (state_of (with_stream stream.Closed (with_fin c)))
+    → c.is_reset ≡ false → MovesByCall (state_of c) (state_of (with_stream stream_state.Closed (with_fin c)))
 closing_moves b now c e h is unclosed live =
     let x : Bool = c.board.una == c.board.end in
     let none : c.fin ≡ false = unfinished b now c h unclosed in
     let order : e.peer_fin ≡ AfterOurs → false ≡ true = λ q. sym none ∙ h.fin.1 (ap peer_fin_in is ∙ q) in
-    let from : state_of c ≡ synchronized e.peer_fin false x =
-    ap (λ (r : Bool). if r then state.Closed else state_since c c.established) live ∙ ap (state_since c) is
-    ∙ ap (λ (f : Bool). synchronized e.peer_fin f x) none in
+    let from : state_of c ≡ synchronized_state e.peer_fin false x =
+    ap (λ (r : Bool). if r then state.Closed else state_after_handshake c c.established) live ∙ ap (state_after_handshake c) is
+    ∙ ap (λ (f : Bool). synchronized_state e.peer_fin f x) none in
     let low : c.board.una ≤ c.board.end = omega (arith, h.board.una_next, h.board.next_top, h.board.top_end) in
-    let to : state_of (with_stream stream.Closed (with_fin c)) ≡ synchronized e.peer_fin true false =
-    streamed stream.Closed (with_fin c)
-    ∙ ap (λ (r : Bool). if r then state.Closed else state_since (with_fin c) c.established) live
-    ∙ ap (state_since (with_fin c)) is
-    ∙ ap (λ (y : Bool). synchronized e.peer_fin true y) (beyond c.board.una c.board.end low) in
-    subst (λ (a : ConnState). MovesByCall a (state_of (with_stream stream.Closed (with_fin c)))) (sym from)
-    (subst (MovesByCall (synchronized e.peer_fin false x)) (sym to) (fin_waits e.peer_fin x order))
+    let to : state_of (with_stream stream_state.Closed (with_fin c)) ≡ synchronized_state e.peer_fin true false =
+    streamed stream_state.Closed (with_fin c)
+    ∙ ap (λ (r : Bool). if r then state.Closed else state_after_handshake (with_fin c) c.established) live
+    ∙ ap (state_after_handshake (with_fin c)) is
+    ∙ ap (λ (y : Bool). synchronized_state e.peer_fin true y) (beyond c.board.una c.board.end low) in
+    subst (λ (a : ConnState). MovesByCall a (state_of (with_stream stream_state.Closed (with_fin c)))) (sym from)
+    (subst (MovesByCall (synchronized_state e.peer_fin false x)) (sym to) (fin_waits e.peer_fin x order))
 
 opened_some : (o : Option Established) → is_open (stream_in o) ≡ true → (e : Established) × (o ≡ Some e)
 opened_some None e = absurd cc
@@ -202,8 +202,8 @@ opened_some (Some est) e = (est, refl)
 closed_moves : (b : Settings) (now : ℕ) (c : ConnectionView) → IsReached b now c → is_open (stream_of c) ≡ true → MovesByCall (state_of c) (state_of (closed_stream c))
 closed_moves b now c h unclosed =
     let k = opened_some c.established unclosed in
-    by_test (λ (d : ConnectionView). MovesByCall (state_of c) (state_of (with_stream stream.Closed d))) c.is_reset c (with_fin c)
-    (λ _. inl (streamed stream.Closed c)) (λ live. closing_moves b now c k.0 h k.1 unclosed live)
+    by_test (λ (d : ConnectionView). MovesByCall (state_of c) (state_of (with_stream stream_state.Closed d))) c.is_reset c (with_fin c)
+    (λ _. inl (streamed stream_state.Closed c)) (λ live. closing_moves b now c k.0 h k.1 unclosed live)
 
 close_moves : (now : ℕ) (s : SenderState) (c : ConnectionView) → s.endpoint.connection ≡ Some c → IsReached s.settings now c → is_open (stream_of c) ≡ true
     → Replies (Moves (conn_state s)) (closed_on now c s)
@@ -237,7 +237,7 @@ module _ (now : ℕ) (s : SenderState) (h : IsLawful now s) where
 
   close_row : (d : Descriptor) → IsOpenOn s d → Replies (Moves (conn_state s)) (close_reply now s d)
   close_row Listening unclosed =
-      either_reply (Moves (conn_state s)) (is_pending s.endpoint.connection) (Err Unsupported) (answered (with_listener Closed s) (Number 0)) tt
+      either_reply (Moves (conn_state s)) (has_unaccepted_connection s.endpoint.connection) (Err Unsupported) (answered (with_listener Closed s) (Number 0)) tt
       (relistened s.endpoint.listener Closed s refl (unlistens s.endpoint.listener))
   close_row (Connected c) unclosed = close_moves now s c unclosed.0 (reached c unclosed.0) unclosed.1
 

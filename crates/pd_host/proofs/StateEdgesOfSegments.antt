@@ -8,10 +8,10 @@ use Rattle.pd_seg.specs.declared.segments.Sent.{Sent}
 use Rattle.pd_host.specs.AckEffects.{taking, ack_taken}
 use Rattle.pd_host.specs.Arrivals.{is_in_window, is_awaited, is_stray_fin, failed_check_of, check_outcome, goes_on, with_peer_fin, finished_by, passed_on, arrived_on, arrived}
 use Rattle.pd_host.specs.Calls.{stream_in}
-use Rattle.pd_host.specs.ConnStates.{state_since, state_of, state_on, conn_state, is_closed}
+use Rattle.pd_host.specs.ConnStates.{state_after_handshake, state_of, state_on, conn_state, is_closed}
 use Rattle.pd_host.specs.Connection.{ConnectionView, peer_fin_in, rcv_nxt}
 use Rattle.pd_host.specs.StateDiagram.{MovesBySegment}
-use Rattle.pd_host.specs.Handshake.{is_listening, length_of, is_opening, connection_begun, answered_syn, syn_settings, established_by, syn_acked}
+use Rattle.pd_host.specs.Handshake.{is_listening, length_of, can_begin_connection, connection_begun, answered_syn, syn_settings, established_by, syn_acked}
 use Rattle.pd_host.specs.Invariants.{IsReached, IsLawful}
 use Rattle.pd_host.specs.Host.{beside, with_outbox}
 use Rattle.pd_host.specs.Sending.{with_begun_connection}
@@ -25,7 +25,7 @@ use Rattle.pd_host.specs.declared.established.PeerFin.TheVariants.{Awaited, Befo
 use Rattle.pd_host.specs.declared.connection.segment_check.SegmentCheck.{SegmentCheck}
 use Rattle.pd_host.specs.declared.connection.segment_check.SegmentCheck.TheVariants.{NotRun, StrayRst, OutsideWindow, ExactRst, ChallengedRst, WithoutAck, FirstAck, RefusedAck, EarlyAck, OldAck}
 use Rattle.pd_host.specs.declared.endpoint.SenderState.{SenderState}
-use Rattle.pd_host.specs.declared.descriptors.StreamState.TheVariants as stream
+use Rattle.pd_host.specs.declared.descriptors.StreamState.TheVariants as stream_state
 use Rattle.pd_host.proofs.AckedBelow.{first_of_two}
 use Rattle.pd_host.proofs.Boards.{sure}
 use Rattle.pd_host.proofs.ExactRst.{at_rcv_nxt}
@@ -143,13 +143,13 @@ module _ (segment : Segment) (now : ℕ) (c : ConnectionView) where
       → MovesBySegment segment (state_of c) (named f)
       → (segment.flags.fin ≡ true → MovesBySegment segment (state_of c) (named (finished f)))
       → Leaves Moves (passed_on now segment c s r)
-  goes_from f r s has plain ended =
+  goes_from f r s has plain end_reason =
       then_leaves (HasFace f) Moves (finished_by now segment r) (check_outcome now segment c s r) has
       (λ u k. finished_where Moves now segment r u
       (subst (MovesBySegment segment (state_of c)) (sym (state_at u.endpoint.listener u.endpoint.connection f k)) plain)
       (λ d is fin. subst (MovesBySegment segment (state_of c))
       (sym (state_named (with_peer_fin d) ∙ ap named (finished_face d) ∙ ap (λ (x : Face). named (finished x)) (some_faces u.endpoint.connection d f k is)))
-      (ended fin)))
+      (end_reason fin)))
 
   -- an ACK leaves the face but for what is acknowledged
   acks_from : (y : Bool) (r : Option SegmentCheck) (s : SenderState) → Going c segment → ((c.board.una == c.board.end) ≡ true → y ≡ true)
@@ -178,7 +178,7 @@ module _ (segment : Segment) (now : ℕ) (c : ConnectionView) where
   all_acked None a b d e = e
   all_acked (Some x) a b d e = more_acked c.board.una segment.ack c.board.top c.board.end a b d e
 
-  waiting : stream.Waiting ≡ stream.Closed → ⊥
+  waiting : stream_state.Waiting ≡ stream_state.Closed → ⊥
   waiting e = cc
 
   first_face : (b : Settings) → face (established_by now b segment c) ≡ record { is_reset = c.is_reset; peer = Some Awaited; fin = c.fin; acked = 1 == c.board.end }
@@ -192,7 +192,7 @@ module _ (segment : Segment) (now : ℕ) (c : ConnectionView) where
         let k = first_comes c segment is in
         let unfinished : c.fin ≡ false = sure c.fin (λ queued. waiting (sym (ap stream_in k.1) ∙ h.fin.0 queued)) in
         let f : Face = record { is_reset = c.is_reset; peer = Some Awaited; fin = c.fin; acked = 1 == c.board.end } in
-        let from : state_of c ≡ SynReceived = ap (λ (x : Bool). if x then Closed else state_since c c.established) k.0 ∙ ap (state_since c) k.1 in
+        let from : state_of c ≡ SynReceived = ap (λ (x : Bool). if x then Closed else state_after_handshake c c.established) k.0 ∙ ap (state_after_handshake c) k.1 in
         goes_from f (Some FirstAck) s (ap (λ (x : Face). Some x) (first_face s.settings))
         (between segment SynReceived Stands (state_of c) (named f) from
         (live_named f k.0 ∙ ap (λ (x : Bool). since (Some Awaited) x (1 == c.board.end)) unfinished) (inr (inl refl)))
@@ -231,7 +231,7 @@ module _ (segment : Segment) (now : ℕ) (c : ConnectionView) where
 
 -- The first segment
 
-opening_listens : (l : ListenState) (segment : Segment) → is_opening l segment ≡ true → is_listening l ≡ true
+opening_listens : (l : ListenState) (segment : Segment) → can_begin_connection l segment ≡ true → is_listening l ≡ true
 opening_listens l segment h = first_of_two (is_listening l) _ h
 
 listens_so : (l : ListenState) → is_listening l ≡ true → state_on l None ≡ Listen
@@ -251,7 +251,7 @@ opens false segment now s a e = tt
 on_connection : (o : Option ConnectionView) (segment : Segment) (now : ℕ) (s : SenderState) → IsLawful now s → s.endpoint.connection ≡ o
     → Leaves (λ t. MovesBySegment segment (state_on s.endpoint.listener o) (conn_state t)) (arrived_on now segment s o)
 on_connection None segment now s h e =
-    opens (is_opening s.endpoint.listener segment) segment now s (state_on s.endpoint.listener None)
+    opens (can_begin_connection s.endpoint.listener segment) segment now s (state_on s.endpoint.listener None)
     (λ is. listens_so s.endpoint.listener (opening_listens s.endpoint.listener segment is))
 on_connection (Some c) segment now s h e =
     by_ruling segment now c s.settings (at_some (IsReached s.settings now) s.endpoint.connection c e h.connection) (failed_check_of c segment) s e refl

@@ -10,7 +10,7 @@ use Rattle.pd_host.specs.Invariants.{IsReached, IsBelowPoint, IsLawful, StartsLa
 use Rattle.pd_host.specs.Laws.{AreInOrder}
 use Rattle.pd_host.specs.RttSegment.{timing_started}
 use Rattle.pd_host.specs.declared.endpoint.SenderState.{SenderState}
-use Rattle.pd_host.specs.declared.descriptors.StreamState.TheVariants as stream
+use Rattle.pd_host.specs.declared.descriptors.StreamState.TheVariants as stream_state
 use Rattle.pd_host.proofs.Acked.{taking_live, taking_new, taking_again}
 use Rattle.pd_host.proofs.ArrivalsKept.{arrived_holds}
 use Rattle.pd_host.proofs.CallsKept.{called_holds}
@@ -39,8 +39,8 @@ record IsSending (b : Settings) (now : ℕ) (c : ConnectionView) : Type 0 where
 
 closed_below : (c : ConnectionView) → IsBelowPoint c → IsBelowPoint (closed_stream c)
 closed_below c h =
-    by_test (λ (d : ConnectionView). IsBelowPoint (with_stream stream.Closed d)) c.is_reset c (with_fin c) (λ _. stream_below stream.Closed c h)
-    (λ _. stream_below stream.Closed (with_fin c) h)
+    by_test (λ (d : ConnectionView). IsBelowPoint (with_stream stream_state.Closed d)) c.is_reset c (with_fin c) (λ _. stream_below stream_state.Closed c h)
+    (λ _. stream_below stream_state.Closed (with_fin c) h)
 
 module _ (bounds : Bounds) (windows : Windows) where
   sending_known : (now : ℕ) (b : Settings) → KeptBySending now (IsSending b now)
@@ -113,7 +113,7 @@ module _ (bounds : Bounds) (windows : Windows) where
         accepted = λ c h e. record {
           timely = t.accepted c h.timely e;
           reached = accepted_reached b now c h.reached e;
-          below = stream_below stream.Open c h.below;
+          below = stream_below stream_state.Open c h.below;
         };
         nagle = λ on c h. record { timely = t.nagle on c h.timely; reached = nagle_reached b now on c h.reached; below = nagle_below on c h.below };
         queued = λ n c q h unclosed still. record {

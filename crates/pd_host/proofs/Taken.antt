@@ -5,9 +5,9 @@ use Rattle.pd_recover.specs.declared.ack_action.AckAction.{AckAction}
 use Rattle.pd_seg.specs.declared.sack_spans.Span.{Span}
 use Rattle.pd_seg.specs.declared.segments.Segment.{Segment}
 use Rattle.pd_timer.specs.Rto.{initial, sampled}
-use Rattle.pd_host.specs.AckEffects.{newly_acked, with_number, blocks_of, is_block_sent, with_block_marked, with_blocks_marked, blocks_marked, with_timing, is_current, with_new_window, with_blocks, with_ack, taking, ack_taken}
+use Rattle.pd_host.specs.AckEffects.{newly_acked, with_number, blocks_of, is_block_sent, with_block_marked, with_blocks_marked, blocks_marked, with_timing, can_update_window, with_new_window, with_blocks, with_ack, taking, ack_taken}
 use Rattle.pd_host.specs.Connection.{ConnectionView}
-use Rattle.pd_host.specs.Handshake.{before_eol, window_in, with_window}
+use Rattle.pd_host.specs.Handshake.{before_eol, scaled_window_in, with_window}
 use Rattle.pd_host.specs.Sending.{with_begun_connection}
 use Rattle.pd_host.specs.RttSegment.{is_measured, measured, with_sample, with_timer_updated}
 use Rattle.pd_host.specs.declared.established.Established.{Established}
@@ -62,8 +62,8 @@ basic c = record c { board = unsacked c.board; timer = initial 0 0; rtt_segment 
 
 window_keeps : (segment : Segment) (e : Established) (c : ConnectionView) → basic (with_new_window segment e c).0 ≡ basic c
 window_keeps segment e c =
-    same_either (λ (x : ConnectionView × Established). basic x.0) (is_current e segment)
-    (record c { max_window = max c.max_window (window_in c segment) }, with_window (window_in c segment) segment e) (c, e) (basic c) refl refl
+    same_either (λ (x : ConnectionView × Established). basic x.0) (can_update_window e segment)
+    (record c { max_window = max c.max_window (scaled_window_in c segment) }, with_window (scaled_window_in c segment) segment e) (c, e) (basic c) refl refl
 
 -- the connection after the number, with the report of its blocks
 abbrev told_to : Segment → ConnectionView → ConnectionView
@@ -89,8 +89,8 @@ pub ack_leaves_congestion : (now : ℕ) (segment : Segment) (e : Established) (c
     → (with_ack now segment e c).0.1.congestion ≡ e.congestion
 ack_leaves_congestion now segment e c =
     let d : ConnectionView = timed_to now segment e c in
-    same_either (λ (x : ConnectionView × Established). x.1.congestion) (is_current e segment)
-    (record d { max_window = max d.max_window (window_in d segment) }, with_window (window_in d segment) segment e) (d, e) e.congestion refl refl
+    same_either (λ (x : ConnectionView × Established). x.1.congestion) (can_update_window e segment)
+    (record d { max_window = max d.max_window (scaled_window_in d segment) }, with_window (scaled_window_in d segment) segment e) (d, e) e.congestion refl refl
 
 -- taking a segment on an established connection moves the number, and what isn't basic
 pub taking_keeps : (now : ℕ) (segment : Segment) (c : ConnectionView) (e : Established)

@@ -8,7 +8,7 @@ use Rattle.pd_timer.specs.Laws.{IsBoundedBy, StaysWithin}
 use Rattle.pd_timer.specs.Rto.{RtoView, initial, sampled, started, restarted, stopped, expired_rto, reinitialized}
 use Rattle.pd_recover.specs.declared.next_segment.NextSegment.{NextSegment}
 use Rattle.pd_recover.specs.declared.next_segment.NextSegment.TheVariants.{Lost, New, Hole, Rescue}
-use Rattle.pd_host.specs.AckEffects.{newly_acked, with_number, with_blocks, with_timing, is_current, with_new_window, with_ack, taking, sent_as, fill_noted_on, entered_on}
+use Rattle.pd_host.specs.AckEffects.{newly_acked, with_number, with_blocks, with_timing, can_update_window, with_new_window, with_ack, taking, sent_as, fill_noted_on, entered_on}
 use Rattle.pd_host.specs.Calls.{with_fin, closed_stream}
 use Rattle.pd_host.specs.Connection.{ConnectionView}
 use Rattle.pd_host.specs.Handshake.{syn_acked}
@@ -86,7 +86,7 @@ module _ (within : StaysWithin) where
 
   window_timely : (b : Settings) (now : ℕ) (segment : Segment) (e : Established) (c : ConnectionView) → Timely b now c
       → Timely b now (with_new_window segment e c).0
-  window_timely b now segment e c h = by_test (λ (p : ConnectionView × Established). Timely b now p.0) (is_current e segment) _ (c, e) (λ _. h) (λ _. h)
+  window_timely b now segment e c h = by_test (λ (p : ConnectionView × Established). Timely b now p.0) (can_update_window e segment) _ (c, e) (λ _. h) (λ _. h)
 
   ack_timely : (b : Settings) (now : ℕ) (segment : Segment) (e : Established) (c : ConnectionView) → Timely b now c
       → Timely b now (with_ack now segment e c).0.0

@@ -5,7 +5,7 @@ use Rattle.pd_board.specs.Retransmit.{run_at, most_from, next_lost, next_hole, r
 use Rattle.pd_board.specs.Loss.{is_unsacked}
 use Rattle.pd_board.specs.Octets.{contains, least_where, greatest_where, after}
 use Rattle.pd_board.specs.Board.{BoardView}
-use Rattle.pd_recover.specs.NextSeg.{segment_of, has_room, lost_run, new_data, hole_run, rescue_run, next_send as next_seg, step_c_segment, limited_segment}
+use Rattle.pd_recover.specs.NextSeg.{segment_of, has_room_for_segment, lost_run, new_segment_on_board, hole_run, rescue_run, next_send as next_seg, step_c_segment, limited_transmit_segment}
 use Rattle.pd_recover.specs.Cong.{CongView}
 use Rattle.pd_recover.specs.declared.next_segment.NextSegment.{NextSegment}
 use Rattle.pd_recover.specs.declared.next_segment.NextSegment.TheVariants.{Lost, New, Hole, Rescue}
@@ -47,7 +47,7 @@ run_short s x = by (least_where (contains s.sacked) x (most_from x s)) refl
 new_short : (top smss left : ℕ) → top + min smss left - top ≤ smss
 new_short top smss left = omega arith
 
-data_short : (rwnd : ℕ) (s : BoardView) → AllOf (IsShort s.smss) (new_data rwnd s)
+data_short : (rwnd : ℕ) (s : BoardView) → AllOf (IsShort s.smss) (new_segment_on_board rwnd s)
 data_short rwnd s =
     let to : ℕ = s.top + min s.smss (s.end - s.top) in
     let segment : Span = record { start = s.top; end = to } in
@@ -66,8 +66,8 @@ next_short : (rwnd : ℕ) (s : BoardView) (w : CongView) → AllOf (λ sent. IsS
 next_short rwnd s w =
     let P : NextSegment → Type 0 = λ sent. IsShort s.smss (segment_of sent) in
     either_of P (lost_run s w) _ (map_of P (λ x. Lost (run_at x s)) (next_lost w.high_rxt s) (λ x e. run_short s x))
-    (either_of P (option_map (λ segment. New segment) (new_data rwnd s)) _
-    (map_of P (λ segment. New segment) (new_data rwnd s) (data_short rwnd s))
+    (either_of P (option_map (λ segment. New segment) (new_segment_on_board rwnd s)) _
+    (map_of P (λ segment. New segment) (new_segment_on_board rwnd s) (data_short rwnd s))
     (either_of P (hole_run s w) (rescue_run s w)
     (map_of P (λ x. Hole (run_at x s)) (next_hole w.high_rxt s) (λ x e. run_short s x))
     (allowed_of P _ _ (λ _. map_of P (λ segment. Rescue segment) (rescue s) (rescue_short s)))))
@@ -85,19 +85,19 @@ fits octets smss room h k = omega (arith, h, k)
 
 c_room : (rwnd pipe : ℕ) (s : BoardView) (w : CongView) → AllOf (λ sent. HasRoom w.cwnd pipe (segment_of sent)) (step_c_segment rwnd pipe s w)
 c_room rwnd pipe s w =
-    allowed_of (λ sent. HasRoom w.cwnd pipe (segment_of sent)) (has_room pipe s w) (next_seg rwnd s w)
+    allowed_of (λ sent. HasRoom w.cwnd pipe (segment_of sent)) (has_room_for_segment pipe s w) (next_seg rwnd s w)
     (λ t sent e. fits (octets_of (segment_of sent)) s.smss (w.cwnd - pipe) (next_short rwnd s w sent e) (is_within s.smss (w.cwnd - pipe) t))
 
-limited_room : (rwnd pipe : ℕ) (s : BoardView) (w : CongView) → AllOf (HasRoom w.cwnd pipe) (limited_segment rwnd pipe s w)
+limited_room : (rwnd pipe : ℕ) (s : BoardView) (w : CongView) → AllOf (HasRoom w.cwnd pipe) (limited_transmit_segment rwnd pipe s w)
 limited_room rwnd pipe s w =
-    allowed_of (HasRoom w.cwnd pipe) (has_room pipe s w) (new_data rwnd s)
+    allowed_of (HasRoom w.cwnd pipe) (has_room_for_segment pipe s w) (new_segment_on_board rwnd s)
     (λ t segment e. fits (octets_of segment) s.smss (w.cwnd - pipe) (data_short rwnd s segment e) (is_within s.smss (w.cwnd - pipe) t))
 
 filling_room : (filling : WindowFill) (n : ℕ) (c : ConnectionView) (e : Established)
     → AllOf (λ sent. HasRoom e.congestion.cwnd n (segment_of sent)) (next_by filling n c e)
 filling_room NextSeg n c e = c_room e.rwnd n c.board e.congestion
 filling_room NewData n c e =
-    map_of (λ sent. HasRoom e.congestion.cwnd n (segment_of sent)) (λ segment. New segment) (limited_segment e.rwnd n c.board e.congestion)
+    map_of (λ sent. HasRoom e.congestion.cwnd n (segment_of sent)) (λ segment. New segment) (limited_transmit_segment e.rwnd n c.board e.congestion)
     (limited_room e.rwnd n c.board e.congestion)
 
 room_on : (filling : WindowFill) (n : ℕ) (c : ConnectionView) (o : Option Established) (sent : NextSegment) → next_on filling n c o ≡ Some sent
@@ -219,8 +219,8 @@ begun s = record {
 room_left : (pipe octets n cwnd : ℕ) → pipe + octets ≤ n → n ≤ max pipe cwnd → octets ≤ cwnd - pipe
 room_left pipe octets n cwnd h k = omega (arith, h, k)
 
-ended : (s : SenderState) (t : OnTheWay) → IsFilling (pipe_of s.endpoint.connection) (cwnd_in s.endpoint.connection) s t → FillsWindow s t.0
-ended s t h = (
+end_reason : (s : SenderState) (t : OnTheWay) → IsFilling (pipe_of s.endpoint.connection) (cwnd_in s.endpoint.connection) s t → FillsWindow s t.0
+end_reason s t h = (
   h.packets,
   room_left (pipe_of s.endpoint.connection) (octets_in h.packets) t.1 (cwnd_in s.endpoint.connection) h.counted h.full,
   h.outbox,
@@ -262,7 +262,7 @@ fills now filling s =
     let pipe : ℕ = pipe_of s.endpoint.connection in
     let cwnd : ℕ = cwnd_in s.endpoint.connection in
     sender_leaves (FillsWindow s) _
-    (leaves_too (IsFilling pipe cwnd s) (λ t. FillsWindow s t.0) _ (ended s)
+    (leaves_too (IsFilling pipe cwnd s) (λ t. FillsWindow s t.0) _ (end_reason s)
     (kept (IsFilling pipe cwnd s) (fill_finds filling) (fill_sends now filling)
     (λ sent t f h. fill_once filling pipe cwnd now s t sent t.0.endpoint.connection refl f h) (places_left s) (s, pipe) (begun s)))
 

@@ -5,10 +5,10 @@ use Rattle.pd_seg.specs.declared.sack_spans.Span.{Span}
 use Rattle.pd_seg.specs.declared.segments.Sent.{Sent}
 use Rattle.pd_settings.specs.declared.initial_window.InitialWindow.{InitialWindow}
 use Rattle.pd_recover.proofs.SlowStart.{restarts_when_idle}
-use Rattle.pd_recover.specs.Cong.{window_by}
+use Rattle.pd_recover.specs.Cong.{initial_window_by_rule}
 use Rattle.pd_host.specs.Connection.{ConnectionView}
 use Rattle.pd_host.specs.Packets.{data_of}
-use Rattle.pd_host.specs.Sending.{value_on, places_left, window_edge, is_idle, restarted_in, restarted_if_idle, past_sacked, sent_on, found, sent_ordinarily, ready, ordinary}
+use Rattle.pd_host.specs.Sending.{value_on, places_left, window_edge, is_idle, restarted_in, restarted_if_idle, with_next_past_sacked, sent_on, found, sent_ordinarily, ready, ordinary}
 use Rattle.pd_host.specs.SendingLaws.{end_with_fin, edge_of}
 use Rattle.pd_host.specs.declared.established.Established.{Established}
 use Rattle.pd_host.specs.declared.endpoint.SenderState.{SenderState}
@@ -57,7 +57,7 @@ one_below edge now segment s t (Some c) e f h =
       packets = h.packets ++ packet ∷ [];
       ends = one_more edge h.packets packet (lower (end_with_fin packet.segment) segment.end edge (packet_ends c segment) below) h.ends;
       outbox = ap (λ (l : List Sent). l ++ packet ∷ []) h.outbox ∙ append_assoc s.endpoint.outbox h.packets (packet ∷ []);
-      stays = same_edge c (past_sacked (sent_on now segment c)) c.established refl ∙ here;
+      stays = same_edge c (with_next_past_sacked (sent_on now segment c)) c.established refl ∙ here;
     }
 
 -- the edge where sending begins, after an idle time or without one
@@ -71,7 +71,7 @@ made_ready now s (Some c) e = record {
   packets = [];
   ends = tt;
   outbox = sym (append-nil s.endpoint.outbox);
-  stays = same_edge c (past_sacked (restarted_if_idle now c)) (restarted_in c.board.smss (is_idle now c) c.established) refl;
+  stays = same_edge c (with_next_past_sacked (restarted_if_idle now c)) (restarted_in c.board.smss (is_idle now c) c.established) refl;
 }
 
 all_below : (now : ℕ) (s : SenderState) → Leaves (EndsBelow (edge_again now s.endpoint.connection) s) (ordinary now s)
@@ -119,15 +119,15 @@ ordinary_below now s t h = below_again now (edge_of s.endpoint.connection) s t (
 near_window : (una cwnd window rwnd : ℕ) → cwnd ≡ window → una + min cwnd rwnd ≤ una + window
 near_window una cwnd window rwnd e = omega (arith, e)
 
-near_on : (smss : ℕ) (rule : InitialWindow) (c : ConnectionView) (e : Established) → e.congestion.restart_rule ≡ Some rule
-    → edge_on c (restarted_in smss true (Some e)) ≤ c.board.una + min (window_by rule smss) e.congestion.cwnd
+near_on : (smss : ℕ) (rule : InitialWindow) (c : ConnectionView) (e : Established) → e.congestion.idle_restart_rule ≡ Some rule
+    → edge_on c (restarted_in smss true (Some e)) ≤ c.board.una + min (initial_window_by_rule rule smss) e.congestion.cwnd
 near_on smss rule c e by = near_window c.board.una _ _ e.rwnd (restarts_when_idle.idle smss rule e.congestion by)
 
 pub restart_below : (now : ℕ) (s t : SenderState) (c : ConnectionView) (e : Established) (rule : InitialWindow) → s.endpoint.connection ≡ Some c
-    → c.established ≡ Some e → e.congestion.restart_rule ≡ Some rule → is_idle now c ≡ true → ordinary now s ≡ Ok t
-    → PutsOutBelow (c.board.una + min (window_by rule c.board.smss) e.congestion.cwnd) s t
+    → c.established ≡ Some e → e.congestion.idle_restart_rule ≡ Some rule → is_idle now c ≡ true → ordinary now s ≡ Ok t
+    → PutsOutBelow (c.board.una + min (initial_window_by_rule rule c.board.smss) e.congestion.cwnd) s t
 restart_below now s t c e rule is established by idle h =
-    let edge : ℕ = c.board.una + min (window_by rule c.board.smss) e.congestion.cwnd in
+    let edge : ℕ = c.board.una + min (initial_window_by_rule rule c.board.smss) e.congestion.cwnd in
     let there : edge_on c (restarted_in c.board.smss (is_idle now c) c.established) ≤ edge =
     subst (λ (o : Option Established). edge_on c (restarted_in c.board.smss (is_idle now c) o) ≤ edge) (sym established)
     (subst (λ (b : Bool). edge_on c (restarted_in c.board.smss b (Some e)) ≤ edge) (sym idle) (near_on c.board.smss rule c e by)) in

@@ -5,10 +5,10 @@ use Rattle.pd_seg.specs.declared.option_list.SegOption.TheVariants.{Sack}
 use Rattle.pd_seg.specs.declared.sack_spans.Span.{Span}
 use Rattle.pd_seg.specs.declared.segments.Segment.{Segment}
 use Rattle.pd_board.specs.Retransmit.{run_at}
-use Rattle.pd_board.specs.Loss.{is_lost, pipe, sacked_octets, undelivered, lost_edge}
+use Rattle.pd_board.specs.Loss.{is_lost, pipe, sacked_octets, undelivered_octets, lost_edge}
 use Rattle.pd_board.specs.Board.{BoardView, acknowledged, with_sacked_block, has_new}
 use Rattle.pd_recover.specs.Acks.{acked}
-use Rattle.pd_recover.specs.NextSeg.{segment_of, step_c_segment, limited_segment, with_sent_noted}
+use Rattle.pd_recover.specs.NextSeg.{segment_of, step_c_segment, limited_transmit_segment, with_sent_noted}
 use Rattle.pd_recover.specs.Cong.{CongView, entered_to, with_limited, with_prr_cwnd}
 use Rattle.pd_recover.specs.declared.ack.Ack.{Ack}
 use Rattle.pd_recover.specs.declared.ack.Delivery.{Delivery}
@@ -18,7 +18,7 @@ use Rattle.pd_recover.specs.declared.ack_action.AckAction.TheVariants.{Ordinary,
 use Rattle.pd_recover.specs.declared.next_segment.NextSegment.{NextSegment}
 use Rattle.pd_recover.specs.declared.next_segment.NextSegment.TheVariants.{New}
 use Rattle.pd_host.specs.Connection.{ConnectionView}
-use Rattle.pd_host.specs.Handshake.{before_eol, window_in, with_window}
+use Rattle.pd_host.specs.Handshake.{before_eol, scaled_window_in, with_window}
 use Rattle.pd_host.specs.OutboxLimit.{has_place}
 use Rattle.pd_host.specs.Host.{then_on}
 use Rattle.pd_host.specs.Sending.{value_in, repeated, places_left, with_begun_connection, with_segment, sent_on, ordinary}
@@ -79,14 +79,14 @@ with_timing now granularity n c =
 
 -- the segment is no older than the one that the window was taken from: SND.WL1 < SEG.SEQ, or SND.WL1 = SEG.SEQ and
 -- SND.WL2 <= SEG.ACK (RFC 9293, section 3.10.7.4, fifth check)
-abbrev pub is_current : Established → Segment → Bool
-is_current e segment = nat_lt e.wl1 segment.start || (e.wl1 == segment.start && nat_le e.wl2 segment.ack)
+abbrev pub can_update_window : Established → Segment → Bool
+can_update_window e segment = nat_lt e.wl1 segment.start || (e.wl1 == segment.start && nat_le e.wl2 segment.ack)
 
 -- the window is taken unless the segment is old (RFC 9293, section 3.10.7.4: SND.WL1 and SND.WL2)
 abbrev pub with_new_window : Segment → Established → ConnectionView → ConnectionView × Established
 with_new_window segment e c =
-    if is_current e segment
-    then (record c { max_window = max c.max_window (window_in c segment) }, with_window (window_in c segment) segment e)
+    if can_update_window e segment
+    then (record c { max_window = max c.max_window (scaled_window_in c segment) }, with_window (scaled_window_in c segment) segment e)
     else (c, e)
 
 -- The effect of the ACK on congestion control
@@ -103,7 +103,7 @@ sack_news_of fresh c = if c.sack then Some (record { fresh = fresh; lost = fresh
 abbrev pub delivery : ℕ → BoardView → BoardView → Delivery
 delivery n before after = record {
   delivered_data = n + sacked_octets after - sacked_octets before;
-  recover_fs = undelivered before;
+  recover_fs = undelivered_octets before;
   safe_ack = nat_lt 0 n && nat_le (lost_edge after) (lost_edge before);
 }
 
@@ -117,7 +117,7 @@ ack_of_segment segment n delivery fresh rwnd e c = record {
   rwnd = e.rwnd;
   acked = n;
   delivery = delivery;
-  same_window = window_in c segment == rwnd;
+  same_window = scaled_window_in c segment == rwnd;
   fin = segment.flags.fin;
   sack = sack_news_of fresh c;
 }
@@ -174,7 +174,7 @@ OnTheWay = SenderState × ℕ
 -- the segment that is sent next on a connection at this pipe: within the peer's window, while cwnd - pipe is at least SMSS
 abbrev pub next_by : WindowFill → ℕ → ConnectionView → Established → Option NextSegment
 next_by NextSeg on_the_way c e = step_c_segment e.rwnd on_the_way c.board e.congestion
-next_by NewData on_the_way c e = option_map (λ segment. New segment) (limited_segment e.rwnd on_the_way c.board e.congestion)
+next_by NewData on_the_way c e = option_map (λ segment. New segment) (limited_transmit_segment e.rwnd on_the_way c.board e.congestion)
 
 -- the same; none before the end of the handshake
 abbrev pub next_fill : WindowFill → ℕ → Option ConnectionView → Option NextSegment
@@ -229,8 +229,8 @@ abbrev pub filled : ℕ → WindowFill → SenderState → Result SenderState Ha
 filled now filling s = sender_of (filled_from now filling (s, pipe_of s.endpoint.connection))
 
 -- one segment is put out at a moment, where the outbox has a place for it
-abbrev pub put_segment : ℕ → Span → ConnectionView → ConnectionView → SenderState → Result SenderState Halt
-put_segment now segment before after s =
+abbrev pub put_out_data_segment : ℕ → Span → ConnectionView → ConnectionView → SenderState → Result SenderState Halt
+put_out_data_segment now segment before after s =
     if has_place s.endpoint.outbox then Ok (with_segment now segment before after s) else Err Limit
 
 -- an entry into loss recovery has sent this segment again: HighRxt and RescueRxt are its end (RFC 6675, section 5, step 4.3),
@@ -245,7 +245,7 @@ abbrev pub entry : ℕ → ConnectionView → SenderState → Result SenderState
 entry now c s =
     let segment = run_at c.board.una c.board in
     if nat_lt segment.start segment.end
-    then put_segment now segment c (entered_on segment (timing_started now segment c) c.established) s
+    then put_out_data_segment now segment c (entered_on segment (timing_started now segment c) c.established) s
     else Ok (with_begun_connection (entered_on segment c c.established) s)
 
 -- the sending that an ACK leads to, on the connection that it left: an entry is followed by step C (RFC 6675, section 5, step
@@ -255,8 +255,8 @@ after_ack_action now c s Ordinary = ordinary now s
 after_ack_action now c s StepC = filled now NextSeg s
 after_ack_action now c s Entry = then_on (filled now NextSeg) (entry now c s)
 after_ack_action now c s LimitedTransmit = filled now NewData s
-after_ack_action now c s (NewSegment segment) = put_segment now segment c (sent_on now segment c) s
-after_ack_action now c s (FastRetransmit segment) = then_on (ordinary now) (put_segment now segment c (timing_started now segment c) s)
+after_ack_action now c s (NewSegment segment) = put_out_data_segment now segment c (sent_on now segment c) s
+after_ack_action now c s (FastRetransmit segment) = then_on (ordinary now) (put_out_data_segment now segment c (timing_started now segment c) s)
 after_ack_action now c s Nothing = Ok s
 
 -- a segment that passed all checks is taken, and what follows is sent; its FIN comes after that

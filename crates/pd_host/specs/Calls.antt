@@ -15,7 +15,7 @@ use Rattle.pd_host.specs.declared.syscall.SocketOperation.TheVariants.{Bind, Lis
 use Rattle.pd_host.specs.declared.syscall.Syscall.{Syscall}
 use Rattle.pd_host.specs.declared.syscall.Syscall.TheVariants.{Socket, On}
 use Rattle.pd_host.specs.declared.descriptors.StreamState.{StreamState}
-use Rattle.pd_host.specs.declared.descriptors.StreamState.TheVariants as stream
+use Rattle.pd_host.specs.declared.descriptors.StreamState.TheVariants as stream_state
 use Rattle.pd_host.specs.Syscalls.{syscall_of}
 use Rattle.pd_settings.specs.declared.setting_set.SettingSet.{SettingSet}
 use Rattle.pd_board.specs.Board.{written}
@@ -47,28 +47,28 @@ is_listener_open Closed = false
 is_listener_open _ = true
 
 -- whether `accept` has still to hand out descriptor 4
-abbrev pub is_waiting : StreamState → Bool
-is_waiting stream.Waiting = true
-is_waiting _ = false
+abbrev pub is_unaccepted : StreamState → Bool
+is_unaccepted stream_state.Waiting = true
+is_unaccepted _ = false
 
 -- whether descriptor 4 is open
 abbrev pub is_open : StreamState → Bool
-is_open stream.Open = true
+is_open stream_state.Open = true
 is_open _ = false
 
 -- descriptor 4, which waits for `accept` from the SYN on
 abbrev pub stream_in : Option Established → StreamState
-stream_in None = stream.Waiting
-stream_in (Some e) = e.stream
+stream_in None = stream_state.Waiting
+stream_in (Some e) = e.stream_state
 
 -- descriptor 4 of a connection
 abbrev pub stream_of : ConnectionView → StreamState
 stream_of c = stream_in c.established
 
 -- whether a connection was begun that isn't accepted
-abbrev pub is_pending : Option ConnectionView → Bool
-is_pending None = false
-is_pending (Some c) = is_waiting (stream_of c)
+abbrev pub has_unaccepted_connection : Option ConnectionView → Bool
+has_unaccepted_connection None = false
+has_unaccepted_connection (Some c) = is_unaccepted (stream_of c)
 
 -- a descriptor that is open: 3, which listens or may come to listen, and 4, the connection that `accept` has handed out
 pub data Descriptor : Type 0 where
@@ -105,14 +105,14 @@ listen_reply s _ _ = answered s (Error Einval)
 
 -- the connection with descriptor 4 that far
 abbrev pub with_stream : StreamState → ConnectionView → ConnectionView
-with_stream d c = record c { established = option_map {T = Established} (λ e. record e { stream = d }) c.established }
+with_stream d c = record c { established = option_map {T = Established} (λ e. record e { stream_state = d }) c.established }
 
 -- `accept` hands out 4 where the connection was established, also if it was reset since, and isn't accepted; else EAGAIN
 abbrev pub handed_out : SenderState → Option ConnectionView → Reply
 handed_out s None = answered s (Error Eagain)
 handed_out s (Some c) =
-    if is_some c.established && is_waiting (stream_of c)
-    then answered (with_stored (Some (with_stream stream.Open c)) s) (Number 4)
+    if is_some c.established && is_unaccepted (stream_of c)
+    then answered (with_stored (Some (with_stream stream_state.Open c)) s) (Number 4)
     else answered s (Error Eagain)
 
 -- `accept`: so on a listening 3, else EINVAL
@@ -174,18 +174,18 @@ with_fin c = record (with_queued 1 c) { fin = true }
 
 -- the connection whose descriptor is closed; a FIN is queued unless it was reset
 abbrev pub closed_stream : ConnectionView → ConnectionView
-closed_stream c = with_stream stream.Closed (if c.is_reset then c else with_fin c)
+closed_stream c = with_stream stream_state.Closed (if c.is_reset then c else with_fin c)
 
--- `close` on an open 4: 0, and the FIN is sent as the windows let it
+-- `close_stream` on an open 4: 0, and the FIN is sent as the windows let it
 abbrev pub closed_on : ℕ → ConnectionView → SenderState → Reply
 closed_on now c s =
     let closed = with_stored (Some (closed_stream c)) s in
     with_answer (Number 0) (if c.is_reset then Ok closed else ordinary_outside_recovery now c closed)
 
--- `close` at a moment: 0 on 3, but not while a connection was begun and isn't accepted
+-- `close_stream` at a moment: 0 on 3, but not while a connection was begun and isn't accepted
 abbrev pub close_reply : ℕ → SenderState → Descriptor → Reply
 close_reply now s Listening =
-    if is_pending s.endpoint.connection then Err Unsupported else answered (with_listener Closed s) (Number 0)
+    if has_unaccepted_connection s.endpoint.connection then Err Unsupported else answered (with_listener Closed s) (Number 0)
 close_reply now s (Connected c) = closed_on now c s
 
 -- the row of an operation on an open descriptor

@@ -12,24 +12,24 @@ use Rattle.pd_host.specs.declared.endpoint.SenderState.{SenderState}
 
 -- from the end of the handshake on: by the peer's FIN, by whether ours is queued, and by whether all that is queued is
 -- acknowledged, our FIN too
-abbrev pub synchronized : PeerFin → Bool → Bool → ConnState
-synchronized Awaited false acked = Established
-synchronized Awaited true false = FinWait1
-synchronized Awaited true true = FinWait2
-synchronized _ false acked = CloseWait
-synchronized BeforeOurs true false = LastAck
-synchronized BeforeOurs true true = Closed
-synchronized AfterOurs true false = Closing
-synchronized AfterOurs true true = TimeWait
+abbrev pub synchronized_state : PeerFin → Bool → Bool → ConnState
+synchronized_state Awaited false acked = Established
+synchronized_state Awaited true false = FinWait1
+synchronized_state Awaited true true = FinWait2
+synchronized_state _ false acked = CloseWait
+synchronized_state BeforeOurs true false = LastAck
+synchronized_state BeforeOurs true true = Closed
+synchronized_state AfterOurs true false = Closing
+synchronized_state AfterOurs true true = TimeWait
 
 -- by whether the handshake has come to its end
-abbrev pub state_since : ConnectionView → Option conn.Established → ConnState
-state_since c None = SynReceived
-state_since c (Some e) = synchronized e.peer_fin c.fin (c.board.una == c.board.end)
+abbrev pub state_after_handshake : ConnectionView → Option conn.Established → ConnState
+state_after_handshake c None = SynReceived
+state_after_handshake c (Some e) = synchronized_state e.peer_fin c.fin (c.board.una == c.board.end)
 
 -- the state of a connection that a SYN has begun; after an RST it is CLOSED, in the handshake too (own profile)
 abbrev pub state_of : ConnectionView → ConnState
-state_of c = if c.is_reset then Closed else state_since c c.established
+state_of c = if c.is_reset then Closed else state_after_handshake c c.established
 
 -- the state by the listener and the connection
 abbrev pub state_on : ListenState → Option ConnectionView → ConnState

@@ -5,8 +5,8 @@ use Rattle.pd_recover.specs.Cong.{CongView}
 use Rattle.pd_recover.specs.Prr.{uses_prr}
 use Rattle.pd_recover.specs.declared.prr.PrrState.{PrrState}
 use Rattle.pd_host.specs.Connection.{ConnectionView}
-use Rattle.pd_host.specs.SendBlockers.{wanted}
-use Rattle.pd_host.specs.Sending.{past_sacked}
+use Rattle.pd_host.specs.SendBlockers.{last_octet_needed_in_windows}
+use Rattle.pd_host.specs.Sending.{with_next_past_sacked}
 use Rattle.pd_host.specs.declared.established.Established.{Established}
 use Rattle.pd_host.specs.declared.connection_snapshot.ConnectionSnapshot.{ConnectionSnapshot}
 use Rattle.pd_host.specs.declared.connection_snapshot.Recovery.{Recovery}
@@ -61,4 +61,4 @@ connection_snapshot_in s = option_map {T = ConnectionView} connection_snapshot_o
 -- once a SYN has begun a connection, the octet that has to lie within the windows for its next segment to leave, its sending
 -- place past SACKed octets
 abbrev pub wanted_in : SenderState → Option ℕ
-wanted_in s = option_map {T = ConnectionView} (λ c. wanted (past_sacked c)) s.endpoint.connection
+wanted_in s = option_map {T = ConnectionView} (λ c. last_octet_needed_in_windows (with_next_past_sacked c)) s.endpoint.connection

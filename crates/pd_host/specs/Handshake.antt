@@ -16,7 +16,7 @@ use Rattle.pd_host.specs.declared.syn_options.SynOptions.{SynOptions}
 use Rattle.pd_host.specs.declared.established.PeerFin.TheVariants.{Awaited}
 use Rattle.pd_host.specs.declared.connection.Scaling.{Scaling}
 use Rattle.pd_host.specs.declared.descriptors.StreamState.TheVariants.{Waiting}
-use Rattle.pd_host.specs.Packets.{peer_count, syn_ack_of}
+use Rattle.pd_host.specs.Packets.{peer_window_shift, syn_ack_of}
 use Rattle.pd_seg.specs.declared.sack_spans.Span.{Span}
 use Rattle.pd_board.specs.Board.{opened, acknowledged}
 use Rattle.pd_recover.specs.Cong as congestion
@@ -68,9 +68,9 @@ abbrev pub syn_options_of : List SegOption → SynOptions
 syn_options_of options = record { mss = offered_mss options; count = offered_count options; sack = offers_sack options }
 
 -- an MSS below 64 isn't run (own profile)
-abbrev pub is_mss_run : Option ℕ → Bool
-is_mss_run None = true
-is_mss_run (Some octets) = nat_le 64 octets
+abbrev pub is_peer_mss_supported : Option ℕ → Bool
+is_peer_mss_supported None = true
+is_peer_mss_supported (Some octets) = nat_le 64 octets
 
 -- SYN and no other flag
 abbrev pub is_syn_alone : Flags → Bool
@@ -83,10 +83,10 @@ is_listening _ = false
 
 -- the first segment begins the connection where 3 listens and it is exactly a SYN at 0 without data (RFC 9293, section
 -- 3.10.7.2); nothing else is run (own profile)
-abbrev pub is_opening : ListenState → Segment → Bool
-is_opening listener segment =
+abbrev pub can_begin_connection : ListenState → Segment → Bool
+can_begin_connection listener segment =
     is_listening listener
-    && (is_syn_alone segment.flags && (segment.start == 0 && (length_of segment == 0 && is_mss_run (offered_mss segment.options))))
+    && (is_syn_alone segment.flags && (segment.start == 0 && (length_of segment == 0 && is_peer_mss_supported (offered_mss segment.options))))
 
 -- SMSS is the lesser of the setting and the peer's MSS, which is 536 where it names none (RFC 9293, section 3.7.1)
 abbrev pub smss_of : Settings → SynOptions → ℕ
@@ -135,13 +135,13 @@ answered_syn now c s =
 -- the first segment begins the connection, or isn't run
 abbrev pub opened_by : ℕ → Segment → SenderState → Result SenderState Halt
 opened_by now segment s =
-    if is_opening s.endpoint.listener segment
+    if can_begin_connection s.endpoint.listener segment
     then answered_syn now (connection_begun now s.settings segment) s
     else Err Unsupported
 
 -- the window in a later segment, shifted by the peer's count (RFC 7323, section 2.3)
-abbrev pub window_in : ConnectionView → Segment → ℕ
-window_in c segment = segment.win * 2 ^ peer_count c.scaling
+abbrev pub scaled_window_in : ConnectionView → Segment → ℕ
+scaled_window_in c segment = segment.win * 2 ^ peer_window_shift c.scaling
 
 -- the window is taken from a segment (RFC 9293, section 3.10.7.4: SND.WND, SND.WL1 and SND.WL2)
 abbrev pub with_window : ℕ → Segment → Established → Established
@@ -150,15 +150,15 @@ with_window window segment e = record e { rwnd = window; wl1 = segment.start; wl
 -- the parts of a connection that begin at the end of its handshake: the window, Nagle's algorithm and the clock's granularity
 -- as the settings say, the initial congestion window (RFC 5681, section 3.1; RFC 6928, section 2), a descriptor that `accept`
 -- has still to hand out, and the peer's FIN still to come
-abbrev pub established_with : Settings → Segment → ConnectionView → Established
-established_with settings segment c = record {
-  rwnd = window_in c segment;
+abbrev pub new_established_parts : Settings → Segment → ConnectionView → Established
+new_established_parts settings segment c = record {
+  rwnd = scaled_window_in c segment;
   wl1 = segment.start;
   wl2 = segment.ack;
   nagle = settings.nagle;
   granularity_us = settings.granularity_us;
   congestion = congestion.begun settings c.board.smss c.syn_ack_resent;
-  stream = Waiting;
+  stream_state = Waiting;
   peer_fin = Awaited;
 }
 
@@ -170,8 +170,8 @@ syn_acked c = record c { board = acknowledged 1 c.board }
 -- timer stops, and the window is taken (RFC 9293, section 3.10.7.4, fifth check, SYN-RECEIVED)
 abbrev pub established_by : ℕ → Settings → Segment → ConnectionView → ConnectionView
 established_by now settings segment c = record (with_handshake_timer_ended (with_sample now settings.granularity_us 1 (syn_acked c))) {
-  max_window = max c.max_window (window_in c segment);
-  established = Some (established_with settings segment c);
+  max_window = max c.max_window (scaled_window_in c segment);
+  established = Some (new_established_parts settings segment c);
 }
 
 -- the settings that the establishment consults

@@ -17,7 +17,7 @@ use Rattle.pd_host.specs.declared.endpoint.SenderState.{SenderState}
 -- a host: its state, and why it has ended, if it has
 pub record HostView : Type 0 where
   pub state : SenderState
-  pub ended : Option HostEnd
+  pub end_reason : Option HostEnd
 
 -- the number after the last octet that a connection has queued, 0 without one
 abbrev pub queued_to : Option ConnectionView → ℕ
@@ -36,7 +36,7 @@ fresh_endpoint = record { listener = Absent; connection = None; outbox = [] }
 abbrev pub fresh_host : Settings → HostView
 fresh_host settings = record {
   state = record { settings = settings; consulted_settings = no_settings; endpoint = fresh_endpoint };
-  ended = None;
+  end_reason = None;
 }
 
 -- the result of a rule of the endpoint for the whole state: settings and uses stay
@@ -72,8 +72,8 @@ without_oldest sender = record sender { state = record sender.state { endpoint =
 
 -- why a sender for which no memory was found has ended: by that, unless it had ended before
 abbrev pub end_of : HostView → HostEnd
-end_of sender = unwrap_or sender.ended OutOfMemory
+end_of sender = unwrap_or sender.end_reason OutOfMemory
 
 -- a sender for which no memory was found has ended
 abbrev pub ended_out_of_memory : HostView → HostView
-ended_out_of_memory sender = record sender { ended = Some (end_of sender) }
+ended_out_of_memory sender = record sender { end_reason = Some (end_of sender) }

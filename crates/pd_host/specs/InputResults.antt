@@ -20,8 +20,8 @@ GivesAnswer outcome (Err OutOfMemory) new = Unit {0}
 
 -- a host ends exactly where it answers an error, and with that
 abbrev pub EndsBy : {A : Type 0} → Result A HostEnd → HostView → Type 0
-EndsBy (Ok answer) new = new.ended ≡ None
-EndsBy (Err ending) new = new.ended ≡ Some ending
+EndsBy (Ok answer) new = new.end_reason ≡ None
+EndsBy (Err ending) new = new.end_reason ≡ Some ending
 
 -- a host that goes on does what the rules say; one that has ended answers that again, and stays as it is
 abbrev pub GoesFrom : Option HostEnd → HostView → (SenderState → Result SenderState Halt) → Result (Unit {0}) HostEnd → HostView → Type 0
@@ -30,7 +30,7 @@ GoesFrom (Some ending) old rule result new = (result ≡ Err ending) × (new ≡
 
 -- an input of a host, by whether it has ended
 abbrev pub Goes : HostView → (SenderState → Result SenderState Halt) → Result (Unit {0}) HostEnd → HostView → Type 0
-Goes old rule result new = GoesFrom old.ended old rule result new
+Goes old rule result new = GoesFrom old.end_reason old rule result new
 
 -- the same, with what is answered
 abbrev pub AnswersFrom : {A : Type 0} → Option HostEnd → HostView → (SenderState → Result (SenderState × A) Halt) → Result A HostEnd → HostView → Type 0
@@ -39,4 +39,4 @@ AnswersFrom (Some ending) old rule result new = (result ≡ Err ending) × (new 
 
 -- an input that is answered, by whether the host has ended
 abbrev pub Answers : {A : Type 0} → HostView → (SenderState → Result (SenderState × A) Halt) → Result A HostEnd → HostView → Type 0
-Answers old rule result new = AnswersFrom old.ended old rule result new
+Answers old rule result new = AnswersFrom old.end_reason old rule result new

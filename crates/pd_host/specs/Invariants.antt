@@ -19,7 +19,7 @@ use Rattle.pd_host.specs.declared.established.Established.{Established}
 use Rattle.pd_host.specs.declared.halts.Halt.TheVariants.{Unsupported}
 use Rattle.pd_host.specs.declared.established.PeerFin.TheVariants.{AfterOurs}
 use Rattle.pd_host.specs.declared.endpoint.SenderState.{SenderState}
-use Rattle.pd_host.specs.declared.descriptors.StreamState.TheVariants as stream
+use Rattle.pd_host.specs.declared.descriptors.StreamState.TheVariants as stream_state
 use Rattle.pd_host.specs.declared.connection.rtt_segment.RttSegment.{RttSegment}
 
 -- the agreement of the SYN and the settings stays (RFC 9293, section 3.7.1)
@@ -31,7 +31,7 @@ pub record IsAgreed (b : Settings) (own_mss smss rcv_wnd : ℕ) : Type 0 where
 -- where our FIN is queued descriptor 4 is closed, so that nothing is queued after it (RFC 9293, section 3.10.4); where a
 -- FIN of the peer is noted as after ours, ours is queued
 abbrev pub IsEnding : Bool → Option Established → Type 0
-IsEnding fin o = (fin ≡ true → stream_in o ≡ stream.Closed) × (peer_fin_in o ≡ AfterOurs → fin ≡ true)
+IsEnding fin o = (fin ≡ true → stream_in o ≡ stream_state.Closed) × (peer_fin_in o ≡ AfterOurs → fin ≡ true)
 
 -- the numbers that are sent by are in order, and what is SACKed was sent and isn't acknowledged (RFC 9293, section 3.3.1;
 -- RFC 2018, section 3)

@@ -12,8 +12,8 @@ use Rattle.pd_recover.specs.Cong.{CongView}
 use Rattle.pd_recover.specs.declared.ack.Ack.{Ack}
 use Rattle.pd_recover.specs.declared.ack.SackNews.{SackNews}
 use Rattle.pd_host.specs.Connection.{ConnectionView}
-use Rattle.pd_host.specs.declared.connection.loss_evidence.DupAckStatus.{DupAckStatus}
-use Rattle.pd_host.specs.declared.connection.loss_evidence.DupAckStatus.TheVariants.{Below, Counted}
+use Rattle.pd_host.specs.declared.connection.loss_evidence.DupAckEffect.{DupAckEffect}
+use Rattle.pd_host.specs.declared.connection.loss_evidence.DupAckEffect.TheVariants.{Below, Counted}
 use Rattle.pd_host.specs.declared.connection.loss_evidence.LossEvidence.{LossEvidence}
 use Rattle.pd_host.specs.declared.connection.loss_evidence.SackEvidence.{SackEvidence}
 use Rattle.pd_host.specs.declared.endpoint.SenderState.{SenderState}
@@ -38,24 +38,24 @@ loss_evidence_of c w = record {
 
 -- a duplicate is looked at where octets are outstanding and no recovery goes on, unless an RST has ended the connection; below
 -- RecoveryPoint none begins recovery (RFC 6675, sections 5 and 5.1)
-abbrev pub dup_ack_status_since : ConnectionView → Established → Option DupAckStatus
-dup_ack_status_since c e =
+abbrev pub established_dup_ack_effect : ConnectionView → Established → Option DupAckEffect
+established_dup_ack_effect c e =
     if c.is_reset || (e.congestion.recovering || c.board.una == c.board.top) then None
     else (if nat_lt c.board.una e.congestion.recovery_point then Some (Below e.congestion.recovery_point)
     else Some (Counted (loss_evidence_of c e.congestion)))
 
-abbrev pub dup_ack_status_of : ConnectionView → Option DupAckStatus
+abbrev pub dup_ack_status_of : ConnectionView → Option DupAckEffect
 dup_ack_status_of c = by c.established
   where
-    by : Option Established → Option DupAckStatus
+    by : Option Established → Option DupAckEffect
     by None = None
-    by (Some e) = dup_ack_status_since c e
+    by (Some e) = established_dup_ack_effect c e
 
 -- the effect of a duplicate at the sender
-abbrev pub dup_ack_status_in : SenderState → Option DupAckStatus
+abbrev pub dup_ack_status_in : SenderState → Option DupAckEffect
 dup_ack_status_in s = by s.endpoint.connection
   where
-    by : Option ConnectionView → Option DupAckStatus
+    by : Option ConnectionView → Option DupAckEffect
     by None = None
     by (Some c) = dup_ack_status_of c
 

@@ -13,19 +13,19 @@ abbrev pub no_flags : Flags
 no_flags = record { syn = false; fin = false; rst = false; psh = false; ack = false }
 
 -- our shift count, 0 where scaling wasn't agreed (RFC 7323, section 2.2)
-abbrev pub own_count : Option Scaling → ℕ
-own_count None = 0
-own_count (Some s) = s.own
+abbrev pub own_window_shift : Option Scaling → ℕ
+own_window_shift None = 0
+own_window_shift (Some s) = s.own
 
 -- the peer's shift count, 0 where scaling wasn't agreed
-abbrev pub peer_count : Option Scaling → ℕ
-peer_count None = 0
-peer_count (Some s) = s.peer
+abbrev pub peer_window_shift : Option Scaling → ℕ
+peer_window_shift None = 0
+peer_window_shift (Some s) = s.peer
 
 -- the window field of a segment that is no SYN: the receive window, shifted by our count, as far as 16 bits hold it
 -- (RFC 7323, section 2.3)
-abbrev pub shifted_window : ConnectionView → ℕ
-shifted_window c = min (c.rcv_wnd / 2 ^ own_count c.scaling) 65535
+abbrev pub own_window_field : ConnectionView → ℕ
+own_window_field c = min (c.rcv_wnd / 2 ^ own_window_shift c.scaling) 65535
 
 -- an ACK: `. top:top(0)` (RFC 9293, section 3.10.7.4)
 abbrev pub ack_of : ConnectionView → Segment
@@ -34,7 +34,7 @@ ack_of c = record {
   start = c.board.top;
   end = c.board.top;
   ack = rcv_nxt c;
-  win = shifted_window c;
+  win = own_window_field c;
   options = [];
 }
 
@@ -43,17 +43,17 @@ abbrev pub covers_fin : ConnectionView → Span → Bool
 covers_fin c segment = c.fin && (nat_lt segment.start c.board.end && nat_le c.board.end segment.end)
 
 -- it carries the last octet of data that is queued (RFC 9293, section 3.9.1.2: PUSH)
-abbrev pub ends_data : ConnectionView → Span → Bool
-ends_data c segment = nat_lt segment.start (data_end c) && nat_le (data_end c) segment.end
+abbrev pub has_last_data_octet : ConnectionView → Span → Bool
+has_last_data_octet c segment = nat_lt segment.start (data_end c) && nat_le (data_end c) segment.end
 
 -- a segment with these octets of data; our FIN has no part in its written end and length (RFC 9293, section 3.4)
 abbrev pub data_of : ConnectionView → Span → Segment
 data_of c segment = record {
-  flags = record no_flags { fin = covers_fin c segment; psh = ends_data c segment; ack = true };
+  flags = record no_flags { fin = covers_fin c segment; psh = has_last_data_octet c segment; ack = true };
   start = segment.start;
   end = min segment.end (data_end c);
   ack = rcv_nxt c;
-  win = shifted_window c;
+  win = own_window_field c;
   options = [];
 }
 

@@ -59,32 +59,32 @@ abbrev pub window_edge : ConnectionView → Established → ℕ
 window_edge c e = c.board.una + min e.congestion.cwnd e.rwnd
 
 -- U: how many octets from the sending place on they let leave (RFC 9293, section 3.8.6.2.1)
-abbrev pub usable : ConnectionView → Established → ℕ
-usable c e = window_edge c e - c.board.next
+abbrev pub usable_window : ConnectionView → Established → ℕ
+usable_window c e = window_edge c e - c.board.next
 
 -- D: how many octets are queued from there on (RFC 9293, section 3.8.6.2.1)
-abbrev pub unsent : ConnectionView → ℕ
-unsent c = c.board.end - c.board.next
+abbrev pub unsent_octets : ConnectionView → ℕ
+unsent_octets c = c.board.end - c.board.next
 
 -- how many octets can leave: min(D, U) (RFC 9293, section 3.8.6.2.1)
-abbrev pub sendable : ConnectionView → Established → ℕ
-sendable c e = min (unsent c) (usable c e)
+abbrev pub sendable_octets : ConnectionView → Established → ℕ
+sendable_octets c e = min (unsent_octets c) (usable_window c e)
 
 -- the segment of new octets that could leave, SMSS octets at most
 abbrev pub unsent_segment : ConnectionView → Established → Span
-unsent_segment c e = record { start = c.board.next; end = c.board.next + min (sendable c e) c.board.smss }
+unsent_segment c e = record { start = c.board.next; end = c.board.next + min (sendable_octets c e) c.board.smss }
 
 -- a full segment can leave (RFC 9293, section 3.8.6.2.1, rule 1)
-abbrev pub is_full : ConnectionView → Established → Bool
-is_full c e = nat_le c.board.smss (sendable c e)
+abbrev pub can_send_full_segment : ConnectionView → Established → Bool
+can_send_full_segment c e = nat_le c.board.smss (sendable_octets c e)
 
 -- all that is queued can leave (RFC 9293, section 3.8.6.2.1, rule 2: D <= U; each write counts as pushed)
-abbrev pub is_all_unsent : ConnectionView → Established → Bool
-is_all_unsent c e = nat_le (unsent c) (usable c e)
+abbrev pub can_send_all_queued : ConnectionView → Established → Bool
+can_send_all_queued c e = nat_le (unsent_octets c) (usable_window c e)
 
 -- at least half of the largest window seen can leave (RFC 9293, section 3.8.6.2.1, rule 3)
-abbrev pub is_half_max_window : ConnectionView → Established → Bool
-is_half_max_window c e = nat_le c.max_window (2 * sendable c e)
+abbrev pub can_send_half_max_window : ConnectionView → Established → Bool
+can_send_half_max_window c e = nat_le c.max_window (2 * sendable_octets c e)
 
 -- Nagle's algorithm holds a segment that isn't full while octets are outstanding (RFC 9293, section 3.7.4), but not our FIN
 -- (own profile)
@@ -92,28 +92,28 @@ abbrev pub is_nagle_delayed : ConnectionView → Established → Bool
 is_nagle_delayed c e = e.nagle && (nat_lt c.board.una c.board.top && not (covers_fin c (unsent_segment c e)))
 
 -- a segment of new octets leaves
-abbrev pub leaves_now : ConnectionView → Established → Bool
-leaves_now c e = is_full c e || ((is_all_unsent c e || is_half_max_window c e) && not (is_nagle_delayed c e))
+abbrev pub can_new_segment_leave : ConnectionView → Established → Bool
+can_new_segment_leave c e = can_send_full_segment c e || ((can_send_all_queued c e || can_send_half_max_window c e) && not (is_nagle_delayed c e))
 
 -- new octets: the next segment, where one leaves
-abbrev pub next_new : ConnectionView → Established → Option Span
-next_new c e = if nat_lt 0 (sendable c e) && leaves_now c e then Some (unsent_segment c e) else None
+abbrev pub next_new_segment : ConnectionView → Established → Option Span
+next_new_segment c e = if nat_lt 0 (sendable_octets c e) && can_new_segment_leave c e then Some (unsent_segment c e) else None
 
 -- octets that were sent before: the next segment, where the windows let all of it leave
-abbrev pub next_retransmitted : ConnectionView → Established → Option Span
-next_retransmitted c e =
+abbrev pub next_retransmit_segment : ConnectionView → Established → Option Span
+next_retransmit_segment c e =
     let segment = run_at c.board.next c.board in
     if nat_le segment.end (window_edge c e) then Some segment else None
 
 -- the segment that ordinary sending sends next, on a board whose sending place isn't SACKed
 abbrev pub ordinary_segment : ConnectionView → Established → Option Span
-ordinary_segment c e = if nat_lt c.board.next c.board.top then next_retransmitted c e else next_new c e
+ordinary_segment c e = if nat_lt c.board.next c.board.top then next_retransmit_segment c e else next_new_segment c e
 
 -- How a segment is sent
 
 -- the sending place moves past SACKed octets (RFC 2018, section 5)
-abbrev pub past_sacked : ConnectionView → ConnectionView
-past_sacked c = record c { board = past_sacked_octets c.board }
+abbrev pub with_next_past_sacked : ConnectionView → ConnectionView
+with_next_past_sacked c = record c { board = past_sacked_octets c.board }
 
 -- a segment was sent at a moment from the sending place, which moves after it
 abbrev pub sent_on : ℕ → Span → ConnectionView → ConnectionView
@@ -130,7 +130,7 @@ found connection = value_in None ordinary_segment connection
 -- that segment is put out at a moment, and the sending place moves after it and past SACKed octets
 abbrev pub sent_ordinarily : ℕ → Span → Option ConnectionView → SenderState → SenderState
 sent_ordinarily now segment None s = s
-sent_ordinarily now segment (Some c) s = with_segment now segment c (past_sacked (sent_on now segment c)) s
+sent_ordinarily now segment (Some c) s = with_segment now segment c (with_next_past_sacked (sent_on now segment c)) s
 
 -- no octets were sent for longer than RTO (RFC 5681, section 4.1), and none are outstanding (own)
 abbrev pub is_idle : ℕ → ConnectionView → Bool
@@ -148,7 +148,7 @@ restarted_if_idle now c = record c { established = restarted_in c.board.smss (is
 -- before anything is sent at a moment, the sending place moves past SACKed octets too (RFC 2018, section 5)
 abbrev pub ready : ℕ → Option ConnectionView → SenderState → SenderState
 ready now None s = s
-ready now (Some c) s = with_begun_connection (past_sacked (restarted_if_idle now c)) s
+ready now (Some c) s = with_begun_connection (with_next_past_sacked (restarted_if_idle now c)) s
 
 -- ordinary sending at a moment, until nothing more leaves
 abbrev pub sent_until_done : ℕ → SenderState → Result SenderState Halt

@@ -7,8 +7,8 @@ use Rattle.pd_board.specs.Loss.{pipe}
 use Rattle.pd_recover.specs.Acks.{acked}
 use Rattle.pd_recover.specs.NextSeg.{segment_of}
 use Rattle.pd_settings.specs.declared.initial_window.InitialWindow.{InitialWindow}
-use Rattle.pd_recover.specs.Cong.{CongView, window_by, is_prr_recovering, sndcnt}
-use Rattle.pd_recover.specs.Prr.{proportion}
+use Rattle.pd_recover.specs.Cong.{CongView, initial_window_by_rule, is_prr_recovering, sndcnt}
+use Rattle.pd_recover.specs.Prr.{proportional_ssthresh}
 use Rattle.pd_recover.specs.Laws.{IsSpared, forces}
 use Rattle.pd_recover.specs.declared.ack.Ack.{Ack}
 use Rattle.pd_recover.specs.declared.ack_action.AckAction.TheVariants.{StepC, Entry, NewSegment}
@@ -32,7 +32,7 @@ use Rattle.pd_host.specs.declared.connection.ack_effects.WindowFill.{WindowFill}
 use Rattle.pd_host.specs.declared.syscall.SocketOperation.TheVariants.{Close}
 use Rattle.pd_host.specs.declared.syscall.Syscall.TheVariants.{On}
 use Rattle.pd_host.specs.declared.endpoint.SenderState.{SenderState}
-use Rattle.pd_host.specs.declared.descriptors.StreamState.TheVariants as stream
+use Rattle.pd_host.specs.declared.descriptors.StreamState.TheVariants as stream_state
 use Rattle.pd_host.specs.declared.connection.rtt_segment.RttSegment.{RttSegment}
 
 -- Flow control (RFC 9293, section 3.8.6)
@@ -102,9 +102,9 @@ pub record ControlsCongestion : Type 0 where
       → ordinary_segment c e ≡ Some segment → segment.end ≤ c.board.una + e.congestion.cwnd
   pub restart :
       (now : ℕ) (s t : SenderState) (c : ConnectionView) (e : Established) (rule : InitialWindow) → s.endpoint.connection ≡ Some c
-      → c.established ≡ Some e → e.congestion.restart_rule ≡ Some rule → is_idle now c ≡ true → ordinary now s ≡ Ok t
+      → c.established ≡ Some e → e.congestion.idle_restart_rule ≡ Some rule → is_idle now c ≡ true → ordinary now s ≡ Ok t
       → (packets : List Sent)
-      × AllByRecursion (λ p. end_with_fin p.segment ≤ c.board.una + min (window_by rule c.board.smss) e.congestion.cwnd) packets
+      × AllByRecursion (λ p. end_with_fin p.segment ≤ c.board.una + min (initial_window_by_rule rule c.board.smss) e.congestion.cwnd) packets
       × (t.endpoint.outbox ≡ s.endpoint.outbox ++ packets)
   pub ordinary :
       (now : ℕ) (s t : SenderState) → ordinary now s ≡ Ok t
@@ -181,7 +181,7 @@ pub record RecoversInProportion : Type 0 where
       → LetsOut most s t → most ≤ sndcnt_in s.endpoint.connection → forces_in s.endpoint.connection ≡ false
       → e.congestion.ssthresh < pipe e.congestion.high_rxt c.board
       → out_in t.endpoint.connection
-      ≤ max e.congestion.prr.prr_out (proportion e.congestion.ssthresh e.congestion.prr)
+      ≤ max e.congestion.prr.prr_out (proportional_ssthresh e.congestion.ssthresh e.congestion.prr)
   pub target :
       (most : ℕ) (s t : SenderState) (c : ConnectionView) (e : Established) → s.endpoint.connection ≡ Some c → c.established ≡ Some e
       → (out : LetsOut most s t) → most ≤ sndcnt_in s.endpoint.connection → forces_in s.endpoint.connection ≡ false
@@ -287,7 +287,7 @@ pub record MeasuresWhatIsSentOnce : Type 0 where
 
 -- The FIN (RFC 9293, section 3.10.4)
 
--- it is on a segment that covers the last octet queued, and no octet of data follows it; only `close` queues it, and
+-- it is on a segment that covers the last octet queued, and no octet of data follows it; only `close_stream` queues it, and
 -- nothing is queued then any more, neither by a call nor by an arrival or an expiry
 pub record EndsWithFin : Type 0 where
   pub covered :
@@ -300,7 +300,7 @@ pub record EndsWithFin : Type 0 where
       → syscall_of call ≡ Some (On 4 Close)
   pub last :
       (call : Call) (now : ℕ) (s t : SenderState) (answer : Answer) (c : ConnectionView) → s.endpoint.connection ≡ Some c
-      → stream_of c ≡ stream.Closed → called call now s ≡ Ok (t, answer) → t.endpoint.connection ≡ Some c
+      → stream_of c ≡ stream_state.Closed → called call now s ≡ Ok (t, answer) → t.endpoint.connection ≡ Some c
   pub arrivals :
       (segment : Segment) (now : ℕ) (s t : SenderState) (c d : ConnectionView) → s.endpoint.connection ≡ Some c
       → t.endpoint.connection ≡ Some d → arrived segment now s ≡ Ok t

@@ -30,24 +30,24 @@ socket_syscall (_ ∷ Word SockStream ∷ protocol ∷ []) = if is_tcp protocol 
 socket_syscall _ = None
 
 -- `TCP_NODELAY` is set by 1 and cleared by 0
-abbrev pub no_delay : ℕ → ℕ → Option Syscall
-no_delay fd n = if n == 1 then Some (On fd (NoDelay true)) else if n == 0 then Some (On fd (NoDelay false)) else None
+abbrev pub no_delay_syscall : ℕ → ℕ → Option Syscall
+no_delay_syscall fd n = if n == 1 then Some (On fd (NoDelay true)) else if n == 0 then Some (On fd (NoDelay false)) else None
 
 -- `setsockopt(fd, SOL_SOCKET, SO_REUSEADDR, any, any)`, `setsockopt(fd, SOL_TCP or IPPROTO_TCP, TCP_NODELAY, [n], any)`
-abbrev pub option_syscall : List Argument → Option Syscall
-option_syscall (Int fd ∷ Word SolSocket ∷ Word SoReuseaddr ∷ _ ∷ _ ∷ []) = Some (On fd ReuseAddress)
-option_syscall (Int fd ∷ Word level ∷ Word TcpNodelay ∷ Element n ∷ _ ∷ []) = if is_tcp_level level then no_delay fd n else None
-option_syscall _ = None
+abbrev pub setsockopt_syscall : List Argument → Option Syscall
+setsockopt_syscall (Int fd ∷ Word SolSocket ∷ Word SoReuseaddr ∷ _ ∷ _ ∷ []) = Some (On fd ReuseAddress)
+setsockopt_syscall (Int fd ∷ Word level ∷ Word TcpNodelay ∷ Element n ∷ _ ∷ []) = if is_tcp_level level then no_delay_syscall fd n else None
+setsockopt_syscall _ = None
 
 -- `fcntl(fd, F_SETFL, any)`
-abbrev pub flags_syscall : List Argument → Option Syscall
-flags_syscall (Int fd ∷ Word FSetfl ∷ _ ∷ []) = Some (On fd SetFlags)
-flags_syscall _ = None
+abbrev pub fcntl_syscall : List Argument → Option Syscall
+fcntl_syscall (Int fd ∷ Word FSetfl ∷ _ ∷ []) = Some (On fd SetFlags)
+fcntl_syscall _ = None
 
 -- `bind(fd, any, any)` and `accept(fd, any, any)`
-abbrev pub address_syscall : SocketOperation → List Argument → Option Syscall
-address_syscall operation (Int fd ∷ _ ∷ _ ∷ []) = Some (On fd operation)
-address_syscall operation _ = None
+abbrev pub bind_or_accept_syscall : SocketOperation → List Argument → Option Syscall
+bind_or_accept_syscall operation (Int fd ∷ _ ∷ _ ∷ []) = Some (On fd operation)
+bind_or_accept_syscall operation _ = None
 
 -- `listen(fd, any)`
 abbrev pub listen_syscall : List Argument → Option Syscall
@@ -59,7 +59,7 @@ abbrev pub write_syscall : List Argument → Option Syscall
 write_syscall (Int fd ∷ _ ∷ Int n ∷ []) = Some (On fd (Write n))
 write_syscall _ = None
 
--- `close(fd)`
+-- `close_stream(fd)`
 abbrev pub close_syscall : List Argument → Option Syscall
 close_syscall (Int fd ∷ []) = Some (On fd Close)
 close_syscall _ = None
@@ -67,11 +67,11 @@ close_syscall _ = None
 -- the request of a call of this name, where its shape is run
 abbrev pub syscall_in : Function → List Argument → Option Syscall
 syscall_in SocketCall arguments = socket_syscall arguments
-syscall_in BindCall arguments = address_syscall Bind arguments
+syscall_in BindCall arguments = bind_or_accept_syscall Bind arguments
 syscall_in ListenCall arguments = listen_syscall arguments
-syscall_in AcceptCall arguments = address_syscall Accept arguments
-syscall_in SetsockoptCall arguments = option_syscall arguments
-syscall_in FcntlCall arguments = flags_syscall arguments
+syscall_in AcceptCall arguments = bind_or_accept_syscall Accept arguments
+syscall_in SetsockoptCall arguments = setsockopt_syscall arguments
+syscall_in FcntlCall arguments = fcntl_syscall arguments
 syscall_in WriteCall arguments = write_syscall arguments
 syscall_in CloseCall arguments = close_syscall arguments
 syscall_in _ arguments = None

@@ -7,7 +7,7 @@ use crate::connection::Connection;
 use crate::connection::ack_effects::WindowFill;
 use crate::halts::HostEnd;
 use crate::outbox::Outbox;
-use crate::send::{put_segment, send};
+use crate::send::{put_out_data_segment, send};
 use pd_recover::AckAction;
 
 /// Sends at a moment what an ACK led to.
@@ -15,7 +15,7 @@ use pd_recover::AckAction;
 /// # Errors
 /// Of the first packet that fails: `Halted` by `Limit` where the outbox is full, else `OutOfMemory` where its growth is
 /// refused or the scoreboard has found no memory before.
-pub fn act_on_ack(
+pub fn send_after_ack(
     connection: &mut Connection,
     outbox: &mut Outbox,
     next: AckAction,
@@ -29,18 +29,18 @@ pub fn act_on_ack(
         AckAction::Ordinary => send(connection, outbox, now),
         AckAction::StepC => fill_window(connection, outbox, WindowFill::NextSeg, now),
         AckAction::Entry => {
-            enter_recovery(connection, outbox, now)?;
+            retransmit_at_entry(connection, outbox, now)?;
             fill_window(connection, outbox, WindowFill::NextSeg, now)
         }
         AckAction::LimitedTransmit => fill_window(connection, outbox, WindowFill::NewData, now),
         AckAction::NewSegment(segment) => {
-            put_segment(connection, outbox, segment, now)?;
+            put_out_data_segment(connection, outbox, segment, now)?;
             connection.note_segment_sent(segment, now)?;
             Ok(())
         }
         AckAction::FastRetransmit(segment) => {
-            put_segment(connection, outbox, segment, now)?;
-            connection.start_timing(segment, now);
+            put_out_data_segment(connection, outbox, segment, now)?;
+            connection.start_rtt_and_timer(segment, now);
             send(connection, outbox, now)
         }
         AckAction::Nothing => Ok(()),
@@ -48,16 +48,20 @@ pub fn act_on_ack(
 }
 
 /// The segment at `una` is sent again, unless its first octet is SACKed.
-fn enter_recovery(connection: &mut Connection, outbox: &mut Outbox, now: u64) -> Result<(), HostEnd>
+fn retransmit_at_entry(
+    connection: &mut Connection,
+    outbox: &mut Outbox,
+    now: u64,
+) -> Result<(), HostEnd>
     requires early { now < 2 ^ 62 }
     ensures { GivesOn (entry now connection.old) connection.old outbox.old result connection.new outbox.new }
 {
-    let segment = connection.first();
+    let segment = connection.first_recovery_segment();
     if segment.start < segment.end {
-        put_segment(connection, outbox, segment, now)?;
-        connection.start_timing(segment, now);
+        put_out_data_segment(connection, outbox, segment, now)?;
+        connection.start_rtt_and_timer(segment, now);
     }
-    connection.enter_recovery(segment);
+    connection.note_entry_retransmit(segment);
     Ok(())
 }
 
@@ -74,7 +78,7 @@ fn fill_window(
     let mut pipe = connection.pipe();
     while let Some(sent) = connection.next_fill_segment(filling, pipe) {
         let segment = sent.segment();
-        put_segment(connection, outbox, segment, now)?;
+        put_out_data_segment(connection, outbox, segment, now)?;
         connection.note_fill_sent(filling, &sent, now)?;
         pipe += segment.end - segment.start;
     }

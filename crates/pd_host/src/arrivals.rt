@@ -1,21 +1,21 @@
 //! A segment that arrives.
 ghost use Rattle.std.specs.Prelude.{◌≡◌, ◌≤◌, ◌<◌, ◌^◌, None};
 ghost use Rattle.pd_host.specs.Arrivals.{finished_by, passed_on, arrived};
-ghost use Rattle.pd_host.specs.Handshake.{is_syn_alone, is_opening, opened_by};
+ghost use Rattle.pd_host.specs.Handshake.{is_syn_alone, can_begin_connection, opened_by};
 ghost use Rattle.pd_host.specs.Host.{with_packet};
 ghost use Rattle.pd_host.specs.InputResults.{Gives};
 ghost use Rattle.pd_host.specs.Packets.{ack_of, refusal_of};
 ghost use Rattle.pd_host.specs.Steps.{GivesOn};
 
-use crate::ack_actions::act_on_ack;
+use crate::ack_actions::send_after_ack;
 use crate::connection::segment_check::SegmentCheck;
-use crate::connection::{Connection, refusal};
+use crate::connection::{Connection, refusing_rst};
 use crate::consulted_settings::{with_establishment_settings, with_syn_settings};
 use crate::descriptors::ListenState;
 use crate::endpoint::SenderState;
 use crate::halts::{Halt, HostEnd};
 use crate::outbox::Outbox;
-use crate::syn_options::{SynOptions, is_mss_run};
+use crate::syn_options::{SynOptions, is_peer_mss_supported};
 use pd_seg::{Flags, Segment};
 
 /// The halt at a segment that isn't run.
@@ -33,7 +33,7 @@ impl SenderState {
         ensures { Gives (arrived segment.now now self.old) result self.new }
     {
         let Some(connection) = &mut self.endpoint.connection else {
-            return self.open(segment, now);
+            return self.begin_connection_by_syn(segment, now);
         };
         let outbox = &mut self.endpoint.outbox;
         match connection.failed_check(segment) {
@@ -41,28 +41,28 @@ impl SenderState {
             Some(SegmentCheck::StrayRst | SegmentCheck::WithoutAck) => Ok(()),
             Some(
                 SegmentCheck::OutsideWindow | SegmentCheck::ChallengedRst | SegmentCheck::EarlyAck,
-            ) => { acknowledge(connection, outbox, now) }
+            ) => { send_ack(connection, outbox, now) }
             Some(SegmentCheck::ExactRst) => {
                 connection.end_by_rst();
                 Ok(())
             }
-            Some(SegmentCheck::RefusedAck) => refuse(outbox, segment.ack, now),
-            Some(SegmentCheck::OldAck) => finish(connection, outbox, segment, now),
+            Some(SegmentCheck::RefusedAck) => send_refusing_rst(outbox, segment.ack, now),
+            Some(SegmentCheck::OldAck) => take_and_ack_fin(connection, outbox, segment, now),
             Some(SegmentCheck::FirstAck) => {
                 connection.establish(&self.settings, segment, now);
                 self.consulted_settings = with_establishment_settings(self.consulted_settings);
-                finish(connection, outbox, segment, now)
+                take_and_ack_fin(connection, outbox, segment, now)
             }
-            None => take(connection, outbox, segment, now),
+            None => process_acceptable_segment(connection, outbox, segment, now),
         }
     }
 
     /// The first segment begins the connection, or isn't run.
-    fn open(&mut self, segment: &Segment, now: u64) -> Result<(), HostEnd>
+    fn begin_connection_by_syn(&mut self, segment: &Segment, now: u64) -> Result<(), HostEnd>
         requires early { now < 2 ^ 62 }
         ensures { Gives (opened_by now segment.now self.old) result self.new }
     {
-        if !is_opening(self.endpoint.listener, segment) {
+        if !can_begin_connection(self.endpoint.listener, segment) {
             return Err(NOT_RUN);
         }
         let alloc = self.endpoint.outbox.allocator();
@@ -76,7 +76,7 @@ impl SenderState {
 
 /// A segment that passed all checks is taken at a moment, and then its FIN.
 #[inline(always)]
-fn take(
+fn process_acceptable_segment(
     connection: &mut Connection,
     outbox: &mut Outbox,
     segment: &Segment,
@@ -87,14 +87,14 @@ fn take(
     requires sent { segment.now.ack ≤ connection.old.board.top }
     ensures { GivesOn (λ s. passed_on now segment.now connection.old s None) connection.old outbox.old result connection.new outbox.new }
 {
-    let then = connection.take(segment, now)?;
-    act_on_ack(connection, outbox, then, now)?;
-    finish(connection, outbox, segment, now)
+    let then = connection.process_acceptable_segment(segment, now)?;
+    send_after_ack(connection, outbox, then, now)?;
+    take_and_ack_fin(connection, outbox, segment, now)
 }
 
 /// The peer's FIN, where the segment has one, is taken and answered by an ACK.
 #[inline(always)]
-fn finish(
+fn take_and_ack_fin(
     connection: &mut Connection,
     outbox: &mut Outbox,
     segment: &Segment,
@@ -105,12 +105,12 @@ fn finish(
     if !segment.flags.fin {
         return Ok(());
     }
-    connection.take_fin();
-    acknowledge(connection, outbox, now)
+    connection.take_peer_fin();
+    send_ack(connection, outbox, now)
 }
 
 /// An ACK of what was received is put out at a moment.
-fn acknowledge(connection: &Connection, outbox: &mut Outbox, now: u64) -> Result<(), HostEnd>
+fn send_ack(connection: &Connection, outbox: &mut Outbox, now: u64) -> Result<(), HostEnd>
     ensures { Gives (with_packet now (ack_of connection.now) outbox.old) result outbox.new }
 {
     let ack = connection.acknowledgment(outbox.allocator());
@@ -118,10 +118,10 @@ fn acknowledge(connection: &Connection, outbox: &mut Outbox, now: u64) -> Result
 }
 
 /// The RST that refuses an ACK is put out at a moment.
-fn refuse(outbox: &mut Outbox, ack: u32, now: u64) -> Result<(), HostEnd>
+fn send_refusing_rst(outbox: &mut Outbox, ack: u32, now: u64) -> Result<(), HostEnd>
     ensures { Gives (with_packet now (refusal_of ack) outbox.old) result outbox.new }
 {
-    let rst = refusal(ack, outbox.allocator());
+    let rst = refusing_rst(ack, outbox.allocator());
     outbox.push(rst, now)
 }
 
@@ -132,12 +132,12 @@ fn is_syn_alone(flags: Flags) -> bool
 }
 
 /// Whether a first segment begins the connection.
-fn is_opening(listener: ListenState, segment: &Segment) -> bool
-    ensures { result ≡ is_opening listener segment.now }
+fn can_begin_connection(listener: ListenState, segment: &Segment) -> bool
+    ensures { result ≡ can_begin_connection listener segment.now }
 {
     listener.is_listening()
         && is_syn_alone(segment.flags)
         && segment.start == 0
-        && segment.len() == 0
-        && is_mss_run(SynOptions::of(segment.options.as_slice()).mss)
+        && segment.data_len() == 0
+        && is_peer_mss_supported(SynOptions::of(segment.options.as_slice()).mss)
 }

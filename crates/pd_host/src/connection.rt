@@ -4,10 +4,10 @@ ghost use Rattle.pd_host.specs.Arrivals.{reset_of, with_peer_fin};
 ghost use Rattle.pd_host.specs.Calls.{stream_of, with_stream, with_nagle, free_of, with_queued, with_fin};
 ghost use Rattle.pd_host.specs.Connection.{peer_fin_in, rcv_nxt};
 ghost use Rattle.pd_host.specs.Inner.{IsScalable};
-ghost use Rattle.pd_host.specs.Handshake.{offered_mss, is_mss_run, smss_of, scaling_of, connection_begun, window_in, syn_acked, established_with, established_by};
+ghost use Rattle.pd_host.specs.Handshake.{offered_mss, is_peer_mss_supported, smss_of, scaling_of, connection_begun, scaled_window_in, syn_acked, new_established_parts, established_by};
 ghost use Rattle.pd_host.specs.Sending.{is_recovering};
 ghost use Rattle.pd_host.specs.declared.descriptors.StreamState.TheVariants.{Open as StreamOpen, Closed as StreamClosed};
-ghost use Rattle.pd_host.specs.Packets.{peer_count};
+ghost use Rattle.pd_host.specs.Packets.{peer_window_shift};
 ghost use Rattle.pd_host.specs.RttSegment.{with_sample, with_handshake_timer_ended};
 
 pub mod ack_effects;
@@ -24,7 +24,7 @@ use self::rtt_segment::RttSegment;
 use crate::descriptors::StreamState;
 use crate::established::{Established, PeerFin};
 use crate::syn_options::SynOptions;
-pub use control_segments::refusal;
+pub use control_segments::refusing_rst;
 use pd_board::Board;
 use pd_recover::Cong;
 use pd_seg::{Segment, Span};
@@ -91,9 +91,9 @@ impl Model for Connection {
 }
 
 /// By how much the windows that the peer sends are shifted.
-fn peer_count(scaling: Option<Scaling>) -> u8
+fn peer_window_shift(scaling: Option<Scaling>) -> u8
     requires { IsScalable scaling }
-    ensures count { result ≡ peer_count scaling }
+    ensures count { result ≡ peer_window_shift scaling }
     ensures small { result ≤ 14 }
 {
     match scaling {
@@ -104,7 +104,7 @@ fn peer_count(scaling: Option<Scaling>) -> u8
 
 /// The greatest segment that is sent to a peer that offers this, in octets.
 fn smss_of(settings: &Settings, syn_options: SynOptions) -> u16
-    requires { is_mss_run syn_options.mss ≡ true }
+    requires { is_peer_mss_supported syn_options.mss ≡ true }
     ensures value { result ≡ smss_of settings.now syn_options }
     ensures low { 64 ≤ result }
     ensures high { result ≤ 65495 }
@@ -129,7 +129,7 @@ impl Connection {
     /// The connection that a SYN begins at a moment; our SYN counts as sent.
     pub fn begin(alloc: Global, settings: &Settings, syn: &Segment, now: u64) -> Connection
         requires early { now < 2 ^ 62 }
-        requires run { is_mss_run (offered_mss syn.now.options) ≡ true }
+        requires run { is_peer_mss_supported (offered_mss syn.now.options) ≡ true }
         ensures { result ≡ connection_begun now settings.now syn.now }
     {
         let syn_options = SynOptions::of(syn.options.as_slice());
@@ -176,7 +176,7 @@ impl Connection {
 
     /// Puts the same connection in a place, on an equal scoreboard.
     #[inline(always)]
-    pub fn put_with_board(&self, scoreboard: Board, place: &mut Option<Connection>)
+    pub fn store_copy_with_board(&self, scoreboard: Board, place: &mut Option<Connection>)
         requires { scoreboard ≡ self.now.board }
         ensures { place.new ≡ Some self.now }
     {
@@ -193,10 +193,10 @@ impl Connection {
         requires sent { 1 ≤ self.old.board.top }
         ensures { self.new ≡ established_by now settings.now segment.now self.old }
     {
-        let established = self.established_with(settings, segment);
+        let established = self.new_established_parts(settings, segment);
         let max_window = self.max_window_with(established.rwnd);
-        self.take_syn_ack(settings.granularity_us, now);
-        self.finish_handshake(max_window, established);
+        self.take_ack_of_syn(settings.granularity_us, now);
+        self.set_max_window_and_established(max_window, established);
     }
 
     /// The largest window seen, with this one, in octets.
@@ -207,7 +207,7 @@ impl Connection {
     }
 
     /// Our SYN is acknowledged at a moment.
-    fn take_syn_ack(&mut self, granularity_us: u64, now: u64)
+    fn take_ack_of_syn(&mut self, granularity_us: u64, now: u64)
         requires early { now < 2 ^ 62 }
         requires begun { self.old.board.una ≤ 1 }
         requires sent { 1 ≤ self.old.board.top }
@@ -218,7 +218,7 @@ impl Connection {
         self.end_handshake_timer();
     }
 
-    fn finish_handshake(&mut self, max_window: u32, established: Established)
+    fn set_max_window_and_established(&mut self, max_window: u32, established: Established)
         ensures { self.new ≡ record self.old { max_window = max_window; established = Some established } }
     {
         self.max_window = max_window;
@@ -226,26 +226,26 @@ impl Connection {
     }
 
     /// The parts that the connection has once this segment has finished the handshake.
-    fn established_with(&self, settings: &Settings, segment: &Segment) -> Established
-        ensures { result ≡ established_with settings.now segment.now self.now }
+    fn new_established_parts(&self, settings: &Settings, segment: &Segment) -> Established
+        ensures { result ≡ new_established_parts settings.now segment.now self.now }
     {
         Established {
-            rwnd: self.window_in(segment),
+            rwnd: self.scaled_window_in(segment),
             wl1: segment.start,
             wl2: segment.ack,
             nagle: settings.nagle,
             granularity_us: settings.granularity_us,
             congestion: Cong::new(settings, self.board.smss(), self.syn_ack_resent),
-            stream: StreamState::Waiting,
+            stream_state: StreamState::Waiting,
             peer_fin: PeerFin::Awaited,
         }
     }
 
     /// The window in a segment, in octets.
-    fn window_in(&self, segment: &Segment) -> u32
-        ensures { result ≡ window_in self.now segment.now }
+    fn scaled_window_in(&self, segment: &Segment) -> u32
+        ensures { result ≡ scaled_window_in self.now segment.now }
     {
-        u32::from(segment.win) << peer_count(self.scaling)
+        u32::from(segment.win) << peer_window_shift(self.scaling)
     }
 
     /// The peer's FIN.
@@ -263,11 +263,11 @@ impl Connection {
         ensures value { result ≡ rcv_nxt self.now }
         ensures small { result ≤ 2 }
     {
-        self.peer_fin().next_number()
+        self.peer_fin().next_peer_octet()
     }
 
     /// The peer's FIN is taken.
-    pub fn take_fin(&mut self)
+    pub fn take_peer_fin(&mut self)
         ensures { self.new ≡ with_peer_fin self.old }
     {
         if let Some(established) = &mut self.established {
@@ -293,7 +293,7 @@ impl Connection {
         ensures { self.new ≡ with_stream StreamOpen self.old }
     {
         if let Some(established) = &mut self.established {
-            established.stream = StreamState::Open;
+            established.stream_state = StreamState::Open;
         }
     }
 
@@ -307,14 +307,14 @@ impl Connection {
     }
 
     /// How many octets `write` may still queue, by the setting `sndbuf`.
-    pub fn free(&self, sndbuf: u32) -> u32
+    pub fn free_send_buffer(&self, sndbuf: u32) -> u32
         ensures { result ≡ free_of sndbuf self.now }
     {
         sndbuf.saturating_sub(self.board.end() - self.board.una())
     }
 
     /// Queues octets.
-    pub fn queue(&mut self, count: u32)
+    pub fn queue_octets(&mut self, count: u32)
         requires small { self.old.board.end + count < 2 ^ 31 }
         ensures { self.new ≡ with_queued count self.old }
     {
@@ -330,12 +330,12 @@ impl Connection {
         self.fin = true;
     }
 
-    /// `close` closes descriptor 4.
-    pub fn close(&mut self)
+    /// `close_stream` closes descriptor 4.
+    pub fn close_stream(&mut self)
         ensures { self.new ≡ with_stream StreamClosed self.old }
     {
         if let Some(established) = &mut self.established {
-            established.stream = StreamState::Closed;
+            established.stream_state = StreamState::Closed;
         }
     }
 
@@ -357,12 +357,12 @@ impl Connection {
     }
 
     /// How far descriptor 4 has come.
-    pub fn stream(&self) -> StreamState
+    pub fn stream_state(&self) -> StreamState
         ensures { result ≡ stream_of self.now }
     {
         match &self.established {
             None => StreamState::Waiting,
-            Some(established) => established.stream,
+            Some(established) => established.stream_state,
         }
     }
 

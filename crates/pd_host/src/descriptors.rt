@@ -1,6 +1,6 @@
 //! Descriptors 3 and 4, as a program has them.
 ghost use Rattle.std.specs.Prelude.{◌≡◌};
-ghost use Rattle.pd_host.specs.Calls.{is_listener_open, is_waiting, is_open};
+ghost use Rattle.pd_host.specs.Calls.{is_listener_open, is_unaccepted, is_open};
 ghost use Rattle.pd_host.specs.Handshake.{is_listening};
 
 /// How far descriptor 3 has come.
@@ -41,8 +41,8 @@ pub enum StreamState {
 
 impl StreamState {
     /// Whether `accept` has still to hand it out.
-    pub fn is_waiting(self) -> bool
-        ensures { result ≡ is_waiting self }
+    pub fn is_unaccepted(self) -> bool
+        ensures { result ≡ is_unaccepted self }
     {
         matches!(self, StreamState::Waiting)
     }

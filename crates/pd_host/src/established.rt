@@ -2,7 +2,7 @@
 ghost use Rattle.std.specs.Prelude.{◌≡◌, ◌≤◌};
 ghost use Rattle.pd_host.specs.Arrivals.{is_awaited};
 ghost use Rattle.pd_host.specs.Connection.{next_from};
-ghost use Rattle.pd_host.specs.AckEffects.{is_current};
+ghost use Rattle.pd_host.specs.AckEffects.{can_update_window};
 ghost use Rattle.pd_host.specs.Handshake.{with_window};
 
 use crate::descriptors::StreamState;
@@ -29,7 +29,7 @@ impl PeerFin {
     }
 
     /// The number of the octet that the peer sends next.
-    pub fn next_number(self) -> u32
+    pub fn next_peer_octet(self) -> u32
         ensures value { result ≡ next_from self }
         ensures small { result ≤ 2 }
     {
@@ -56,15 +56,15 @@ pub struct Established {
     /// The congestion window, and what loss recovery keeps (RFC 5681, RFC 6675).
     pub congestion: Cong,
     /// Descriptor 4.
-    pub stream: StreamState,
+    pub stream_state: StreamState,
     /// Whether the peer's FIN was taken, and whether ours was queued then (RFC 9293, section 3.6).
     pub peer_fin: PeerFin,
 }
 
 impl Established {
     /// Whether a segment is no older than the one that the window was taken from.
-    pub fn is_current(&self, segment: &Segment) -> bool
-        ensures { result ≡ is_current self.now segment.now }
+    pub fn can_update_window(&self, segment: &Segment) -> bool
+        ensures { result ≡ can_update_window self.now segment.now }
     {
         self.wl1 < segment.start || (self.wl1 == segment.start && self.wl2 <= segment.ack)
     }

@@ -24,7 +24,7 @@ impl SenderState {
             return Ok(());
         };
         let outbox = &mut self.endpoint.outbox;
-        while let Some(at) = connection.due(until) {
+        while let Some(at) = connection.deadline_up_to(until) {
             expire(connection, outbox, at)?;
         }
         Ok(())

@@ -15,7 +15,7 @@ ghost use Rattle.pd_host.specs.Host.{fresh_host, without_oldest, ended_out_of_me
 ghost use Rattle.pd_host.specs.declared.halts.HostEnd.TheVariants.{OutOfMemory};
 
 use crate::connection::introspection::SendBlocker;
-use crate::connection::loss_evidence::DupAckStatus;
+use crate::connection::loss_evidence::DupAckEffect;
 use crate::connection::segment_check::SegmentCheck;
 use crate::connection::states::ConnState;
 use crate::connection_snapshot::ConnectionSnapshot;
@@ -38,7 +38,7 @@ pub struct Host {
     /// The state that the rules work on.
     state: SenderState,
     /// Why the host has ended, if it has.
-    ended: Option<HostEnd>,
+    end_reason: Option<HostEnd>,
 }
 
 impl Model for Host {
@@ -46,7 +46,7 @@ impl Model for Host {
 
     ghost Value = { HostView };
 
-    ghost view = { λ h. record { state = h.state; ended = h.ended } };
+    ghost view = { λ h. record { state = h.state; end_reason = h.end_reason } };
 }
 
 impl Host {
@@ -60,7 +60,7 @@ impl Host {
                 consulted_settings: SettingSet::new(),
                 endpoint: Endpoint::new(alloc),
             },
-            ended: None,
+            end_reason: None,
         }
     }
 
@@ -75,15 +75,15 @@ impl Host {
         requires room { HasRoomFor (asked_by self.old.state.settings.sndbuf (syscall_of call.now)) self.old.state }
         ensures { Answers self.old (called call.now now) result self.new }
     {
-        if let Some(ending) = self.ended {
+        if let Some(ending) = self.end_reason {
             return Err(ending);
         }
         let Some(syscall) = Syscall::of(call) else {
-            return Err(self.end(HostEnd::Halted(Halt::Unsupported)));
+            return Err(self.record_host_end(HostEnd::Halted(Halt::Unsupported)));
         };
         match self.state.call(syscall, now) {
             Ok(answer) => Ok(answer),
-            Err(ending) => Err(self.end(ending)),
+            Err(ending) => Err(self.record_host_end(ending)),
         }
     }
 
@@ -97,12 +97,12 @@ impl Host {
         requires early { now < 2 ^ 62 }
         ensures { Goes self.old (arrived segment.now now) result self.new }
     {
-        if let Some(ending) = self.ended {
+        if let Some(ending) = self.end_reason {
             return Err(ending);
         }
         match self.state.arrive(segment, now) {
             Ok(()) => Ok(()),
-            Err(ending) => Err(self.end(ending)),
+            Err(ending) => Err(self.record_host_end(ending)),
         }
     }
 
@@ -126,11 +126,11 @@ impl Host {
         requires early { until < 2 ^ 62 }
         ensures { Goes self.old (advanced until) result self.new }
     {
-        match self.ended {
+        match self.end_reason {
             Some(ending) => Err(ending),
             None => match self.state.advance(until) {
                 Ok(()) => Ok(()),
-                Err(halted) => Err(self.end(halted)),
+                Err(halted) => Err(self.record_host_end(halted)),
             },
         }
     }
@@ -177,32 +177,32 @@ impl Host {
     ///
     /// # Errors
     /// `AllocError` where a growth is refused, or the host has found no memory before.
-    pub fn wanted_octet(&self) -> Result<Option<u32>, AllocError>
+    pub fn octet_needed_in_windows(&self) -> Result<Option<u32>, AllocError>
         ensures { IfOk result (λ octet. octet ≡ wanted_in self.now.state) }
     {
         match &self.state.endpoint.connection {
             None => Ok(None),
-            Some(connection) => Ok(Some(connection.wanted_octet()?)),
+            Some(connection) => Ok(Some(connection.octet_needed_in_windows()?)),
         }
     }
 
     /// The effect of a duplicate; nothing where no octet is outstanding, loss recovery goes on, or no connection is established.
-    pub fn dup_ack_status(&self) -> Option<DupAckStatus>
+    pub fn dup_ack_effect(&self) -> Option<DupAckEffect>
         ensures { result ≡ dup_ack_status_in self.now.state }
     {
         match &self.state.endpoint.connection {
             None => None,
-            Some(connection) => connection.dup_ack_status(),
+            Some(connection) => connection.dup_ack_effect(),
         }
     }
 
     /// How the timeout comes from what was measured of round trips; nothing before any measurement.
-    pub fn timeout(&self) -> Option<Timeout>
+    pub fn rto_derivation(&self) -> Option<Timeout>
         ensures { result ≡ measured_in self.now.state }
     {
         match &self.state.endpoint.connection {
             None => None,
-            Some(connection) => connection.timeout(),
+            Some(connection) => connection.rto_derivation(),
         }
     }
 
@@ -257,20 +257,20 @@ impl Host {
     }
 
     /// Why the host has ended, if it has.
-    pub fn ended(&self) -> Option<HostEnd>
-        ensures { result ≡ self.now.ended }
+    pub fn end_reason(&self) -> Option<HostEnd>
+        ensures { result ≡ self.now.end_reason }
     {
-        self.ended
+        self.end_reason
     }
 
     /// No memory was found for the next input: the host answers that from now on, unless it has ended already.
     /// The result is its answer.
     pub fn fail_out_of_memory(&mut self) -> HostEnd
         ensures ending { result ≡ end_of self.old }
-        ensures ended { self.new ≡ ended_out_of_memory self.old }
+        ensures end_reason { self.new ≡ ended_out_of_memory self.old }
     {
-        let ending = self.ended.unwrap_or(HostEnd::OutOfMemory);
-        self.end(ending)
+        let ending = self.end_reason.unwrap_or(HostEnd::OutOfMemory);
+        self.record_host_end(ending)
     }
 
     /// The same host once more.
@@ -279,10 +279,10 @@ impl Host {
     /// Out of memory, also where the host has ended by it.
     pub fn copy(&self) -> Result<Host, AllocError>
         ensures ok { IfOk result (λ copy. copy ≡ self.now) }
-        ensures again { self.now.ended ≡ Some OutOfMemory → IsErr result }
+        ensures again { self.now.end_reason ≡ Some OutOfMemory → IsErr result }
     {
-        let cloned_parts = self.cloned_parts()?;
-        Ok(self.with_cloned_parts(cloned_parts))
+        let copied_heap_parts = self.copied_heap_parts()?;
+        Ok(self.with_heap_parts(copied_heap_parts))
     }
 
     /// Copies of what of it takes memory.
@@ -290,28 +290,28 @@ impl Host {
     /// # Errors
     /// Out of memory, also where the host has ended by it.
     #[inline(always)]
-    pub fn cloned_parts(&self) -> Result<ClonedParts, AllocError>
-        ensures board { IfOk result (λ cloned_parts. cloned_parts.board ≡ option_map (λ c. c.board) self.now.state.endpoint.connection) }
-        ensures outbox { IfOk result (λ cloned_parts. cloned_parts.outbox ≡ self.now.state.endpoint.outbox) }
-        ensures again { self.now.ended ≡ Some OutOfMemory → IsErr result }
+    pub fn copied_heap_parts(&self) -> Result<ClonedParts, AllocError>
+        ensures board { IfOk result (λ copied_heap_parts. copied_heap_parts.board ≡ option_map (λ c. c.board) self.now.state.endpoint.connection) }
+        ensures outbox { IfOk result (λ copied_heap_parts. copied_heap_parts.outbox ≡ self.now.state.endpoint.outbox) }
+        ensures again { self.now.end_reason ≡ Some OutOfMemory → IsErr result }
     {
-        if let Some(HostEnd::OutOfMemory) = self.ended {
+        if let Some(HostEnd::OutOfMemory) = self.end_reason {
             return Err(AllocError);
         }
-        self.state.endpoint.cloned_parts()
+        self.state.endpoint.copied_heap_parts()
     }
 
     /// The same host once more, with copies of what takes memory.
     #[inline(always)]
-    pub fn with_cloned_parts(&self, cloned_parts: ClonedParts) -> Host
-        requires board { cloned_parts.board ≡ option_map (λ c. c.board) self.now.state.endpoint.connection }
-        requires outbox { cloned_parts.outbox ≡ self.now.state.endpoint.outbox }
+    pub fn with_heap_parts(&self, copied_heap_parts: ClonedParts) -> Host
+        requires board { copied_heap_parts.board ≡ option_map (λ c. c.board) self.now.state.endpoint.connection }
+        requires outbox { copied_heap_parts.outbox ≡ self.now.state.endpoint.outbox }
         ensures { result ≡ self.now }
     {
-        let ClonedParts { board, outbox } = cloned_parts;
+        let ClonedParts { board, outbox } = copied_heap_parts;
         let mut connection = None;
         if let (Some(begun), Some(board)) = (&self.state.endpoint.connection, board) {
-            begun.put_with_board(board, &mut connection);
+            begun.store_copy_with_board(board, &mut connection);
         }
         Host {
             state: SenderState {
@@ -322,16 +322,16 @@ impl Host {
                 },
                 ..self.state
             },
-            ended: self.ended,
+            end_reason: self.end_reason,
         }
     }
 
     /// The host has ended by this.
-    fn end(&mut self, ending: HostEnd) -> HostEnd
+    fn record_host_end(&mut self, ending: HostEnd) -> HostEnd
         ensures ending { result ≡ ending }
-        ensures ended { self.new ≡ record self.old { ended = Some ending } }
+        ensures end_reason { self.new ≡ record self.old { end_reason = Some ending } }
     {
-        self.ended = Some(ending);
+        self.end_reason = Some(ending);
         ending
     }
 }

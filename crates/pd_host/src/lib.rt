@@ -63,7 +63,7 @@ mod syscall;
 mod syscall_table;
 
 pub use connection::introspection::SendBlocker;
-pub use connection::loss_evidence::{DupAckStatus, LossEvidence, SackEvidence};
+pub use connection::loss_evidence::{DupAckEffect, LossEvidence, SackEvidence};
 pub use connection::segment_check::SegmentCheck;
 pub use connection::states::ConnState;
 pub use connection_snapshot::{ConnectionSnapshot, Recovery, WindowSnapshot};
@@ -75,4 +75,4 @@ pub use laws::{
     law_sending, law_sending_one_by_one, law_states, law_times,
 };
 pub use outbox::Outbox;
-pub use syscall::{SocketOperation, Syscall, is_run};
+pub use syscall::{SocketOperation, Syscall, is_shape_supported};

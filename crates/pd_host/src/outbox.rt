@@ -36,7 +36,7 @@ impl Model for Outbox {
 ///
 /// # Errors
 /// `AllocError` where a growth is refused.
-fn clone_packets(
+fn append_packet_copies(
     packets: &VecDeque<Sent>,
     packet_clones: &mut VecDeque<Sent>,
 ) -> Result<(), AllocError>
@@ -120,7 +120,7 @@ impl Outbox {
         ensures { IfOk result (λ copy. copy ≡ self.now) }
     {
         let mut packets = VecDeque::with_capacity(self.allocator(), self.packets.len())?;
-        clone_packets(&self.packets, &mut packets)?;
+        append_packet_copies(&self.packets, &mut packets)?;
         Ok(Outbox { packets })
     }
 

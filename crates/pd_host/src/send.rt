@@ -12,7 +12,7 @@ use crate::outbox::Outbox;
 use pd_seg::Span;
 
 /// Puts a segment of a connection out at a moment.
-pub fn put_segment(
+pub fn put_out_data_segment(
     connection: &Connection,
     outbox: &mut Outbox,
     segment: Span,
@@ -20,7 +20,7 @@ pub fn put_segment(
 ) -> Result<(), HostEnd>
     ensures { Gives (with_packet now (data_of connection.now segment) outbox.old) result outbox.new }
 {
-    let packet = connection.data(segment, outbox.allocator());
+    let packet = connection.data_segment(segment, outbox.allocator());
     outbox.push(packet, now)
 }
 
@@ -34,10 +34,10 @@ pub fn send(connection: &mut Connection, outbox: &mut Outbox, now: u64) -> Resul
     requires early { now < 2 ^ 62 }
     ensures { GivesOn (ordinary now) connection.old outbox.old result connection.new outbox.new }
 {
-    connection.restart_if_idle(now);
+    connection.restart_cwnd_if_idle(now);
     connection.skip_sacked();
     while let Some(segment) = connection.next_segment() {
-        put_segment(connection, outbox, segment, now)?;
+        put_out_data_segment(connection, outbox, segment, now)?;
         connection.note_segment_sent(segment, now)?;
         connection.skip_sacked();
     }

@@ -1,6 +1,6 @@
 //! The offers of a SYN's options. Options after `eol` aren't looked at; of a repeated one the first counts.
 ghost use Rattle.std.specs.Prelude.{◌≡◌};
-ghost use Rattle.pd_host.specs.Handshake.{syn_options_of, is_mss_run};
+ghost use Rattle.pd_host.specs.Handshake.{syn_options_of, is_peer_mss_supported};
 ghost use Rattle.pd_host.specs.Steps.{with_option};
 
 use pd_seg::SegOption;
@@ -33,13 +33,13 @@ impl SynOptions {
             if let SegOption::Eol = option {
                 return syn_options;
             }
-            syn_options = syn_options.with(option);
+            syn_options = syn_options.with_option(option);
         }
         syn_options
     }
 
     /// The offers with one more option.
-    fn with(self, option: &SegOption) -> SynOptions
+    fn with_option(self, option: &SegOption) -> SynOptions
         ensures { result ≡ with_option self option.now }
     {
         match option {
@@ -58,8 +58,8 @@ impl SynOptions {
 }
 
 /// Whether a peer with this MSS is run.
-pub fn is_mss_run(octets: Option<u16>) -> bool
-    ensures { result ≡ is_mss_run octets }
+pub fn is_peer_mss_supported(octets: Option<u16>) -> bool
+    ensures { result ≡ is_peer_mss_supported octets }
 {
     match octets {
         None => true,

@@ -1,6 +1,6 @@
 //! Requests of calls, where their names and shapes are run.
 ghost use Rattle.std.specs.Prelude.{◌≡◌, is_some};
-ghost use Rattle.pd_host.specs.Syscalls.{is_tcp, is_tcp_level, socket_syscall, no_delay, option_syscall, flags_syscall, address_syscall, listen_syscall, write_syscall, close_syscall, syscall_of};
+ghost use Rattle.pd_host.specs.Syscalls.{is_tcp, is_tcp_level, socket_syscall, no_delay_syscall, setsockopt_syscall, fcntl_syscall, bind_or_accept_syscall, listen_syscall, write_syscall, close_syscall, syscall_of};
 
 use pd_script::{Argument, Call, Constant, Function};
 
@@ -30,7 +30,7 @@ pub enum SocketOperation {
 }
 
 /// Whether a call's name and shape are run. The sender's state isn't looked at.
-pub fn is_run(call: &Call) -> bool
+pub fn is_shape_supported(call: &Call) -> bool
     ensures { result ≡ is_some (syscall_of call.now) }
 {
     Syscall::of(call).is_some()
@@ -45,11 +45,11 @@ impl Syscall {
         let arguments = call.arguments.as_slice();
         match call.function {
             Function::Socket => socket_syscall(arguments),
-            Function::Bind => address_syscall(SocketOperation::Bind, arguments),
+            Function::Bind => bind_or_accept_syscall(SocketOperation::Bind, arguments),
             Function::Listen => listen_syscall(arguments),
-            Function::Accept => address_syscall(SocketOperation::Accept, arguments),
-            Function::Setsockopt => option_syscall(arguments),
-            Function::Fcntl => flags_syscall(arguments),
+            Function::Accept => bind_or_accept_syscall(SocketOperation::Accept, arguments),
+            Function::Setsockopt => setsockopt_syscall(arguments),
+            Function::Fcntl => fcntl_syscall(arguments),
             Function::Write => write_syscall(arguments),
             Function::Close => close_syscall(arguments),
             Function::Unknown => None,
@@ -83,8 +83,8 @@ fn is_tcp(protocol: Argument) -> bool
 }
 
 /// The shape of `bind` and `accept`.
-fn address_syscall(operation: SocketOperation, arguments: &[Argument]) -> Option<Syscall>
-    ensures { result ≡ address_syscall operation arguments.now }
+fn bind_or_accept_syscall(operation: SocketOperation, arguments: &[Argument]) -> Option<Syscall>
+    ensures { result ≡ bind_or_accept_syscall operation arguments.now }
 {
     match arguments {
         [Argument::Int(fd), _, _] => Some(Syscall::On(*fd, operation)),
@@ -101,8 +101,8 @@ fn listen_syscall(arguments: &[Argument]) -> Option<Syscall>
     }
 }
 
-fn option_syscall(arguments: &[Argument]) -> Option<Syscall>
-    ensures { result ≡ option_syscall arguments.now }
+fn setsockopt_syscall(arguments: &[Argument]) -> Option<Syscall>
+    ensures { result ≡ setsockopt_syscall arguments.now }
 {
     match arguments {
         [
@@ -120,7 +120,7 @@ fn option_syscall(arguments: &[Argument]) -> Option<Syscall>
             _,
         ] => {
             if is_tcp_level(*level) {
-                no_delay(*fd, *n)
+                no_delay_syscall(*fd, *n)
             } else {
                 None
             }
@@ -135,8 +135,8 @@ fn is_tcp_level(level: Constant) -> bool
     matches!(level, Constant::SolTcp | Constant::IpprotoTcp)
 }
 
-fn no_delay(fd: u64, n: u64) -> Option<Syscall>
-    ensures { result ≡ no_delay fd n }
+fn no_delay_syscall(fd: u64, n: u64) -> Option<Syscall>
+    ensures { result ≡ no_delay_syscall fd n }
 {
     match n {
         1 => Some(Syscall::On(fd, SocketOperation::NoDelay(true))),
@@ -145,8 +145,8 @@ fn no_delay(fd: u64, n: u64) -> Option<Syscall>
     }
 }
 
-fn flags_syscall(arguments: &[Argument]) -> Option<Syscall>
-    ensures { result ≡ flags_syscall arguments.now }
+fn fcntl_syscall(arguments: &[Argument]) -> Option<Syscall>
+    ensures { result ≡ fcntl_syscall arguments.now }
 {
     match arguments {
         [Argument::Int(fd), Argument::Constant(Constant::FSetfl), _] => {

@@ -1,6 +1,6 @@
 //! The table of calls.
 ghost use Rattle.std.specs.Prelude.{◌≡◌, ℕ, ◌+◌, ◌<◌, ◌^◌, min, Some, Ok};
-ghost use Rattle.pd_host.specs.Calls.{Listening, open_stream, is_pending, socket_reply, bind_reply, listen_reply, accept_reply, handed_out, free_of, queued, closed_on, close_reply, operated, on_open, reply_to};
+ghost use Rattle.pd_host.specs.Calls.{Listening, open_stream, has_unaccepted_connection, socket_reply, bind_reply, listen_reply, accept_reply, handed_out, free_of, queued, closed_on, close_reply, operated, on_open, reply_to};
 ghost use Rattle.pd_host.specs.InputResults.{GivesAnswer};
 ghost use Rattle.pd_host.specs.Growth.{asked_by, asked_of, HasRoomFor};
 ghost use Rattle.pd_host.specs.Steps.{AnswersOn};
@@ -28,12 +28,12 @@ const DONE: Answer = Answer::Number(0);
 const NOT_RUN: HostEnd = HostEnd::Halted(Halt::Unsupported);
 
 impl Endpoint {
-    fn is_pending(&self) -> bool
-        ensures { result ≡ is_pending self.now.connection }
+    fn has_unaccepted_connection(&self) -> bool
+        ensures { result ≡ has_unaccepted_connection self.now.connection }
     {
         match &self.connection {
             None => false,
-            Some(connection) => connection.stream().is_waiting(),
+            Some(connection) => connection.stream_state().is_unaccepted(),
         }
     }
 }
@@ -42,8 +42,8 @@ impl SenderState {
     /// Answers a request at a moment. A descriptor that isn't open answers EBADF, before all else.
     ///
     /// # Errors
-    /// `Halted` by `Unsupported` for a `socket` that isn't the first, and for a `close` of 3 while a connection was begun
-    /// that isn't accepted; for a `write` and a `close` of 4 those of `send`.
+    /// `Halted` by `Unsupported` for a `socket` that isn't the first, and for a `close_stream` of 3 while a connection was begun
+    /// that isn't accepted; for a `write` and a `close_stream` of 4 those of `send`.
     #[inline(always)]
     pub fn call(&mut self, syscall: Syscall, now: u64) -> Result<Answer, HostEnd>
         requires early { now < 2 ^ 62 }
@@ -54,9 +54,9 @@ impl SenderState {
             return self.socket();
         };
         if fd == u64::from(LISTENER) && self.endpoint.listener.is_open() {
-            self.on_listener(operation)
+            self.answer_on_listener(operation)
         } else if fd == u64::from(CONNECTION) {
-            self.on_connection(operation, now)
+            self.answer_on_connection(operation, now)
         } else {
             Ok(Answer::Error(Errno::Ebadf))
         }
@@ -75,7 +75,7 @@ impl SenderState {
     }
 
     /// The row of an operation on descriptor 3, which is open.
-    fn on_listener(&mut self, operation: SocketOperation) -> Result<Answer, HostEnd>
+    fn answer_on_listener(&mut self, operation: SocketOperation) -> Result<Answer, HostEnd>
         ensures { (now : ℕ) → GivesAnswer (operated now self.old Listening operation) result self.new }
     {
         match operation {
@@ -119,19 +119,19 @@ impl SenderState {
         ensures { accept_reply self.old self.old.endpoint.listener Listening ≡ Ok (self.new, result) }
     {
         match self.endpoint.listener {
-            ListenState::Listens => self.hand_out(),
+            ListenState::Listens => self.hand_out_connection(),
             _ => Answer::Error(Errno::Einval),
         }
     }
 
     /// Hands out the connection, if it was established and isn't accepted.
-    fn hand_out(&mut self) -> Answer
+    fn hand_out_connection(&mut self) -> Answer
         ensures { handed_out self.old self.old.endpoint.connection ≡ Ok (self.new, result) }
     {
         let Some(connection) = &mut self.endpoint.connection else {
             return Answer::Error(Errno::Eagain);
         };
-        if connection.is_established() && connection.stream().is_waiting() {
+        if connection.is_established() && connection.stream_state().is_unaccepted() {
             connection.accept();
             Answer::Number(CONNECTION)
         } else {
@@ -142,7 +142,7 @@ impl SenderState {
     fn close_listener(&mut self) -> Result<Answer, HostEnd>
         ensures { GivesAnswer (close_reply 0 self.old Listening) result self.new }
     {
-        if self.endpoint.is_pending() {
+        if self.endpoint.has_unaccepted_connection() {
             return Err(NOT_RUN);
         }
         self.endpoint.listener = ListenState::Closed;
@@ -150,7 +150,11 @@ impl SenderState {
     }
 
     /// The row of an operation on descriptor 4, where it is open.
-    fn on_connection(&mut self, operation: SocketOperation, now: u64) -> Result<Answer, HostEnd>
+    fn answer_on_connection(
+        &mut self,
+        operation: SocketOperation,
+        now: u64,
+    ) -> Result<Answer, HostEnd>
         requires early { now < 2 ^ 62 }
         requires room { HasRoomFor (asked_of self.old.settings.sndbuf operation) self.old }
         ensures { GivesAnswer (on_open now self.old operation (open_stream self.old.endpoint.connection)) result self.new }
@@ -158,7 +162,7 @@ impl SenderState {
         let Some(connection) = &mut self.endpoint.connection else {
             return Ok(Answer::Error(Errno::Ebadf));
         };
-        if !connection.stream().is_open() {
+        if !connection.stream_state().is_open() {
             return Ok(Answer::Error(Errno::Ebadf));
         }
         match operation {
@@ -177,7 +181,7 @@ impl SenderState {
                 let sndbuf = self.settings.sndbuf;
                 write(connection, &mut self.endpoint.outbox, n, sndbuf, now)
             }
-            SocketOperation::Close => close(connection, &mut self.endpoint.outbox, now),
+            SocketOperation::Close => close_stream(connection, &mut self.endpoint.outbox, now),
         }
     }
 }
@@ -194,12 +198,12 @@ fn write(
     requires room { connection.old.board.end + min n sndbuf < 2 ^ 31 }
     ensures { AnswersOn (queued now n (free_of sndbuf connection.old) connection.old) connection.old outbox.old result connection.new outbox.new }
 {
-    let free = connection.free(sndbuf);
-    if free == 0 {
+    let free_send_buffer = connection.free_send_buffer(sndbuf);
+    if free_send_buffer == 0 {
         return Ok(Answer::Error(Errno::Eagain));
     }
-    let count = n.min(u64::from(free)) as u32;
-    connection.queue(count);
+    let count = n.min(u64::from(free_send_buffer)) as u32;
+    connection.queue_octets(count);
     // In recovery segments leave for an ACK alone: a call sends nothing by itself (own).
     if !connection.is_recovering() {
         send(connection, outbox, now)?;
@@ -208,12 +212,16 @@ fn write(
 }
 
 /// Descriptor 4 is closed, and a FIN queued and sent unless the connection was reset.
-fn close(connection: &mut Connection, outbox: &mut Outbox, now: u64) -> Result<Answer, HostEnd>
+fn close_stream(
+    connection: &mut Connection,
+    outbox: &mut Outbox,
+    now: u64,
+) -> Result<Answer, HostEnd>
     requires early { now < 2 ^ 62 }
     requires room { connection.old.board.end + 1 < 2 ^ 31 }
     ensures { AnswersOn (closed_on now connection.old) connection.old outbox.old result connection.new outbox.new }
 {
-    connection.close();
+    connection.close_stream();
     if !connection.is_reset() {
         connection.queue_fin();
         if !connection.is_recovering() {

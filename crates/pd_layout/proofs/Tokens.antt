@@ -12,19 +12,19 @@ use Rattle.pd_lex.specs.Lexing.{followed, items_within, items, lexeme_of, IsNext
 use Rattle.pd_lex.specs.Pieces.{Front, nothing, gap, token, stray, front}
 use Rattle.pd_lex.specs.Places.{clamped_place, octets_from, joined, place_after, before, between}
 use Rattle.pd_lex.specs.Tokens.{Item, lexeme}
-use Rattle.pd_script.specs.Brackets.{opened_by, is_closing}
+use Rattle.pd_script.specs.Brackets.{bracket_opened_by, is_closing_bracket}
 use Rattle.pd_script.specs.Cursor.{left, shown}
 use Rattle.pd_script.specs.Items.{is_symbol}
 use Rattle.pd_script.specs.Next.{place_of}
 use Rattle.pd_script.proofs.Taking.{alike}
-use Rattle.pd_layout.specs.Canonical.{depth_after, first_outside}
+use Rattle.pd_layout.specs.Canonical.{depth_after_token, first_outside}
 
 -- ---- one item
 
-pub goes_past : (test : Item → Bool) (depth : ℕ) (t : Item) (ts : List Item) → (test t && depth_after depth t == 0) ≡ false → first_outside test depth (t ∷ ts) ≡ first_outside test (depth_after depth t) ts
+pub goes_past : (test : Item → Bool) (depth : ℕ) (t : Item) (ts : List Item) → (test t && depth_after_token depth t == 0) ≡ false → first_outside test depth (t ∷ ts) ≡ first_outside test (depth_after_token depth t) ts
 goes_past test depth t ts none = rw none refl
 
-pub stops_at : (test : Item → Bool) (depth : ℕ) (t : Item) (ts : List Item) → (test t && depth_after depth t == 0) ≡ true → first_outside test depth (t ∷ ts) ≡ Some (place_of t)
+pub stops_at : (test : Item → Bool) (depth : ℕ) (t : Item) (ts : List Item) → (test t && depth_after_token depth t == 0) ≡ true → first_outside test depth (t ∷ ts) ≡ Some (place_of t)
 stops_at test depth t ts found = rw found refl
 
 none_of : (found : Bool) → (found && false) ≡ false
@@ -37,8 +37,8 @@ in_brackets found now h =
     rw more (none_of found)
 
 -- a token opens one bracket at most
-one_more : (depth : ℕ) (t : Item) → depth_after depth t ≤ depth + 1
-one_more depth t = by (is_some (opened_by t)) (is_closing t)
+one_more : (depth : ℕ) (t : Item) → depth_after_token depth t ≤ depth + 1
+one_more depth t = by (is_some (bracket_opened_by t)) (is_closing_bracket t)
   where
     by : (opens closes : Bool) → (if opens then depth + 1 else (if closes then depth - 1 else depth)) ≤ depth + 1
     by true closes = omega arith
@@ -52,12 +52,12 @@ module _ (lines : List (List ℕ)) (t : Token) (h : stays_in_line t.kind ≡ tru
   unfolding lexeme_of
   symbol_alike octet = alike (λ (i : Item). is_symbol octet i) t.kind (between lines t.from t.to) t.text.now t.from (λ stays. sym (h stays)) refl refl refl
 
-  depth_alike : (depth : ℕ) → depth_after depth (lexeme (lexeme_of lines t)) ≡ depth_after depth (shown t)
+  depth_alike : (depth : ℕ) → depth_after_token depth (lexeme (lexeme_of lines t)) ≡ depth_after_token depth (shown t)
   unfolding lexeme_of
-  depth_alike depth = alike (λ (i : Item). depth_after depth i) t.kind (between lines t.from t.to) t.text.now t.from (λ stays. sym (h stays)) refl refl refl
+  depth_alike depth = alike (λ (i : Item). depth_after_token depth i) t.kind (between lines t.from t.to) t.text.now t.from (λ stays. sym (h stays)) refl refl refl
 
-  module _ (octet depth now : ℕ) (is : now ≡ depth_after depth (shown t)) where
-    tested : (b : Bool) → (is_symbol octet (shown t) && now == 0) ≡ b → (is_symbol octet (lexeme (lexeme_of lines t)) && depth_after depth (lexeme (lexeme_of lines t)) == 0) ≡ b
+  module _ (octet depth now : ℕ) (is : now ≡ depth_after_token depth (shown t)) where
+    tested : (b : Bool) → (is_symbol octet (shown t) && now == 0) ≡ b → (is_symbol octet (lexeme (lexeme_of lines t)) && depth_after_token depth (lexeme (lexeme_of lines t)) == 0) ≡ b
     tested b e = rw (symbol_alike octet, depth_alike depth, ← is) e
 
     pub goes_on : (is_symbol octet (shown t) && now == 0) ≡ false → first_outside (is_symbol octet) depth (left lines (lexed.Token t)) ≡ first_outside (is_symbol octet) now (items lines t.to)

@@ -7,7 +7,7 @@ use Rattle.pd_lex.specs.Lexing.{items}
 use Rattle.pd_lex.specs.Octets.{is_blank}
 use Rattle.pd_lex.specs.Tokens.{Item}
 use Rattle.pd_lex.specs.declared.token.Place.{Place}
-use Rattle.pd_script.specs.Brackets.{opened_by, is_closing}
+use Rattle.pd_script.specs.Brackets.{bracket_opened_by, is_closing_bracket}
 use Rattle.pd_script.specs.Items.{is_symbol}
 use Rattle.pd_script.specs.Next.{place_of}
 use Rattle.pd_script.specs.Script.{script_of}
@@ -39,14 +39,14 @@ after_octets octets test line = bytes_eq (take (length octets) line) octets && t
 -- ---- comments and empty lines
 
 -- the octets after the end of a comment in a line; None where the comment goes on in the next line
-abbrev pub after_end : List ℕ → Option (List ℕ)
-after_end [] = None
-after_end (a ∷ []) = None
-after_end (a ∷ b ∷ s) = if a == 42 && b == 47 then Some s else after_end (b ∷ s)
+abbrev pub rest_after_comment : List ℕ → Option (List ℕ)
+rest_after_comment [] = None
+rest_after_comment (a ∷ []) = None
+rest_after_comment (a ∷ b ∷ s) = if a == 42 && b == 47 then Some s else rest_after_comment (b ∷ s)
 
 -- a line within a comment, whose end nothing follows: whether the comment goes on in the next line; None where something does
-abbrev pub still_in_comment : List ℕ → Option Bool
-still_in_comment line = option_map_or (λ rest. if length rest == 0 then Some false else None) (after_end line) (Some true)
+abbrev pub comment_goes_on : List ℕ → Option Bool
+comment_goes_on line = option_map_or (λ rest. if length rest == 0 then Some false else None) (rest_after_comment line) (Some true)
 
 -- a comment alone in its line, after one blank where it looks like a line of a trace: whether it goes on in the next line;
 -- None where the line is no such comment
@@ -54,17 +54,17 @@ abbrev pub comment : List ℕ → Option Bool
 comment line =
     if after_octets (codes " ") is_trace line then Some false
     else (if after_octets (codes "//") (λ _. not (is_trace line)) line then Some false
-    else (if after_octets (codes "/*") (λ _. true) line then still_in_comment (drop 2 line) else None))
+    else (if after_octets (codes "/*") (λ _. true) line then comment_goes_on (drop 2 line) else None))
 
 -- a line in front of an event: an empty one or a comment; or a line within a comment
-abbrev pub comment_open_after : Bool → List ℕ → Option Bool
-comment_open_after true line = still_in_comment line
-comment_open_after false line = if length line == 0 then Some false else comment line
+abbrev pub comment_goes_on_after : Bool → List ℕ → Option Bool
+comment_goes_on_after true line = comment_goes_on line
+comment_goes_on_after false line = if length line == 0 then Some false else comment line
 
 -- lines in front of an event, the first of which may be within a comment
 abbrev pub lead : Bool → List (List ℕ) → Bool
 lead inside [] = not inside
-lead inside (line ∷ lines) = option_map_or (λ more. lead more lines) (comment_open_after inside line) false
+lead inside (line ∷ lines) = option_map_or (λ more. lead more lines) (comment_goes_on_after inside line) false
 
 -- the rest of an event's line: comments, each after one blank, or the rest of one and further ones; whether the
 -- last of them goes on in the next line
@@ -84,15 +84,15 @@ gap lines rest = option_map_or (λ inside. lead inside lines) (trail false rest)
 -- ---- calls
 
 -- how many brackets are open after an item, where so many are before it
-abbrev pub depth_after : ℕ → Item → ℕ
-depth_after depth t = if is_some (opened_by t) then depth + 1 else (if is_closing t then depth - 1 else depth)
+abbrev pub depth_after_token : ℕ → Item → ℕ
+depth_after_token depth t = if is_some (bracket_opened_by t) then depth + 1 else (if is_closing_bracket t then depth - 1 else depth)
 
 -- where the first of some items stands that passes a test and leaves no bracket open, where so many are open before them; None
 -- where there is none
 abbrev pub first_outside : (Item → Bool) → ℕ → List Item → Option Place
 first_outside test depth [] = None
 first_outside test depth (t ∷ ts) =
-    let now = depth_after depth t in if test t && now == 0 then Some (place_of t) else first_outside test now ts
+    let now = depth_after_token depth t in if test t && now == 0 then Some (place_of t) else first_outside test now ts
 
 -- the first of some lines passes a test
 abbrev pub first_line : (List (List ℕ) → List ℕ → Bool) → List (List ℕ) → Bool
@@ -173,32 +173,32 @@ abbrev pub item_line : List (List ℕ) → List ℕ → Bool
 item_line lines line = gap lines (drop (item_end line) line)
 
 -- where the first of some events begins; without one the text's end
-abbrev pub events_at : List (List ℕ) → List Event → ℕ
-events_at text [] = length text
-events_at text (event ∷ others) = event.line - 1
+abbrev pub first_event_line : List (List ℕ) → List Event → ℕ
+first_event_line text [] = length text
+first_event_line text (event ∷ others) = event.line - 1
 
 -- each event begins at the start of its line, and its lines up to the next event are its own
 abbrev pub events_canonical : List (List ℕ) → List Event → Bool
 events_canonical text [] = true
 events_canonical text (event ∷ others) =
-    let until = events_at text others in
+    let until = first_event_line text others in
     first_line (action_line text event.line until event.time event.action) (lines_between text (event.line - 1) until) && events_canonical text others
 
 -- where the first of some header items begins, with these events after them
-abbrev pub items_at : List (List ℕ) → List Event → List HeaderItem → ℕ
-items_at text events [] = events_at text events
-items_at text events (item ∷ others) = item.line - 1
+abbrev pub first_item_line : List (List ℕ) → List Event → List HeaderItem → ℕ
+first_item_line text events [] = first_event_line text events
+first_item_line text events (item ∷ others) = item.line - 1
 
 -- the same of header items
 abbrev pub items_canonical : List (List ℕ) → List Event → List HeaderItem → Bool
 items_canonical text events [] = true
 items_canonical text events (item ∷ others) =
-    first_line item_line (lines_between text (item.line - 1) (items_at text events others)) && items_canonical text events others
+    first_line item_line (lines_between text (item.line - 1) (first_item_line text events others)) && items_canonical text events others
 
 -- a text with these header items and events is laid out as recordings are
 abbrev pub is_canonical : List (List ℕ) → List HeaderItem → List Event → Bool
 is_canonical text items events =
-    lead false (lines_between text 0 (items_at text events items)) && items_canonical text events items && events_canonical text events
+    lead false (lines_between text 0 (first_item_line text events items)) && items_canonical text events items && events_canonical text events
 
 -- a text is laid out as recordings are: so are the header items and events that it is read as
 abbrev pub IsCanonical : List (List ℕ) → Type 0

@@ -33,10 +33,10 @@ fn is_same_function(one: Function, other: Function) -> bool
 fn are_same_arguments(one: &Arguments, other: &Arguments) -> bool
     ensures { IsTrue result ↔ (one.now ≡ other.now) }
 {
-    same_arguments(one.as_slice(), other.as_slice())
+    are_same_argument_lists(one.as_slice(), other.as_slice())
 }
 
-fn same_arguments(one: &[Argument], other: &[Argument]) -> bool
+fn are_same_argument_lists(one: &[Argument], other: &[Argument]) -> bool
     ensures { IsTrue result ↔ (one.now ≡ other.now) }
 {
     one.len() == other.len()
@@ -84,14 +84,14 @@ fn is_same_expected_result(one: ExpectedResult, other: ExpectedResult) -> bool
         (ExpectedResult::Int(mine), ExpectedResult::Int(its)) => mine == its,
         (ExpectedResult::Hex(mine), ExpectedResult::Hex(its)) => mine == its,
         (ExpectedResult::Negative(mine, name), ExpectedResult::Negative(its, its_name)) => {
-            mine == its && is_same_name(name, its_name)
+            mine == its && is_same_error_name(name, its_name)
         }
         _ => false,
     }
 }
 
 /// Whether both are the same name of an error, or none.
-fn is_same_name(one: Option<ErrorName>, other: Option<ErrorName>) -> bool
+fn is_same_error_name(one: Option<ErrorName>, other: Option<ErrorName>) -> bool
     ensures { IsTrue result ↔ (one ≡ other) }
 {
     match (one, other) {

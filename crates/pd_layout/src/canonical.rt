@@ -1,13 +1,13 @@
 //! Whether texts are laid out as recordings are.
 ghost use Rattle.std.specs.Prelude.{◌≡◌, ◌-◌, ◌≤◌, ◌<◌, IfOk, IfSome, length};
 ghost use Rattle.std.specs.List.{position};
-ghost use Rattle.pd_layout.specs.Canonical.{action_line, after_octets, lines_between, events_at, events_canonical, first_line, gap, is_canonical, item_end, item_line, items_at, items_canonical};
+ghost use Rattle.pd_layout.specs.Canonical.{action_line, after_octets, lines_between, first_event_line, events_canonical, first_line, gap, is_canonical, item_end, item_line, first_item_line, items_canonical};
 ghost use Rattle.pd_lex.specs.Octets.{is_blank};
 ghost use Rattle.pd_print.specs.Packets.{event_text};
 ghost use Rattle.pd_layout.specs.Internal.{lines_of};
 
-use crate::canonical_calls::{has_gap_after, is_call_line};
-use crate::comments::{is_gap, is_lead};
+use crate::canonical_calls::{has_prefix_and_gap, is_call_line};
+use crate::comments::{are_empty_or_comment_lines, is_gap};
 use crate::line_cursor::LineCursor;
 use pd_print::{Direction, put_event};
 use pd_script::{Action, Event, HeaderItem, Packet, Time};
@@ -26,8 +26,8 @@ pub fn is_canonical(
 ) -> Result<bool, AllocError>
     ensures { IfOk result (λ canonical. canonical ≡ is_canonical lines.now items.now events.now) }
 {
-    let first = items_at(lines, items, events);
-    if is_lead(false, LineCursor::new(lines, 0, first))
+    let first = first_item_line(lines, items, events);
+    if are_empty_or_comment_lines(false, LineCursor::new(lines, 0, first))
         && are_items_canonical(lines, items, events)
     {
         are_events_canonical(alloc, lines, events)
@@ -37,18 +37,18 @@ pub fn is_canonical(
 }
 
 /// Where the first of some header items begins, with these events after them, counted from 0.
-fn items_at(lines: &Lines, items: &[HeaderItem], events: &[Event]) -> usize
-    ensures { result ≡ items_at lines.now events.now items.now }
+fn first_item_line(lines: &Lines, items: &[HeaderItem], events: &[Event]) -> usize
+    ensures { result ≡ first_item_line lines.now events.now items.now }
 {
     match items {
         [item, ..] => item.line.saturating_sub(1),
-        [] => events_at(lines, events),
+        [] => first_event_line(lines, events),
     }
 }
 
 /// Where the first of some events begins, counted from 0; without one the text's end.
-fn events_at(lines: &Lines, events: &[Event]) -> usize
-    ensures { result ≡ events_at lines.now events.now }
+fn first_event_line(lines: &Lines, events: &[Event]) -> usize
+    ensures { result ≡ first_event_line lines.now events.now }
 {
     match events {
         [event, ..] => event.line.saturating_sub(1),
@@ -62,7 +62,7 @@ fn are_items_canonical(lines: &Lines, items: &[HeaderItem], events: &[Event]) ->
 {
     let mut left = items;
     while let [item, others @ ..] = left {
-        let until = items_at(lines, others, events);
+        let until = first_item_line(lines, others, events);
         if !is_item_canonical(LineCursor::new(lines, item.line.saturating_sub(1), until)) {
             return false;
         }
@@ -113,7 +113,7 @@ fn are_events_canonical(alloc: Global, lines: &Lines, events: &[Event]) -> Resul
     let mut text = Vec::new(alloc);
     let mut left = events;
     while let [event, others @ ..] = left {
-        let until = events_at(lines, others);
+        let until = first_event_line(lines, others);
         if !is_event_canonical(&mut text, event, lines, until)? {
             return Ok(false);
         }
@@ -170,5 +170,5 @@ fn is_packet_line(
 {
     text.clear();
     put_event(text, time, direction, packet)?;
-    Ok(has_gap_after(text.as_slice(), line, lines))
+    Ok(has_prefix_and_gap(text.as_slice(), line, lines))
 }

@@ -5,7 +5,7 @@ ghost use Rattle.pd_layout.specs.Internal.{lines_of, closing_of};
 
 use crate::comments::is_gap;
 use crate::line_cursor::LineCursor;
-use crate::outside_brackets::find_outside;
+use crate::outside_brackets::find_symbol_outside_brackets;
 use pd_lex::Place;
 use pd_print::{put_answer, put_time};
 use pd_script::{ErrorName, Event, ExpectedResult};
@@ -14,7 +14,7 @@ use pd_text::Lines;
 use std::alloc::AllocError;
 
 /// Whether octets are at the front of a line, and a gap after them.
-pub fn has_gap_after(octets: &[u8], line: &[u8], lines: LineCursor<'_>) -> bool
+pub fn has_prefix_and_gap(octets: &[u8], line: &[u8], lines: LineCursor<'_>) -> bool
     ensures { result ≡ after_octets octets.now (gap (lines_of lines.entry)) line.now }
 {
     match line.strip_prefix(octets) {
@@ -24,7 +24,7 @@ pub fn has_gap_after(octets: &[u8], line: &[u8], lines: LineCursor<'_>) -> bool
 }
 
 /// The rest of a line after so many octets.
-fn left_after(line: &[u8], at: usize) -> &[u8]
+fn rest_of_line_from(line: &[u8], at: usize) -> &[u8]
     ensures { result.now ≡ drop at line.now }
 {
     if at < line.len() { &line[at..] } else { &[] }
@@ -35,7 +35,7 @@ fn is_note_end(lines: &Lines, until: usize, place: Place) -> bool
     ensures { result ≡ passes_at note_end lines.now until place }
 {
     match LineCursor::new(lines, place.line.saturating_sub(1), until).split_first() {
-        Some((line, after)) => has_gap_after(b")", left_after(line, place.at), after),
+        Some((line, after)) => has_prefix_and_gap(b")", rest_of_line_from(line, place.at), after),
         None => false,
     }
 }
@@ -56,21 +56,21 @@ fn is_note_or_gap(
     if !rest.starts_with(b" (") {
         return false;
     }
-    match find_outside(lines, equals, b')') {
+    match find_symbol_outside_brackets(lines, equals, b')') {
         Some(closing) => is_note_end(lines, until, closing),
         None => false,
     }
 }
 
 /// Whether an equals sign is at a place, an answer, a note or none, and a gap up to a line.
-fn is_answered(answer: &[u8], lines: &Lines, until: usize, equals: Place) -> bool
+fn has_answer_at(answer: &[u8], lines: &Lines, until: usize, equals: Place) -> bool
     ensures { result ≡ answered_at answer.now lines.now until equals }
 {
     let lines_between = LineCursor::new(lines, equals.line.saturating_sub(1), until);
     let Some((line, after)) = lines_between.split_first() else {
         return false;
     };
-    let Some(rest) = left_after(line, equals.at).strip_prefix(b"= ") else {
+    let Some(rest) = rest_of_line_from(line, equals.at).strip_prefix(b"= ") else {
         return false;
     };
     match rest.strip_prefix(answer) {
@@ -81,14 +81,14 @@ fn is_answered(answer: &[u8], lines: &Lines, until: usize, equals: Place) -> boo
 
 /// Whether what is left of a line begins a call, whose equals sign is followed by an answer, a note or none, and a gap up to a
 /// line.
-fn is_call(answer: &[u8], lines: &Lines, from: usize, until: usize, rest: &[u8]) -> bool
+fn is_call_with_answer(answer: &[u8], lines: &Lines, from: usize, until: usize, rest: &[u8]) -> bool
     ensures { result ≡ call_octets answer.now lines.now from until rest.now }
 {
     if !begins_word(rest) {
         return false;
     }
-    match find_outside(lines, Place::line_start(from), b'=') {
-        Some(equals) => is_answered(answer, lines, until, equals),
+    match find_symbol_outside_brackets(lines, Place::line_start(from), b'=') {
+        Some(equals) => has_answer_at(answer, lines, until, equals),
         None => false,
     }
 }
@@ -117,7 +117,7 @@ pub fn is_call_line(
 ) -> Result<bool, AllocError>
     ensures { IfOk result (λ canonical. canonical ≡ call_line lines.now event.now.line until event.now.time expected_result line.now) }
 {
-    let Some(answer) = answer_of(expected_result) else {
+    let Some(answer) = answer_of_result(expected_result) else {
         return Ok(false);
     };
     text.clear();
@@ -130,16 +130,16 @@ pub fn is_call_line(
     };
     text.clear();
     put_answer(text, answer)?;
-    Ok(is_call(text.as_slice(), lines, event.line, until, rest))
+    Ok(is_call_with_answer(text.as_slice(), lines, event.line, until, rest))
 }
 
 /// The answer that a result is.
-fn answer_of(expected_result: ExpectedResult) -> Option<Answer>
+fn answer_of_result(expected_result: ExpectedResult) -> Option<Answer>
     ensures { result ≡ answer_of expected_result }
 {
     match expected_result {
         ExpectedResult::Int(number) => Some(Answer::Number(number)),
-        ExpectedResult::Negative(1, Some(name)) => match error_of(name) {
+        ExpectedResult::Negative(1, Some(name)) => match errno_of_name(name) {
             Some(error) => Some(Answer::Error(error)),
             None => None,
         },
@@ -148,7 +148,7 @@ fn answer_of(expected_result: ExpectedResult) -> Option<Answer>
 }
 
 /// The error of a name.
-fn error_of(name: ErrorName) -> Option<Errno>
+fn errno_of_name(name: ErrorName) -> Option<Errno>
     ensures { result ≡ error_of name }
 {
     match name {

@@ -1,6 +1,6 @@
 //! Comments and empty lines as they stand in recordings.
 ghost use Rattle.std.specs.Prelude.{◌≡◌, ◌≤◌, false, length, option_copied, IfSome};
-ghost use Rattle.pd_layout.specs.Canonical.{after_end, still_in_comment, comment, comment_open_after, lead, trail, gap};
+ghost use Rattle.pd_layout.specs.Canonical.{rest_after_comment, comment_goes_on, comment, comment_goes_on_after, lead, trail, gap};
 ghost use Rattle.pd_layout.specs.Internal.{lines_of};
 
 use crate::line_cursor::LineCursor;
@@ -10,20 +10,20 @@ use crate::traces::is_trace;
 pub fn is_gap(rest: &[u8], lines: LineCursor<'_>) -> bool
     ensures { result ≡ gap (lines_of lines.entry) rest.now }
 {
-    match trail(rest) {
-        Some(inside) => is_lead(inside, lines),
+    match trailing_comment_goes_on(rest) {
+        Some(inside) => are_empty_or_comment_lines(inside, lines),
         None => false,
     }
 }
 
 /// Whether these are lines in front of an event, the first of them within a comment or not.
-pub fn is_lead(inside: bool, lines: LineCursor<'_>) -> bool
+pub fn are_empty_or_comment_lines(inside: bool, lines: LineCursor<'_>) -> bool
     ensures { result ≡ lead inside (lines_of lines.entry) }
 {
     let mut inside = inside;
     let mut left = lines;
     while let Some((line, after)) = left.split_first() {
-        match comment_open_after(inside, line) {
+        match comment_goes_on_after(inside, line) {
             Some(more) => inside = more,
             None => return false,
         }
@@ -34,20 +34,20 @@ pub fn is_lead(inside: bool, lines: LineCursor<'_>) -> bool
 
 /// Whether a comment goes on after a line in front of an event, which may be within one; nothing where the line is neither
 /// empty nor a comment.
-fn comment_open_after(inside: bool, line: &[u8]) -> Option<bool>
-    ensures { result ≡ comment_open_after inside line.now }
+fn comment_goes_on_after(inside: bool, line: &[u8]) -> Option<bool>
+    ensures { result ≡ comment_goes_on_after inside line.now }
 {
     if inside {
-        still_in_comment(line)
+        comment_goes_on(line)
     } else if line.is_empty() {
         Some(false)
     } else {
-        comment_opened_by(line)
+        lone_comment_goes_on(line)
     }
 }
 
 /// Whether a comment alone in its line goes on after it; nothing where the line is none.
-fn comment_opened_by(line: &[u8]) -> Option<bool>
+fn lone_comment_goes_on(line: &[u8]) -> Option<bool>
     ensures { result ≡ comment line.now }
 {
     if let Some(rest) = line.strip_prefix(b" ") {
@@ -57,28 +57,28 @@ fn comment_opened_by(line: &[u8]) -> Option<bool>
         return if is_trace(line) { None } else { Some(false) };
     }
     match line.strip_prefix(b"/*") {
-        Some(rest) => still_in_comment(rest),
+        Some(rest) => comment_goes_on(rest),
         None => None,
     }
 }
 
 /// Whether a comment that a line is in goes on after the line; nothing where something follows its end.
-fn still_in_comment(line: &[u8]) -> Option<bool>
-    ensures { result ≡ still_in_comment line.now }
+fn comment_goes_on(line: &[u8]) -> Option<bool>
+    ensures { result ≡ comment_goes_on line.now }
 {
-    match after_end(line) {
+    match rest_after_comment(line) {
         Some(rest) => if rest.is_empty() { Some(false) } else { None },
         None => Some(true),
     }
 }
 
 /// Whether the last comment after an event in its line goes on in the next one; nothing where something else is there.
-fn trail(line: &[u8]) -> Option<bool>
+fn trailing_comment_goes_on(line: &[u8]) -> Option<bool>
     ensures { result ≡ trail false line.now }
 {
     let mut rest = line;
     while let Some(comment) = rest.strip_prefix(b" /*") {
-        match after_end(comment) {
+        match rest_after_comment(comment) {
             Some(after) => rest = after,
             None => return Some(true),
         }
@@ -91,8 +91,8 @@ fn trail(line: &[u8]) -> Option<bool>
 }
 
 /// The octets after the end of a comment in a line; nothing where the comment goes on in the next line.
-fn after_end(line: &[u8]) -> Option<&[u8]>
-    ensures what { option_copied result ≡ after_end line.now }
+fn rest_after_comment(line: &[u8]) -> Option<&[u8]>
+    ensures what { option_copied result ≡ rest_after_comment line.now }
     ensures shorter { IfSome result (λ rest. length rest.now ≤ length line.now) }
 {
     let mut rest = line;

@@ -35,7 +35,7 @@ pub(crate) enum TextPart {
 
 impl EventParts {
     /// Nothing of an event whose first token is at a place.
-    pub(crate) fn at(place: Place) -> EventParts {
+    pub(crate) fn empty_at(place: Place) -> EventParts {
         let nothing = TextSpan {
             from: place,
             to: place,
@@ -64,27 +64,27 @@ impl EventParts {
             event: up_to(to),
             time: up_to(time_to),
             current: TextPart::Packet,
-            ..EventParts::at(from)
+            ..EventParts::empty_at(from)
         }
     }
 
     /// The part that was read last.
-    pub(crate) fn current(&self) -> TextPart {
+    pub(crate) fn current_part(&self) -> TextPart {
         self.current
     }
 
     /// Reads the next token: a symbol by its octet, a word by a letter.
     #[inline(always)]
-    pub(crate) fn read(&mut self, octet: u8, token: TextSpan) {
+    pub(crate) fn read_token(&mut self, octet: u8, token: TextSpan) {
         match self.current {
-            TextPart::Time => self.read_in_time(octet, token),
+            TextPart::Time => self.read_time_token(octet, token),
             TextPart::Packet => {}
-            TextPart::Call => self.read_in_call(octet, token),
+            TextPart::Call => self.read_call_token(octet, token),
             TextPart::Equals => {
                 self.current = TextPart::Result;
                 self.result = token;
             }
-            TextPart::Result => self.read_in_result(octet, token),
+            TextPart::Result => self.read_result_token(octet, token),
             TextPart::Note => {
                 if let Some(note) = &mut self.note {
                     note.to = token.to;
@@ -95,7 +95,7 @@ impl EventParts {
     }
 
     /// Reads a token of a time, or the one after it.
-    fn read_in_time(&mut self, octet: u8, token: TextSpan) {
+    fn read_time_token(&mut self, octet: u8, token: TextSpan) {
         if matches!(octet, b'<' | b'>') {
             self.current = TextPart::Packet;
             self.time.to = self.event.to;
@@ -106,7 +106,7 @@ impl EventParts {
     }
 
     /// Reads a token of a call before its result.
-    fn read_in_call(&mut self, octet: u8, token: TextSpan) {
+    fn read_call_token(&mut self, octet: u8, token: TextSpan) {
         match octet {
             b'(' | b'[' | b'{' => self.depth = self.depth.saturating_add(1),
             b')' | b']' | b'}' => self.depth = self.depth.saturating_sub(1),
@@ -119,7 +119,7 @@ impl EventParts {
     }
 
     /// Reads a token of a result, or the one after it.
-    fn read_in_result(&mut self, octet: u8, token: TextSpan) {
+    fn read_result_token(&mut self, octet: u8, token: TextSpan) {
         if octet == b'(' {
             self.current = TextPart::Note;
             self.note = Some(token);

@@ -1,7 +1,7 @@
 //! How a script stands in its text: the octets of its parts, with the comments and blank lines around them.
 use crate::event_parts::{EventParts, TextPart};
 use crate::single_line::parts_on_line;
-use crate::spans::{TextSpan, end_of, is_before};
+use crate::spans::{TextSpan, end_of_text, is_before};
 use crate::trivia::{TriviaPart, put_trivia};
 use pd_lex::{Lexed, Place, Token, TokenKind, next_token};
 use pd_text::{Lines, MAX_OCTETS};
@@ -23,7 +23,7 @@ pub struct Layout {
 
 impl Layout {
     /// With these parts, and no comment within the note or after it.
-    fn of(alloc: Global, leading: Vec<TriviaPart>, parts: EventParts) -> Layout {
+    fn from_parts(alloc: Global, leading: Vec<TriviaPart>, parts: EventParts) -> Layout {
         Layout {
             leading,
             parts,
@@ -33,12 +33,12 @@ impl Layout {
     }
 
     /// Reads the next token, with what is before it.
-    fn read(&mut self, lines: &Lines, token: &Token<'_>) -> Result<(), AllocError> {
+    fn read_token(&mut self, lines: &Lines, token: &Token<'_>) -> Result<(), AllocError> {
         let gap = TextSpan {
             from: self.parts.event.to,
             to: token.from,
         };
-        match self.parts.current() {
+        match self.parts.current_part() {
             TextPart::Call => {}
             TextPart::Note => put_trivia(&mut self.in_note, lines, gap)?,
             _ => put_trivia(&mut self.leading, lines, gap)?,
@@ -47,7 +47,7 @@ impl Layout {
             from: token.from,
             to: token.to,
         };
-        self.parts.read(octet_of(token), text_span);
+        self.parts.read_token(octet_for_parts(token), text_span);
         Ok(())
     }
 }
@@ -91,7 +91,7 @@ impl<'a> LayoutReader<'a> {
             Some(parts) => {
                 self.next = until;
                 let leading = replace(&mut self.leading, Vec::new(alloc));
-                Ok(Layout::of(alloc, leading, parts))
+                Ok(Layout::from_parts(alloc, leading, parts))
             }
             None => self.read_part(alloc, until),
         }
@@ -101,7 +101,7 @@ impl<'a> LayoutReader<'a> {
     ///
     /// # Errors
     /// `AllocError` where a growth is refused.
-    pub fn read_item(&mut self, alloc: Global) -> Result<Layout, AllocError> {
+    pub fn read_header_item(&mut self, alloc: Global) -> Result<Layout, AllocError> {
         let after = match next_token(self.lines, self.next) {
             Lexed::Token(token) => gap_after(self.lines, token.to).to,
             Lexed::End | Lexed::Bad(_) => self.next,
@@ -113,12 +113,12 @@ impl<'a> LayoutReader<'a> {
     fn read_part(&mut self, alloc: Global, until: Place) -> Result<Layout, AllocError> {
         let leading = replace(&mut self.leading, Vec::new(alloc));
         let mut place = replace(&mut self.next, until);
-        let mut layout = Layout::of(alloc, leading, EventParts::at(place));
+        let mut layout = Layout::from_parts(alloc, leading, EventParts::empty_at(place));
         // A text has no more tokens than octets.
         for _ in 0..MAX_OCTETS {
             match next_token(self.lines, place) {
                 Lexed::Token(token) if is_before(token.from, until) => {
-                    layout.read(self.lines, &token)?;
+                    layout.read_token(self.lines, &token)?;
                     place = token.to;
                 }
                 _ => break,
@@ -128,17 +128,21 @@ impl<'a> LayoutReader<'a> {
             from: place,
             to: until,
         };
-        self.read_trivia(&mut layout, gap)?;
+        self.read_trivia_after_part(&mut layout, gap)?;
         Ok(layout)
     }
 
     /// The comments and blank lines after the last part.
-    pub fn rest(self) -> Vec<TriviaPart> {
+    pub fn into_remaining_trivia(self) -> Vec<TriviaPart> {
         self.leading
     }
 
     /// Reads what is after a part: what begins in its line stays there, where no further token is in that line.
-    fn read_trivia(&mut self, part: &mut Layout, gap: TextSpan) -> Result<(), AllocError> {
+    fn read_trivia_after_part(
+        &mut self,
+        part: &mut Layout,
+        gap: TextSpan,
+    ) -> Result<(), AllocError> {
         let is_last = gap.to.line > gap.from.line;
         let mut pieces = Vec::new(*self.leading.allocator());
         put_trivia(&mut pieces, self.lines, gap)?;
@@ -159,13 +163,13 @@ impl<'a> LayoutReader<'a> {
 fn gap_after(lines: &Lines, place: Place) -> TextSpan {
     let to = match next_token(lines, place) {
         Lexed::Token(token) => token.from,
-        Lexed::End | Lexed::Bad(_) => end_of(lines),
+        Lexed::End | Lexed::Bad(_) => end_of_text(lines),
     };
     TextSpan { from: place, to }
 }
 
 /// The octet by which a token is read: a symbol's octet, a letter of a word, 0 of any other.
-fn octet_of(token: &Token<'_>) -> u8 {
+fn octet_for_parts(token: &Token<'_>) -> u8 {
     match token.kind {
         TokenKind::Symbol => token.symbol,
         TokenKind::Word => b'a',

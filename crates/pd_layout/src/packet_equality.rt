@@ -34,18 +34,18 @@ fn are_same_options(one: &Options, other: &Options) -> bool
 {
     match (one, other) {
         (Options::Absent, Options::Absent) | (Options::Any, Options::Any) => true,
-        (Options::Listed(mine), Options::Listed(its)) => is_same_list(mine, its),
+        (Options::Listed(mine), Options::Listed(its)) => is_same_option_list(mine, its),
         _ => false,
     }
 }
 
-fn is_same_list(one: &OptionList, other: &OptionList) -> bool
+fn is_same_option_list(one: &OptionList, other: &OptionList) -> bool
     ensures { IsTrue result ↔ (one.now ≡ other.now) }
 {
-    same_options(one.as_slice(), other.as_slice())
+    are_same_option_lists(one.as_slice(), other.as_slice())
 }
 
-fn same_options(one: &[PacketOption], other: &[PacketOption]) -> bool
+fn are_same_option_lists(one: &[PacketOption], other: &[PacketOption]) -> bool
     ensures { IsTrue result ↔ (one.now ≡ other.now) }
 {
     one.len() == other.len()
@@ -68,28 +68,28 @@ fn is_same_option(one: &PacketOption, other: &PacketOption) -> bool
         (PacketOption::Timestamp(mine, echo), PacketOption::Timestamp(its, its_echo)) => {
             mine == its && echo == its_echo
         }
-        (PacketOption::Sack(mine), PacketOption::Sack(its)) => are_same_blocks(mine, its),
+        (PacketOption::Sack(mine), PacketOption::Sack(its)) => is_same_sack_block_list(mine, its),
         _ => false,
     }
 }
 
-fn are_same_blocks(one: &SackBlockList, other: &SackBlockList) -> bool
+fn is_same_sack_block_list(one: &SackBlockList, other: &SackBlockList) -> bool
     ensures { IsTrue result ↔ (one.now ≡ other.now) }
 {
-    same_blocks(one.as_slice(), other.as_slice())
+    are_same_sack_blocks(one.as_slice(), other.as_slice())
 }
 
-fn same_blocks(one: &[SackBlock], other: &[SackBlock]) -> bool
+fn are_same_sack_blocks(one: &[SackBlock], other: &[SackBlock]) -> bool
     ensures { IsTrue result ↔ (one.now ≡ other.now) }
 {
     one.len() == other.len()
         && one
             .iter()
             .zip(other)
-            .all(|(mine, its)| is_same_block(mine, its))
+            .all(|(mine, its)| is_same_sack_block(mine, its))
 }
 
-fn is_same_block(one: &SackBlock, other: &SackBlock) -> bool
+fn is_same_sack_block(one: &SackBlock, other: &SackBlock) -> bool
     ensures { IsTrue result ↔ (one.now ≡ other.now) }
 {
     one.left == other.left && one.right == other.right

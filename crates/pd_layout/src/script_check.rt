@@ -23,7 +23,7 @@ pub fn is_canonical_script(
     ensures { IfOk result (λ canonical. IsTrue canonical ↔ IsReadAs header.now.items events.now lines.now × IsCanonical lines.now) }
 {
     let parsed = parse(alloc, lines)?;
-    if is_script(&parsed, header, events) {
+    if has_header_and_events(&parsed, header, events) {
         is_canonical(
             alloc,
             lines,
@@ -36,7 +36,7 @@ pub fn is_canonical_script(
 }
 
 /// Whether what was read is a script with such a header and such events, but for their lines.
-fn is_script(parsed: &Parsed, header: &Header, events: &[Event]) -> bool
+fn has_header_and_events(parsed: &Parsed, header: &Header, events: &[Event]) -> bool
     ensures { IsTrue result ↔ IsScript header.now.items events.now parsed.now }
 {
     parsed.fault.is_none()
@@ -52,11 +52,11 @@ fn is_same_header(one: &[HeaderItem], other: &[HeaderItem]) -> bool
         && one
             .iter()
             .zip(other)
-            .all(|(mine, its)| is_same_kind(mine.kind, its.kind))
+            .all(|(mine, its)| is_same_header_kind(mine.kind, its.kind))
 }
 
 /// Whether both are the same kind with the same number.
-fn is_same_kind(one: HeaderKind, other: HeaderKind) -> bool
+fn is_same_header_kind(one: HeaderKind, other: HeaderKind) -> bool
     ensures { IsTrue result ↔ (one ≡ other) }
 {
     match (one, other) {

@@ -14,13 +14,13 @@ pub fn parts_on_line(lines: &Lines, from: Place, until: Place) -> Option<EventPa
     let rest = line.get(from.at..)?;
     let time = rest.iter().take_while(|octet| is_time_octet(octet)).count();
     match rest.get(time..) {
-        Some([b'<' | b'>', packet @ ..]) => packet_on_line(&rest[..time], packet, from),
-        _ => call_on_line(line, from),
+        Some([b'<' | b'>', packet @ ..]) => packet_parts_on_line(&rest[..time], packet, from),
+        _ => call_parts_on_line(line, from),
     }
 }
 
 /// The parts of a packet with this time before its direction, and this after it.
-fn packet_on_line(time: &[u8], packet: &[u8], from: Place) -> Option<EventParts> {
+fn packet_parts_on_line(time: &[u8], packet: &[u8], from: Place) -> Option<EventParts> {
     let is_special = |octet: &u8| matches!(octet, b'/' | b'"' | b'`' | b'%' | b'-');
     if packet.iter().any(is_special) {
         return None;
@@ -28,24 +28,24 @@ fn packet_on_line(time: &[u8], packet: &[u8], from: Place) -> Option<EventParts>
     let after = from.at.saturating_add(time.len()).saturating_add(1);
     Some(EventParts::of_packet(
         from,
-        from.at.saturating_add(len_without_blanks(time)),
-        after.saturating_add(len_without_blanks(packet)),
+        from.at.saturating_add(len_without_trailing_blanks(time)),
+        after.saturating_add(len_without_trailing_blanks(packet)),
     ))
 }
 
 /// The parts of an event that isn't a packet.
-fn call_on_line(line: &[u8], from: Place) -> Option<EventParts> {
-    let mut parts = EventParts::at(from);
+fn call_parts_on_line(line: &[u8], from: Place) -> Option<EventParts> {
+    let mut parts = EventParts::empty_at(from);
     for at in from.at..line.len() {
         match line[at] {
             b'/' | b'"' | b'`' | b'%' => return None,
             b'-' if line[at..].starts_with(b"--") => return None,
             b' ' | b'\t' | b'\r' => {}
             octet => {
-                if is_within(&parts, octet, at) {
+                if is_letter_within_token(&parts, octet, at) {
                     return None;
                 }
-                parts.read(octet, octet_at(from.line, at));
+                parts.read_token(octet, span_of_octet(from.line, at));
             }
         }
     }
@@ -53,7 +53,7 @@ fn call_on_line(line: &[u8], from: Place) -> Option<EventParts> {
 }
 
 /// How many octets there are without the blanks at the end.
-fn len_without_blanks(octets: &[u8]) -> usize {
+fn len_without_trailing_blanks(octets: &[u8]) -> usize {
     let is_blank = |octet: &&u8| matches!(octet, b' ' | b'\t' | b'\r');
     let blanks = octets.iter().rev().take_while(is_blank).count();
     octets.len().saturating_sub(blanks)
@@ -68,12 +68,12 @@ fn is_time_octet(octet: &u8) -> bool {
 }
 
 /// Whether a letter, which would begin a call, may be in the middle of a token.
-fn is_within(parts: &EventParts, octet: u8, at: usize) -> bool {
-    parts.current() == TextPart::Time && parts.event.to.at == at && is_letter(octet)
+fn is_letter_within_token(parts: &EventParts, octet: u8, at: usize) -> bool {
+    parts.current_part() == TextPart::Time && parts.event.to.at == at && is_letter(octet)
 }
 
 /// An octet of a line.
-fn octet_at(line: usize, at: usize) -> TextSpan {
+fn span_of_octet(line: usize, at: usize) -> TextSpan {
     TextSpan {
         from: Place { line, at },
         to: Place {

@@ -18,7 +18,7 @@ pub fn is_before(place: Place, other: Place) -> bool {
 }
 
 /// The place after the last line of a text.
-pub fn end_of(lines: &Lines) -> Place {
+pub fn end_of_text(lines: &Lines) -> Place {
     Place::line_start(lines.len() + 1)
 }
 

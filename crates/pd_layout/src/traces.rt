@@ -1,6 +1,6 @@
 //! The lines of a trace, which say when events happened and in which state the sender was then.
 ghost use Rattle.std.specs.Prelude.{◌≡◌, ◌<◌, length, IfSome};
-ghost use Rattle.pd_layout.specs.Traces.{is_trace, is_trace_body_at, is_state_and_facts_at, first_space, is_fixed_seconds, is_fraction, are_digits, is_state, is_fact, is_octet_fact, is_count_fact, is_course_fact, are_facts, is_named_value, is_value, are_letters};
+ghost use Rattle.pd_layout.specs.Traces.{is_trace, is_trace_body_at, is_state_and_facts_at, first_space, is_fixed_seconds, is_fraction, are_digits, is_state_name, is_fact, is_sequence_or_window_fact, is_count_fact, is_other_fact, are_facts, is_named_value, is_fact_value, are_value_octets};
 
 /// The opening of a line of a trace.
 const OPENING: &[u8] = b"//= at ";
@@ -35,8 +35,8 @@ fn is_state_and_facts(words: &[u8]) -> bool
     ensures { result ≡ is_state_and_facts_at (first_space words.now) words.now }
 {
     match first_space(words) {
-        Some(at) => is_state(&words[..at]) && are_facts(&words[at + 1..]),
-        None => is_state(words),
+        Some(at) => is_state_name(&words[..at]) && are_facts(&words[at + 1..]),
+        None => is_state_name(words),
     }
 }
 
@@ -82,8 +82,8 @@ fn are_digits(word: &[u8]) -> bool
 }
 
 /// Whether a word is the name of a state.
-fn is_state(word: &[u8]) -> bool
-    ensures { result ≡ is_state word.now }
+fn is_state_name(word: &[u8]) -> bool
+    ensures { result ≡ is_state_name word.now }
 {
     word == b"CLOSED".as_slice()
         || word == b"LISTEN".as_slice()
@@ -101,12 +101,12 @@ fn is_state(word: &[u8]) -> bool
 fn is_fact(word: &[u8]) -> bool
     ensures { result ≡ is_fact word.now }
 {
-    is_octet_fact(word) || is_count_fact(word) || is_course_fact(word)
+    is_sequence_or_window_fact(word) || is_count_fact(word) || is_other_fact(word)
 }
 
 /// Whether a word is the name of an octet number or a window, a colon and a value.
-fn is_octet_fact(word: &[u8]) -> bool
-    ensures { result ≡ is_octet_fact word.now }
+fn is_sequence_or_window_fact(word: &[u8]) -> bool
+    ensures { result ≡ is_sequence_or_window_fact word.now }
 {
     is_named_value(word, b"una:")
         || is_named_value(word, b"next:")
@@ -129,8 +129,8 @@ fn is_count_fact(word: &[u8]) -> bool
 }
 
 /// Whether a word is the name of another fact, a colon and a value.
-fn is_course_fact(word: &[u8]) -> bool
-    ensures { result ≡ is_course_fact word.now }
+fn is_other_fact(word: &[u8]) -> bool
+    ensures { result ≡ is_other_fact word.now }
 {
     is_named_value(word, b"connection:")
         || is_named_value(word, b"RTO:")
@@ -144,21 +144,21 @@ fn is_named_value(word: &[u8], name: &[u8]) -> bool
     ensures { result ≡ is_named_value word.now name.now }
 {
     match word.strip_prefix(name) {
-        Some(value) => is_value(value),
+        Some(value) => is_fact_value(value),
         None => false,
     }
 }
 
 /// Whether a word is letters, digits and points, at least one.
-fn is_value(word: &[u8]) -> bool
-    ensures { result ≡ is_value word.now }
+fn is_fact_value(word: &[u8]) -> bool
+    ensures { result ≡ is_fact_value word.now }
 {
-    word.len() > 0 && are_letters(word)
+    word.len() > 0 && are_value_octets(word)
 }
 
 /// Whether a word is letters, digits and points.
-fn are_letters(word: &[u8]) -> bool
-    ensures { result ≡ are_letters word.now }
+fn are_value_octets(word: &[u8]) -> bool
+    ensures { result ≡ are_value_octets word.now }
 {
     word.iter()
         .all(|octet| octet.is_ascii_alphanumeric() || *octet == b'.')

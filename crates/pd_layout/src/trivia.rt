@@ -29,7 +29,7 @@ pub fn put_trivia(
         let Some(line) = lines.line(place.line) else {
             return Ok(());
         };
-        let at = after_blanks(line, place.at);
+        let at = first_nonblank_from(line, place.at);
         place.at = at;
         if !is_before(place, gap.to) {
             return Ok(());
@@ -51,7 +51,7 @@ pub fn put_trivia(
 }
 
 /// Where the first octet from a place of a line on stands that is no blank.
-fn after_blanks(line: &[u8], from: usize) -> usize {
+fn first_nonblank_from(line: &[u8], from: usize) -> usize {
     let mut at = from;
     while at < line.len() && matches!(line[at], b' ' | b'\t' | b'\r') {
         at += 1;
@@ -63,7 +63,7 @@ fn after_blanks(line: &[u8], from: usize) -> usize {
 fn comment_end(lines: &Lines, place: Place, line: &[u8]) -> Place {
     let rest = &line[place.at.min(line.len())..];
     if rest.starts_with(b"/*") {
-        return closing(lines, place);
+        return block_comment_end(lines, place);
     }
     Place {
         line: place.line,
@@ -72,7 +72,7 @@ fn comment_end(lines: &Lines, place: Place, line: &[u8]) -> Place {
 }
 
 /// The place after the next `*/` that is at least two octets after a place.
-fn closing(lines: &Lines, place: Place) -> Place {
+fn block_comment_end(lines: &Lines, place: Place) -> Place {
     let mut from = place.at.saturating_add(2);
     for number in place.line..=lines.len() {
         if let Some(line) = lines.line(number) {

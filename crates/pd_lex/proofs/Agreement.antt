@@ -10,7 +10,7 @@ use Rattle.pd_lex.specs.declared.scan.Piece.TheVariants.{Blank, Whole, Open, Str
 use Rattle.pd_lex.specs.declared.scan.Opener.{Opener}
 use Rattle.pd_lex.specs.declared.scan.Opener.TheVariants.{Comment, Quote, Backquote, Brace}
 use Rattle.pd_lex.specs.Places.{first_place, joined, line_at, clamped_place, octets_from, place_after, before, IsPlace}
-use Rattle.pd_lex.specs.Pieces.{piece, after_end, opener_len, Front, nothing, gap, token, stray, closed, parted, front}
+use Rattle.pd_lex.specs.Pieces.{piece, rest_after_closing, opener_len, Front, nothing, gap, token, stray, closed, parted, front}
 use Rattle.pd_lex.specs.Tokens.{Item, lexeme, ending, bad}
 use Rattle.pd_lex.specs.Lexing.{items}
 use Rattle.pd_lex.specs.Scanned.{piece_len}
@@ -45,7 +45,7 @@ open_goes_on x y o (Some rest) s h = either o (h rest refl)
     either Backquote (inr (q, e, f)) = inr (q, e, rw f refl)
     either Brace (inr (q, e, f)) = inr (q, e, rw f refl)
 
-end_goes_on : (x y : List ℕ) (o : Opener) (c : List ℕ) (r : Option (List ℕ)) → after_end o c ≡ r → (rest : List ℕ) → after_end o (c ++ 10 ∷ x) ≡ Some rest → (length rest ≤ length x) ⊎ ((q : List ℕ) × (rest ≡ q ++ 10 ∷ x) × (after_end o (c ++ 10 ∷ y) ≡ Some (q ++ 10 ∷ y)))
+end_goes_on : (x y : List ℕ) (o : Opener) (c : List ℕ) (r : Option (List ℕ)) → rest_after_closing o c ≡ r → (rest : List ℕ) → rest_after_closing o (c ++ 10 ∷ x) ≡ Some rest → (length rest ≤ length x) ⊎ ((q : List ℕ) × (rest ≡ q ++ 10 ∷ x) × (rest_after_closing o (c ++ 10 ∷ y) ≡ Some (q ++ 10 ∷ y)))
 end_goes_on x y o c None e rest h =
     let last = end_suffix o x rest (sym (end_past_line o c x e) ∙ h) in
     inl (omega (arith, last.1, ap length last.2, length-drop last.0 x))
@@ -58,8 +58,8 @@ piece_goes_on : (x y s : List ℕ) (p : Piece) → piece_len p ≤ length s → 
 piece_goes_on x y s (Blank n) le = inr (drop n s, drop-append-le n s (10 ∷ x) le, ap gap (drop-append-le n s (10 ∷ y) le))
 piece_goes_on x y s (Whole kind n) le = inr (drop n s, drop-append-le n s (10 ∷ x) le, ap (token kind) (drop-append-le n s (10 ∷ y) le))
 piece_goes_on x y s (Open o) le =
-    open_goes_on x y o (after_end o (drop (opener_len o) (s ++ 10 ∷ x))) (after_end o (drop (opener_len o) (s ++ 10 ∷ y)))
-    (rw (drop-append-le (opener_len o) s (10 ∷ x) le, drop-append-le (opener_len o) s (10 ∷ y) le) (end_goes_on x y o (drop (opener_len o) s) (after_end o (drop (opener_len o) s)) refl))
+    open_goes_on x y o (rest_after_closing o (drop (opener_len o) (s ++ 10 ∷ x))) (rest_after_closing o (drop (opener_len o) (s ++ 10 ∷ y)))
+    (rw (drop-append-le (opener_len o) s (10 ∷ x) le, drop-append-le (opener_len o) s (10 ∷ y) le) (end_goes_on x y o (drop (opener_len o) s) (rest_after_closing o (drop (opener_len o) s)) refl))
 piece_goes_on x y s Stray le = tt
 
 front_goes_on : (x y c : List ℕ) → GoesOn x y (front (c ++ 10 ∷ x)) (front (c ++ 10 ∷ y))

@@ -12,7 +12,7 @@ use Rattle.pd_lex.specs.declared.classes.OctetClass.TheVariants as classes
 use Rattle.pd_lex.specs.Classes.{begins_more, class_of}
 use Rattle.pd_lex.specs.Octets.{is_digit, is_word, is_blank, is_printable}
 use Rattle.pd_lex.specs.Pieces.{fraction_len, word_piece, piece, front, token}
-use Rattle.pd_lex.specs.Scanned.{first_octet, wrapped_digit, begins_name}
+use Rattle.pd_lex.specs.Scanned.{first_octet_or_zero, wrapped_digit, begins_name}
 use Rattle.pd_lex.specs.Spellings.{IsSymbol, IsSpelled}
 use Rattle.pd_lex.specs.Kinds.{stays_in_line}
 use Rattle.pd_lex.specs.Places.{octets_from, before, between}
@@ -98,10 +98,10 @@ name_piece [] h = absurd cc
 name_piece (b ∷ s) h = name_is (b ∷ s) h ∙ word_piece_is b s (and_first (is_word b) (not (is_digit b)) h)
 
 -- a symbol has one octet
-pub symbol_text : (text : List ℕ) → IsSymbol text → text ≡ first_octet text ∷ []
+pub symbol_text : (text : List ℕ) → IsSymbol text → text ≡ first_octet_or_zero text ∷ []
 symbol_text text (b, is, printable, word) = rw is refl
 
-pub symbol_in : (lines : List (List ℕ)) (p q : Place) (kind : TokenKind) (text : List ℕ) → front (octets_from lines p) ≡ token kind (octets_from lines q) → (stays_in_line kind ≡ true → text ≡ between lines p q) → kind ≡ Symbol → text ≡ first_octet text ∷ []
+pub symbol_in : (lines : List (List ℕ)) (p q : Place) (kind : TokenKind) (text : List ℕ) → front (octets_from lines p) ≡ token kind (octets_from lines q) → (stays_in_line kind ≡ true → text ≡ between lines p q) → kind ≡ Symbol → text ≡ first_octet_or_zero text ∷ []
 unfolding between
 symbol_in lines p q kind text e same is =
     let s = octets_from lines p in

@@ -9,8 +9,8 @@ use Rattle.pd_lex.specs.declared.scan.Piece.{Piece}
 use Rattle.pd_lex.specs.declared.scan.Piece.TheVariants.{Blank, Whole, Open, Stray}
 use Rattle.pd_lex.specs.declared.scan.Opener.{Opener}
 use Rattle.pd_lex.specs.declared.scan.Opener.TheVariants.{Comment, Quote, Backquote, Brace}
-use Rattle.pd_lex.specs.Octets.{is_digit, is_word, is_blank, is_solid, is_inside_line, is_printable}
-use Rattle.pd_lex.specs.Pieces.{is_hex, fraction_len, value_len, word_piece, point_piece, dash_piece, piece, after_end, opener_text, opener_len, Front, nothing, gap, token, stray, closed, parted, front}
+use Rattle.pd_lex.specs.Octets.{is_digit, is_word, is_blank, is_nonblank, is_not_newline, is_printable}
+use Rattle.pd_lex.specs.Pieces.{is_hex_number, fraction_len, option_value_len, word_piece, point_piece, dash_piece, piece, rest_after_closing, opener_text, opener_len, Front, nothing, gap, token, stray, closed, parted, front}
 use Rattle.pd_lex.specs.Places.{before}
 use Rattle.pd_lex.specs.Scanned.{piece_len}
 use Rattle.pd_lex.proofs.Endings.{end_suffix}
@@ -48,9 +48,9 @@ pub fraction_fits : (s : List ℕ) → fraction_len s ≤ length s
 fraction_fits [] = omega arith
 fraction_fits (b ∷ s) = let run = prefix_len-le-length is_digit s in grind (arith, nat_tests)
 
-pub value_fits : (s : List ℕ) → value_len s ≤ length s
+pub value_fits : (s : List ℕ) → option_value_len s ≤ length s
 value_fits [] = omega arith
-value_fits (b ∷ s) = let run = prefix_len-le-length is_solid s in grind (arith, nat_tests)
+value_fits (b ∷ s) = let run = prefix_len-le-length is_nonblank s in grind (arith, nat_tests)
 
 pub run_begins : (p : ℕ → Bool) (b : ℕ) (s : List ℕ) → p b ≡ true → 0 < prefix_len p (b ∷ s)
 run_begins p b s h = rw h (omega arith)
@@ -69,8 +69,8 @@ word_within b s h =
     let hex : IsWithin (b ∷ s) (Whole Hex n) = record { some = some; fits = run } in
     let word : IsWithin (b ∷ s) (Whole Word n) = record { some = some; fits = run } in
     let digits = choose (b ∷ s) (nat_lt 0 f) (Whole Decimal (n + f)) (Whole Int n) (λ _. decimal) (λ _. int) in
-    let others = choose (b ∷ s) (is_hex (take n (b ∷ s))) (Whole Hex n) (Whole Word n) (λ _. hex) (λ _. word) in
-    choose (b ∷ s) (list_all is_digit (take n (b ∷ s))) (cond (nat_lt 0 f) (Whole Decimal (n + f)) (Whole Int n)) (cond (is_hex (take n (b ∷ s))) (Whole Hex n) (Whole Word n)) (λ _. digits) (λ _. others)
+    let others = choose (b ∷ s) (is_hex_number (take n (b ∷ s))) (Whole Hex n) (Whole Word n) (λ _. hex) (λ _. word) in
+    choose (b ∷ s) (list_all is_digit (take n (b ∷ s))) (cond (nat_lt 0 f) (Whole Decimal (n + f)) (Whole Int n)) (cond (is_hex_number (take n (b ∷ s))) (Whole Hex n) (Whole Word n)) (λ _. digits) (λ _. others)
 
 pub symbol_within : (b : ℕ) (s : List ℕ) → IsWithin (b ∷ s) (Whole Symbol 1)
 symbol_within b s = record { some = omega arith; fits = omega arith }
@@ -99,7 +99,7 @@ dash_within b s =
     let rest = length-drop name (drop 2 (b ∷ s)) in
     let dashes : starts_with nat_eq (b ∷ s) (45 ∷ 45 ∷ []) ≡ true → 2 ≤ length (b ∷ s) = begins_two (b ∷ s) 45 45 in
     let two = length-drop 2 (b ∷ s) in
-    choose (b ∷ s) (starts_with nat_eq (b ∷ s) (45 ∷ 45 ∷ []) && nat_lt 0 name) (Whole Opt (2 + name + value_len (drop name (drop 2 (b ∷ s))))) (Whole Symbol 1) (λ h. let le = dashes (first_of _ _ h) in record { some = omega arith; fits = omega arith }) (λ _. symbol_within b s)
+    choose (b ∷ s) (starts_with nat_eq (b ∷ s) (45 ∷ 45 ∷ []) && nat_lt 0 name) (Whole Opt (2 + name + option_value_len (drop name (drop 2 (b ∷ s))))) (Whole Symbol 1) (λ h. let le = dashes (first_of _ _ h) in record { some = omega arith; fits = omega arith }) (λ _. symbol_within b s)
 
 -- the tests that the octets of a symbol fail
 pub record IsOther (b : ℕ) (s : List ℕ) : Type 0 where
@@ -119,7 +119,7 @@ pub data IsShaped (b : ℕ) (s : List ℕ) : Piece → Type 0 where
   at_word : is_word b ≡ true → IsShaped b s (word_piece (b ∷ s))
   at_point : (b == 46) ≡ true → IsShaped b s (point_piece (b ∷ s))
   at_dash : (b == 45) ≡ true → IsShaped b s (dash_piece (b ∷ s))
-  at_line_comment : starts_with nat_eq (b ∷ s) (47 ∷ 47 ∷ []) ≡ true → IsShaped b s (Blank (prefix_len is_inside_line (b ∷ s)))
+  at_line_comment : starts_with nat_eq (b ∷ s) (47 ∷ 47 ∷ []) ≡ true → IsShaped b s (Blank (prefix_len is_not_newline (b ∷ s)))
   at_opener : (o : Opener) → starts_with nat_eq (b ∷ s) (opener_text o) ≡ true → IsShaped b s (Open o)
   at_symbol : IsOther b s → is_printable b ≡ true → IsShaped b s (Whole Symbol 1)
   at_stray : IsOther b s → is_printable b ≡ false → IsShaped b s Stray
@@ -155,11 +155,11 @@ opener_within Quote b s h = record { some = omega arith; fits = omega arith }
 opener_within Backquote b s h = record { some = omega arith; fits = omega arith }
 opener_within Brace b s h = record { some = omega arith; fits = begins_two (b ∷ s) 37 123 h }
 
-line_comment_within : (b : ℕ) (s : List ℕ) → starts_with nat_eq (b ∷ s) (47 ∷ 47 ∷ []) ≡ true → IsWithin (b ∷ s) (Blank (prefix_len is_inside_line (b ∷ s)))
+line_comment_within : (b : ℕ) (s : List ℕ) → starts_with nat_eq (b ∷ s) (47 ∷ 47 ∷ []) ≡ true → IsWithin (b ∷ s) (Blank (prefix_len is_not_newline (b ∷ s)))
 line_comment_within b s h =
     let slash : nat_eq 47 b ≡ true = first_of (nat_eq 47 b) _ h in
     let e : b ≡ 47 = grind (arith, nat_tests) in
-    record { some = run_begins is_inside_line b s (rw e refl); fits = prefix_len-le-length is_inside_line (b ∷ s) }
+    record { some = run_begins is_not_newline b s (rw e refl); fits = prefix_len-le-length is_not_newline (b ∷ s) }
 
 within_shape : (b : ℕ) (s : List ℕ) (p : Piece) → IsShaped b s p → IsWithin (b ∷ s) p
 within_shape b s p (at_blank h) = record { some = omega arith; fits = omega arith }
@@ -206,7 +206,7 @@ closed_leaves s Quote (Some rest) h = h rest refl
 closed_leaves s Backquote (Some rest) h = h rest refl
 closed_leaves s Brace (Some rest) h = h rest refl
 
-rest_after_end : (s : List ℕ) (o : Opener) → IsWithin s (Open o) → (rest : List ℕ) → after_end o (drop (opener_len o) s) ≡ Some rest → IsRest s rest
+rest_after_end : (s : List ℕ) (o : Opener) → IsWithin s (Open o) → (rest : List ℕ) → rest_after_closing o (drop (opener_len o) s) ≡ Some rest → IsRest s rest
 rest_after_end s o h rest e =
     let last = end_suffix o (drop (opener_len o) s) rest e in
     let n = length-drop (opener_len o) s in
@@ -215,7 +215,7 @@ rest_after_end s o h rest e =
 parted_leaves : (s : List ℕ) (p : Piece) → IsWithin s p → LeavesRest s (parted s p)
 parted_leaves s (Blank n) h = record { taken = n; some = h.some; fits = h.fits; left = refl }
 parted_leaves s (Whole kind n) h = record { taken = n; some = h.some; fits = h.fits; left = refl }
-parted_leaves s (Open o) h = closed_leaves s o (after_end o (drop (opener_len o) s)) (rest_after_end s o h)
+parted_leaves s (Open o) h = closed_leaves s o (rest_after_closing o (drop (opener_len o) s)) (rest_after_end s o h)
 parted_leaves s Stray h = tt
 
 pub front_leaves : (s : List ℕ) → LeavesRest s (front s)

@@ -3,8 +3,8 @@ use Rattle.std.proofs.Common.{◌≡◌, ℕ, ◌+◌, Bool, false, cond, List, 
 use Rattle.std.specs.List.{prefix_len}
 use Rattle.std.proofs.lemmas.List.{drop-append-le, take-append-le}
 use Rattle.std.proofs.lemmas.List.Sums.{prefix_len-le-length}
-use Rattle.pd_lex.specs.Octets.{is_digit, is_word, is_solid, is_inside_line}
-use Rattle.pd_lex.specs.Pieces.{fraction_len, value_len, word_piece, point_piece, dash_piece, piece}
+use Rattle.pd_lex.specs.Octets.{is_digit, is_word, is_nonblank, is_not_newline}
+use Rattle.pd_lex.specs.Pieces.{fraction_len, option_value_len, word_piece, point_piece, dash_piece, piece}
 
 -- no run goes on past a newline
 pub prefix_len_in_line : (p : ℕ → Bool) (s more : List ℕ) → p 10 ≡ false → prefix_len p (s ++ 10 ∷ more) ≡ prefix_len p s
@@ -15,9 +15,9 @@ pub fraction_in_line : (s more : List ℕ) → fraction_len (s ++ 10 ∷ more) �
 fraction_in_line [] more = refl
 fraction_in_line (b ∷ s) more = rw (prefix_len_in_line is_digit s more refl) refl
 
-pub value_in_line : (s more : List ℕ) → value_len (s ++ 10 ∷ more) ≡ value_len s
+pub value_in_line : (s more : List ℕ) → option_value_len (s ++ 10 ∷ more) ≡ option_value_len s
 value_in_line [] more = refl
-value_in_line (b ∷ s) more = rw (prefix_len_in_line is_solid s more refl) refl
+value_in_line (b ∷ s) more = rw (prefix_len_in_line is_nonblank s more refl) refl
 
 pub word_in_line : (s more : List ℕ) → word_piece (s ++ 10 ∷ more) ≡ word_piece s
 unfolding word_piece
@@ -43,4 +43,4 @@ dash_in_line (a ∷ b ∷ s) more =
 pub piece_in_line : (b : ℕ) (s more : List ℕ) → piece (b ∷ s ++ 10 ∷ more) ≡ piece (b ∷ s)
 unfolding piece
 piece_in_line b [] more = rw (word_in_line (b ∷ []) more, point_in_line (b ∷ []) more, dash_in_line (b ∷ []) more) refl
-piece_in_line b (c ∷ s) more = rw (word_in_line (b ∷ c ∷ s) more, point_in_line (b ∷ c ∷ s) more, dash_in_line (b ∷ c ∷ s) more, prefix_len_in_line is_inside_line s more refl) refl
+piece_in_line b (c ∷ s) more = rw (word_in_line (b ∷ c ∷ s) more, point_in_line (b ∷ c ∷ s) more, dash_in_line (b ∷ c ∷ s) more, prefix_len_in_line is_not_newline s more refl) refl

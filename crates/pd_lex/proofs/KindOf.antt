@@ -6,7 +6,7 @@ use Rattle.std.proofs.lemmas.Bool.Decides.{nat_tests}
 use Rattle.pd_lex.specs.declared.token.TokenKind.{TokenKind}
 use Rattle.pd_lex.specs.declared.token.TokenKind.TheVariants.{Int, Hex, Word, Decimal, Dots, Opt, Str, Cmd, Code, Symbol}
 use Rattle.pd_lex.specs.Octets.{is_digit, is_hex_digit, is_word, is_blank, is_printable}
-use Rattle.pd_lex.specs.Pieces.{is_hex}
+use Rattle.pd_lex.specs.Pieces.{is_hex_number}
 use Rattle.pd_lex.specs.Spellings.{AreAll, AreSome, IsWord, IsSpelled, IsPiece}
 use Rattle.pd_lex.proofs.Rests.{and_first}
 use Rattle.pd_lex.proofs.Endings.{and-false}
@@ -15,7 +15,7 @@ use Rattle.pd_lex.proofs.Spelled.{hex_is, is_hex_of}
 
 -- the kind of octets that some kind fits
 word_kind : List ℕ → TokenKind
-word_kind text = cond (list_all is_word text) (cond (list_all is_digit text) Int (cond (is_hex text) Hex Word)) Decimal
+word_kind text = cond (list_all is_word text) (cond (list_all is_digit text) Int (cond (is_hex_number text) Hex Word)) Decimal
 
 point_kind : List ℕ → TokenKind
 point_kind [] = Symbol
@@ -45,7 +45,7 @@ at_word : (b : ℕ) (text : List ℕ) → is_word b ≡ true → kind_of (b ∷ 
 unfolding kind_of
 at_word b text h = rw (word_is_no_blank b h, h) refl
 
-all_words : (b : ℕ) (text : List ℕ) (kind : TokenKind) → list_all is_word (b ∷ text) ≡ true → cond (list_all is_digit (b ∷ text)) Int (cond (is_hex (b ∷ text)) Hex Word) ≡ kind → kind_of (b ∷ text) ≡ Some kind
+all_words : (b : ℕ) (text : List ℕ) (kind : TokenKind) → list_all is_word (b ∷ text) ≡ true → cond (list_all is_digit (b ∷ text)) Int (cond (is_hex_number (b ∷ text)) Hex Word) ≡ kind → kind_of (b ∷ text) ≡ Some kind
 unfolding word_kind
 all_words b text kind all is = at_word b text (and_first (is_word b) (list_all is_word text) all) ∙ rw (all, is) refl
 
@@ -63,7 +63,7 @@ hex_kind digits h = all_words 48 (120 ∷ digits) Hex (all_also is_hex_digit is_
 word_kind_is : (text : List ℕ) → IsWord text → kind_of text ≡ Some Word
 word_kind_is [] h = absurd (omega (arith, h.0.0))
 word_kind_is (b ∷ text) h =
-    all_words b text Word h.0.1 (rw (fails_of (list_all is_digit (b ∷ text)) h.1, fails_of (is_hex (b ∷ text)) (λ e. h.2 (hex_is (b ∷ text) e))) refl)
+    all_words b text Word h.0.1 (rw (fails_of (list_all is_digit (b ∷ text)) h.1, fails_of (is_hex_number (b ∷ text)) (λ e. h.2 (hex_is (b ∷ text) e))) refl)
 
 point_is_no_word : (whole part : List ℕ) → list_all is_word (whole ++ 46 ∷ part) ≡ false
 point_is_no_word whole part = list_all-append is_word whole (46 ∷ part) ∙ and-false (list_all is_word whole)

@@ -14,7 +14,7 @@ use Rattle.pd_lex.specs.declared.scan.Opener.TheVariants.{Comment, Quote, Backqu
 use Rattle.pd_lex.specs.declared.token.TokenKind.TheVariants.{Str, Cmd, Code}
 use Rattle.pd_lex.specs.Kinds.{stays_in_line}
 use Rattle.pd_lex.specs.Places.{first_place, joined, line_at, clamped_place, octets_from, place_after, before, IsPlace}
-use Rattle.pd_lex.specs.Pieces.{piece, after_end, opener_len, Front, nothing, gap, token, stray, closed, parted, front}
+use Rattle.pd_lex.specs.Pieces.{piece, rest_after_closing, opener_len, Front, nothing, gap, token, stray, closed, parted, front}
 use Rattle.pd_lex.specs.Tokens.{Item, lexeme, ending, bad}
 use Rattle.pd_lex.specs.Lexing.{items}
 use Rattle.pd_lex.specs.Scanned.{IsLeftAt}
@@ -102,7 +102,7 @@ module _ (lines : List (List ℕ)) (plain : list_all is_line lines ≡ true) (p 
       let there = left_after lines plain p h rest (token_rest lines plain p h rest kind e) in
       let same : length (octets_from lines (place_after p (before (octets_from lines p) rest))) ≡ length (octets_from lines (record { line = p.line; at = p.at + n })) = ap length (there.left ∙ left ∙ ap (λ (l : List ℕ). drop n l ++ more) is ∙ sym on.left) in
       ap (λ (x : Place). x.line) (same_place lines (place_after p (before (octets_from lines p) rest)) (record { line = p.line; at = p.at + n }) there.place on.place same)
-  piece_stays le b s is (Open o) w f = absurd (closed_leaves_line o (after_end o (drop (opener_len o) (b ∷ s ++ 10 ∷ joined (drop p.line lines)))) kind rest f stays)
+  piece_stays le b s is (Open o) w f = absurd (closed_leaves_line o (rest_after_closing o (drop (opener_len o) (b ∷ s ++ 10 ∷ joined (drop p.line lines)))) kind rest f stays)
   piece_stays le b s is Stray w f = absurd cc
 
   line_stays : p.line ≤ length lines → (s : List ℕ) → s ≡ drop p.at (line_at lines p.line) → (place_after p (before (octets_from lines p) rest)).line ≡ p.line
@@ -129,7 +129,7 @@ closed_some Brace (Some rest) e = cc
 parted_some : (s : List ℕ) (p : Piece) → parted s p ≡ nothing → ⊥
 parted_some s (Blank n) e = cc
 parted_some s (Whole kind n) e = cc
-parted_some s (Open o) e = closed_some o (after_end o (drop (opener_len o) s)) e
+parted_some s (Open o) e = closed_some o (rest_after_closing o (drop (opener_len o) s)) e
 parted_some s Stray e = cc
 
 pub nothing_left : (s : List ℕ) → front s ≡ nothing → s ≡ []

@@ -13,9 +13,9 @@ use Rattle.pd_lex.specs.declared.scan.Piece.{Piece}
 use Rattle.pd_lex.specs.declared.scan.Piece.TheVariants.{Blank, Whole, Open, Stray}
 use Rattle.pd_lex.specs.declared.scan.Opener.{Opener}
 use Rattle.pd_lex.specs.declared.scan.Opener.TheVariants.{Comment, Quote, Backquote, Brace}
-use Rattle.pd_lex.specs.Octets.{is_digit, is_hex_digit, is_word, is_solid, is_inside_line, is_no_backquote, is_printable}
+use Rattle.pd_lex.specs.Octets.{is_digit, is_hex_digit, is_word, is_nonblank, is_not_newline, is_no_backquote, is_printable}
 use Rattle.pd_lex.specs.Places.{before}
-use Rattle.pd_lex.specs.Pieces.{is_hex, fraction_len, value_len, word_piece, point_piece, dash_piece, piece, after_pair, after_quote, after_backquote, after_end, opener_text, opener_len, Front, nothing, gap, token, stray, closed, parted, front}
+use Rattle.pd_lex.specs.Pieces.{is_hex_number, fraction_len, option_value_len, word_piece, point_piece, dash_piece, piece, rest_after_pair, rest_after_quote, rest_after_backquote, rest_after_closing, opener_text, opener_len, Front, nothing, gap, token, stray, closed, parted, front}
 use Rattle.pd_lex.specs.Spellings.{AreAll, AreSome, IsHex, IsValue, IsOpt, IsQuoted, empty, plain, escaped, IsStr, IsCmd, HasNo, IsCode, IsSpelled, IsLineComment, IsBlockComment, IsPiece, IsOpened}
 use Rattle.pd_lex.proofs.Fronts.{IsWithin, piece_within, IsOther, IsShaped, at_blank, at_word, at_point, at_dash, at_line_comment, at_opener, at_symbol, at_stray, shaped, run_begins, positive}
 use Rattle.pd_lex.proofs.Bounds.{begins_pair, begins_one, same_octet}
@@ -75,7 +75,7 @@ take_sum n m s le =
     rw (len, whole) at e
 
 -- letters, digits and `_`
-pub hex_is : (s : List ℕ) → is_hex s ≡ true → IsHex s
+pub hex_is : (s : List ℕ) → is_hex_number s ≡ true → IsHex s
 hex_is [] h = absurd cc
 hex_is (b ∷ s) h =
     let start = starts_with nat_eq (b ∷ s) (48 ∷ 120 ∷ []) in
@@ -91,14 +91,14 @@ hex_is (b ∷ s) h =
     longer : (n : ℕ) → nat_lt 2 n ≡ true → 2 < n
     longer n h = grind (arith, nat_tests)
 
-pub is_hex_of : (digits : List ℕ) → 0 < length digits → list_all is_hex_digit digits ≡ true → is_hex (48 ∷ 120 ∷ digits) ≡ true
+pub is_hex_of : (digits : List ℕ) → 0 < length digits → list_all is_hex_digit digits ≡ true → is_hex_number (48 ∷ 120 ∷ digits) ≡ true
 is_hex_of digits some all = rw (longer (length (48 ∷ 120 ∷ digits)) (omega arith), all) refl
   where
     longer : (n : ℕ) → 2 < n → nat_lt 2 n ≡ true
     longer n h = grind (arith, nat_tests)
 
-no_hex : (s : List ℕ) → is_hex s ≡ false → ¬ IsHex s
-no_hex s fails (digits, is, some) = let yes : is_hex s ≡ true = rw is (is_hex_of digits some.0 some.1) in let e : true ≡ false = sym yes ∙ fails in cc
+no_hex : (s : List ℕ) → is_hex_number s ≡ false → ¬ IsHex s
+no_hex s fails (digits, is, some) = let yes : is_hex_number s ≡ true = rw is (is_hex_of digits some.0 some.1) in let e : true ≡ false = sym yes ∙ fails in cc
 
 word_sound : (b : ℕ) (s : List ℕ) → is_word b ≡ true → IsSound (b ∷ s) (word_piece (b ∷ s))
 unfolding word_piece
@@ -107,9 +107,9 @@ word_sound b s h =
     let f = fraction_len (drop n (b ∷ s)) in
     let run = take n (b ∷ s) in
     let some : 0 < length run = omega (arith, run_length is_word (b ∷ s), run_begins is_word b s h) in
-    sound_either (b ∷ s) (list_all is_digit run) (cond (nat_lt 0 f) (Whole Decimal (n + f)) (Whole Int n)) (cond (is_hex run) (Whole Hex n) (Whole Word n))
+    sound_either (b ∷ s) (list_all is_digit run) (cond (nat_lt 0 f) (Whole Decimal (n + f)) (Whole Int n)) (cond (is_hex_number run) (Whole Hex n) (Whole Word n))
     (λ digits. sound_either (b ∷ s) (nat_lt 0 f) (Whole Decimal (n + f)) (Whole Int n) (λ more. no_symbol (b ∷ s) Decimal (n + f) (λ e. cc) (let part = fraction_spelled (drop n (b ∷ s)) (positive f more) in (run, part.0, take_sum n f (b ∷ s) (prefix_len-le-length is_word (b ∷ s)) ∙ rw part.1 refl, digits, part.2))) (λ _. no_symbol (b ∷ s) Int n (λ e. cc) (some, digits)))
-    (λ others. sound_either (b ∷ s) (is_hex run) (Whole Hex n) (Whole Word n) (λ hex. no_symbol (b ∷ s) Hex n (λ e. cc) (hex_is run hex)) (λ fails. no_symbol (b ∷ s) Word n (λ e. cc) ((some, run_passes is_word (b ∷ s)), λ digits. (let e : true ≡ false = sym digits ∙ others in cc), no_hex run fails)))
+    (λ others. sound_either (b ∷ s) (is_hex_number run) (Whole Hex n) (Whole Word n) (λ hex. no_symbol (b ∷ s) Hex n (λ e. cc) (hex_is run hex)) (λ fails. no_symbol (b ∷ s) Word n (λ e. cc) ((some, run_passes is_word (b ∷ s)), λ digits. (let e : true ≡ false = sym digits ∙ others in cc), no_hex run fails)))
 
 -- the octets that open nothing
 not_opened : (b : ℕ) (s : List ℕ) → b ≢ 47 → b ≢ 34 → b ≢ 96 → b ≢ 37 → ¬ IsOpened (b ∷ s)
@@ -134,28 +134,28 @@ point_sound s =
     (λ _. sound_either (46 ∷ s) (nat_lt 0 f) (Whole Decimal f) (Whole Symbol 1) (λ h. no_symbol (46 ∷ s) Decimal f (λ e. cc) (let part = fraction_spelled (46 ∷ s) (positive f h) in ([], part.0, part.1, refl, part.2))) (λ _. point_symbol s))
 
 -- options
-value_spelled : (s : List ℕ) → IsValue (take (value_len s) s)
+value_spelled : (s : List ℕ) → IsValue (take (option_value_len s) s)
 value_spelled [] = inl refl
 value_spelled (b ∷ s) = by_test (b == 61) refl
   where
     is_equals : (b : ℕ) → (b == 61) ≡ true → b ≡ 61
     is_equals b h = grind (arith, nat_tests)
 
-    by_test : (t : Bool) → (b == 61) ≡ t → IsValue (take (cond t (prefix_len is_solid s + 1) 0) (b ∷ s))
-    by_test true e = inr (take (prefix_len is_solid s) s, rw (add-one, is_equals b e) refl, run_passes is_solid s)
+    by_test : (t : Bool) → (b == 61) ≡ t → IsValue (take (cond t (prefix_len is_nonblank s + 1) 0) (b ∷ s))
+    by_test true e = inr (take (prefix_len is_nonblank s) s, rw (add-one, is_equals b e) refl, run_passes is_nonblank s)
     by_test false e = inl refl
 
-opt_spelled : (more : List ℕ) → 0 < prefix_len is_word more → IsOpt (take (2 + prefix_len is_word more + value_len (drop (prefix_len is_word more) more)) (45 ∷ 45 ∷ more))
+opt_spelled : (more : List ℕ) → 0 < prefix_len is_word more → IsOpt (take (2 + prefix_len is_word more + option_value_len (drop (prefix_len is_word more) more)) (45 ∷ 45 ∷ more))
 opt_spelled more some =
     let n = prefix_len is_word more in
-    let v = value_len (drop n more) in
+    let v = option_value_len (drop n more) in
     let sum : 2 + n + v ≡ suc (suc (n + v)) = omega arith in
     (take n more, take v (drop n more), rw (sum, take_sum n v more (prefix_len-le-length is_word more)) refl, (omega (arith, run_length is_word more), run_passes is_word more), value_spelled (drop n more))
 
-dashes_list : (s more : List ℕ) → s ≡ 45 ∷ 45 ∷ more → 0 < prefix_len is_word (drop 2 s) → IsOpt (take (2 + prefix_len is_word (drop 2 s) + value_len (drop (prefix_len is_word (drop 2 s)) (drop 2 s))) s)
+dashes_list : (s more : List ℕ) → s ≡ 45 ∷ 45 ∷ more → 0 < prefix_len is_word (drop 2 s) → IsOpt (take (2 + prefix_len is_word (drop 2 s) + option_value_len (drop (prefix_len is_word (drop 2 s)) (drop 2 s))) s)
 dashes_list s more is some = rw is (opt_spelled more (rw is at some))
 
-dashes_then : (s : List ℕ) → starts_with nat_eq (45 ∷ s) (45 ∷ 45 ∷ []) ≡ true → 0 < prefix_len is_word (drop 2 (45 ∷ s)) → IsOpt (take (2 + prefix_len is_word (drop 2 (45 ∷ s)) + value_len (drop (prefix_len is_word (drop 2 (45 ∷ s))) (drop 2 (45 ∷ s)))) (45 ∷ s))
+dashes_then : (s : List ℕ) → starts_with nat_eq (45 ∷ s) (45 ∷ 45 ∷ []) ≡ true → 0 < prefix_len is_word (drop 2 (45 ∷ s)) → IsOpt (take (2 + prefix_len is_word (drop 2 (45 ∷ s)) + option_value_len (drop (prefix_len is_word (drop 2 (45 ∷ s))) (drop 2 (45 ∷ s)))) (45 ∷ s))
 dashes_then s h some =
     let is = begins_pair 45 45 45 s h in
     dashes_list (45 ∷ s) is.0 is.1 some
@@ -168,7 +168,7 @@ unfolding dash_piece
 dash_sound s =
     let starts = starts_with nat_eq (45 ∷ s) (45 ∷ 45 ∷ []) in
     let n = prefix_len is_word (drop 2 (45 ∷ s)) in
-    let v = value_len (drop n (drop 2 (45 ∷ s))) in
+    let v = option_value_len (drop n (drop 2 (45 ∷ s))) in
     sound_either (45 ∷ s) (starts && nat_lt 0 n) (Whole Opt (2 + n + v)) (Whole Symbol 1)
     (λ h. no_symbol (45 ∷ s) Opt (2 + n + v) (λ e. cc) (dashes_then s (and_first starts (nat_lt 0 n) h) (positive n (and_second starts (nat_lt 0 n) h))))
     (λ _. dash_symbol s)
@@ -177,11 +177,11 @@ dash_sound s =
 take_one_more : (n b : ℕ) (s : List ℕ) → take (1 + n) (b ∷ s) ≡ b ∷ take n s
 take_one_more n b s = rw one-add refl
 
-line_comment_sound : (s more : List ℕ) → s ≡ 47 ∷ 47 ∷ more → IsLineComment (take (prefix_len is_inside_line s) s)
+line_comment_sound : (s more : List ℕ) → s ≡ 47 ∷ 47 ∷ more → IsLineComment (take (prefix_len is_not_newline s) s)
 line_comment_sound s more is =
-    let n = prefix_len is_inside_line more in
+    let n = prefix_len is_not_newline more in
     let slashes = take_one_more (1 + n) 47 (47 ∷ more) ∙ ap (λ (l : List ℕ). 47 ∷ l) (take_one_more n 47 more) in
-    (take n more, rw is slashes, run_passes is_inside_line more)
+    (take n more, rw is slashes, run_passes is_not_newline more)
 
 pair_begins : (s more : List ℕ) (x y : ℕ) → s ≡ x ∷ y ∷ more → starts_with nat_eq s (x ∷ y ∷ []) ≡ true
 pair_begins s more x y is = rw (is, same_octet x, same_octet y) refl
@@ -221,22 +221,22 @@ Tells b x = ((eqb b x ≡ true) × (b ≡ x)) ⊎ ((eqb b x ≡ false) × (b ≢
 abbrev pub QuotedBefore : List ℕ → List ℕ → Type 0
 QuotedBefore s r = (body : List ℕ) × (s ≡ body ++ 34 ∷ r) × IsQuoted body
 
-quote_last : (b : ℕ) (r : List ℕ) → after_quote (b ∷ []) ≡ Some r → Tells b 34 → QuotedBefore (b ∷ []) r
+quote_last : (b : ℕ) (r : List ℕ) → rest_after_quote (b ∷ []) ≡ Some r → Tells b 34 → QuotedBefore (b ∷ []) r
 quote_last b r e (inl t) = let g : Some [] ≡ Some r = rw t.0 at e in ([], cc (t.1), empty)
 quote_last b r e (inr f) = absurd (let g = rw f.0 at e in cc)
 
-quote_step : (b c : ℕ) (s r : List ℕ) → after_quote (b ∷ c ∷ s) ≡ Some r → (after_quote s ≡ Some r → QuotedBefore s r) → (after_quote (c ∷ s) ≡ Some r → QuotedBefore (c ∷ s) r) → Tells b 34 → Tells b 92 → QuotedBefore (b ∷ c ∷ s) r
+quote_step : (b c : ℕ) (s r : List ℕ) → rest_after_quote (b ∷ c ∷ s) ≡ Some r → (rest_after_quote s ≡ Some r → QuotedBefore s r) → (rest_after_quote (c ∷ s) ≡ Some r → QuotedBefore (c ∷ s) r) → Tells b 34 → Tells b 92 → QuotedBefore (b ∷ c ∷ s) r
 quote_step b c s r e after next (inl t) u = let g : Some (c ∷ s) ≡ Some r = rw t.0 at e in ([], cc (t.1), empty)
 quote_step b c s r e after next (inr f) (inl t) =
-    let g : after_quote s ≡ Some r = rw (f.0, t.0) at e in
+    let g : rest_after_quote s ≡ Some r = rw (f.0, t.0) at e in
     let q = after g in
     (92 ∷ c ∷ q.0, ap (λ (n : ℕ). n ∷ c ∷ s) t.1 ∙ ap (λ (l : List ℕ). 92 ∷ c ∷ l) q.1, escaped q.2)
 quote_step b c s r e after next (inr f) (inr g) =
-    let h : after_quote (c ∷ s) ≡ Some r = rw (f.0, g.0) at e in
+    let h : rest_after_quote (c ∷ s) ≡ Some r = rw (f.0, g.0) at e in
     let q = next h in
     (b ∷ q.0, ap (λ (l : List ℕ). b ∷ l) q.1, plain f.1 g.1 q.2)
 
-quoted_before : (s r : List ℕ) → after_quote s ≡ Some r → QuotedBefore s r
+quoted_before : (s r : List ℕ) → rest_after_quote s ≡ Some r → QuotedBefore s r
 quoted_before [] r e = absurd cc
 quoted_before (b ∷ []) r e = quote_last b r e (eqb_tells b 34)
 quoted_before (b ∷ c ∷ s) r e = quote_step b c s r e (quoted_before s r) (quoted_before (c ∷ s) r) (eqb_tells b 34) (eqb_tells b 92)
@@ -244,14 +244,14 @@ quoted_before (b ∷ c ∷ s) r e = quote_step b c s r e (quoted_before s r) (qu
 abbrev pub BackquoteBefore : List ℕ → List ℕ → Type 0
 BackquoteBefore s r = (body : List ℕ) × (s ≡ body ++ 96 ∷ r) × AreAll is_no_backquote body
 
-backquote_step : (b : ℕ) (s r : List ℕ) → after_backquote (b ∷ s) ≡ Some r → (after_backquote s ≡ Some r → BackquoteBefore s r) → Tells b 96 → BackquoteBefore (b ∷ s) r
+backquote_step : (b : ℕ) (s r : List ℕ) → rest_after_backquote (b ∷ s) ≡ Some r → (rest_after_backquote s ≡ Some r → BackquoteBefore s r) → Tells b 96 → BackquoteBefore (b ∷ s) r
 backquote_step b s r e next (inl t) = let g : Some s ≡ Some r = rw t.0 at e in ([], cc (t.1), refl)
 backquote_step b s r e next (inr f) =
-    let g : after_backquote s ≡ Some r = rw f.0 at e in
+    let g : rest_after_backquote s ≡ Some r = rw f.0 at e in
     let q = next g in
     (b ∷ q.0, ap (λ (l : List ℕ). b ∷ l) q.1, rw f.0 q.2)
 
-backquote_before : (s r : List ℕ) → after_backquote s ≡ Some r → BackquoteBefore s r
+backquote_before : (s r : List ℕ) → rest_after_backquote s ≡ Some r → BackquoteBefore s r
 backquote_before [] r e = absurd cc
 backquote_before (b ∷ s) r e = backquote_step b s r e (backquote_before s r) (eqb_tells b 96)
 
@@ -269,7 +269,7 @@ no_pair_first x y b s body r fails is none [] back e =
     both_ways (starts_with nat_eq (b ∷ s) (x ∷ y ∷ [])) (pair_begins (b ∷ s) (back ++ x ∷ y ∷ r) x y (rw (is, second, first) refl)) fails
 no_pair_first x y b s body r fails is none (f ∷ front) back e = none front back (ap (drop 1) e)
 
-pair_step : (x y b : ℕ) (s r : List ℕ) (t : Bool) → starts_with nat_eq (b ∷ s) (x ∷ y ∷ []) ≡ t → cond t (Some (drop 1 s)) (after_pair x y s) ≡ Some r → (after_pair x y s ≡ Some r → PairBefore x y s r) → PairBefore x y (b ∷ s) r
+pair_step : (x y b : ℕ) (s r : List ℕ) (t : Bool) → starts_with nat_eq (b ∷ s) (x ∷ y ∷ []) ≡ t → cond t (Some (drop 1 s)) (rest_after_pair x y s) ≡ Some r → (rest_after_pair x y s ≡ Some r → PairBefore x y s r) → PairBefore x y (b ∷ s) r
 pair_step x y b s r true starts e next =
     let is = begins_pair b x y s starts in
     let rest : drop 1 s ≡ is.0 = ap (drop 2) is.1 in
@@ -282,7 +282,7 @@ pair_step x y b s r false fails e next =
     let q = next e in
     (b ∷ q.0, ap (λ (l : List ℕ). b ∷ l) q.1, no_pair_first x y b s q.0 r fails q.1 q.2)
 
-pair_before : (x y : ℕ) (s r : List ℕ) → after_pair x y s ≡ Some r → PairBefore x y s r
+pair_before : (x y : ℕ) (s r : List ℕ) → rest_after_pair x y s ≡ Some r → PairBefore x y s r
 pair_before x y [] r e = absurd cc
 pair_before x y (b ∷ s) r e = pair_step x y b s r (starts_with nat_eq (b ∷ s) (x ∷ y ∷ [])) refl e (pair_before x y s r)
 
@@ -313,7 +313,7 @@ cmd_well s more rest is (body, cut, none) = (body, before_is s (96 ∷ body ++ 9
 pair_and_rest : (b x y : ℕ) (s more : List ℕ) → b ∷ s ≡ x ∷ y ∷ more → b ∷ s ≡ x ∷ y ∷ drop 1 s
 pair_and_rest b x y s more e = e ∙ ap (λ (l : List ℕ). x ∷ y ∷ l) (sym (ap (drop 2) e))
 
-closed_well : (o : Opener) (b : ℕ) (s rest : List ℕ) → starts_with nat_eq (b ∷ s) (opener_text o) ≡ true → after_end o (drop (opener_len o) (b ∷ s)) ≡ Some rest → IsWell (b ∷ s) (closed o (Some rest))
+closed_well : (o : Opener) (b : ℕ) (s rest : List ℕ) → starts_with nat_eq (b ∷ s) (opener_text o) ≡ true → rest_after_closing o (drop (opener_len o) (b ∷ s)) ≡ Some rest → IsWell (b ∷ s) (closed o (Some rest))
 closed_well Comment b s rest starts e =
     let is = begins_pair b 47 42 s starts in
     inr (inr (comment_well (b ∷ s) (drop 2 (b ∷ s)) rest (pair_and_rest b 47 42 s is.0 is.1) (pair_before 42 47 (drop 2 (b ∷ s)) rest e)))
@@ -323,7 +323,7 @@ closed_well Brace b s rest starts e =
     let is = begins_pair b 37 123 s starts in
     (code_well (b ∷ s) (drop 2 (b ∷ s)) rest (pair_and_rest b 37 123 s is.0 is.1) (pair_before 125 37 (drop 2 (b ∷ s)) rest e), λ is. absurd cc)
 
-open_well : (o : Opener) (b : ℕ) (s : List ℕ) (r : Option (List ℕ)) → starts_with nat_eq (b ∷ s) (opener_text o) ≡ true → after_end o (drop (opener_len o) (b ∷ s)) ≡ r → IsWell (b ∷ s) (closed o r)
+open_well : (o : Opener) (b : ℕ) (s : List ℕ) (r : Option (List ℕ)) → starts_with nat_eq (b ∷ s) (opener_text o) ≡ true → rest_after_closing o (drop (opener_len o) (b ∷ s)) ≡ r → IsWell (b ∷ s) (closed o r)
 open_well o b s None starts e = tt
 open_well o b s (Some rest) starts e = closed_well o b s rest starts e
 
@@ -333,7 +333,7 @@ before_drop s n le = let m : length s - length (drop n s) ≡ n = omega (arith, 
 piece_well : (b : ℕ) (s : List ℕ) (p : Piece) → IsWithin (b ∷ s) p → IsSound (b ∷ s) p → IsWell (b ∷ s) (parted (b ∷ s) p)
 piece_well b s (Blank n) w h = rw (before_drop (b ∷ s) n w.fits) h
 piece_well b s (Whole kind n) w h = (rw (before_drop (b ∷ s) n w.fits) h.spelled, h.unopened)
-piece_well b s (Open o) w h = open_well o b s (after_end o (drop (opener_len o) (b ∷ s))) h refl
+piece_well b s (Open o) w h = open_well o b s (rest_after_closing o (drop (opener_len o) (b ∷ s))) h refl
 piece_well b s Stray w h = tt
 
 pub front_well : (s : List ℕ) → IsWell s (front s)

@@ -11,7 +11,7 @@ use Rattle.pd_lex.specs.declared.step.LexStep.{LexStep}
 use Rattle.pd_lex.specs.declared.step.LexStep.TheVariants as steps
 use Rattle.pd_lex.specs.Kinds.{stays_in_line}
 use Rattle.pd_lex.specs.Places.{joined, line_at, octets_from, between, IsPlace}
-use Rattle.pd_lex.specs.Pieces.{piece, after_end, opener_len, gap, token, closed, parted, front}
+use Rattle.pd_lex.specs.Pieces.{piece, rest_after_closing, opener_len, gap, token, closed, parted, front}
 use Rattle.pd_lex.specs.Scanned.{IsLeftAt, IsClosed, opener_kind, IsClosing, IsStep}
 use Rattle.pd_lex.proofs.InLine.{piece_in_line}
 use Rattle.pd_lex.proofs.Endings.{end_in_line, end_past_line, end_suffix, end_of_nothing}
@@ -19,22 +19,22 @@ use Rattle.pd_lex.proofs.Rests.{octets_in_line, octets_past, further_in_line, ne
 
 module _ (lines : List (List ℕ)) (p : Place) (h : IsPlace lines p) (le : p.line ≤ length lines) where
   -- what was opened ends in the line of a place, or where it ends in the lines after it
-  closed_from : (o : Opener) (r : List ℕ) (k : ℕ) → k ≤ length (drop p.at (line_at lines p.line)) → r ≡ drop k (drop p.at (line_at lines p.line)) → after_end o (drop p.at (line_at lines p.line)) ≡ Some r → IsClosed lines (after_end o (octets_from lines p)) (Some (record { line = p.line; at = p.at + (length (drop p.at (line_at lines p.line)) - length r) }))
+  closed_from : (o : Opener) (r : List ℕ) (k : ℕ) → k ≤ length (drop p.at (line_at lines p.line)) → r ≡ drop k (drop p.at (line_at lines p.line)) → rest_after_closing o (drop p.at (line_at lines p.line)) ≡ Some r → IsClosed lines (rest_after_closing o (octets_from lines p)) (Some (record { line = p.line; at = p.at + (length (drop p.at (line_at lines p.line)) - length r) }))
   closed_from o r k fits last e =
       let s = drop p.at (line_at lines p.line) in
       let n : length s - length r ≡ k = omega (arith, fits, ap length last, length-drop k s) in
       let left : IsLeftAt lines (record { line = p.line; at = p.at + k }) (r ++ 10 ∷ joined (drop p.line lines)) = rw last (further_in_line lines p h le k fits) in
       rw (octets_in_line lines p h le, end_in_line o s (joined (drop p.line lines)) r e, n) left
 
-  pub closed_at : (o : Opener) (r : List ℕ) → after_end o (drop p.at (line_at lines p.line)) ≡ Some r → IsClosed lines (after_end o (octets_from lines p)) (Some (record { line = p.line; at = p.at + (length (drop p.at (line_at lines p.line)) - length r) }))
+  pub closed_at : (o : Opener) (r : List ℕ) → rest_after_closing o (drop p.at (line_at lines p.line)) ≡ Some r → IsClosed lines (rest_after_closing o (octets_from lines p)) (Some (record { line = p.line; at = p.at + (length (drop p.at (line_at lines p.line)) - length r) }))
   closed_at o r e = let last = end_suffix o (drop p.at (line_at lines p.line)) r e in closed_from o r last.0 last.1 last.2 e
 
-  pub not_closed_at : (o : Opener) → after_end o (drop p.at (line_at lines p.line)) ≡ None → after_end o (octets_from lines p) ≡ after_end o (octets_from lines (record { line = p.line + 1; at = 0 }))
+  pub not_closed_at : (o : Opener) → rest_after_closing o (drop p.at (line_at lines p.line)) ≡ None → rest_after_closing o (octets_from lines p) ≡ rest_after_closing o (octets_from lines (record { line = p.line + 1; at = 0 }))
   not_closed_at o e =
       let next = next_line lines p h le in
       rw (octets_in_line lines p h le, end_past_line o (drop p.at (line_at lines p.line)) (joined (drop p.line lines)) e, next.left) refl
 
-pub not_closed : (lines : List (List ℕ)) (p : Place) (o : Opener) → length lines < p.line → after_end o (octets_from lines p) ≡ None
+pub not_closed : (lines : List (List ℕ)) (p : Place) (o : Opener) → length lines < p.line → rest_after_closing o (octets_from lines p) ≡ None
 not_closed lines p o lt = rw (octets_past lines p lt) (end_of_nothing o)
 
 module _ (lines : List (List ℕ)) (p : Place) (h : IsPlace lines p) (le : p.line ≤ length lines) where
@@ -81,7 +81,7 @@ module _ (lines : List (List ℕ)) (p : Place) (h : IsPlace lines p) (le : p.lin
   pub inside_place : (s : List ℕ) (o : Opener) → s ≡ drop p.at (line_at lines p.line) → opener_len o ≤ length s → IsPlace lines (record { line = p.line; at = p.at + opener_len o })
   inside_place s o e fits = (after_piece s (opener_len o) e fits).place
 
-  open_front : (s : List ℕ) (o : Opener) → s ≡ drop p.at (line_at lines p.line) → Open o ≡ piece s → 0 < length s → opener_len o ≤ length s → front (octets_from lines p) ≡ closed o (after_end o (octets_from lines (record { line = p.line; at = p.at + opener_len o })))
+  open_front : (s : List ℕ) (o : Opener) → s ≡ drop p.at (line_at lines p.line) → Open o ≡ piece s → 0 < length s → opener_len o ≤ length s → front (octets_from lines p) ≡ closed o (rest_after_closing o (octets_from lines (record { line = p.line; at = p.at + opener_len o })))
   open_front [] o e is some fits = absurd (omega arith)
   open_front (b ∷ s) o e is some fits =
       let there = after_piece (b ∷ s) (opener_len o) e fits in
@@ -111,8 +111,8 @@ module _ (lines : List (List ℕ)) (p : Place) (h : IsPlace lines p) (le : p.lin
   step_unclosed o None e c = e
   step_unclosed o (Some rest) e c = absurd c
 
-  pub step_closed : (s : List ℕ) (o : Opener) → s ≡ drop p.at (line_at lines p.line) → Open o ≡ piece s → 0 < length s → opener_len o ≤ length s → (q : Place) → IsClosed lines (after_end o (octets_from lines (record { line = p.line; at = p.at + opener_len o }))) (Some q) → (step : LexStep) → IsClosing o q step → IsStep lines p step
+  pub step_closed : (s : List ℕ) (o : Opener) → s ≡ drop p.at (line_at lines p.line) → Open o ≡ piece s → 0 < length s → opener_len o ≤ length s → (q : Place) → IsClosed lines (rest_after_closing o (octets_from lines (record { line = p.line; at = p.at + opener_len o }))) (Some q) → (step : LexStep) → IsClosing o q step → IsStep lines p step
   step_closed s o e is some fits q c step closing = step_over o _ q step closing (open_front s o e is some fits) c
 
-  pub step_open : (s : List ℕ) (o : Opener) → s ≡ drop p.at (line_at lines p.line) → Open o ≡ piece s → 0 < length s → opener_len o ≤ length s → IsClosed lines (after_end o (octets_from lines (record { line = p.line; at = p.at + opener_len o }))) None → IsStep lines p steps.Stray
+  pub step_open : (s : List ℕ) (o : Opener) → s ≡ drop p.at (line_at lines p.line) → Open o ≡ piece s → 0 < length s → opener_len o ≤ length s → IsClosed lines (rest_after_closing o (octets_from lines (record { line = p.line; at = p.at + opener_len o }))) None → IsStep lines p steps.Stray
   step_open s o e is some fits c = step_unclosed o _ (open_front s o e is some fits) c

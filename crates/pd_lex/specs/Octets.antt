@@ -50,12 +50,12 @@ abbrev pub is_blank : ℕ → Bool
 is_blank b = (b == 32) || (b == 9) || (b == 13) || (b == newline)
 
 -- no blank
-abbrev pub is_solid : ℕ → Bool
-is_solid b = not (is_blank b)
+abbrev pub is_nonblank : ℕ → Bool
+is_nonblank b = not (is_blank b)
 
 -- no newline
-abbrev pub is_inside_line : ℕ → Bool
-is_inside_line b = not (b == newline)
+abbrev pub is_not_newline : ℕ → Bool
+is_not_newline b = not (b == newline)
 
 -- a printable octet but the space
 abbrev pub is_printable : ℕ → Bool

@@ -7,11 +7,11 @@ use Rattle.pd_lex.specs.declared.scan.Piece.{Piece}
 use Rattle.pd_lex.specs.declared.scan.Piece.TheVariants.{Blank, Whole, Open, Stray}
 use Rattle.pd_lex.specs.declared.scan.Opener.{Opener}
 use Rattle.pd_lex.specs.declared.scan.Opener.TheVariants as openers
-use Rattle.pd_lex.specs.Octets.{quote, dash, point, equals, backslash, backquote, is_digit, is_hex_digit, is_word, is_blank, is_solid, is_inside_line, is_printable}
+use Rattle.pd_lex.specs.Octets.{quote, dash, point, equals, backslash, backquote, is_digit, is_hex_digit, is_word, is_blank, is_nonblank, is_not_newline, is_printable}
 
 -- `0x` and one or more hexadecimal digits
-abbrev pub is_hex : List ℕ → Bool
-is_hex s = starts_with nat_eq s (codes "0x") && nat_lt 2 (length s) && list_all is_hex_digit (drop 2 s)
+abbrev pub is_hex_number : List ℕ → Bool
+is_hex_number s = starts_with nat_eq s (codes "0x") && nat_lt 2 (length s) && list_all is_hex_digit (drop 2 s)
 
 -- the length of a point with one or more digits, or 0
 abbrev pub fraction_len : List ℕ → ℕ
@@ -19,9 +19,9 @@ fraction_len [] = 0
 fraction_len (b ∷ s) = if (b == point) && nat_lt 0 (prefix_len is_digit s) then prefix_len is_digit s + 1 else 0
 
 -- the length of `=` with all up to the next blank, or 0
-abbrev pub value_len : List ℕ → ℕ
-value_len [] = 0
-value_len (b ∷ s) = if b == equals then prefix_len is_solid s + 1 else 0
+abbrev pub option_value_len : List ℕ → ℕ
+option_value_len [] = 0
+option_value_len (b ∷ s) = if b == equals then prefix_len is_nonblank s + 1 else 0
 
 -- a run of letters, digits and `_`; digits alone may go on as a decimal
 unfoldable pub word_piece : List ℕ → Piece
@@ -29,7 +29,7 @@ word_piece s =
     let n = prefix_len is_word s in
     let fraction = fraction_len (drop n s) in
     if list_all is_digit (take n s) then (if nat_lt 0 fraction then Whole Decimal (n + fraction) else Whole Int n)
-    else (if is_hex (take n s) then Whole Hex n else Whole Word n)
+    else (if is_hex_number (take n s) then Whole Hex n else Whole Word n)
 
 -- `...`, a decimal without a whole part, or the point
 unfoldable pub point_piece : List ℕ → Piece
@@ -42,7 +42,7 @@ point_piece s =
 unfoldable pub dash_piece : List ℕ → Piece
 dash_piece s =
     let name = prefix_len is_word (drop 2 s) in
-    if starts_with nat_eq s (codes "--") && nat_lt 0 name then Whole Opt (2 + name + value_len (drop name (drop 2 s)))
+    if starts_with nat_eq s (codes "--") && nat_lt 0 name then Whole Opt (2 + name + option_value_len (drop name (drop 2 s)))
     else Whole Symbol 1
 
 -- the piece at the front of a line
@@ -53,7 +53,7 @@ piece (b ∷ s) =
     else (if is_word b then word_piece (b ∷ s)
     else (if b == point then point_piece (b ∷ s)
     else (if b == dash then dash_piece (b ∷ s)
-    else (if starts_with nat_eq (b ∷ s) (codes "//") then Blank (prefix_len is_inside_line (b ∷ s))
+    else (if starts_with nat_eq (b ∷ s) (codes "//") then Blank (prefix_len is_not_newline (b ∷ s))
     else (if starts_with nat_eq (b ∷ s) (codes "/*") then Open openers.Comment
     else (if b == quote then Open openers.Quote
     else (if b == backquote then Open openers.Backquote
@@ -61,27 +61,27 @@ piece (b ∷ s) =
     else (if is_printable b then Whole Symbol 1 else Stray)))))))))
 
 -- the octets after the first place where these two octets come one after the other
-abbrev pub after_pair : ℕ → ℕ → List ℕ → Option (List ℕ)
-after_pair x y [] = None
-after_pair x y (b ∷ s) = if starts_with nat_eq (b ∷ s) (x ∷ y ∷ []) then Some (drop 1 s) else after_pair x y s
+abbrev pub rest_after_pair : ℕ → ℕ → List ℕ → Option (List ℕ)
+rest_after_pair x y [] = None
+rest_after_pair x y (b ∷ s) = if starts_with nat_eq (b ∷ s) (x ∷ y ∷ []) then Some (drop 1 s) else rest_after_pair x y s
 
 -- the octets after the first backquote
-abbrev pub after_backquote : List ℕ → Option (List ℕ)
-after_backquote [] = None
-after_backquote (b ∷ s) = if b == backquote then Some s else after_backquote s
+abbrev pub rest_after_backquote : List ℕ → Option (List ℕ)
+rest_after_backquote [] = None
+rest_after_backquote (b ∷ s) = if b == backquote then Some s else rest_after_backquote s
 
 -- the octets after the first `"`; a backslash takes the next octet with it
-abbrev pub after_quote : List ℕ → Option (List ℕ)
-after_quote [] = None
-after_quote (b ∷ []) = if b == quote then Some [] else None
-after_quote (b ∷ c ∷ s) = if b == quote then Some (c ∷ s) else (if b == backslash then after_quote s else after_quote (c ∷ s))
+abbrev pub rest_after_quote : List ℕ → Option (List ℕ)
+rest_after_quote [] = None
+rest_after_quote (b ∷ []) = if b == quote then Some [] else None
+rest_after_quote (b ∷ c ∷ s) = if b == quote then Some (c ∷ s) else (if b == backslash then rest_after_quote s else rest_after_quote (c ∷ s))
 
 -- the octets after the end of the piece that was opened: `*/`, `"`, a backquote or `}%`
-abbrev pub after_end : Opener → List ℕ → Option (List ℕ)
-after_end openers.Comment s = after_pair 42 47 s
-after_end openers.Quote s = after_quote s
-after_end openers.Backquote s = after_backquote s
-after_end openers.Brace s = after_pair 125 37 s
+abbrev pub rest_after_closing : Opener → List ℕ → Option (List ℕ)
+rest_after_closing openers.Comment s = rest_after_pair 42 47 s
+rest_after_closing openers.Quote s = rest_after_quote s
+rest_after_closing openers.Backquote s = rest_after_backquote s
+rest_after_closing openers.Brace s = rest_after_pair 125 37 s
 
 -- the octets that open it: `/*`, `"`, a backquote or `%{`
 abbrev pub opener_text : Opener → List ℕ
@@ -114,7 +114,7 @@ closed openers.Brace (Some rest) = token Code rest
 abbrev pub parted : List ℕ → Piece → Front
 parted s (Blank n) = gap (drop n s)
 parted s (Whole kind n) = token kind (drop n s)
-parted s (Open o) = closed o (after_end o (drop (opener_len o) s))
+parted s (Open o) = closed o (rest_after_closing o (drop (opener_len o) s))
 parted s Stray = stray
 
 -- the front of a text: nothing where it ends, else the piece that comes first

@@ -11,9 +11,9 @@ use Rattle.pd_lex.specs.declared.scan.Opener.TheVariants as openers
 use Rattle.pd_lex.specs.declared.step.LexStep.{LexStep}
 use Rattle.pd_lex.specs.declared.step.LexStep.TheVariants as steps
 use Rattle.pd_lex.specs.Kinds.{stays_in_line}
-use Rattle.pd_lex.specs.Octets.{is_digit, is_word, is_inside_line}
+use Rattle.pd_lex.specs.Octets.{is_digit, is_word, is_not_newline}
 use Rattle.pd_lex.specs.Places.{octets_from, between, line_at, IsPlace}
-use Rattle.pd_lex.specs.Pieces.{is_hex, opener_len, gap, token, stray, front}
+use Rattle.pd_lex.specs.Pieces.{is_hex_number, opener_len, gap, token, stray, front}
 use Rattle.std.specs.Char.{digit_value}
 
 -- how many octets of the line a piece or its opener has
@@ -50,11 +50,11 @@ begins_name (b ∷ s) = is_word b && not (is_digit b)
 
 -- a run of letters, digits and `_`, among them one that is no digit
 abbrev pub run_piece : List ℕ → Piece
-run_piece s = let n = prefix_len is_word s in if is_hex (take n s) then pieces.Whole Hex n else pieces.Whole Word n
+run_piece s = let n = prefix_len is_word s in if is_hex_number (take n s) then pieces.Whole Hex n else pieces.Whole Word n
 
 -- `//` with the rest of the line, `/*`, or the slash
 abbrev pub slash_piece : List ℕ → Piece
-slash_piece s = if starts_with nat_eq s (codes "//") then pieces.Blank (prefix_len is_inside_line s) else (if starts_with nat_eq s (codes "/*") then pieces.Open openers.Comment else pieces.Whole Symbol 1)
+slash_piece s = if starts_with nat_eq s (codes "//") then pieces.Blank (prefix_len is_not_newline s) else (if starts_with nat_eq s (codes "/*") then pieces.Open openers.Comment else pieces.Whole Symbol 1)
 
 -- `%{`, or the percent sign
 abbrev pub percent_piece : List ℕ → Piece
@@ -84,6 +84,6 @@ abbrev pub wrapped_digit : ℕ → ℕ → ℕ
 wrapped_digit n digit = (n * 10 % 2 ^ 64 + digit_value digit) % 2 ^ 64
 
 -- the octet at the front, or 0
-abbrev pub first_octet : List ℕ → ℕ
-first_octet [] = 0
-first_octet (b ∷ s) = b
+abbrev pub first_octet_or_zero : List ℕ → ℕ
+first_octet_or_zero [] = 0
+first_octet_or_zero (b ∷ s) = b

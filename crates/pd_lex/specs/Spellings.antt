@@ -3,7 +3,7 @@ use Rattle.std.specs.Prelude.{◌≡◌, ◌≢◌, ℕ, ◌≤◌, ◌<◌, Boo
 use Rattle.std.specs.List.{list_all}
 use Rattle.pd_lex.specs.declared.token.TokenKind.{TokenKind}
 use Rattle.pd_lex.specs.declared.token.TokenKind.TheVariants.{Int, Hex, Word, Decimal, Dots, Opt, Str, Cmd, Code, Symbol}
-use Rattle.pd_lex.specs.Octets.{quote, backslash, is_digit, is_hex_digit, is_word, is_blank, is_solid, is_inside_line, is_no_backquote, is_printable}
+use Rattle.pd_lex.specs.Octets.{quote, backslash, is_digit, is_hex_digit, is_word, is_blank, is_nonblank, is_not_newline, is_no_backquote, is_printable}
 
 -- each octet passes a test
 abbrev pub AreAll : (ℕ → Bool) → List ℕ → Type 0
@@ -27,7 +27,7 @@ IsDecimal text = (whole : List ℕ) × (part : List ℕ) × (text ≡ whole ++ (
 
 -- nothing, or `=` and octets that are no blanks
 abbrev pub IsValue : List ℕ → Type 0
-IsValue text = (text ≡ []) ⊎ ((value : List ℕ) × (text ≡ codes "=" ++ value) × AreAll is_solid value)
+IsValue text = (text ≡ []) ⊎ ((value : List ℕ) × (text ≡ codes "=" ++ value) × AreAll is_nonblank value)
 
 -- `--`, a name of letters, digits and `_`, and a value
 abbrev pub IsOpt : List ℕ → Type 0
@@ -78,7 +78,7 @@ IsBlank text = (b : ℕ) × (text ≡ b ∷ []) × IsTrue (is_blank b)
 
 -- `//` to the end of the line
 abbrev pub IsLineComment : List ℕ → Type 0
-IsLineComment text = (body : List ℕ) × (text ≡ codes "//" ++ body) × AreAll is_inside_line body
+IsLineComment text = (body : List ℕ) × (text ≡ codes "//" ++ body) × AreAll is_not_newline body
 
 -- `/*` to the next `*/`
 abbrev pub IsBlockComment : List ℕ → Type 0

@@ -1,12 +1,12 @@
 //! The end of what was opened, within a line.
 ghost use Rattle.std.specs.Prelude.{◌≡◌, ◌≤◌, length, option_copied, IfSome};
-ghost use Rattle.pd_lex.specs.Pieces.{after_pair, after_quote, after_backquote, after_end};
+ghost use Rattle.pd_lex.specs.Pieces.{rest_after_pair, rest_after_quote, rest_after_backquote, rest_after_closing};
 
 use crate::scan::Opener;
 
 /// The octets after the first pair of these two.
-fn after_pair(s: &[u8], x: u8, y: u8) -> Option<&[u8]>
-    ensures after { option_copied result ≡ after_pair x y s.now }
+fn rest_after_pair(s: &[u8], x: u8, y: u8) -> Option<&[u8]>
+    ensures after { option_copied result ≡ rest_after_pair x y s.now }
 {
     let mut rest = s;
     loop {
@@ -19,8 +19,8 @@ fn after_pair(s: &[u8], x: u8, y: u8) -> Option<&[u8]>
 }
 
 /// The octets after the first backquote.
-fn after_backquote(s: &[u8]) -> Option<&[u8]>
-    ensures after { option_copied result ≡ after_backquote s.now }
+fn rest_after_backquote(s: &[u8]) -> Option<&[u8]>
+    ensures after { option_copied result ≡ rest_after_backquote s.now }
 {
     let mut rest = s;
     loop {
@@ -33,8 +33,8 @@ fn after_backquote(s: &[u8]) -> Option<&[u8]>
 }
 
 /// The octets after the first `"` that no backslash takes.
-fn after_quote(s: &[u8]) -> Option<&[u8]>
-    ensures after { option_copied result ≡ after_quote s.now }
+fn rest_after_quote(s: &[u8]) -> Option<&[u8]>
+    ensures after { option_copied result ≡ rest_after_quote s.now }
 {
     let mut rest = s;
     loop {
@@ -48,13 +48,13 @@ fn after_quote(s: &[u8]) -> Option<&[u8]>
 }
 
 /// The octets after the end of the piece that was opened.
-pub fn after_end(opener: Opener, s: &[u8]) -> Option<&[u8]>
-    ensures after { option_copied result ≡ after_end opener s.now }
+pub fn rest_after_closing(opener: Opener, s: &[u8]) -> Option<&[u8]>
+    ensures after { option_copied result ≡ rest_after_closing opener s.now }
 {
     match opener {
-        Opener::Comment => after_pair(s, b'*', b'/'),
-        Opener::Quote => after_quote(s),
-        Opener::Backquote => after_backquote(s),
-        Opener::Brace => after_pair(s, b'}', b'%'),
+        Opener::Comment => rest_after_pair(s, b'*', b'/'),
+        Opener::Quote => rest_after_quote(s),
+        Opener::Backquote => rest_after_backquote(s),
+        Opener::Brace => rest_after_pair(s, b'}', b'%'),
     }
 }

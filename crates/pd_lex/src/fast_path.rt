@@ -10,7 +10,7 @@ ghost use Rattle.pd_lex.specs.Scanned.{wrapped_digit, begins_name};
 ghost use Rattle.pd_lex.specs.declared.scan.Piece.TheVariants.{Whole};
 ghost use Rattle.pd_lex.specs.declared.token.TokenKind.TheVariants.{Int, Symbol};
 
-use crate::scan::{fraction_len, is_digit, name_len, starts_with_word};
+use crate::scan::{begun_word_len, fraction_len, is_digit, starts_with_word};
 use crate::token::TokenKind;
 
 /// A token of so many octets of the line, with the octet of a Symbol and the number of an Int.
@@ -31,7 +31,7 @@ const FEW: usize = 9;
 
 /// How many digits are at the front, and the number that they write modulo 2^64.
 #[inline(always)]
-fn digits_at(s: &[u8]) -> (usize, u64)
+fn digit_count_and_value(s: &[u8]) -> (usize, u64)
     ensures len { result.0 ≡ prefix_len is_digit s.now }
     ensures number { result.1 ≡ fold wrapped_digit 0 (take (prefix_len is_digit s.now) s.now) }
     ensures within { result.0 ≤ length s.now }
@@ -51,13 +51,13 @@ fn digits_at(s: &[u8]) -> (usize, u64)
 
 /// The Int or the Decimal at the front, if its whole part has few digits.
 #[inline(always)]
-pub fn number_at(s: &[u8]) -> Option<FastToken>
+pub fn few_digit_number_token(s: &[u8]) -> Option<FastToken>
     ensures piece { IfSome result (λ p. Whole p.kind p.len ≡ piece s.now) }
     ensures within { IfSome result (λ p. p.len ≤ length s.now) }
     ensures number { IfSome result (λ p. p.kind ≡ Int → p.number ≡ capped_number (take p.len s.now)) }
     ensures symbol { IfSome result (λ p. p.kind ≡ Symbol → take p.len s.now ≡ p.symbol ∷ []) }
 {
-    let (len, number) = digits_at(s);
+    let (len, number) = digit_count_and_value(s);
     // A number of more digits may not fit into 64 bits: `step` reads it.
     if len == 0 || len > FEW {
         return None;
@@ -85,7 +85,7 @@ pub fn number_at(s: &[u8]) -> Option<FastToken>
 
 /// The word at the front.
 #[inline(always)]
-pub fn word_at(s: &[u8]) -> Option<FastToken>
+pub fn word_token(s: &[u8]) -> Option<FastToken>
     requires { begins_name s.now ≡ true }
     ensures piece { IfSome result (λ p. Whole p.kind p.len ≡ piece s.now) }
     ensures within { IfSome result (λ p. p.len ≤ length s.now) }
@@ -95,7 +95,7 @@ pub fn word_at(s: &[u8]) -> Option<FastToken>
     Some(FastToken {
         kind: TokenKind::Word,
         symbol: 0,
-        len: name_len(s),
+        len: begun_word_len(s),
         number: 0,
     })
 }
@@ -103,7 +103,7 @@ pub fn word_at(s: &[u8]) -> Option<FastToken>
 /// Three points, or a point before a blank.
 #[tactic(auto, unfolding(crate::specs::Pieces::piece, crate::specs::Pieces::point_piece))]
 #[inline(always)]
-pub fn point_at(s: &[u8]) -> Option<FastToken>
+pub fn dots_or_point_token(s: &[u8]) -> Option<FastToken>
     ensures piece { IfSome result (λ p. Whole p.kind p.len ≡ piece s.now) }
     ensures within { IfSome result (λ p. p.len ≤ length s.now) }
     ensures number { IfSome result (λ p. p.kind ≡ Int → p.number ≡ capped_number (take p.len s.now)) }
@@ -116,14 +116,14 @@ pub fn point_at(s: &[u8]) -> Option<FastToken>
             len: 3,
             number: 0,
         }),
-        [b'.', b' ', ..] => symbol(b'.'),
+        [b'.', b' ', ..] => symbol_token_of(b'.'),
         _ => None,
     }
 }
 
 /// A symbol.
 #[inline(always)]
-fn symbol(octet: u8) -> Option<FastToken>
+fn symbol_token_of(octet: u8) -> Option<FastToken>
     ensures { result ≡ Some (record { kind = Symbol; symbol = octet; len = 1; number = 0 }) }
 {
     Some(FastToken {
@@ -136,7 +136,7 @@ fn symbol(octet: u8) -> Option<FastToken>
 
 /// The octet at the front, which begins a Symbol and nothing else.
 #[inline(always)]
-pub fn symbol_at(s: &[u8]) -> Option<FastToken>
+pub fn leading_symbol_token(s: &[u8]) -> Option<FastToken>
     requires some { 0 < length s.now }
     requires class { class_of (get_or s.now 0 0) ≡ classes.Symbol }
     ensures piece { IfSome result (λ p. Whole p.kind p.len ≡ piece s.now) }
@@ -144,5 +144,5 @@ pub fn symbol_at(s: &[u8]) -> Option<FastToken>
     ensures number { IfSome result (λ p. p.kind ≡ Int → p.number ≡ capped_number (take p.len s.now)) }
     ensures symbol { IfSome result (λ p. p.kind ≡ Symbol → take p.len s.now ≡ p.symbol ∷ []) }
 {
-    symbol(s[0])
+    symbol_token_of(s[0])
 }

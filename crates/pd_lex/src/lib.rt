@@ -2,8 +2,8 @@
 //!
 //! `next_token` passes over blanks and comments, and gives the token at a `Place` of a text, the
 //! end of the text, or the line where no token can be read (`Lexed`). A `Token` has its kind, its
-//! octets, the meaning of a symbol or a whole number, and the place after it. `look_ahead` and
-//! `read_on_line` are for a reader that goes on from token to token: they hand on the line of that
+//! octets, the meaning of a symbol or a whole number, and the place after it. `lookahead_at` and
+//! `update_lookahead` are for a reader that goes on from token to token: they hand on the line of that
 //! place, so that it isn't looked up again.
 //!
 //! A token is the longest piece that the text has at its place: `IsLongest` (specs/Spellings.antt).
@@ -36,6 +36,6 @@ mod step;
 mod token;
 
 pub use laws::{law_first_lines, law_items_after_tokens, law_longest_pieces};
-pub use next::{look_ahead, next_token, read_on_line};
-pub use numbers::{digit_value, number, value_after};
+pub use next::{lookahead_at, next_token, update_lookahead};
+pub use numbers::{decimal_value, digit_value, value_with_more_digits};
 pub use token::{Lexed, Lookahead, Place, Token, TokenKind};

@@ -1,7 +1,7 @@
 //! The next token of a text.
 ghost use Rattle.std.specs.Prelude.{◌≡◌, ◌≤◌, true, [], ◌∷◌, length, take, IfSome};
 ghost use Rattle.pd_lex.specs.Numbers.{capped_number};
-ghost use Rattle.pd_lex.specs.Scanned.{first_octet, IsLeftInLine};
+ghost use Rattle.pd_lex.specs.Scanned.{first_octet_or_zero, IsLeftInLine};
 ghost use Rattle.pd_lex.specs.Pieces.{piece};
 ghost use Rattle.pd_lex.specs.declared.scan.Piece.TheVariants.{Whole};
 ghost use Rattle.pd_lex.specs.declared.token.TokenKind.TheVariants.{Int, Symbol};
@@ -11,9 +11,11 @@ ghost use Rattle.pd_lex.specs.Next.{IsCut, IsReadAt, HasLine, HasText, HasLineAf
 ghost use Rattle.pd_lex.specs.Places.{line_at};
 
 use crate::classes::{OctetClass, class_of};
-use crate::fast_path::{FastToken, number_at, point_at, symbol_at, word_at};
-use crate::numbers::number_of;
-use crate::places::{after_blanks, octets_of_line};
+use crate::fast_path::{
+    FastToken, dots_or_point_token, few_digit_number_token, leading_symbol_token, word_token,
+};
+use crate::numbers::number_if_int;
+use crate::places::{first_nonblank_from, line_or_empty};
 use crate::scan::is_digit;
 use crate::step::{LexStep, step_at};
 use crate::token::{Lexed, Lookahead, Place, Token};
@@ -29,11 +31,11 @@ pub fn next_token<'a>(lines: &'a Lines, place: Place) -> Lexed<'a>
     ensures line { HasLine lines.now result }
     ensures text { HasText lines.now result }
 {
-    look_ahead(lines, place).next
+    lookahead_at(lines, place).next
 }
 
 /// `next_token`, with the line of the place after it.
-pub fn look_ahead<'a>(lines: &'a Lines, place: Place) -> Lookahead<'a>
+pub fn lookahead_at<'a>(lines: &'a Lines, place: Place) -> Lookahead<'a>
     ensures next { IsNext lines.now place result.next }
     ensures cut { IsCut lines.now place result.next }
     ensures line { HasLine lines.now result.next }
@@ -44,13 +46,13 @@ pub fn look_ahead<'a>(lines: &'a Lines, place: Place) -> Lookahead<'a>
         line: &[],
         next: Lexed::End,
     };
-    read_next_line(lines, place, &mut lookahead);
+    read_after_blank_lines(lines, place, &mut lookahead);
     lookahead
 }
 
 /// The same, put in the place of what was read before, where the line of the place is known.
 #[inline(always)]
-pub fn read_on_line<'a>(lines: &'a Lines, place: Place, lookahead: &mut Lookahead<'a>)
+pub fn update_lookahead<'a>(lines: &'a Lines, place: Place, lookahead: &mut Lookahead<'a>)
     requires one { 1 ≤ place.line }
     requires known { lookahead.old.line.now ≡ line_at lines.now place.line }
     ensures next { IsNext lines.now place lookahead.new.next }
@@ -61,28 +63,28 @@ pub fn read_on_line<'a>(lines: &'a Lines, place: Place, lookahead: &mut Lookahea
 {
     lines.law_invariant();
     let octets = lookahead.line;
-    let at = after_blanks(octets, place.at);
+    let at = first_nonblank_from(octets, place.at);
     if at >= octets.len() {
-        return read_next_line(lines, place, lookahead);
+        return read_after_blank_lines(lines, place, lookahead);
     }
     let from = Place {
         line: place.line,
         at,
     };
-    read_at(lines, from, &octets[at..], lookahead);
+    read_by_first_octet(lines, from, &octets[at..], lookahead);
 }
 
 /// Looks lines up until one has more than blanks. It is apart, since it comes once a line.
 #[inline(never)]
-fn read_next_line<'a>(lines: &'a Lines, place: Place, lookahead: &mut Lookahead<'a>)
+fn read_after_blank_lines<'a>(lines: &'a Lines, place: Place, lookahead: &mut Lookahead<'a>)
     ensures { IsReadAt lines.now place lookahead.new.next lookahead.new.line.now }
 {
     let mut here = place;
     'lines: loop {
         let Some(octets) = lines.line(here.line) else {
-            return read_any(lines, here, lookahead);
+            return read_any_token(lines, here, lookahead);
         };
-        let at = after_blanks(octets, here.at);
+        let at = first_nonblank_from(octets, here.at);
         if at >= octets.len() {
             here = Place::line_start(here.line + 1);
             continue;
@@ -92,20 +94,31 @@ fn read_next_line<'a>(lines: &'a Lines, place: Place, lookahead: &mut Lookahead<
             at,
         };
         lookahead.line = octets;
-        return read_at(lines, from, &octets[at..], lookahead);
+        return read_by_first_octet(lines, from, &octets[at..], lookahead);
     }
 }
 
 /// Reads the token at a place in a line, of which this much is left, by its first octet.
 #[inline(always)]
-fn read_at<'a>(lines: &'a Lines, from: Place, rest: &'a [u8], lookahead: &mut Lookahead<'a>)
+fn read_by_first_octet<'a>(
+    lines: &'a Lines,
+    from: Place,
+    rest: &'a [u8],
+    lookahead: &mut Lookahead<'a>,
+)
     requires left { IsLeftInLine lines.now from rest.now }
     requires plain { AreLines lines.now }
     requires known { lookahead.old.line.now ≡ line_at lines.now from.line }
     ensures { IsReadAt lines.now from lookahead.new.next lookahead.new.line.now }
 {
     match class_of(rest[0]) {
-        OctetClass::Symbol => set_or_read_any(lines, from, rest, symbol_at(rest), lookahead),
+        OctetClass::Symbol => set_fast_token_or_read_any(
+            lines,
+            from,
+            rest,
+            leading_symbol_token(rest),
+            lookahead,
+        ),
         _ => read_non_symbol(lines, from, rest, lookahead),
     }
 }
@@ -123,8 +136,14 @@ fn read_non_symbol<'a>(lines: &'a Lines, from: Place, rest: &'a [u8], lookahead:
         return read_number(lines, from, rest, lookahead);
     }
     match class_of(rest[0]) {
-        OctetClass::Letter => set_or_read_any(lines, from, rest, word_at(rest), lookahead),
-        _ => read_point(lines, from, rest, lookahead),
+        OctetClass::Letter => set_fast_token_or_read_any(
+            lines,
+            from,
+            rest,
+            word_token(rest),
+            lookahead,
+        ),
+        _ => read_point_or_other(lines, from, rest, lookahead),
     }
 }
 
@@ -136,24 +155,29 @@ fn read_number<'a>(lines: &'a Lines, from: Place, rest: &'a [u8], lookahead: &mu
     requires known { lookahead.old.line.now ≡ line_at lines.now from.line }
     ensures { IsReadAt lines.now from lookahead.new.next lookahead.new.line.now }
 {
-    set_or_read_any(lines, from, rest, number_at(rest), lookahead);
+    set_fast_token_or_read_any(lines, from, rest, few_digit_number_token(rest), lookahead);
 }
 
 /// Reads what begins with a point, or with an octet of no class.
 #[inline(never)]
-fn read_point<'a>(lines: &'a Lines, from: Place, rest: &'a [u8], lookahead: &mut Lookahead<'a>)
+fn read_point_or_other<'a>(
+    lines: &'a Lines,
+    from: Place,
+    rest: &'a [u8],
+    lookahead: &mut Lookahead<'a>,
+)
     requires left { IsLeftInLine lines.now from rest.now }
     requires plain { AreLines lines.now }
     requires known { lookahead.old.line.now ≡ line_at lines.now from.line }
     ensures { IsReadAt lines.now from lookahead.new.next lookahead.new.line.now }
 {
-    set_or_read_any(lines, from, rest, point_at(rest), lookahead);
+    set_fast_token_or_read_any(lines, from, rest, dots_or_point_token(rest), lookahead);
 }
 
 /// Puts the token that was found at the front of what is left of a line in the place of what was
 /// read before; reads any where none was found.
 #[inline(always)]
-fn set_or_read_any<'a>(
+fn set_fast_token_or_read_any<'a>(
     lines: &'a Lines,
     from: Place,
     rest: &'a [u8],
@@ -170,7 +194,7 @@ fn set_or_read_any<'a>(
     ensures { IsReadAt lines.now from lookahead.new.next lookahead.new.line.now }
 {
     let Some(plain) = found else {
-        return read_any(lines, from, lookahead);
+        return read_any_token(lines, from, lookahead);
     };
     lookahead.next = Lexed::Token(Token {
         kind: plain.kind,
@@ -187,7 +211,7 @@ fn set_or_read_any<'a>(
 
 /// Reads any token, also after comments.
 #[inline(never)]
-fn read_any<'a>(lines: &'a Lines, place: Place, lookahead: &mut Lookahead<'a>)
+fn read_any_token<'a>(lines: &'a Lines, place: Place, lookahead: &mut Lookahead<'a>)
     ensures { IsReadAt lines.now place lookahead.new.next lookahead.new.line.now }
 {
     let mut here = if place.line == 0 {
@@ -200,7 +224,7 @@ fn read_any<'a>(lines: &'a Lines, place: Place, lookahead: &mut Lookahead<'a>)
             lookahead.next = Lexed::End;
             return;
         };
-        let at = after_blanks(line, here.at);
+        let at = first_nonblank_from(line, here.at);
         if at >= line.len() {
             here = Place::line_start(here.line + 1);
             continue;
@@ -212,11 +236,11 @@ fn read_any<'a>(lines: &'a Lines, place: Place, lookahead: &mut Lookahead<'a>)
         match step_at(lines, from, &line[at..]) {
             LexStep::Gap(after) => here = after,
             LexStep::Token(kind, text, to) => {
-                lookahead.line = octets_of_line(lines, to.line);
+                lookahead.line = line_or_empty(lines, to.line);
                 lookahead.next = Lexed::Token(Token {
                     kind,
-                    symbol: first_octet(text),
-                    number: number_of(kind, text),
+                    symbol: first_octet_or_zero(text),
+                    number: number_if_int(kind, text),
                     text,
                     from,
                     to,
@@ -232,8 +256,8 @@ fn read_any<'a>(lines: &'a Lines, place: Place, lookahead: &mut Lookahead<'a>)
 }
 
 /// The first octet of a token, or 0.
-fn first_octet(text: &[u8]) -> u8
-    ensures { result ≡ first_octet text.now }
+fn first_octet_or_zero(text: &[u8]) -> u8
+    ensures { result ≡ first_octet_or_zero text.now }
 {
     match text {
         [octet, ..] => *octet,

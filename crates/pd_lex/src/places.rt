@@ -11,7 +11,7 @@ use pd_text::Lines;
 /// How many octets of a line are before the first that is no blank, from one on; no fewer than
 /// before that one.
 #[inline(always)]
-pub fn after_blanks(line: &[u8], at: usize) -> usize
+pub fn first_nonblank_from(line: &[u8], at: usize) -> usize
     ensures place { result ≡ at + prefix_len is_blank (drop at line.now) }
     ensures small { length line.now < 2 ^ 64 }
 {
@@ -38,7 +38,7 @@ pub fn rest_of_line<'a>(lines: &'a Lines, place: Place) -> Option<&'a [u8]>
 }
 
 /// The octets of a line, counted from 1; none past the last line.
-pub fn octets_of_line<'a>(lines: &'a Lines, number: usize) -> &'a [u8]
+pub fn line_or_empty<'a>(lines: &'a Lines, number: usize) -> &'a [u8]
     requires { 1 ≤ number }
     ensures { result.now ≡ line_at lines.now number }
 {

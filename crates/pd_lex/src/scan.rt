@@ -1,8 +1,8 @@
 //! The piece at the front of a line.
 ghost use Rattle.std.specs.Prelude.{◌≡◌, ◌≤◌, ◌<◌, true, nat_lt, length};
 ghost use Rattle.std.specs.List.{prefix_len, list_all};
-ghost use Rattle.pd_lex.specs.Octets.{is_digit, is_hex_digit, is_word, is_blank, is_solid, is_inside_line};
-ghost use Rattle.pd_lex.specs.Pieces.{is_hex, fraction_len, value_len, word_piece, point_piece, dash_piece, piece, after_pair, after_quote, after_backquote, after_end, opener_len};
+ghost use Rattle.pd_lex.specs.Octets.{is_digit, is_hex_digit, is_word, is_blank, is_nonblank, is_not_newline};
+ghost use Rattle.pd_lex.specs.Pieces.{is_hex_number, fraction_len, option_value_len, word_piece, point_piece, dash_piece, piece, rest_after_pair, rest_after_quote, rest_after_backquote, rest_after_closing, opener_len};
 ghost use Rattle.pd_lex.specs.Scanned.{piece_len, begins_name, run_piece, slash_piece, percent_piece};
 
 use crate::classes::{OctetClass, class_of};
@@ -60,7 +60,7 @@ fn is_hex_digit(b: u8) -> bool
 }
 
 /// Whether an octet may be in a word: a digit, a letter or an underscore.
-pub fn is_word(b: u8) -> bool
+pub fn is_word_octet(b: u8) -> bool
     ensures { result ≡ is_word b }
 {
     matches!(class_of(b), OctetClass::Digit | OctetClass::Letter)
@@ -73,14 +73,14 @@ pub fn is_blank(b: u8) -> bool
     b <= b' ' && matches!(b, b' ' | b'\t' | b'\r' | b'\n')
 }
 
-fn is_solid(b: u8) -> bool
-    ensures { result ≡ is_solid b }
+fn is_nonblank(b: u8) -> bool
+    ensures { result ≡ is_nonblank b }
 {
     !is_blank(b)
 }
 
-fn is_inside_line(b: u8) -> bool
-    ensures { result ≡ is_inside_line b }
+fn is_not_newline(b: u8) -> bool
+    ensures { result ≡ is_not_newline b }
 {
     b != b'\n'
 }
@@ -99,12 +99,12 @@ pub fn word_len(s: &[u8]) -> usize
     ensures len { result ≡ prefix_len is_word s.now }
     ensures within { result ≤ length s.now }
 {
-    s.iter().take_while(|b| is_word(**b)).count()
+    s.iter().take_while(|b| is_word_octet(**b)).count()
 }
 
 /// The same where the first octet begins a word, which is not looked at again.
 #[inline(always)]
-pub fn name_len(s: &[u8]) -> usize
+pub fn begun_word_len(s: &[u8]) -> usize
     requires { begins_name s.now ≡ true }
     ensures len { result ≡ prefix_len is_word s.now }
     ensures within { result ≤ length s.now }
@@ -115,31 +115,31 @@ pub fn name_len(s: &[u8]) -> usize
     }
 }
 
-fn solid_len(s: &[u8]) -> usize
-    ensures len { result ≡ prefix_len is_solid s.now }
+fn nonblank_len(s: &[u8]) -> usize
+    ensures len { result ≡ prefix_len is_nonblank s.now }
     ensures within { result ≤ length s.now }
 {
-    s.iter().take_while(|b| is_solid(**b)).count()
+    s.iter().take_while(|b| is_nonblank(**b)).count()
 }
 
-fn line_len(s: &[u8]) -> usize
-    ensures len { result ≡ prefix_len is_inside_line s.now }
+fn len_to_newline(s: &[u8]) -> usize
+    ensures len { result ≡ prefix_len is_not_newline s.now }
     ensures within { result ≤ length s.now }
 {
-    s.iter().take_while(|b| is_inside_line(**b)).count()
+    s.iter().take_while(|b| is_not_newline(**b)).count()
 }
 
-fn all_hex_digits(s: &[u8]) -> bool
+fn are_hex_digits(s: &[u8]) -> bool
     ensures { result ≡ list_all is_hex_digit s.now }
 {
     s.iter().all(|b| is_hex_digit(*b))
 }
 
-fn is_hex(s: &[u8]) -> bool
-    ensures { result ≡ is_hex s.now }
+fn is_hex_number(s: &[u8]) -> bool
+    ensures { result ≡ is_hex_number s.now }
 {
     match s {
-        [b'0', b'x', _, ..] => all_hex_digits(&s[2..]),
+        [b'0', b'x', _, ..] => are_hex_digits(&s[2..]),
         _ => false,
     }
 }
@@ -159,12 +159,12 @@ pub fn fraction_len(s: &[u8]) -> usize
     }
 }
 
-fn value_len(s: &[u8]) -> usize
-    ensures len { result ≡ value_len s.now }
+fn option_value_len(s: &[u8]) -> usize
+    ensures len { result ≡ option_value_len s.now }
     ensures within { result ≤ length s.now }
 {
     match s {
-        [b'=', rest @ ..] => solid_len(rest) + 1,
+        [b'=', rest @ ..] => nonblank_len(rest) + 1,
         _ => 0,
     }
 }
@@ -175,19 +175,19 @@ pub fn starts_with_word(s: &[u8]) -> bool
     ensures { result ≡ nat_lt 0 (prefix_len is_word s.now) }
 {
     match s {
-        [b, ..] => is_word(*b),
+        [b, ..] => is_word_octet(*b),
         [] => false,
     }
 }
 
 /// A run of letters, digits and `_`, among them one that is no digit.
-fn run_at(s: &[u8]) -> Piece
+fn hex_or_word_at(s: &[u8]) -> Piece
     ensures piece { result ≡ run_piece s.now }
     ensures within { piece_len result ≤ length s.now }
 {
     let n = word_len(s);
     let (run, _) = s.split_at(n);
-    if is_hex(run) {
+    if is_hex_number(run) {
         Piece::Whole(TokenKind::Hex, n)
     } else {
         Piece::Whole(TokenKind::Word, n)
@@ -195,7 +195,7 @@ fn run_at(s: &[u8]) -> Piece
 }
 
 /// A number, or a word that begins with digits.
-fn number_at(s: &[u8]) -> Piece
+fn number_or_word_at(s: &[u8]) -> Piece
     ensures piece { result ≡ word_piece s.now }
     ensures within { piece_len result ≤ length s.now }
 {
@@ -206,14 +206,14 @@ fn number_at(s: &[u8]) -> Piece
         return Piece::Whole(TokenKind::Decimal, digits + f);
     }
     if starts_with_word(rest) {
-        run_at(s)
+        hex_or_word_at(s)
     } else {
         Piece::Whole(TokenKind::Int, digits)
     }
 }
 
 /// A word that begins with a letter or `_`.
-fn name_at(s: &[u8]) -> Piece
+fn word_at(s: &[u8]) -> Piece
     requires { begins_name s.now ≡ true }
     ensures piece { result ≡ word_piece s.now }
     ensures within { piece_len result ≤ length s.now }
@@ -222,7 +222,7 @@ fn name_at(s: &[u8]) -> Piece
 }
 
 #[tactic(auto, unfolding(crate::specs::Pieces::point_piece))]
-fn point_at(s: &[u8]) -> Piece
+fn dots_decimal_or_point_at(s: &[u8]) -> Piece
     requires { 0 < length s.now }
     ensures piece { result ≡ point_piece s.now }
     ensures within { piece_len result ≤ length s.now }
@@ -239,7 +239,7 @@ fn point_at(s: &[u8]) -> Piece
 }
 
 #[tactic(auto, unfolding(crate::specs::Pieces::dash_piece))]
-fn dash_at(s: &[u8]) -> Piece
+fn option_or_dash_at(s: &[u8]) -> Piece
     requires { 0 < length s.now }
     ensures piece { result ≡ dash_piece s.now }
     ensures within { piece_len result ≤ length s.now }
@@ -248,7 +248,7 @@ fn dash_at(s: &[u8]) -> Piece
         [b'-', b'-', rest @ ..] => {
             let n = word_len(rest);
             if n > 0 {
-                Piece::Whole(TokenKind::Opt, 2 + n + value_len(&rest[n..]))
+                Piece::Whole(TokenKind::Opt, 2 + n + option_value_len(&rest[n..]))
             } else {
                 Piece::Whole(TokenKind::Symbol, 1)
             }
@@ -258,20 +258,20 @@ fn dash_at(s: &[u8]) -> Piece
 }
 
 /// A line comment, the beginning of a comment, or the slash.
-fn slash_at(s: &[u8]) -> Piece
+fn comment_or_slash_at(s: &[u8]) -> Piece
     requires { 0 < length s.now }
     ensures piece { result ≡ slash_piece s.now }
     ensures within { piece_len result ≤ length s.now }
 {
     match s {
-        [b'/', b'/', ..] => Piece::Blank(line_len(s)),
+        [b'/', b'/', ..] => Piece::Blank(len_to_newline(s)),
         [b'/', b'*', ..] => Piece::Open(Opener::Comment),
         _ => Piece::Whole(TokenKind::Symbol, 1),
     }
 }
 
 /// The beginning of code, or the percent sign.
-fn percent_at(s: &[u8]) -> Piece
+fn code_or_percent_at(s: &[u8]) -> Piece
     requires { 0 < length s.now }
     ensures piece { result ≡ percent_piece s.now }
     ensures within { piece_len result ≤ length s.now }
@@ -291,15 +291,15 @@ pub fn piece_at(s: &[u8]) -> Piece
 {
     match s {
         [] => Piece::Stray,
-        [b, ..] if is_digit(*b) => number_at(s),
-        [b, ..] if is_word(*b) => name_at(s),
+        [b, ..] if is_digit(*b) => number_or_word_at(s),
+        [b, ..] if is_word_octet(*b) => word_at(s),
         [b, ..] if is_blank(*b) => Piece::Blank(1),
-        [b'.', ..] => point_at(s),
-        [b'-', ..] => dash_at(s),
-        [b'/', ..] => slash_at(s),
+        [b'.', ..] => dots_decimal_or_point_at(s),
+        [b'-', ..] => option_or_dash_at(s),
+        [b'/', ..] => comment_or_slash_at(s),
         [b'"', ..] => Piece::Open(Opener::Quote),
         [b'`', ..] => Piece::Open(Opener::Backquote),
-        [b'%', ..] => percent_at(s),
+        [b'%', ..] => code_or_percent_at(s),
         [33..=126, ..] => Piece::Whole(TokenKind::Symbol, 1),
         _ => Piece::Stray,
     }

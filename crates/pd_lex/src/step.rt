@@ -1,10 +1,10 @@
 //! One step over a text: the piece at a place.
 ghost use Rattle.std.specs.Prelude.{◌≡◌, ◌+◌, length};
 ghost use Rattle.pd_lex.specs.Places.{octets_from, IsPlace};
-ghost use Rattle.pd_lex.specs.Pieces.{after_end};
+ghost use Rattle.pd_lex.specs.Pieces.{rest_after_closing};
 ghost use Rattle.pd_lex.specs.Scanned.{IsClosed, IsClosing, IsLeftInLine, IsStep};
 
-use crate::closing::after_end;
+use crate::closing::rest_after_closing;
 use crate::places::rest_of_line;
 use crate::scan::{Opener, Piece, piece_at};
 use crate::token::{Place, TokenKind};
@@ -22,14 +22,14 @@ pub enum LexStep<'a> {
 }
 
 /// The place after the end of what was opened before a place, if it ends.
-fn place_after_end(lines: &Lines, opener: Opener, place: Place) -> Option<Place>
+fn place_after_closing(lines: &Lines, opener: Opener, place: Place) -> Option<Place>
     requires { IsPlace lines.now place }
-    ensures { IsClosed lines.now (after_end opener (octets_from lines.now place)) result }
+    ensures { IsClosed lines.now (rest_after_closing opener (octets_from lines.now place)) result }
 {
     let mut at = place.at;
     for line in place.line..lines.len() + 1 {
         let rest = rest_of_line(lines, Place { line, at })?;
-        if let Some(after) = after_end(opener, rest) {
+        if let Some(after) = rest_after_closing(opener, rest) {
             return Some(Place {
                 line,
                 at: at + (rest.len() - after.len()),
@@ -41,7 +41,7 @@ fn place_after_end(lines: &Lines, opener: Opener, place: Place) -> Option<Place>
 }
 
 /// The step over what was opened, to the place after its end.
-fn closed<'a>(opener: Opener, after: Place) -> LexStep<'a>
+fn step_over_closed<'a>(opener: Opener, after: Place) -> LexStep<'a>
     ensures { IsClosing opener after result }
 {
     match opener {
@@ -66,8 +66,8 @@ pub fn step_at<'a>(lines: &'a Lines, place: Place, rest: &'a [u8]) -> LexStep<'a
                 line,
                 at: at + opener.len(),
             };
-            match place_after_end(lines, opener, inside) {
-                Some(after) => closed(opener, after),
+            match place_after_closing(lines, opener, inside) {
+                Some(after) => step_over_closed(opener, after),
                 None => LexStep::Stray,
             }
         }

@@ -15,16 +15,16 @@ use Rattle.pd_match.specs.Laws.{MatchIsResult}
 use Rattle.pd_match.specs.declared.kinds.Kind.TheVariants.{Result as WrongResult}
 
 -- a named error that matches is the answer
-is_error : (name : ErrorName) (a : Answer) → is_answered name a ≡ true → IsNamed name a
-is_error named.Ebadf (Error answered.Ebadf) h = refl
-is_error named.Einval (Error answered.Einval) h = refl
-is_error named.Eagain (Error answered.Eagain) h = refl
-is_error named.Epipe (Error answered.Epipe) h = refl
-is_error _ _ h = absurd cc
+is_written_error : (name : ErrorName) (a : Answer) → is_answered name a ≡ true → IsNamed name a
+is_written_error named.Ebadf (Error answered.Ebadf) h = refl
+is_written_error named.Einval (Error answered.Einval) h = refl
+is_written_error named.Eagain (Error answered.Eagain) h = refl
+is_written_error named.Epipe (Error answered.Epipe) h = refl
+is_written_error _ _ h = absurd cc
 
-has_error : (o : ExpectedResult) (a : Answer) → same_error o a ≡ true → HasError o a
-has_error (Negative n (Some name)) a h = is_error name a h
-has_error _ a h = tt
+matches_written_error : (o : ExpectedResult) (a : Answer) → same_error o a ≡ true → HasError o a
+matches_written_error (Negative n (Some name)) a h = is_written_error name a h
+matches_written_error _ a h = tt
 
 no_mismatch : (x y : Bool) → (if x && y then None else Some WrongResult) ≡ None → (x ≡ true) × (y ≡ true)
 no_mismatch true true h = (refl, refl)
@@ -34,4 +34,4 @@ no_mismatch false y h = absurd cc
 pub match_is_result : MatchIsResult
 match_is_result o a none =
     let both : (int_eq (value_written o) (value_answered a) ≡ true) × (same_error o a ≡ true) = no_mismatch _ _ none in
-    ((Decides-int_eq (value_written o) (value_answered a)).0 both.0, has_error o a both.1)
+    ((Decides-int_eq (value_written o) (value_answered a)).0 both.0, matches_written_error o a both.1)

@@ -15,7 +15,9 @@ pub fn check_call(call: &Call, answer: &Answer) -> Option<Kind>
     ensures value { result ≡ result_mismatch call.now.result answer.now }
     ensures agrees { IsNone result ↔ IsResult call.now.result answer.now }
 {
-    if written_value(call.result) == answered_value(*answer) && has_error(call.result, *answer) {
+    if written_value(call.result) == answered_value(*answer)
+        && matches_written_error(call.result, *answer)
+    {
         None
     } else {
         Some(Kind::Result)
@@ -40,16 +42,16 @@ fn answered_value(answer: Answer) -> i64
     }
 }
 
-fn has_error(expected_result: ExpectedResult, answer: Answer) -> bool
+fn matches_written_error(expected_result: ExpectedResult, answer: Answer) -> bool
     ensures { result ≡ same_error expected_result answer }
 {
     match expected_result {
-        ExpectedResult::Negative(_, Some(name)) => is_error(name, answer),
+        ExpectedResult::Negative(_, Some(name)) => is_written_error(name, answer),
         _ => true,
     }
 }
 
-fn is_error(name: ErrorName, answer: Answer) -> bool
+fn is_written_error(name: ErrorName, answer: Answer) -> bool
     ensures { result ≡ is_answered name answer }
 {
     matches!(

@@ -4,7 +4,7 @@ ghost use Rattle.pd_match.specs.Packets.{compared_fields, in_time, same_flags, s
 ghost use Rattle.pd_match.specs.Agreement.{Agrees, IsFirstFailing};
 
 use crate::kinds::Kind;
-use crate::written_options::has_options;
+use crate::written_options::has_written_options;
 use pd_script::{Packet, PacketFlags};
 use pd_seg::{Segment, Sent};
 
@@ -37,15 +37,15 @@ fn first_difference(expect: &Expect<'_>, sent: &Sent, tolerance: u64) -> Option<
     let segment = &sent.segment;
     if !is_in_time(expect.time_range, sent.at, tolerance) {
         Some(Kind::Time)
-    } else if !has_flags(&packet.flags, &segment.flags) {
+    } else if !has_written_flags(&packet.flags, &segment.flags) {
         Some(Kind::Flags)
-    } else if !has_seq(packet, segment) {
+    } else if !has_written_seq(packet, segment) {
         Some(Kind::Seq)
     } else if !matches_if_written(packet.ack, segment.ack) {
         Some(Kind::Ack)
     } else if !matches_if_written(packet.win, u32::from(segment.win)) {
         Some(Kind::Win)
-    } else if !has_options(&packet.options, &segment.options) {
+    } else if !has_written_options(&packet.options, &segment.options) {
         Some(Kind::Options)
     } else {
         None
@@ -64,7 +64,7 @@ fn is_in_time(time_range: Option<(u64, u64)>, at: u64, tolerance: u64) -> bool
     }
 }
 
-fn has_flags(written: &PacketFlags, sent: &pd_seg::Flags) -> bool
+fn has_written_flags(written: &PacketFlags, sent: &pd_seg::Flags) -> bool
     ensures { result ≡ same_flags written.now sent.now }
 {
     written.syn == sent.syn
@@ -74,10 +74,12 @@ fn has_flags(written: &PacketFlags, sent: &pd_seg::Flags) -> bool
         && written.ack == sent.ack
 }
 
-fn has_seq(packet: &Packet, segment: &Segment) -> bool
+fn has_written_seq(packet: &Packet, segment: &Segment) -> bool
     ensures { result ≡ same_seq packet.now segment.now }
 {
-    packet.start == segment.start && packet.end == segment.end && packet.length == segment.len()
+    packet.start == segment.start
+        && packet.end == segment.end
+        && packet.length == segment.data_len()
 }
 
 fn matches_if_written(written: Option<u32>, sent: u32) -> bool

@@ -2,7 +2,7 @@
 use Rattle.std.proofs.Common.{◌≡◌, ℕ, zero, suc, ◌+◌, ◌-◌, ◌<◌, ◌≤◌, ◌==◌, nat_lt, Bool, true, false, List, [], ◌∷◌, ◌++◌, length, take, drop, Option, Some, None, option_and_then, refl, sym, ap, ◌∙◌, arith, append_assoc}
 use Rattle.std.specs.List.{slice_get}
 use Rattle.std.proofs.lemmas.Bool.Decides.{nat_tests}
-use Rattle.pd_text.specs.Edit.{is_in_range, edited, edit_refusal}
+use Rattle.pd_text.specs.Edit.{is_edit_in_range, edited, edit_refusal}
 use Rattle.pd_text.specs.declared.faults.TextFault.TheVariants.{BadRange}
 use Rattle.pd_text.specs.declared.line_edit.LineEdit.{LineEdit}
 use Rattle.pd_text.proofs.EditedLines.{in_range}
@@ -69,10 +69,10 @@ stays_once text edit k n m at within place = before (nat_lt (n + 1) edit.from) r
     before false e = on (nat_lt (n + 1) (edit.from + edit.remove)) refl e
 
 -- an edit that isn't refused lies within the text
-allowed : (text : List (List ℕ)) (edit : LineEdit) → edit_refusal text edit ≡ None → is_in_range text edit ≡ true
-allowed text edit h = go (is_in_range text edit) refl
+allowed : (text : List (List ℕ)) (edit : LineEdit) → edit_refusal text edit ≡ None → is_edit_in_range text edit ≡ true
+allowed text edit h = go (is_edit_in_range text edit) refl
   where
-    go : (b : Bool) → is_in_range text edit ≡ b → is_in_range text edit ≡ true
+    go : (b : Bool) → is_edit_in_range text edit ≡ b → is_edit_in_range text edit ≡ true
     go true e = e
     go false e = let bad : Some BadRange ≡ None = rw e at h in absurd cc
 

@@ -38,6 +38,6 @@ abbrev pub IsChange : List (List ℕ) → List Event → ℕ → LineEdit → Ty
 IsChange text events line edit = IsPut text edit ⊎ ((edit.remove ≡ 1) × ((edit.from ≡ line) ⊎ IsFollowed events line edit.from))
 
 -- the leftovers name no packet that might have been awaited
-abbrev pub awaits_no_more : Option Leftovers → Bool
-awaits_no_more None = true
-awaits_no_more (Some leftovers) = not leftovers.awaits
+abbrev pub leaves_none_or_awaits_none : Option Leftovers → Bool
+leaves_none_or_awaits_none None = true
+leaves_none_or_awaits_none (Some leftovers) = not leftovers.awaits

@@ -13,7 +13,7 @@ use Rattle.pd_run.specs.Run.{verdict_of}
 use Rattle.pd_run.specs.Step.{RunStateView}
 use Rattle.pd_run.specs.declared.verdict.Verdict.{Verdict}
 use Rattle.pd_run.specs.declared.verdict.Verdict.TheVariants.{Fail, Pass}
-use Rattle.pd_explain.specs.Leftovers.{awaits_any, end_in}
+use Rattle.pd_explain.specs.Leftovers.{awaits_any_packet, end_in}
 
 -- a verdict is no pass
 abbrev pub IsNoPass : Verdict → Type 0
@@ -21,16 +21,16 @@ IsNoPass (Pass n) = ⊥
 IsNoPass verdict = Unit {0}
 
 -- the events of a text that passes take all packets which its run puts out, or none of them awaits one
-abbrev pub matches_all : Settings → List (List ℕ) → Bool
-matches_all settings text = by (end_in settings (script_of text))
+abbrev pub takes_all_if_any_awaited : Settings → List (List ℕ) → Bool
+takes_all_if_any_awaited settings text = by (end_in settings (script_of text))
   where
     by : Option RunStateView → Bool
     by None = true
-    by (Some r) = not (awaits_any (script_of text).events) || length (unmatched r) == 0
+    by (Some r) = not (awaits_any_packet (script_of text).events) || length (unmatched r) == 0
 
 -- a text isn't finished: it doesn't pass, or leaves packets though it awaits some
 abbrev pub IsUnfinished : Settings → List (List ℕ) → Type 0
-IsUnfinished settings text = IsNoPass (verdict_of text settings) ⊎ (matches_all settings text ≡ false)
+IsUnfinished settings text = IsNoPass (verdict_of text settings) ⊎ (takes_all_if_any_awaited settings text ≡ false)
 
 -- the line of the event after so many others
 abbrev pub line_after : List Event → ℕ → Option ℕ
@@ -52,12 +52,12 @@ pub record IsAtStop (settings : Settings) (text : List (List ℕ)) (edit : LineE
   pub one : edit.remove ≡ 1
 
 -- an octet may stand in a time of an input, or is a blank: a digit, `.`, `+`, a space or a tab
-abbrev pub is_of_time : ℕ → Bool
-is_of_time octet = (nat_le 48 octet && nat_le octet 57) || octet == 46 || octet == 43 || octet == 32 || octet == 9
+abbrev pub is_time_or_blank : ℕ → Bool
+is_time_or_blank octet = (nat_le 48 octet && nat_le octet 57) || octet == 46 || octet == 43 || octet == 32 || octet == 9
 
 -- the octets after the time with which a line begins
-abbrev pub after_time : List ℕ → List ℕ
-after_time octets = drop (prefix_len is_of_time octets) octets
+abbrev pub octets_after_time : List ℕ → List ℕ
+octets_after_time octets = drop (prefix_len is_time_or_blank octets) octets
 
 -- an edit puts lines before one, of which nothing but the time with which it begins is changed: that counts from them
 pub record IsRetiming (text : List (List ℕ)) (edit : LineEdit) : Type 0 where
@@ -65,7 +65,7 @@ pub record IsRetiming (text : List (List ℕ)) (edit : LineEdit) : Type 0 where
   pub own : List ℕ
   pub stood : slice_get text (edit.from - 1) ≡ Some old
   pub stands : slice_get edit.insert (length edit.insert - 1) ≡ Some own
-  pub same : after_time own ≡ after_time old
+  pub same : octets_after_time own ≡ octets_after_time old
   pub one : edit.remove ≡ 1
 
 -- where an edit may change a text: at its stop, or by lines that are put in, with which at most one other line gets another time

@@ -23,7 +23,7 @@ impl Displaced {
     ///
     /// # Errors
     /// `AllocError` where a growth is refused.
-    pub fn add(&mut self, sent: Sent) -> Result<(), AllocError> {
+    pub fn add_packet(&mut self, sent: Sent) -> Result<(), AllocError> {
         Ok(self.packets.push(sent)?)
     }
 
@@ -31,8 +31,12 @@ impl Displaced {
     ///
     /// # Errors
     /// `AllocError` where a growth is refused.
-    pub fn time_of(&self, alloc: Global, packet: &Packet) -> Result<Option<u64>, AllocError> {
-        let Some(place) = self.place_of(alloc, packet)? else {
+    pub fn sending_time_of(
+        &self,
+        alloc: Global,
+        packet: &Packet,
+    ) -> Result<Option<u64>, AllocError> {
+        let Some(place) = self.index_of_packet(alloc, packet)? else {
             return Ok(None);
         };
         match self.packets.get(place) {
@@ -46,7 +50,7 @@ impl Displaced {
     /// # Errors
     /// `AllocError` where a growth is refused.
     pub fn remove(&mut self, alloc: Global, packet: &Packet) -> Result<(), AllocError> {
-        match self.place_of(alloc, packet)? {
+        match self.index_of_packet(alloc, packet)? {
             Some(place) if place < self.packets.len() => {
                 self.packets.remove(place);
             }
@@ -55,7 +59,7 @@ impl Displaced {
         Ok(())
     }
 
-    fn place_of(&self, alloc: Global, packet: &Packet) -> Result<Option<usize>, AllocError> {
+    fn index_of_packet(&self, alloc: Global, packet: &Packet) -> Result<Option<usize>, AllocError> {
         let mut place = 0usize;
         for sent in &self.packets {
             if Differences::of(alloc, packet, sent)?.count() == 0 {

@@ -1,6 +1,6 @@
 //! An event as it stands on its line.
-use crate::replacements::second_column;
-use crate::tokens::{Columns, EventTokens, event_tokens, is_blank, part, rest};
+use crate::replacements::aligned_second_column;
+use crate::tokens::{Columns, EventTokens, event_tokens, is_blank, octets_from, octets_in_columns};
 use pd_script::{Event, Parsed};
 use pd_text::Lines;
 use std::alloc::{AllocError, Global};
@@ -58,46 +58,46 @@ impl<'a> EventLine<'a> {
     }
 
     /// The column of what follows the time, if lines beside this one have one.
-    pub fn column(&self) -> Option<usize> {
+    pub fn column_after_time(&self) -> Option<usize> {
         if self.columns().from == 0 {
-            second_column(self.lines, self.line, self.octets)
+            aligned_second_column(self.lines, self.line, self.octets)
         } else {
             None
         }
     }
 
     /// The octets before the event on its line.
-    pub fn before(&self) -> &'a [u8] {
+    pub fn octets_before(&self) -> &'a [u8] {
         let columns = Columns {
             from: 0,
             to: self.columns().from,
         };
-        part(self.octets, columns)
+        octets_in_columns(self.octets, columns)
     }
 
     /// The octets after it there.
-    pub fn after(&self) -> &'a [u8] {
-        rest(self.octets, self.columns().to)
+    pub fn octets_after(&self) -> &'a [u8] {
+        octets_from(self.octets, self.columns().to)
     }
 
     /// Whether nothing but blanks is before it.
-    pub fn is_first(&self) -> bool {
-        is_blank(self.before())
+    pub fn is_first_on_line(&self) -> bool {
+        is_blank(self.octets_before())
     }
 
     /// Whether nothing but blanks is after it.
-    pub fn is_last(&self) -> bool {
-        is_blank(self.after())
+    pub fn is_last_on_line(&self) -> bool {
+        is_blank(self.octets_after())
     }
 
     /// Whether nothing but blanks or a comment is after it.
-    pub fn ends_line(&self) -> bool {
-        self.is_last() || self.after().trim_ascii_start().starts_with(b"//")
+    pub fn is_last_besides_comment(&self) -> bool {
+        self.is_last_on_line() || self.octets_after().trim_ascii_start().starts_with(b"//")
     }
 
     /// From which octet of its line on it stands, with the blanks before it where it is the first.
-    pub fn from(&self) -> usize {
-        if self.is_first() {
+    pub fn start_with_indent(&self) -> usize {
+        if self.is_first_on_line() {
             0
         } else {
             self.columns().from
@@ -105,20 +105,20 @@ impl<'a> EventLine<'a> {
     }
 
     /// The line up to the end of the event.
-    pub fn up_to_end(&self) -> &'a [u8] {
+    pub fn line_through_event(&self) -> &'a [u8] {
         let columns = Columns {
             from: 0,
             to: self.columns().to,
         };
-        part(self.octets, columns)
+        octets_in_columns(self.octets, columns)
     }
 
     /// The line up to the end of the event, or of the comment that ends the line after it.
-    pub fn with_comment(&self) -> &'a [u8] {
-        if self.ends_line() {
+    pub fn line_through_comment(&self) -> &'a [u8] {
+        if self.is_last_besides_comment() {
             self.octets
         } else {
-            self.up_to_end()
+            self.line_through_event()
         }
     }
 }

@@ -1,7 +1,7 @@
 //! The text of an awaited packet, to be written elsewhere at another time.
 use crate::event_line::EventLine;
 use crate::replacements::FieldEdits;
-use crate::tokens::{Columns, rest};
+use crate::tokens::{Columns, octets_from};
 use pd_print::write_time;
 use pd_script::{Packet, Time};
 use std::alloc::{AllocError, Global};
@@ -20,7 +20,7 @@ pub struct EventText {
     /// Where the event ends.
     end: usize,
     /// The column of what follows the time, if lines beside it have one.
-    column: Option<usize>,
+    column_after_time: Option<usize>,
 }
 
 impl EventText {
@@ -29,18 +29,18 @@ impl EventText {
     /// # Errors
     /// `AllocError` where a growth is refused.
     pub fn of(own: &EventLine<'_>, packet: &Packet) -> Result<EventText, AllocError> {
-        let from = own.from();
-        let time = own.tokens.time();
+        let from = own.start_with_indent();
+        let time = own.tokens.time_columns();
         Ok(EventText {
             packet: packet.copy()?,
             line_time: own.event.time,
-            octets: Vec::from_slice(own.alloc, rest(own.with_comment(), from))?,
+            octets: Vec::from_slice(own.alloc, octets_from(own.line_through_comment(), from))?,
             time: Columns {
                 from: time.from.saturating_sub(from),
                 to: time.to.saturating_sub(from),
             },
             end: own.columns().to.saturating_sub(from),
-            column: own.column(),
+            column_after_time: own.column_after_time(),
         })
     }
 
@@ -54,8 +54,12 @@ impl EventText {
     /// # Errors
     /// `AllocError` where a growth is refused.
     pub fn at_time(&self, alloc: Global, time: Time) -> Result<Vec<u8>, AllocError> {
-        let mut field_edits = FieldEdits::new(alloc, self.octets.as_slice(), self.column);
-        field_edits.replace(self.time, write_time(alloc, time)?.as_slice())?;
+        let mut field_edits = FieldEdits::new(
+            alloc,
+            self.octets.as_slice(),
+            self.column_after_time,
+        );
+        field_edits.replace_field(self.time, write_time(alloc, time)?.as_slice())?;
         field_edits.finish(self.end)
     }
 }

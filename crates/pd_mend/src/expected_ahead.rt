@@ -1,5 +1,5 @@
 //! The packets that a script awaits before its next input.
-use crate::times::{is_in_time, time_of};
+use crate::times::{is_in_time, single_moment_of};
 use pd_run::time_range_of;
 use pd_script::{Action, Event, Packet};
 use std::alloc::{AllocError, Global};
@@ -46,7 +46,7 @@ pub fn look_ahead<'a>(
     let mut input = None;
     for event in events {
         let Action::Outbound(packet) = &event.action else {
-            input = time_of(base, event.time);
+            input = single_moment_of(base, event.time);
             break;
         };
         if packets.len() == MAX_AHEAD {

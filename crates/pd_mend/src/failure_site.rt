@@ -32,7 +32,7 @@ impl<'a> FailureSite<'a> {
     ///
     /// # Errors
     /// `AllocError` where a growth is refused.
-    pub fn at(
+    pub fn find_on_line(
         alloc: Global,
         lines: &'a Lines,
         settings: &'a Settings,
@@ -67,7 +67,7 @@ impl<'a> FailureSite<'a> {
     }
 
     /// The events from this one on.
-    pub fn events(&self) -> &'a [Event] {
+    pub fn remaining_events(&self) -> &'a [Event] {
         let events = self.parsed.events.as_slice();
         match events.get(self.stop.passed) {
             Some(_) => &events[self.stop.passed..],

@@ -3,10 +3,10 @@
 use crate::event_line::EventLine;
 use crate::failure_site::FailureSite;
 use crate::mend::{Mend, MendEffect, Target};
-use crate::rewrite_packet::retimed;
-use crate::times::{sooner, time_of, with_time_of};
-use crate::tokens::{Columns, part};
-use crate::try_mend::stop_before;
+use crate::rewrite_packet::event_line_with_time;
+use crate::times::{counted_from_later_base, line_with_time_of, single_moment_of};
+use crate::tokens::{Columns, octets_in_columns};
+use crate::try_mend::stop_before_event;
 use pd_run::{StopPoint, StopReason};
 use pd_script::{Action, Event, Time};
 use pd_seg::Sent;
@@ -32,14 +32,17 @@ pub struct InputGap<'a> {
 ///
 /// # Errors
 /// `AllocError` where a growth is refused.
-pub fn gap_of<'a>(site: &FailureSite<'a>, sent: &Sent) -> Result<Option<InputGap<'a>>, AllocError> {
+pub fn find_input_gap<'a>(
+    site: &FailureSite<'a>,
+    sent: &Sent,
+) -> Result<Option<InputGap<'a>>, AllocError> {
     let passed = site.stop.passed;
     let events = site.parsed.events.as_slice();
-    let first = first_after_taken(events, passed);
+    let first = first_input_before_event(events, passed);
     if first >= passed {
         return Ok(None);
     }
-    let Some(stop) = stop_before(site, first)? else {
+    let Some(stop) = stop_before_event(site, first)? else {
         return Ok(None);
     };
     let mut base = stop.before.base();
@@ -48,9 +51,9 @@ pub fn gap_of<'a>(site: &FailureSite<'a>, sent: &Sent) -> Result<Option<InputGap
         let Some(event) = events.get(number) else {
             break;
         };
-        let moment = time_of(base, event.time).unwrap_or(base);
+        let moment = single_moment_of(base, event.time).unwrap_or(base);
         clock = moment.max(clock);
-        if sent.at < clock || (sent.at == clock && has_left(site, number, sent)?) {
+        if sent.at < clock || (sent.at == clock && has_left_before_input(site, number, sent)?) {
             return InputGap::before(site, number, base);
         }
         base = moment;
@@ -59,7 +62,7 @@ pub fn gap_of<'a>(site: &FailureSite<'a>, sent: &Sent) -> Result<Option<InputGap
 }
 
 /// The number of the first of the inputs that come right before an event.
-fn first_after_taken(events: &[Event], passed: usize) -> usize {
+fn first_input_before_event(events: &[Event], passed: usize) -> usize {
     let mut first = 0usize;
     let mut number = 0usize;
     for event in events {
@@ -75,8 +78,12 @@ fn first_after_taken(events: &[Event], passed: usize) -> usize {
 }
 
 /// Whether a packet has left before an input that acts at the same moment.
-fn has_left(site: &FailureSite<'_>, number: usize, sent: &Sent) -> Result<bool, AllocError> {
-    let Some(stop) = stop_before(site, number)? else {
+fn has_left_before_input(
+    site: &FailureSite<'_>,
+    number: usize,
+    sent: &Sent,
+) -> Result<bool, AllocError> {
+    let Some(stop) = stop_before_event(site, number)? else {
         return Ok(false);
     };
     let StopPoint { stop_reason, .. } = stop;
@@ -96,12 +103,12 @@ impl<'a> InputGap<'a> {
         let Some(input) = EventLine::find(site.alloc, site.lines, site.parsed, number)? else {
             return Ok(None);
         };
-        if !input.is_first() {
+        if !input.is_first_on_line() {
             return Ok(None);
         }
-        let first = match line_of(site, number.saturating_sub(1))? {
+        let first = match line_of_event(site, number.saturating_sub(1))? {
             Some(last) if last < input.line => {
-                first_line(site.lines, last.saturating_add(1), input.line)
+                first_insertable_line(site.lines, last.saturating_add(1), input.line)
             }
             _ => input.line,
         };
@@ -112,14 +119,19 @@ impl<'a> InputGap<'a> {
     ///
     /// # Errors
     /// `AllocError` where a growth is refused.
-    pub fn filled(&self, text: &[u8], at: u64, effect: MendEffect) -> Result<Mend, AllocError> {
+    pub fn mend_filling_gap(
+        &self,
+        text: &[u8],
+        at: u64,
+        effect: MendEffect,
+    ) -> Result<Mend, AllocError> {
         let input = &self.input;
         let mut lines = LineList::new(input.alloc);
         lines.push_if_line(text)?;
         let target = match input.event.time {
             Time::Relative(_) if at > self.base => {
-                let time = sooner(input.event.time, at.saturating_sub(self.base));
-                let own = with_time_of(input, retimed(input, time)?.as_slice())?;
+                let time = counted_from_later_base(input.event.time, at.saturating_sub(self.base));
+                let own = line_with_time_of(input, event_line_with_time(input, time)?.as_slice())?;
                 lines.push_if_line(own.as_slice())?;
                 Target::Retimed(input.line)
             }
@@ -134,7 +146,7 @@ impl<'a> InputGap<'a> {
 }
 
 /// The line of an event, if all of it is there.
-fn line_of(site: &FailureSite<'_>, number: usize) -> Result<Option<usize>, AllocError> {
+fn line_of_event(site: &FailureSite<'_>, number: usize) -> Result<Option<usize>, AllocError> {
     match EventLine::find(site.alloc, site.lines, site.parsed, number)? {
         Some(own) => Ok(Some(own.line)),
         None => Ok(None),
@@ -144,7 +156,7 @@ fn line_of(site: &FailureSite<'_>, number: usize) -> Result<Option<usize>, Alloc
 /// The first line after an event, or where a comment ends after it the line of the next event: no line goes into a comment.
 ///
 /// The lines are counted from 1.
-pub fn first_line(lines: &Lines, after: usize, next: usize) -> usize {
+pub fn first_insertable_line(lines: &Lines, after: usize, next: usize) -> usize {
     for line in after..next {
         if has_comment_end(lines.line(line).unwrap_or(&[])) {
             return next;
@@ -160,7 +172,7 @@ fn has_comment_end(octets: &[u8]) -> bool {
             from,
             to: from.saturating_add(2),
         };
-        if part(octets, columns) == COMMENT_END {
+        if octets_in_columns(octets, columns) == COMMENT_END {
             return true;
         }
     }

@@ -1,18 +1,18 @@
 //! The packets that a script leaves which passes: whether there are any, and the edit that gives one a line.
 ghost use Rattle.std.specs.Prelude.{◌≡◌, IfOk, ◌⊎◌, ◌≤◌, IfSome, length};
-ghost use Rattle.pd_mend.specs.Inner.{awaits_no_more};
-ghost use Rattle.pd_mend.specs.Mending.{matches_all, IsRetiming};
+ghost use Rattle.pd_mend.specs.Inner.{leaves_none_or_awaits_none};
+ghost use Rattle.pd_mend.specs.Mending.{takes_all_if_any_awaited, IsRetiming};
 
 use crate::event_line::EventLine;
 use crate::failure_site::FailureSite;
-use crate::input_gap::{first_line, gap_of};
-use crate::line_mends::text_of;
+use crate::input_gap::{find_input_gap, first_insertable_line};
+use crate::line_mends::line_text_for_sent;
 use crate::mend::{Mend, MendEffect, Target};
 use crate::mend_state::MendState;
-use crate::times::retiming;
-use crate::try_mend::{NEVER, with_never_sent};
+use crate::times::retiming_edit;
+use crate::try_mend::{NEVER, text_with_never_sent};
 use pd_explain::{Leftovers, find_leftovers};
-use pd_run::{StopReason, find_stop};
+use pd_run::{StopReason, run_to_failure_on_line};
 use pd_script::{Action, Parsed, parse};
 use pd_seg::Sent;
 use pd_settings::Settings;
@@ -23,16 +23,20 @@ use std::alloc::{AllocError, Global};
 ///
 /// # Errors
 /// `AllocError` where a growth is refused.
-pub fn matches_all(alloc: Global, text: &Lines, settings: &Settings) -> Result<bool, AllocError>
-    ensures { IfOk result (λ taken. taken ≡ matches_all settings.now text.now) }
+pub fn takes_all_if_any_awaited(
+    alloc: Global,
+    text: &Lines,
+    settings: &Settings,
+) -> Result<bool, AllocError>
+    ensures { IfOk result (λ taken. taken ≡ takes_all_if_any_awaited settings.now text.now) }
 {
     let found = find_leftovers(alloc, text, settings)?;
-    Ok(awaits_no_more(&found))
+    Ok(leaves_none_or_awaits_none(&found))
 }
 
 /// Whether leftovers name no packet that might have been awaited.
-fn awaits_no_more(found: &Option<Leftovers>) -> bool
-    ensures { result ≡ awaits_no_more found.now }
+fn leaves_none_or_awaits_none(found: &Option<Leftovers>) -> bool
+    ensures { result ≡ leaves_none_or_awaits_none found.now }
 {
     match found {
         Some(leftovers) => !leftovers.awaits,
@@ -45,7 +49,7 @@ fn awaits_no_more(found: &Option<Leftovers>) -> bool
 ///
 /// # Errors
 /// `AllocError` where a growth is refused.
-pub fn leftover_edit(
+pub fn edit_for_oldest_leftover(
     alloc: Global,
     text: &Lines,
     settings: &Settings,
@@ -53,10 +57,10 @@ pub fn leftover_edit(
 ) -> Result<Option<LineEdit>, AllocError>
     ensures { IfOk result (λ found. IfSome found (λ edit. (edit.remove ≡ 0) ⊎ IsRetiming text.now edit)) }
 {
-    let line = line_after(alloc, text, &parse(alloc, text)?)?;
-    if let Some(lines) = with_never_sent(alloc, text, line)? {
-        if let Some(mend) = mend_in(alloc, &lines, settings, line, mend_state)? {
-            return Ok(insert_edit(text, mend));
+    let line = line_after_last_event(alloc, text, &parse(alloc, text)?)?;
+    if let Some(lines) = text_with_never_sent(alloc, text, line)? {
+        if let Some(mend) = mend_for_oldest_leftover(alloc, &lines, settings, line, mend_state)? {
+            return Ok(edit_of_inserting_mend(text, mend));
         }
     }
     let mut insert = LineList::new(alloc);
@@ -69,7 +73,7 @@ pub fn leftover_edit(
 }
 
 /// The edit of a mend that puts lines in; nothing where it is another one.
-pub fn insert_edit(text: &Lines, mend: Mend) -> Option<LineEdit>
+pub fn edit_of_inserting_mend(text: &Lines, mend: Mend) -> Option<LineEdit>
     ensures { IfSome result (λ edit. (edit.remove ≡ 0) ⊎ IsRetiming text.now edit) }
 {
     match mend.target {
@@ -78,23 +82,27 @@ pub fn insert_edit(text: &Lines, mend: Mend) -> Option<LineEdit>
             remove: 0,
             insert: mend.lines,
         }),
-        Target::Retimed(from) => retiming(text, from, mend.lines),
+        Target::Retimed(from) => retiming_edit(text, from, mend.lines),
         Target::Own | Target::Follower => None,
     }
 }
 
 /// The line after the last event of a text, where no comment that goes over lines is in the way.
-fn line_after(alloc: Global, text: &Lines, parsed: &Parsed) -> Result<usize, AllocError> {
+fn line_after_last_event(
+    alloc: Global,
+    text: &Lines,
+    parsed: &Parsed,
+) -> Result<usize, AllocError> {
     let end = text.len().saturating_add(1);
     let number = parsed.events.len().saturating_sub(1);
     match EventLine::find(alloc, text, parsed, number)? {
-        Some(last) => Ok(first_line(text, last.line.saturating_add(1), end)),
+        Some(last) => Ok(first_insertable_line(text, last.line.saturating_add(1), end)),
         None => Ok(end),
     }
 }
 
 /// The mend by which the oldest unmatched packet gets a line where a text awaits, at its end, one that is never sent.
-fn mend_in(
+fn mend_for_oldest_leftover(
     alloc: Global,
     lines: &Lines,
     settings: &Settings,
@@ -102,51 +110,58 @@ fn mend_in(
     mend_state: &mut MendState,
 ) -> Result<Option<Mend>, AllocError> {
     let parsed = parse(alloc, lines)?;
-    let Some(stop) = find_stop(alloc, &parsed, settings, line)? else {
+    let Some(stop) = run_to_failure_on_line(alloc, &parsed, settings, line)? else {
         return Ok(None);
     };
-    let Some(site) = FailureSite::at(alloc, lines, settings, &parsed, &stop, line)? else {
+    let Some(site) = FailureSite::find_on_line(alloc, lines, settings, &parsed, &stop, line)? else {
         return Ok(None);
     };
     let StopReason::Differs(_, sent, run) = &stop.stop_reason else {
         return Ok(None);
     };
-    let found = mend_at(&site, sent, run.tolerance(), mend_state)?;
+    let found = mend_in_last_style(&site, sent, run.tolerance(), mend_state)?;
     if let Some(mend) = &found {
-        mend_state.note(&site, mend)?;
+        mend_state.note_mend(&site, mend)?;
     }
     Ok(found)
 }
 
 /// The same at the event that awaits that packet.
-fn mend_at(
+fn mend_in_last_style(
     site: &FailureSite<'_>,
     sent: &Sent,
     tolerance: u64,
     mend_state: &MendState,
 ) -> Result<Option<Mend>, AllocError> {
-    match last_expected(site)? {
-        Some(style) => mend_styled(site, &style, sent, tolerance, mend_state),
-        None => mend_styled(site, &site.own, sent, tolerance, mend_state),
+    match last_expected_event(site)? {
+        Some(style) => mend_in_given_style(site, &style, sent, tolerance, mend_state),
+        None => mend_in_given_style(site, &site.own, sent, tolerance, mend_state),
     }
 }
 
 /// The same in the style of an event.
-fn mend_styled(
+fn mend_in_given_style(
     site: &FailureSite<'_>,
     style: &EventLine<'_>,
     sent: &Sent,
     tolerance: u64,
     mend_state: &MendState,
 ) -> Result<Option<Mend>, AllocError> {
-    if let Some(gap) = gap_of(site, sent)? {
-        if let Some(text) = text_of(style, &mend_state.moved_lines, sent, gap.base, tolerance)? {
+    if let Some(gap) = find_input_gap(site, sent)? {
+        if let Some(text) = line_text_for_sent(
+            style,
+            &mend_state.moved_lines,
+            sent,
+            gap.base,
+            tolerance,
+        )? {
             let effect = MendEffect::Inserted(sent.copy()?);
-            return Ok(Some(gap.filled(text.octets.as_slice(), sent.at, effect)?));
+            return Ok(Some(gap.mend_filling_gap(text.octets.as_slice(), sent.at, effect)?));
         }
     }
     let base = site.stop.before.base();
-    let Some(text) = text_of(style, &mend_state.moved_lines, sent, base, tolerance)? else {
+    let Some(text) = line_text_for_sent(style, &mend_state.moved_lines, sent, base, tolerance)?
+    else {
         return Ok(None);
     };
     let mut lines = LineList::new(site.alloc);
@@ -159,7 +174,7 @@ fn mend_styled(
 }
 
 /// The last event before a site that awaits a packet, if it is whole on its line.
-fn last_expected<'a>(site: &FailureSite<'a>) -> Result<Option<EventLine<'a>>, AllocError> {
+fn last_expected_event<'a>(site: &FailureSite<'a>) -> Result<Option<EventLine<'a>>, AllocError> {
     let mut number = 0usize;
     let mut last = None;
     for event in site.parsed.events.as_slice() {

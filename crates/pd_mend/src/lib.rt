@@ -2,7 +2,7 @@
 //!
 //! `mend_script` gives a `Mended` text, or why there is none (`MendError`). A `Mender` makes one
 //! mend after the other. A `FailureSite` is the event at which the run stopped, as it stands on its
-//! line; `mend_of` finds a `Mend` by which it holds, and `alignment` which awaited packet is which
+//! line; `mend_for_site` finds a `Mend` by which it holds, and `oldest_sent_alignment` which awaited packet is which
 //! of those that were sent. `LineMap` gives the line of the given text from which each line comes.
 //!
 //! ```text

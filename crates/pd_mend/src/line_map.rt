@@ -21,7 +21,7 @@ impl LineMap {
     }
 
     /// Where a line comes from.
-    pub fn line_of(&self, line: usize) -> usize {
+    pub fn origin_line_of(&self, line: usize) -> usize {
         match self.lines.get(line.saturating_sub(1)) {
             Some(origin) => *origin,
             None => line,
@@ -32,7 +32,7 @@ impl LineMap {
     ///
     /// # Errors
     /// `AllocError` where a growth is refused.
-    pub fn after(
+    pub fn after_edit(
         &self,
         alloc: Global,
         line: usize,
@@ -54,7 +54,7 @@ impl LineMap {
         }
         if line > number {
             for _ in 0..count {
-                lines.push(self.line_of(number))?;
+                lines.push(self.origin_line_of(number))?;
             }
         }
         Ok(LineMap { lines })

@@ -4,9 +4,11 @@ use crate::event_line::EventLine;
 use crate::failure_site::FailureSite;
 use crate::mend::{Mend, MendEffect, Target};
 use crate::moved_lines::MovedLines;
-use crate::rewrite_packet::{PacketRewrite, retimed, rewritten};
-use crate::times::{later, sooner, time_at, time_of};
-use crate::tokens::{Columns, part, rest};
+use crate::rewrite_packet::{PacketRewrite, event_line_with_time, rewrite_packet_fields};
+use crate::times::{
+    counted_from_earlier_base, counted_from_later_base, single_moment_of, written_time_like,
+};
+use crate::tokens::{Columns, octets_from, octets_in_columns};
 use pd_print::write_time;
 use pd_run::RunState;
 use pd_script::{Action, Options, Time};
@@ -32,7 +34,7 @@ pub enum Removal {
 ///
 /// # Errors
 /// `AllocError` where a growth is refused.
-pub fn one_line(alloc: Global, octets: &[u8]) -> Result<Mend, AllocError> {
+pub fn mend_with_one_line(alloc: Global, octets: &[u8]) -> Result<Mend, AllocError> {
     let mut lines = LineList::new(alloc);
     lines.push_if_line(octets)?;
     Ok(Mend {
@@ -46,22 +48,22 @@ pub fn one_line(alloc: Global, octets: &[u8]) -> Result<Mend, AllocError> {
 ///
 /// # Errors
 /// `AllocError` where a growth is refused.
-pub fn text_of(
+pub fn line_text_for_sent(
     style: &EventLine<'_>,
     moved_lines: &MovedLines,
     sent: &Sent,
     base: u64,
     tolerance: u64,
 ) -> Result<Option<NewText>, AllocError> {
-    if let Some(text) = moved_lines.text_of(sent) {
-        let time = time_at(text.line_time(), base, sent.at, tolerance);
+    if let Some(text) = moved_lines.line_text_for_sent(sent) {
+        let time = written_time_like(text.line_time(), base, sent.at, tolerance);
         let octets = text.at_time(style.alloc, time)?;
         return Ok(Some(NewText { octets, time }));
     }
     let Action::Outbound(packet) = &style.event.action else {
         return Ok(None);
     };
-    let time = time_at(style.event.time, base, sent.at, tolerance);
+    let time = written_time_like(style.event.time, base, sent.at, tolerance);
     let change = PacketRewrite {
         segment: &sent.segment,
         fields: Differences {
@@ -71,9 +73,12 @@ pub fn text_of(
         },
         time: Some(time),
     };
-    match rewritten(style, style.up_to_end(), &change)? {
+    match rewrite_packet_fields(style, style.line_through_event(), &change)? {
         Some(line) => {
-            let octets = Vec::from_slice(style.alloc, rest(line.as_slice(), style.from()))?;
+            let octets = Vec::from_slice(
+                style.alloc,
+                octets_from(line.as_slice(), style.start_with_indent()),
+            )?;
             Ok(Some(NewText { octets, time }))
         }
         None => Ok(None),
@@ -92,25 +97,29 @@ pub struct NewText {
 ///
 /// # Errors
 /// `AllocError` where a growth is refused.
-pub fn inserted(
+pub fn mend_inserting_packet(
     site: &FailureSite<'_>,
     sent: &Sent,
     run: &RunState,
     moved_lines: &MovedLines,
 ) -> Result<Option<Mend>, AllocError> {
     let base = run.base();
-    let Some(extra) = text_of(&site.own, moved_lines, sent, base, run.tolerance())? else {
+    let Some(extra) = line_text_for_sent(&site.own, moved_lines, sent, base, run.tolerance())?
+    else {
         return Ok(None);
     };
     let mut lines = LineList::new(site.alloc);
-    let from = put_before(&mut lines, site)?;
+    let from = push_line_before_event(&mut lines, site)?;
     lines.push_if_line(extra.octets.as_slice())?;
-    match time_of(base, extra.time) {
+    match single_moment_of(base, extra.time) {
         Some(at) if at > base => {
-            let own = retimed(&site.own, sooner(site.own.event.time, at - base))?;
-            lines.push_if_line(rest(own.as_slice(), from))?;
+            let own = event_line_with_time(
+                &site.own,
+                counted_from_later_base(site.own.event.time, at - base),
+            )?;
+            lines.push_if_line(octets_from(own.as_slice(), from))?;
         }
-        _ => lines.push_if_line(rest(site.octets(), from))?,
+        _ => lines.push_if_line(octets_from(site.octets(), from))?,
     }
     Ok(Some(Mend {
         target: Target::Own,
@@ -120,25 +129,28 @@ pub fn inserted(
 }
 
 /// Puts what is before the event on a line of its own, unless these are blanks; where the event's own line begins then.
-fn put_before(lines: &mut LineList, site: &FailureSite<'_>) -> Result<usize, AllocError> {
-    if !site.own.is_first() {
-        lines.push_if_line(site.own.before().trim_ascii_end())?;
+fn push_line_before_event(
+    lines: &mut LineList,
+    site: &FailureSite<'_>,
+) -> Result<usize, AllocError> {
+    if !site.own.is_first_on_line() {
+        lines.push_if_line(site.own.octets_before().trim_ascii_end())?;
     }
-    Ok(site.own.from())
+    Ok(site.own.start_with_indent())
 }
 
 /// The event's packet wasn't sent here, and of its line this is left. All else on it stays.
 ///
 /// # Errors
 /// `AllocError` where a growth is refused.
-pub fn without_line(site: &FailureSite<'_>, removal: Removal) -> Result<Mend, AllocError> {
+pub fn mend_removing_event(site: &FailureSite<'_>, removal: Removal) -> Result<Mend, AllocError> {
     let mut lines = LineList::new(site.alloc);
-    let from = put_before(&mut lines, site)?;
-    if let Some(comment) = comment_of(site, from, removal)? {
+    let from = push_line_before_event(&mut lines, site)?;
+    if let Some(comment) = comment_of_removed(site, from, removal)? {
         lines.push_if_line(comment.as_slice())?;
     }
-    if !site.own.ends_line() {
-        lines.push_if_line(site.own.after().trim_ascii_start())?;
+    if !site.own.is_last_besides_comment() {
+        lines.push_if_line(site.own.octets_after().trim_ascii_start())?;
     }
     Ok(Mend {
         target: Target::Own,
@@ -148,7 +160,7 @@ pub fn without_line(site: &FailureSite<'_>, removal: Removal) -> Result<Mend, Al
 }
 
 /// The comment that is left of an event whose own line begins at an octet.
-fn comment_of(
+fn comment_of_removed(
     site: &FailureSite<'_>,
     from: usize,
     removal: Removal,
@@ -158,7 +170,7 @@ fn comment_of(
         from,
         to: columns.from,
     };
-    let mut comment = Vec::from_slice(site.alloc, part(site.octets(), indent))?;
+    let mut comment = Vec::from_slice(site.alloc, octets_in_columns(site.octets(), indent))?;
     match removal {
         Removal::Gone => return Ok(None),
         Removal::NotSent => comment.extend_from_slice(NOT_SENT)?,
@@ -168,7 +180,7 @@ fn comment_of(
             comment.extend_from_slice(b": ")?;
         }
     }
-    comment.extend_from_slice(rest(site.own.with_comment(), columns.from))?;
+    comment.extend_from_slice(octets_from(site.own.line_through_comment(), columns.from))?;
     Ok(Some(comment))
 }
 
@@ -178,33 +190,34 @@ impl FailureSite<'_> {
     ///
     /// # Errors
     /// `AllocError` where a growth is refused.
-    pub fn not_sent(&self, removal: Removal) -> Result<Mend, AllocError> {
-        match self.moved_follower()? {
+    pub fn mend_not_sent(&self, removal: Removal) -> Result<Mend, AllocError> {
+        match self.mend_retiming_follower()? {
             Some(mend) => Ok(mend),
-            None => without_line(self, removal),
+            None => mend_removing_event(self, removal),
         }
     }
 
     /// The line of the next event, its time counted from the base of this one; nothing where that changes nothing.
-    fn moved_follower(&self) -> Result<Option<Mend>, AllocError> {
+    fn mend_retiming_follower(&self) -> Result<Option<Mend>, AllocError> {
         let base = self.stop.before.base();
-        let Some(at) = time_of(base, self.own.event.time) else {
+        let Some(at) = single_moment_of(base, self.own.event.time) else {
             return Ok(None);
         };
         let number = self.stop.passed.saturating_add(1);
         let Some(follower) = EventLine::find(self.alloc, self.lines, self.parsed, number)? else {
             return Ok(None);
         };
-        let Some(time) = later(follower.event.time, at.saturating_sub(base)) else {
+        let Some(time) = counted_from_earlier_base(follower.event.time, at.saturating_sub(base))
+        else {
             return Ok(None);
         };
         if at <= base || follower.line != follower.event.line {
             return Ok(None);
         }
-        let line = retimed(&follower, time)?;
+        let line = event_line_with_time(&follower, time)?;
         Ok(Some(Mend {
             target: Target::Follower,
-            ..one_line(self.alloc, line.as_slice())?
+            ..mend_with_one_line(self.alloc, line.as_slice())?
         }))
     }
 }

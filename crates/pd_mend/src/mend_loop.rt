@@ -3,13 +3,13 @@ ghost use Rattle.std.specs.Prelude.{◌≡◌, true, IfOk, IfErr, MatchOption};
 ghost use Rattle.pd_run.specs.Grammatical.{IsVerdictOf};
 ghost use Rattle.pd_run.specs.Run.{verdict_of};
 ghost use Rattle.pd_run.specs.declared.verdict.Verdict.TheVariants.{Pass};
-ghost use Rattle.pd_mend.specs.Mending.{IsNoPass, IsUnfinished, matches_all};
+ghost use Rattle.pd_mend.specs.Mending.{IsNoPass, IsUnfinished, takes_all_if_any_awaited};
 ghost use Rattle.pd_mend.specs.Mended.{IsFinished, IsMended, RefusesToMend};
 ghost use Rattle.pd_mend.specs.Inner.{IsUnmendable};
 
-use crate::leftovers::matches_all;
+use crate::leftovers::takes_all_if_any_awaited;
 use crate::mend_error::{MendError, Unmendable};
-use crate::mender::{Mender, line_in};
+use crate::mender::{Mender, line_of_verdict};
 use crate::moved_lines::MovedLines;
 use pd_run::{Verdict, run_all};
 use pd_settings::Settings;
@@ -54,13 +54,13 @@ pub fn mend_script(
     ensures spared { IfErr result (λ refusal. IsFinished settings.now lines.now → refusal ≡ MendError.OutOfMemory) }
 {
     let mut mender = Mender::new(alloc, lines.len(), drop, MovedLines::new(alloc))?;
-    let first = mend_all(alloc, lines, settings, &mut mender)?;
+    let first = mend_until_passed(alloc, lines, settings, &mut mender)?;
     let moved_lines = mender.into_moved_lines(alloc)?;
     if moved_lines.is_empty() {
         return Ok(first);
     }
     let mut again = Mender::new(alloc, lines.len(), drop, moved_lines)?;
-    match mend_all(alloc, lines, settings, &mut again) {
+    match mend_until_passed(alloc, lines, settings, &mut again) {
         Ok(second) => Ok(second),
         Err(MendError::OutOfMemory) => Err(MendError::OutOfMemory),
         Err(_) => Ok(first),
@@ -69,7 +69,7 @@ pub fn mend_script(
 
 /// Mends a text mend by mend.
 #[tactic(auto, using(crate::proofs::Leading::starts, crate::proofs::Leading::goes_on, crate::proofs::Leading::ends, crate::proofs::Leading::is_stuck, crate::proofs::Leading::is_unmade, crate::proofs::Leading::spared_unmade, crate::proofs::Leading::spared_stuck))]
-fn mend_all(
+fn mend_until_passed(
     alloc: Global,
     lines: &Lines,
     settings: &Settings,
@@ -84,41 +84,41 @@ fn mend_all(
     let mut text = lines.copy()?;
     for _ in 0..MAX_MENDS {
         let verdict = run_all(alloc, &text, settings)?;
-        if let Some(events) = events_at_end(alloc, &text, settings, verdict)? {
+        if let Some(events) = events_if_finished(alloc, &text, settings, verdict)? {
             return Ok(Mended {
                 lines: text,
                 events,
             });
         }
-        match mender.mended(alloc, &text, settings, verdict)? {
+        match mender.mend_once(alloc, &text, settings, verdict)? {
             Some(next) => text = next,
-            None => return Err(unmendable(text, verdict, mender)),
+            None => return Err(unmendable_error(text, verdict, mender)),
         }
     }
     let verdict = run_all(alloc, &text, settings)?;
-    match events_at_end(alloc, &text, settings, verdict)? {
+    match events_if_finished(alloc, &text, settings, verdict)? {
         Some(events) => Ok(Mended {
             lines: text,
             events,
         }),
-        None => Err(unmendable(text, verdict, mender)),
+        None => Err(unmendable_error(text, verdict, mender)),
     }
 }
 
 /// How many events a text has that is finished: all pass, and all packets are taken.
-fn events_at_end(
+fn events_if_finished(
     alloc: Global,
     text: &Lines,
     settings: &Settings,
     verdict: Verdict,
 ) -> Result<Option<usize>, AllocError>
     requires { verdict ≡ verdict_of text.now settings.now }
-    ensures unfinished { IfOk result (λ end. MatchOption end (IsUnfinished settings.now text.now) (λ events. (verdict ≡ Pass events) × (matches_all settings.now text.now ≡ true))) }
+    ensures unfinished { IfOk result (λ end. MatchOption end (IsUnfinished settings.now text.now) (λ events. (verdict ≡ Pass events) × (takes_all_if_any_awaited settings.now text.now ≡ true))) }
 {
-    let Some(events) = events_passed(verdict) else {
+    let Some(events) = events_if_passed(verdict) else {
         return Ok(None);
     };
-    if matches_all(alloc, text, settings)? {
+    if takes_all_if_any_awaited(alloc, text, settings)? {
         Ok(Some(events))
     } else {
         Ok(None)
@@ -126,7 +126,7 @@ fn events_at_end(
 }
 
 /// How many events passed, where all did.
-fn events_passed(verdict: Verdict) -> Option<usize>
+fn events_if_passed(verdict: Verdict) -> Option<usize>
     ensures { MatchOption result (IsNoPass verdict) (λ events. verdict ≡ Pass events) }
 {
     match verdict {
@@ -136,11 +136,11 @@ fn events_passed(verdict: Verdict) -> Option<usize>
 }
 
 /// The refusal of a text at whose verdict no mend helps.
-fn unmendable(lines: Lines, verdict: Verdict, mender: &Mender) -> MendError
+fn unmendable_error(lines: Lines, verdict: Verdict, mender: &Mender) -> MendError
     ensures { IsUnmendable lines verdict result }
 {
     MendError::Stopped(Unmendable {
-        line: mender.origin_of(line_in(verdict)),
+        line: mender.given_line_of(line_of_verdict(verdict)),
         lines,
         verdict,
     })

@@ -1,6 +1,6 @@
 //! The answer of a call, in the place of its written result.
 use crate::failure_site::FailureSite;
-use crate::line_mends::one_line;
+use crate::line_mends::mend_with_one_line;
 use crate::mend::Mend;
 use crate::replacements::FieldEdits;
 use crate::tokens::{Columns, EventTokens};
@@ -37,14 +37,14 @@ pub fn mend_result(site: &FailureSite<'_>, answer: Answer) -> Result<Option<Mend
         }
     };
     let mut field_edits = FieldEdits::new(site.alloc, site.octets(), None);
-    field_edits.replace(columns, write_answer(site.alloc, answer)?.as_slice())?;
+    field_edits.replace_field(columns, write_answer(site.alloc, answer)?.as_slice())?;
     let line = field_edits.finish(field_columns.end)?;
-    Ok(Some(one_line(site.alloc, line.as_slice())?))
+    Ok(Some(mend_with_one_line(site.alloc, line.as_slice())?))
 }
 
 /// Where the result of a call stands: after an equals sign outside brackets.
 fn result_columns(event: &EventTokens) -> Option<ResultColumns> {
-    let equals = equals_at(event)?;
+    let equals = equals_sign_index(event)?;
     let first = event.get(equals.saturating_add(1))?;
     let last = event.tokens.len().saturating_sub(1);
     let mut to = first.columns.to;
@@ -66,7 +66,7 @@ fn result_columns(event: &EventTokens) -> Option<ResultColumns> {
 }
 
 /// The number of the first equals sign outside brackets.
-fn equals_at(event: &EventTokens) -> Option<usize> {
+fn equals_sign_index(event: &EventTokens) -> Option<usize> {
     let mut depth = 0usize;
     for number in 0..event.tokens.len() {
         match event.get(number)?.symbol {

@@ -49,7 +49,7 @@ impl MendState {
     }
 
     /// Whether the event's line was written where its packet leaves.
-    pub fn is_doubled(&self, site: &FailureSite<'_>) -> bool {
+    pub fn is_written_elsewhere(&self, site: &FailureSite<'_>) -> bool {
         self.doubled == Some(site.line)
     }
 
@@ -57,9 +57,13 @@ impl MendState {
     ///
     /// # Errors
     /// `AllocError` where a growth is refused.
-    pub fn was_sent(&self, site: &FailureSite<'_>) -> Result<bool, AllocError> {
+    pub fn was_sent_for_another(&self, site: &FailureSite<'_>) -> Result<bool, AllocError> {
         match expected_packet(site) {
-            Some(packet) => Ok(self.displaced.time_of(site.alloc, packet)?.is_some()),
+            Some(packet) => Ok(
+                self.displaced
+                    .sending_time_of(site.alloc, packet)?
+                    .is_some(),
+            ),
             None => Ok(false),
         }
     }
@@ -69,11 +73,12 @@ impl MendState {
     /// # Errors
     /// `AllocError` where a growth is refused.
     pub fn removal(&self, site: &FailureSite<'_>) -> Result<Removal, AllocError> {
-        if self.drop || self.is_doubled(site) {
+        if self.drop || self.is_written_elsewhere(site) {
             return Ok(Removal::Gone);
         }
         Ok(match self.departure(site)? {
-            Some(departure) if departure.has_own_line || site.own.is_last() => Removal::Gone,
+            Some(departure) if departure.has_own_line || site.own.is_last_on_line() =>
+                Removal::Gone,
             Some(departure) => Removal::LeftAt(departure.at),
             None => Removal::NotSent,
         })
@@ -87,7 +92,7 @@ impl MendState {
         if let Some(departure) = self.moved_lines.departure(site.alloc, packet)? {
             return Ok(Some(departure));
         }
-        match self.displaced.time_of(site.alloc, packet)? {
+        match self.displaced.sending_time_of(site.alloc, packet)? {
             Some(at) => Ok(Some(Departure {
                 at,
                 has_own_line: false,
@@ -100,8 +105,8 @@ impl MendState {
     ///
     /// # Errors
     /// `AllocError` where a growth is refused.
-    pub fn note(&mut self, site: &FailureSite<'_>, mend: &Mend) -> Result<(), AllocError> {
-        let was_doubled = self.is_doubled(site);
+    pub fn note_mend(&mut self, site: &FailureSite<'_>, mend: &Mend) -> Result<(), AllocError> {
+        let was_doubled = self.is_written_elsewhere(site);
         self.is_shifted = matches!(mend.target, Target::Follower);
         if !self.is_shifted {
             self.doubled = None;
@@ -109,33 +114,34 @@ impl MendState {
         match &mend.effect {
             MendEffect::Kept => Ok(()),
             MendEffect::Moved => {
-                self.doubled = Some(site.line.saturating_add(mend.added()));
+                self.doubled = Some(site.line.saturating_add(mend.added_line_count()));
                 Ok(())
             }
-            MendEffect::Written(sent) => self.note_written(sent, false),
-            MendEffect::Inserted(sent) => self.note_written(sent, true),
+            MendEffect::Written(sent) => self.note_written_packet(sent, false),
+            MendEffect::Inserted(sent) => self.note_written_packet(sent, true),
             MendEffect::Removed if was_doubled => Ok(()),
-            MendEffect::Removed => self.note_removed(site),
+            MendEffect::Removed => self.note_removed_line(site),
         }
     }
 
-    fn note_written(&mut self, sent: &Sent, has_own_line: bool) -> Result<(), AllocError> {
-        self.displaced.add(sent.copy()?)?;
+    fn note_written_packet(&mut self, sent: &Sent, has_own_line: bool) -> Result<(), AllocError> {
+        self.displaced.add_packet(sent.copy()?)?;
         if has_own_line {
-            self.moved_lines.note_written(sent);
+            self.moved_lines.note_written_packet(sent);
         }
-        self.move_log.note_written(sent.copy()?, has_own_line)
+        self.move_log
+            .note_written_packet(sent.copy()?, has_own_line)
     }
 
     /// The awaited packet has no line any more.
-    fn note_removed(&mut self, site: &FailureSite<'_>) -> Result<(), AllocError> {
+    fn note_removed_line(&mut self, site: &FailureSite<'_>) -> Result<(), AllocError> {
         let Some(packet) = expected_packet(site) else {
             return Ok(());
         };
         self.displaced.remove(site.alloc, packet)?;
-        self.moved_lines.note_removed(site.alloc, packet)?;
+        self.moved_lines.note_removed_line(site.alloc, packet)?;
         self.move_log
-            .note_removed(EventText::of(&site.own, packet)?)
+            .note_removed_line(EventText::of(&site.own, packet)?)
     }
 }
 

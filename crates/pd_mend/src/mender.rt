@@ -6,13 +6,13 @@ ghost use Rattle.pd_mend.specs.Mending.{IsPlaced, IsUnfinished, line_after, IsFo
 ghost use Rattle.pd_mend.specs.Inner.{IsChange, IsNext, IsUnmade};
 
 use crate::failure_site::FailureSite;
-use crate::leftovers::{insert_edit, leftover_edit};
+use crate::leftovers::{edit_for_oldest_leftover, edit_of_inserting_mend};
 use crate::line_map::LineMap;
-use crate::mend::{Mend, Target, mend_of};
+use crate::mend::{Mend, Target, mend_for_site};
 use crate::mend_error::MendError;
 use crate::mend_state::MendState;
 use crate::moved_lines::MovedLines;
-use pd_run::{StopPoint, Verdict, find_stop};
+use pd_run::{StopPoint, Verdict, run_to_failure_on_line};
 use pd_script::{Event, Parsed, parse};
 use pd_settings::Settings;
 use pd_text::{LineEdit, LineList, Lines, TextFault};
@@ -46,8 +46,8 @@ impl Mender {
     }
 
     /// The line of the text as it was given from which a line comes.
-    pub fn origin_of(&self, line: usize) -> usize {
-        self.line_map.line_of(line)
+    pub fn given_line_of(&self, line: usize) -> usize {
+        self.line_map.origin_line_of(line)
     }
 
     /// The lines that turned out to move.
@@ -63,7 +63,7 @@ impl Mender {
     ///
     /// # Errors
     /// `TooLarge` where it would be over the limits of a text, and `OutOfMemory`.
-    pub fn mended(
+    pub fn mend_once(
         &mut self,
         alloc: Global,
         text: &Lines,
@@ -75,12 +75,12 @@ impl Mender {
         ensures next { IfOk result (λ next. IfSome next (IsNext settings.now text.now)) }
         ensures refused { IfErr result (IsUnmade settings.now text.now) }
     {
-        let Some(edit) = self.edit(alloc, text, settings, verdict)? else {
+        let Some(next_edit) = self.next_edit(alloc, text, settings, verdict)? else {
             return Ok(None);
         };
-        match text.apply(&edit) {
+        match text.apply(&next_edit) {
             Ok(next) => {
-                self.note(alloc, &edit)?;
+                self.note_line_origins(alloc, &next_edit)?;
                 Ok(Some(next))
             }
             Err(TextFault::TooLarge) => Err(MendError::TooLarge),
@@ -90,7 +90,7 @@ impl Mender {
     }
 
     /// The edit of the next mend of a text: where its run fails, or where it passes and leaves packets.
-    fn edit(
+    fn next_edit(
         &mut self,
         alloc: Global,
         text: &Lines,
@@ -101,14 +101,19 @@ impl Mender {
         ensures { IfOk result (λ found. IfSome found (IsPlaced settings.now text.now)) }
     {
         match verdict {
-            Verdict::Fail(line, _) => self.edit_on(alloc, text, settings, line),
-            Verdict::Pass(_) => leftover_edit(alloc, text, settings, &mut self.mend_state),
+            Verdict::Fail(line, _) => self.edit_for_failure_at(alloc, text, settings, line),
+            Verdict::Pass(_) => edit_for_oldest_leftover(
+                alloc,
+                text,
+                settings,
+                &mut self.mend_state,
+            ),
             _ => Ok(None),
         }
     }
 
     /// The edit of the next mend of a text whose run fails at a line.
-    fn edit_on(
+    fn edit_for_failure_at(
         &mut self,
         alloc: Global,
         text: &Lines,
@@ -118,14 +123,14 @@ impl Mender {
         ensures { IfOk result (λ found. IfSome found (IsChange text.now (script_of text.now).events line)) }
     {
         let parsed = parse(alloc, text)?;
-        match find_stop(alloc, &parsed, settings, line)? {
-            Some(stop) => self.edit_after(alloc, text, settings, &parsed, &stop, line),
+        match run_to_failure_on_line(alloc, &parsed, settings, line)? {
+            Some(stop) => self.edit_for_stop(alloc, text, settings, &parsed, &stop, line),
             None => Ok(None),
         }
     }
 
     /// The same where the run of the text, which was read, stops so.
-    fn edit_after(
+    fn edit_for_stop(
         &mut self,
         alloc: Global,
         text: &Lines,
@@ -136,35 +141,38 @@ impl Mender {
     ) -> Result<Option<LineEdit>, AllocError>
         ensures { IfOk result (λ found. IfSome found (IsChange text.now parsed.now.events line)) }
     {
-        match FailureSite::at(alloc, text, settings, parsed, stop, line)? {
-            Some(site) => self.edit_at(&site),
+        match FailureSite::find_on_line(alloc, text, settings, parsed, stop, line)? {
+            Some(site) => self.edit_for_site(&site),
             None => Ok(None),
         }
     }
 
     /// The same at the event that stops it.
-    fn edit_at(&mut self, site: &FailureSite<'_>) -> Result<Option<LineEdit>, AllocError>
+    fn edit_for_site(&mut self, site: &FailureSite<'_>) -> Result<Option<LineEdit>, AllocError>
         ensures { IfOk result (λ found. IfSome found (IsChange site.now.lines.now site.now.parsed.now.events site.now.line)) }
     {
-        let Some(mend) = mend_of(site, &self.mend_state)? else {
+        let Some(mend) = mend_for_site(site, &self.mend_state)? else {
             return Ok(None);
         };
-        self.mend_state.note(site, &mend)?;
+        self.mend_state.note_mend(site, &mend)?;
         let events = site.parsed.events.as_slice();
-        Ok(changed(events, site.stop.passed, site.line, site.lines, mend))
+        Ok(edit_of_mend(events, site.stop.passed, site.line, site.lines, mend))
     }
 
     /// Notes where the lines of an edit come from.
-    fn note(&mut self, alloc: Global, edit: &LineEdit) -> Result<(), AllocError> {
-        self.line_map = self
-            .line_map
-            .after(alloc, edit.from, edit.remove, edit.insert.len())?;
+    fn note_line_origins(&mut self, alloc: Global, next_edit: &LineEdit) -> Result<(), AllocError> {
+        self.line_map = self.line_map.after_edit(
+            alloc,
+            next_edit.from,
+            next_edit.remove,
+            next_edit.insert.len(),
+        )?;
         Ok(())
     }
 }
 
 /// The edit that makes a mend; nothing where the text would stay as it is.
-fn changed(
+fn edit_of_mend(
     events: &[Event],
     passed: usize,
     line: usize,
@@ -174,16 +182,20 @@ fn changed(
     ensures { IfSome result (IsChange text.now events.now line) }
 {
     match mend.target {
-        Target::Own => replaced(text, line, mend.lines),
-        Target::Follower => replaced(text, follower_of(events, passed, line)?, mend.lines),
-        Target::Before(_) | Target::Retimed(_) => insert_edit(text, mend),
+        Target::Own => replacing_edit(text, line, mend.lines),
+        Target::Follower => replacing_edit(
+            text,
+            follower_line_of(events, passed, line)?,
+            mend.lines,
+        ),
+        Target::Before(_) | Target::Retimed(_) => edit_of_inserting_mend(text, mend),
     }
 }
 
 /// The edit that writes lines in the place of one; nothing where that is the same.
-fn replaced(text: &Lines, from: usize, insert: LineList) -> Option<LineEdit>
-    ensures from { IfSome result (λ edit. edit.from ≡ from) }
-    ensures one { IfSome result (λ edit. edit.remove ≡ 1) }
+fn replacing_edit(text: &Lines, from: usize, insert: LineList) -> Option<LineEdit>
+    ensures from { IfSome result (λ next_edit. next_edit.from ≡ from) }
+    ensures one { IfSome result (λ next_edit. next_edit.remove ≡ 1) }
 {
     if insert.len() == 1 && insert.get(0) == text.line(from) {
         return None;
@@ -196,7 +208,7 @@ fn replaced(text: &Lines, from: usize, insert: LineList) -> Option<LineEdit>
 }
 
 /// The line that a verdict names; 0 where it names none.
-pub fn line_in(verdict: Verdict) -> usize {
+pub fn line_of_verdict(verdict: Verdict) -> usize {
     match verdict {
         Verdict::Pass(_) => 0,
         Verdict::Fail(line, _)
@@ -207,7 +219,7 @@ pub fn line_in(verdict: Verdict) -> usize {
 }
 
 /// The line of the event after so many others.
-fn line_at(events: &[Event], passed: usize) -> Option<usize>
+fn line_of_event_at(events: &[Event], passed: usize) -> Option<usize>
     ensures { result ≡ line_after events.now passed }
 {
     match events.get(passed) {
@@ -218,14 +230,14 @@ fn line_at(events: &[Event], passed: usize) -> Option<usize>
 
 /// The line of the event that follows the one after so many others, if that one is on this line.
 #[tactic(auto, using(crate::proofs::Followers::followed))]
-fn follower_of(events: &[Event], passed: usize, line: usize) -> Option<usize>
+fn follower_line_of(events: &[Event], passed: usize, line: usize) -> Option<usize>
     ensures { IfSome result (IsFollowed events.now line) }
 {
     if passed >= events.len() {
         return None;
     }
-    match line_at(events, passed) {
-        Some(own) if own == line => line_at(events, passed + 1),
+    match line_of_event_at(events, passed) {
+        Some(own) if own == line => line_of_event_at(events, passed + 1),
         _ => None,
     }
 }

@@ -2,9 +2,9 @@
 use crate::differences::Differences;
 use crate::expected_ahead::look_ahead;
 use crate::failure_site::FailureSite;
-use crate::line_mends::{Removal, one_line};
-use crate::mend::{Mend, fitted};
-use crate::try_mend::{NEVER, stop_in};
+use crate::line_mends::{Removal, mend_with_one_line};
+use crate::mend::{Mend, fitting_mend};
+use crate::try_mend::{NEVER, find_stop_in_text};
 use pd_run::{RunState, StopPoint, StopReason};
 use pd_seg::Sent;
 use pd_text::Lines;
@@ -25,16 +25,19 @@ enum Lateness {
 ///
 /// # Errors
 /// `AllocError` where a growth is refused.
-pub fn mend_missing(site: &FailureSite<'_>, removal: Removal) -> Result<Option<Mend>, AllocError> {
-    let gone = site.not_sent(removal)?;
-    match next_packet(site)? {
-        Some((sent, run)) => mend_unless_late(site, gone, &sent, &run),
+pub fn mend_missing_packet(
+    site: &FailureSite<'_>,
+    removal: Removal,
+) -> Result<Option<Mend>, AllocError> {
+    let gone = site.mend_not_sent(removal)?;
+    match next_sent_packet(site)? {
+        Some((sent, run)) => mend_late_or_not_sent(site, gone, &sent, &run),
         None => Ok(Some(gone)),
     }
 }
 
 /// The awaited packet isn't sent, unless it is this one, which is sent next: then it may be late.
-fn mend_unless_late(
+fn mend_late_or_not_sent(
     site: &FailureSite<'_>,
     gone: Mend,
     sent: &Sent,
@@ -44,14 +47,14 @@ fn mend_unless_late(
     if lateness == Lateness::NotSent {
         return Ok(Some(gone));
     }
-    match fitted(site, sent, run)? {
-        Some(late) => Ok(Some(likelier(site, lateness, gone, late)?)),
+    match fitting_mend(site, sent, run)? {
+        Some(late) => Ok(Some(likelier_mend(site, lateness, gone, late)?)),
         None => Ok(None),
     }
 }
 
 /// That mend of two which the lateness of the packet and how far the script gets speak for.
-fn likelier(
+fn likelier_mend(
     site: &FailureSite<'_>,
     lateness: Lateness,
     gone: Mend,
@@ -66,7 +69,7 @@ fn likelier(
 }
 
 /// The packet that is sent next, however late, with the run that took it: a run that awaits another packet meets it.
-fn next_packet(site: &FailureSite<'_>) -> Result<Option<(Sent, RunState)>, AllocError> {
+fn next_sent_packet(site: &FailureSite<'_>) -> Result<Option<(Sent, RunState)>, AllocError> {
     match text_awaiting_never(site)? {
         Some(lines) => differing_packet(site, &lines),
         None => Ok(None),
@@ -75,10 +78,10 @@ fn next_packet(site: &FailureSite<'_>) -> Result<Option<(Sent, RunState)>, Alloc
 
 /// The text with a packet that never is sent in the place of the awaited one.
 fn text_awaiting_never(site: &FailureSite<'_>) -> Result<Option<Lines>, AllocError> {
-    let mut line = Vec::from_slice(site.alloc, site.own.before())?;
+    let mut line = Vec::from_slice(site.alloc, site.own.octets_before())?;
     line.extend_from_slice(NEVER)?;
-    line.extend_from_slice(site.own.after())?;
-    site.with_lines(one_line(site.alloc, line.as_slice())?.lines)
+    line.extend_from_slice(site.own.octets_after())?;
+    site.with_event_line_replaced(mend_with_one_line(site.alloc, line.as_slice())?.lines)
 }
 
 /// The packet that isn't the one that a text awaits on the line of the event, and the run that took it.
@@ -86,7 +89,7 @@ fn differing_packet(
     site: &FailureSite<'_>,
     lines: &Lines,
 ) -> Result<Option<(Sent, RunState)>, AllocError> {
-    let Some(stop) = stop_in(site.alloc, lines, site.settings, site.line)? else {
+    let Some(stop) = find_stop_in_text(site.alloc, lines, site.settings, site.line)? else {
         return Ok(None);
     };
     let StopPoint { stop_reason, .. } = stop;
@@ -103,7 +106,7 @@ fn lateness_of(
     sent: &Sent,
     run: &RunState,
 ) -> Result<Lateness, AllocError> {
-    let ahead = look_ahead(site.alloc, site.events(), run.base())?;
+    let ahead = look_ahead(site.alloc, site.remaining_events(), run.base())?;
     let mut is_same = false;
     let mut is_own_moment = false;
     for (number, awaited) in ahead.packets.iter().enumerate() {

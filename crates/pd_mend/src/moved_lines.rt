@@ -57,7 +57,7 @@ impl MovedLines {
         alloc: Global,
         packet: &Packet,
     ) -> Result<Option<Departure>, AllocError> {
-        let Some(place) = self.place_to_remove(alloc, packet)? else {
+        let Some(place) = self.index_of_line_to_remove(alloc, packet)? else {
             return Ok(None);
         };
         match self.moved_lines.get(place) {
@@ -70,8 +70,8 @@ impl MovedLines {
     }
 
     /// The text of the line that moves to where this packet leaves.
-    pub fn text_of(&self, sent: &Sent) -> Option<&EventText> {
-        let place = self.place_to_write(sent)?;
+    pub fn line_text_for_sent(&self, sent: &Sent) -> Option<&EventText> {
+        let place = self.index_of_line_to_write(sent)?;
         match self.moved_lines.get(place) {
             Some(line) => Some(&line.text),
             None => None,
@@ -82,8 +82,8 @@ impl MovedLines {
     ///
     /// # Errors
     /// `AllocError` where a growth is refused.
-    pub fn note_removed(&mut self, alloc: Global, packet: &Packet) -> Result<(), AllocError> {
-        if let Some(place) = self.place_to_remove(alloc, packet)? {
+    pub fn note_removed_line(&mut self, alloc: Global, packet: &Packet) -> Result<(), AllocError> {
+        if let Some(place) = self.index_of_line_to_remove(alloc, packet)? {
             if let Some(line) = self.moved_lines.get_mut(place) {
                 line.is_removed = true;
             }
@@ -92,15 +92,19 @@ impl MovedLines {
     }
 
     /// Notes that a packet got its line.
-    pub fn note_written(&mut self, sent: &Sent) {
-        if let Some(place) = self.place_to_write(sent) {
+    pub fn note_written_packet(&mut self, sent: &Sent) {
+        if let Some(place) = self.index_of_line_to_write(sent) {
             if let Some(line) = self.moved_lines.get_mut(place) {
                 line.is_written = true;
             }
         }
     }
 
-    fn place_to_remove(&self, alloc: Global, packet: &Packet) -> Result<Option<usize>, AllocError> {
+    fn index_of_line_to_remove(
+        &self,
+        alloc: Global,
+        packet: &Packet,
+    ) -> Result<Option<usize>, AllocError> {
         let mut place = 0usize;
         for line in &self.moved_lines {
             if !line.is_removed && Differences::of(alloc, packet, &line.sent)?.count() == 0 {
@@ -111,7 +115,7 @@ impl MovedLines {
         Ok(None)
     }
 
-    fn place_to_write(&self, sent: &Sent) -> Option<usize> {
+    fn index_of_line_to_write(&self, sent: &Sent) -> Option<usize> {
         self.moved_lines.iter().position(|line| line.has_own_line
             && !line.is_written
             && line.sent.is_same(sent))
@@ -145,7 +149,7 @@ impl MoveLog {
     ///
     /// # Errors
     /// `AllocError` where a growth is refused.
-    pub fn note_removed(&mut self, text: EventText) -> Result<(), AllocError> {
+    pub fn note_removed_line(&mut self, text: EventText) -> Result<(), AllocError> {
         Ok(self.removed.push(text)?)
     }
 
@@ -153,7 +157,11 @@ impl MoveLog {
     ///
     /// # Errors
     /// `AllocError` where a growth is refused.
-    pub fn note_written(&mut self, sent: Sent, has_own_line: bool) -> Result<(), AllocError> {
+    pub fn note_written_packet(
+        &mut self,
+        sent: Sent,
+        has_own_line: bool,
+    ) -> Result<(), AllocError> {
         Ok(self.written.push(WrittenPacket { sent, has_own_line })?)
     }
 
@@ -168,7 +176,9 @@ impl MoveLog {
             let Some(text) = move_log.removed.pop() else {
                 break;
             };
-            let Some(WrittenPacket { sent, has_own_line }) = move_log.packet_of(alloc, &text)?
+            let Some(WrittenPacket { sent, has_own_line }) = move_log.take_packet_of_line(
+                alloc, &text,
+            )?
             else {
                 continue;
             };
@@ -184,7 +194,7 @@ impl MoveLog {
     }
 
     /// The packet of a line, which is no other one's then.
-    fn packet_of(
+    fn take_packet_of_line(
         &mut self,
         alloc: Global,
         text: &EventText,

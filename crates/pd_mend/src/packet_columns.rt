@@ -1,5 +1,5 @@
 //! Where the fields of an awaited packet stand on its line.
-use crate::tokens::{Columns, EventToken, EventTokens, part};
+use crate::tokens::{Columns, EventToken, EventTokens, octets_in_columns};
 
 /// Where the fields of an awaited packet stand on its line.
 #[derive(Clone, Copy)]
@@ -21,36 +21,36 @@ pub struct PacketColumns {
 
 /// Where a packet's fields stand.
 pub fn packet_columns(event: &EventTokens, octets: &[u8]) -> Option<PacketColumns> {
-    let arrow = event.after_time();
-    let first = first_number(event, arrow)?;
-    let length = number_at(event, first.saturating_add(4))?;
+    let arrow = event.index_after_time();
+    let first = first_number_after_arrow(event, arrow)?;
+    let length = number_columns_at(event, first.saturating_add(4))?;
     let mut next = first.saturating_add(6);
     let mut before_options = event.get(first.saturating_add(5))?.columns.to;
-    let ack = numbered(event, octets, next, b"ack");
+    let ack = number_after_word(event, octets, next, b"ack");
     if let Some(columns) = ack {
         before_options = columns.to;
         next = next.saturating_add(2);
     }
-    let win = numbered(event, octets, next, b"win");
+    let win = number_after_word(event, octets, next, b"win");
     if let Some(columns) = win {
         before_options = columns.to;
         next = next.saturating_add(2);
     }
     Some(PacketColumns {
-        time: event.time(),
-        flags: event.between(arrow.saturating_add(1), first.saturating_sub(1)),
-        start: number_at(event, first)?,
-        end: number_at(event, first.saturating_add(2))?,
+        time: event.time_columns(),
+        flags: event.columns_between(arrow.saturating_add(1), first.saturating_sub(1)),
+        start: number_columns_at(event, first)?,
+        end: number_columns_at(event, first.saturating_add(2))?,
         length,
         ack,
         win,
-        options: options_at(event, next),
+        options: options_columns_from(event, next),
         before_options,
     })
 }
 
 /// The number of the first token after the arrow that is a number.
-fn first_number(event: &EventTokens, arrow: usize) -> Option<usize> {
+fn first_number_after_arrow(event: &EventTokens, arrow: usize) -> Option<usize> {
     for number in 0..event.tokens.len() {
         if number > arrow && event.get(number)?.is_number() {
             return Some(number);
@@ -59,7 +59,7 @@ fn first_number(event: &EventTokens, arrow: usize) -> Option<usize> {
     None
 }
 
-fn number_at(event: &EventTokens, number: usize) -> Option<Columns> {
+fn number_columns_at(event: &EventTokens, number: usize) -> Option<Columns> {
     let token = event.get(number)?;
     if token.is_number() {
         Some(token.columns)
@@ -69,20 +69,25 @@ fn number_at(event: &EventTokens, number: usize) -> Option<Columns> {
 }
 
 /// The number after a word, where that word stands.
-fn numbered(event: &EventTokens, octets: &[u8], number: usize, word: &[u8]) -> Option<Columns> {
+fn number_after_word(
+    event: &EventTokens,
+    octets: &[u8],
+    number: usize,
+    word: &[u8],
+) -> Option<Columns> {
     let token = event.get(number)?;
-    if part(octets, token.columns) == word {
-        number_at(event, number.saturating_add(1))
+    if octets_in_columns(octets, token.columns) == word {
+        number_columns_at(event, number.saturating_add(1))
     } else {
         None
     }
 }
 
 /// The options, from a token on to the last one.
-fn options_at(event: &EventTokens, number: usize) -> Option<Columns> {
+fn options_columns_from(event: &EventTokens, number: usize) -> Option<Columns> {
     let first: EventToken = event.get(number)?;
     if first.symbol == b'<' {
-        Some(event.between(number, event.tokens.len().saturating_sub(1)))
+        Some(event.columns_between(number, event.tokens.len().saturating_sub(1)))
     } else {
         None
     }

@@ -1,5 +1,5 @@
 //! Fields of a line that are written anew, each in its column.
-use crate::tokens::{Columns, part, rest};
+use crate::tokens::{Columns, octets_from, octets_in_columns};
 use pd_text::Lines;
 use std::alloc::{AllocError, Global};
 
@@ -41,9 +41,9 @@ impl<'a> FieldEdits<'a> {
     ///
     /// # Errors
     /// `AllocError` where a growth is refused.
-    pub fn replace(&mut self, columns: Columns, field: &[u8]) -> Result<(), AllocError> {
-        self.copy_to(columns.from)?;
-        self.put_blanks()?;
+    pub fn replace_field(&mut self, columns: Columns, field: &[u8]) -> Result<(), AllocError> {
+        self.copy_octets_up_to(columns.from)?;
+        self.put_pending_blanks()?;
         self.out.extend_from_slice(field)?;
         self.at = columns.to;
         self.width = self
@@ -59,13 +59,13 @@ impl<'a> FieldEdits<'a> {
     /// `AllocError` where a growth is refused.
     pub fn finish(self, end: usize) -> Result<Vec<u8>, AllocError> {
         let mut field_edits = self;
-        field_edits.copy_to(end)?;
-        let after = rest(field_edits.octets, field_edits.at);
+        field_edits.copy_octets_up_to(end)?;
+        let after = octets_from(field_edits.octets, field_edits.at);
         let blanks = after.iter().take_while(|octet| **octet == b' ').count();
         if blanks < after.len() {
             field_edits.blanks = blanks;
             field_edits.at = field_edits.at.saturating_add(blanks);
-            field_edits.put_blanks()?;
+            field_edits.put_pending_blanks()?;
         }
         let FieldEdits {
             octets,
@@ -74,18 +74,18 @@ impl<'a> FieldEdits<'a> {
             ..
         } = field_edits;
         let mut out = out;
-        out.extend_from_slice(rest(octets, at))?;
+        out.extend_from_slice(octets_from(octets, at))?;
         Ok(out)
     }
 
     /// Takes over the octets up to a place.
-    fn copy_to(&mut self, to: usize) -> Result<(), AllocError> {
+    fn copy_octets_up_to(&mut self, to: usize) -> Result<(), AllocError> {
         let columns = Columns { from: self.at, to };
-        for octet in part(self.octets, columns) {
+        for octet in octets_in_columns(self.octets, columns) {
             if *octet == b' ' {
                 self.blanks = self.blanks.saturating_add(1);
             } else {
-                self.put_blanks()?;
+                self.put_pending_blanks()?;
                 self.out.push(*octet)?;
             }
         }
@@ -94,7 +94,7 @@ impl<'a> FieldEdits<'a> {
     }
 
     /// Writes the blanks that come next, as many as keep the column.
-    fn put_blanks(&mut self) -> Result<(), AllocError> {
+    fn put_pending_blanks(&mut self) -> Result<(), AllocError> {
         if self.blanks == 0 {
             return Ok(());
         }
@@ -122,18 +122,18 @@ impl<'a> FieldEdits<'a> {
 
 /// The column of what follows the first field of a line, where the line before or after it has it there too, or has it where that
 /// field goes beyond.
-pub fn second_column(lines: &Lines, number: usize, octets: &[u8]) -> Option<usize> {
-    let own = second_field(octets)?;
+pub fn aligned_second_column(lines: &Lines, number: usize, octets: &[u8]) -> Option<usize> {
+    let own = second_field_column(octets)?;
     let before = lines.line(number.saturating_sub(1)).unwrap_or(&[]);
     let after = lines.line(number.saturating_add(1)).unwrap_or(&[]);
-    let beside = match second_field(before) {
+    let beside = match second_field_column(before) {
         Some(column) => Some(column),
-        None => second_field(after),
+        None => second_field_column(after),
     };
-    if second_field(after) == Some(own) {
+    if second_field_column(after) == Some(own) {
         return Some(own);
     }
-    let first = first_length(octets);
+    let first = first_field_length(octets);
     match beside {
         Some(column) if column == own => Some(own),
         Some(column) if column <= first && own == first.saturating_add(1) => Some(column),
@@ -141,14 +141,14 @@ pub fn second_column(lines: &Lines, number: usize, octets: &[u8]) -> Option<usiz
     }
 }
 
-fn first_length(octets: &[u8]) -> usize {
+fn first_field_length(octets: &[u8]) -> usize {
     octets.iter().take_while(|octet| **octet != b' ').count()
 }
 
 /// Where the second field of a line begins.
-fn second_field(octets: &[u8]) -> Option<usize> {
-    let first = first_length(octets);
-    let blanks = rest(octets, first)
+fn second_field_column(octets: &[u8]) -> Option<usize> {
+    let first = first_field_length(octets);
+    let blanks = octets_from(octets, first)
         .iter()
         .take_while(|octet| **octet == b' ')
         .count();

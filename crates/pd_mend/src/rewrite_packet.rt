@@ -3,9 +3,9 @@ use crate::differences::Differences;
 use crate::event_line::EventLine;
 use crate::packet_columns::{PacketColumns, packet_columns};
 use crate::replacements::FieldEdits;
-use crate::tokens::{Columns, rest};
+use crate::tokens::{Columns, octets_from};
 use itoa::Buffer;
-use pd_print::{PacketParts, sent_packet, write_parts, write_time};
+use pd_print::{PacketParts, sent_packet, write_packet_parts, write_time};
 use pd_script::Time;
 use pd_seg::Segment;
 use std::alloc::AllocError;
@@ -26,7 +26,7 @@ pub struct PacketRewrite<'a> {
 ///
 /// # Errors
 /// `AllocError` where a growth is refused.
-pub fn rewritten(
+pub fn rewrite_packet_fields(
     own: &EventLine<'_>,
     octets: &[u8],
     change: &PacketRewrite<'_>,
@@ -34,15 +34,15 @@ pub fn rewritten(
     let Some(field_columns) = packet_columns(&own.tokens, octets) else {
         return Ok(None);
     };
-    let column = own.column();
-    let mut field_edits = FieldEdits::new(own.alloc, octets, column);
+    let column_after_time = own.column_after_time();
+    let mut field_edits = FieldEdits::new(own.alloc, octets, column_after_time);
     if let Some(time) = change.time {
-        field_edits.replace(field_columns.time, write_time(own.alloc, time)?.as_slice())?;
+        field_edits.replace_field(field_columns.time, write_time(own.alloc, time)?.as_slice())?;
     }
     let actual = sent_packet(own.alloc, change.segment)?;
-    let parts = write_parts(own.alloc, &actual)?;
-    replace_octets(&mut field_edits, &field_columns, change, &parts)?;
-    replace_numbers(&mut field_edits, &field_columns, change)?;
+    let parts = write_packet_parts(own.alloc, &actual)?;
+    replace_flags_and_sequence(&mut field_edits, &field_columns, change, &parts)?;
+    replace_ack_and_window(&mut field_edits, &field_columns, change)?;
     if change.fields.options {
         replace_options(&mut field_edits, &field_columns, parts.options.as_slice())?;
     }
@@ -50,7 +50,7 @@ pub fn rewritten(
 }
 
 /// Writes the flags and the sequence numbers anew.
-fn replace_octets(
+fn replace_flags_and_sequence(
     field_edits: &mut FieldEdits<'_>,
     field_columns: &PacketColumns,
     change: &PacketRewrite<'_>,
@@ -58,7 +58,7 @@ fn replace_octets(
 ) -> Result<(), AllocError> {
     let segment = change.segment;
     if change.fields.flags {
-        field_edits.replace(field_columns.flags, parts.flags.as_slice())?;
+        field_edits.replace_field(field_columns.flags, parts.flags.as_slice())?;
     }
     if change.fields.start {
         replace_number(field_edits, field_columns.start, segment.start)?;
@@ -67,13 +67,13 @@ fn replace_octets(
         replace_number(field_edits, field_columns.end, segment.end)?;
     }
     if change.fields.length {
-        replace_number(field_edits, field_columns.length, segment.len())?;
+        replace_number(field_edits, field_columns.length, segment.data_len())?;
     }
     Ok(())
 }
 
 /// Writes the acknowledgment number and the window anew, where they are written.
-fn replace_numbers(
+fn replace_ack_and_window(
     field_edits: &mut FieldEdits<'_>,
     field_columns: &PacketColumns,
     change: &PacketRewrite<'_>,
@@ -97,7 +97,7 @@ fn replace_number(
     number: u32,
 ) -> Result<(), AllocError> {
     let mut digits = Buffer::new();
-    field_edits.replace(columns, digits.format(number).as_bytes())
+    field_edits.replace_field(columns, digits.format(number).as_bytes())
 }
 
 /// Writes the options anew, which begin with a blank where there are any.
@@ -108,15 +108,15 @@ fn replace_options(
 ) -> Result<(), AllocError> {
     let from = field_columns.before_options;
     match field_columns.options {
-        Some(columns) if options.is_empty() => field_edits.replace(
+        Some(columns) if options.is_empty() => field_edits.replace_field(
             Columns {
                 from,
                 to: columns.to,
             },
             b"",
         ),
-        Some(columns) => field_edits.replace(columns, rest(options, 1)),
-        None => field_edits.replace(Columns { from, to: from }, options),
+        Some(columns) => field_edits.replace_field(columns, octets_from(options, 1)),
+        None => field_edits.replace_field(Columns { from, to: from }, options),
     }
 }
 
@@ -124,9 +124,12 @@ fn replace_options(
 ///
 /// # Errors
 /// `AllocError` where a growth is refused.
-pub fn retimed(own: &EventLine<'_>, time: Time) -> Result<Vec<u8>, AllocError> {
-    let column = own.column();
-    let mut field_edits = FieldEdits::new(own.alloc, own.octets, column);
-    field_edits.replace(own.tokens.time(), write_time(own.alloc, time)?.as_slice())?;
+pub fn event_line_with_time(own: &EventLine<'_>, time: Time) -> Result<Vec<u8>, AllocError> {
+    let column_after_time = own.column_after_time();
+    let mut field_edits = FieldEdits::new(own.alloc, own.octets, column_after_time);
+    field_edits.replace_field(
+        own.tokens.time_columns(),
+        write_time(own.alloc, time)?.as_slice(),
+    )?;
     field_edits.finish(own.columns().to)
 }

@@ -1,16 +1,16 @@
 //! Times of expected packets, and lines of which only the time is written anew.
 ghost use Rattle.std.specs.Prelude.{◌≡◌, ◌≤◌, length, IfSome};
 ghost use Rattle.std.specs.List.{prefix_len};
-ghost use Rattle.pd_mend.specs.Mending.{after_time, is_of_time, IsRetiming};
+ghost use Rattle.pd_mend.specs.Mending.{octets_after_time, is_time_or_blank, IsRetiming};
 
 use crate::event_line::EventLine;
-use crate::tokens::{Columns, part};
+use crate::tokens::{Columns, octets_in_columns};
 use pd_script::Time;
 use pd_text::{LineEdit, LineList, Lines};
 use std::alloc::AllocError;
 
 /// The moment of a time that is one.
-pub fn time_of(base: u64, time: Time) -> Option<u64> {
+pub fn single_moment_of(base: u64, time: Time) -> Option<u64> {
     match time {
         Time::Absolute(moment) => Some(moment),
         Time::Relative(span) => Some(base.saturating_add(span)),
@@ -30,21 +30,21 @@ pub fn is_in_time(time_range: Option<(u64, u64)>, at: u64, tolerance: u64) -> bo
 
 /// The time of a packet that left at a moment, absolute where another time is, else relative. It is `*` only where the packet left
 /// before the base, by more than a tolerance.
-pub fn time_at(like: Time, base: u64, at: u64, tolerance: u64) -> Time {
+pub fn written_time_like(like: Time, base: u64, at: u64, tolerance: u64) -> Time {
     match like {
-        _ if is_before(base, at, tolerance) => Time::Any,
+        _ if is_before_base(base, at, tolerance) => Time::Any,
         Time::Absolute(_) | Time::AbsoluteRange(_, _) => Time::Absolute(at.max(base)),
         _ => Time::Relative(at.saturating_sub(base)),
     }
 }
 
 /// Whether a moment lies before a base by more than a tolerance.
-pub fn is_before(base: u64, at: u64, tolerance: u64) -> bool {
+pub fn is_before_base(base: u64, at: u64, tolerance: u64) -> bool {
     at.saturating_add(tolerance) < base
 }
 
 /// A time that counts from a base so much earlier; nothing where it doesn't count from one.
-pub fn later(time: Time, span: u64) -> Option<Time> {
+pub fn counted_from_earlier_base(time: Time, span: u64) -> Option<Time> {
     match time {
         Time::Relative(first) => Some(Time::Relative(first.saturating_add(span))),
         Time::RelativeRange(first, last) => Some(Time::RelativeRange(
@@ -56,7 +56,7 @@ pub fn later(time: Time, span: u64) -> Option<Time> {
 }
 
 /// The same from a base so much later, as far as it can.
-pub fn sooner(time: Time, span: u64) -> Time {
+pub fn counted_from_later_base(time: Time, span: u64) -> Time {
     match time {
         Time::Relative(first) => Time::Relative(first.saturating_sub(span)),
         Time::RelativeRange(first, last) => {
@@ -70,24 +70,24 @@ pub fn sooner(time: Time, span: u64) -> Time {
 ///
 /// # Errors
 /// `AllocError` where a growth is refused.
-pub fn with_time_of(own: &EventLine<'_>, anew: &[u8]) -> Result<Vec<u8>, AllocError> {
+pub fn line_with_time_of(own: &EventLine<'_>, anew: &[u8]) -> Result<Vec<u8>, AllocError> {
     let time = Columns {
         from: 0,
-        to: anew.len().saturating_sub(after_time(anew).len()),
+        to: anew.len().saturating_sub(octets_after_time(anew).len()),
     };
-    let mut line = Vec::from_slice(own.alloc, part(anew, time))?;
-    line.extend_from_slice(after_time(own.octets))?;
+    let mut line = Vec::from_slice(own.alloc, octets_in_columns(anew, time))?;
+    line.extend_from_slice(octets_after_time(own.octets))?;
     Ok(line)
 }
 
 /// The edit that writes lines in the place of one; nothing where the last of them isn't that one with another time.
-pub fn retiming(text: &Lines, from: usize, insert: LineList) -> Option<LineEdit>
+pub fn retiming_edit(text: &Lines, from: usize, insert: LineList) -> Option<LineEdit>
     ensures { IfSome result (IsRetiming text.now) }
 {
     let old = text.line(from)?;
     let last = insert.len().checked_sub(1)?;
     let own = insert.get(last)?;
-    if after_time(own) != after_time(old) {
+    if octets_after_time(own) != octets_after_time(old) {
         return None;
     }
     Some(LineEdit {
@@ -98,26 +98,26 @@ pub fn retiming(text: &Lines, from: usize, insert: LineList) -> Option<LineEdit>
 }
 
 /// The octets after the time with which a line begins, and after the blanks that follow it.
-fn after_time(octets: &[u8]) -> &[u8]
-    ensures { result.now ≡ after_time octets.now }
+fn octets_after_time(octets: &[u8]) -> &[u8]
+    ensures { result.now ≡ octets_after_time octets.now }
 {
-    &octets[time_len(octets)..]
+    &octets[time_prefix_length(octets)..]
 }
 
 /// How many octets at the beginning of a line may stand in a time, or are blanks.
-fn time_len(octets: &[u8]) -> usize
-    ensures len { result ≡ prefix_len is_of_time octets.now }
+fn time_prefix_length(octets: &[u8]) -> usize
+    ensures len { result ≡ prefix_len is_time_or_blank octets.now }
     ensures within { result ≤ length octets.now }
 {
     octets
         .iter()
-        .take_while(|octet| is_of_time(**octet))
+        .take_while(|octet| is_time_or_blank(**octet))
         .count()
 }
 
 /// Whether an octet may stand in a time, or is a blank.
-fn is_of_time(octet: u8) -> bool
-    ensures { result ≡ is_of_time octet }
+fn is_time_or_blank(octet: u8) -> bool
+    ensures { result ≡ is_time_or_blank octet }
 {
     matches!(octet, b'0'..=b'9' | b'.' | b'+' | b' ' | b'\t')
 }

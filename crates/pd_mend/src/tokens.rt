@@ -42,14 +42,14 @@ pub fn event_tokens(
 ) -> Result<Option<EventTokens>, AllocError> {
     let mut from = first;
     for _ in 0..passed {
-        from = place_after(alloc, lines, from)?;
+        from = place_after_event(alloc, lines, from)?;
     }
-    let until = place_after(alloc, lines, from)?;
+    let until = place_after_event(alloc, lines, from)?;
     tokens_between(alloc, lines, from, until)
 }
 
 /// The place of what follows the event at a place.
-fn place_after(alloc: Global, lines: &Lines, place: Place) -> Result<Place, AllocError> {
+fn place_after_event(alloc: Global, lines: &Lines, place: Place) -> Result<Place, AllocError> {
     match next_event(alloc, lines, place)? {
         NextEvent::Got(_, after, _) => Ok(after),
         NextEvent::End | NextEvent::Fault(_) => Ok(place),
@@ -69,7 +69,7 @@ fn tokens_between(
         let Lexed::Token(token) = next_token(lines, place) else {
             break;
         };
-        if !is_before(token.from, until) {
+        if !is_place_before(token.from, until) {
             break;
         }
         if tokens.len() == 0 {
@@ -84,7 +84,7 @@ fn tokens_between(
     Ok(Some(EventTokens { line, tokens }))
 }
 
-fn is_before(place: Place, other: Place) -> bool {
+fn is_place_before(place: Place, other: Place) -> bool {
     place.line < other.line || (place.line == other.line && place.at < other.at)
 }
 
@@ -126,11 +126,11 @@ impl EventTokens {
 
     /// From the first token to the last.
     pub fn columns(&self) -> Columns {
-        self.between(0, self.tokens.len().saturating_sub(1))
+        self.columns_between(0, self.tokens.len().saturating_sub(1))
     }
 
     /// From one token to another, by their numbers.
-    pub fn between(&self, first: usize, last: usize) -> Columns {
+    pub fn columns_between(&self, first: usize, last: usize) -> Columns {
         match (self.get(first), self.get(last)) {
             (Some(first), Some(last)) => Columns {
                 from: first.columns.from,
@@ -141,7 +141,7 @@ impl EventTokens {
     }
 
     /// The number of the first token after the time.
-    pub fn after_time(&self) -> usize {
+    pub fn index_after_time(&self) -> usize {
         match self.tokens.iter().position(|token| token.ends_time()) {
             Some(number) => number,
             None => self.tokens.len(),
@@ -149,13 +149,13 @@ impl EventTokens {
     }
 
     /// Where the time stands.
-    pub fn time(&self) -> Columns {
-        self.between(0, self.after_time().saturating_sub(1))
+    pub fn time_columns(&self) -> Columns {
+        self.columns_between(0, self.index_after_time().saturating_sub(1))
     }
 }
 
 /// The octets of a line in a span.
-pub fn part(octets: &[u8], columns: Columns) -> &[u8] {
+pub fn octets_in_columns(octets: &[u8], columns: Columns) -> &[u8] {
     if columns.from <= columns.to && columns.to <= octets.len() {
         &octets[columns.from..columns.to]
     } else {
@@ -164,8 +164,8 @@ pub fn part(octets: &[u8], columns: Columns) -> &[u8] {
 }
 
 /// The octets of a line from one on.
-pub fn rest(octets: &[u8], from: usize) -> &[u8] {
-    part(
+pub fn octets_from(octets: &[u8], from: usize) -> &[u8] {
+    octets_in_columns(
         octets,
         Columns {
             from,

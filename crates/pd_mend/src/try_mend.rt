@@ -4,8 +4,8 @@ ghost use Rattle.std.specs.Prelude.{◌≤◌, length};
 use crate::event_line::EventLine;
 use crate::failure_site::FailureSite;
 use crate::mend::{Mend, Target};
-use crate::mender::line_in;
-use pd_run::{StopPoint, Verdict, find_stop, run_all};
+use crate::mender::line_of_verdict;
+use pd_run::{StopPoint, Verdict, run_all, run_to_failure_on_line};
 use pd_script::{Parsed, parse};
 use pd_settings::Settings;
 use pd_text::{LineEdit, LineList, Lines, TextFault};
@@ -18,7 +18,7 @@ pub const NEVER: &[u8] = b"* > FSRP. 0:0(0)";
 ///
 /// # Errors
 /// `AllocError` where a growth is refused.
-pub fn with_never_sent(
+pub fn text_with_never_sent(
     alloc: Global,
     lines: &Lines,
     line: usize,
@@ -30,42 +30,45 @@ pub fn with_never_sent(
         remove: 0,
         insert,
     };
-    edited(lines, &edit)
+    apply_edit_if_fits(lines, &edit)
 }
 
 /// Where the run of a text stops on a line.
 ///
 /// # Errors
 /// `AllocError` where a growth is refused.
-pub fn stop_in(
+pub fn find_stop_in_text(
     alloc: Global,
     lines: &Lines,
     settings: &Settings,
     line: usize,
 ) -> Result<Option<StopPoint>, AllocError> {
     let parsed = parse(alloc, lines)?;
-    find_stop(alloc, &parsed, settings, line)
+    run_to_failure_on_line(alloc, &parsed, settings, line)
 }
 
 /// The run of a site's text at an event that is the first on its line, where a packet is awaited before it that is never sent.
 ///
 /// # Errors
 /// `AllocError` where a growth is refused.
-pub fn stop_before(site: &FailureSite<'_>, number: usize) -> Result<Option<StopPoint>, AllocError> {
+pub fn stop_before_event(
+    site: &FailureSite<'_>,
+    number: usize,
+) -> Result<Option<StopPoint>, AllocError> {
     let Some(event) = EventLine::find(site.alloc, site.lines, site.parsed, number)? else {
         return Ok(None);
     };
-    if !event.is_first() {
+    if !event.is_first_on_line() {
         return Ok(None);
     }
-    match with_never_sent(site.alloc, site.lines, event.line)? {
-        Some(lines) => stop_in(site.alloc, &lines, site.settings, event.line),
+    match text_with_never_sent(site.alloc, site.lines, event.line)? {
+        Some(lines) => find_stop_in_text(site.alloc, &lines, site.settings, event.line),
         None => Ok(None),
     }
 }
 
 /// The text after an edit; nothing where it would be over the limits of one.
-fn edited(lines: &Lines, edit: &LineEdit) -> Result<Option<Lines>, AllocError> {
+fn apply_edit_if_fits(lines: &Lines, edit: &LineEdit) -> Result<Option<Lines>, AllocError> {
     match lines.apply(edit) {
         Ok(lines) => Ok(Some(lines)),
         Err(TextFault::OutOfMemory) => Err(AllocError),
@@ -78,13 +81,13 @@ impl FailureSite<'_> {
     ///
     /// # Errors
     /// `AllocError` where a growth is refused.
-    pub fn with_lines(&self, insert: LineList) -> Result<Option<Lines>, AllocError> {
+    pub fn with_event_line_replaced(&self, insert: LineList) -> Result<Option<Lines>, AllocError> {
         let edit = LineEdit {
             from: self.line,
             remove: 1,
             insert,
         };
-        edited(self.lines, &edit)
+        apply_edit_if_fits(self.lines, &edit)
     }
 
     /// Whether the script gets further with one mend of the event's line than with another one; unknown of any other line.
@@ -93,32 +96,37 @@ impl FailureSite<'_> {
     /// `AllocError` where a growth is refused.
     pub fn gets_further(&self, mend: &Mend, other: &Mend) -> Result<bool, AllocError> {
         match (mend.target, other.target) {
-            (Target::Own, Target::Own) => Ok(self.left_after(mend)? < self.left_after(other)?),
+            (Target::Own, Target::Own) => Ok(
+                self.events_left_after_mend(mend)? < self.events_left_after_mend(other)?,
+            ),
             _ => Ok(false),
         }
     }
 
     /// How many events are left where the run of the text stops with a mend of the event's line.
-    fn left_after(&self, mend: &Mend) -> Result<usize, AllocError> {
-        match self.with_lines(mend.lines.copy()?)? {
-            Some(lines) => self.left_in(&lines),
+    fn events_left_after_mend(&self, mend: &Mend) -> Result<usize, AllocError> {
+        match self.with_event_line_replaced(mend.lines.copy()?)? {
+            Some(lines) => self.events_left_in_text(&lines),
             None => Ok(usize::MAX),
         }
     }
 
     /// How many events are left where the run of a text stops.
-    fn left_in(&self, lines: &Lines) -> Result<usize, AllocError> {
+    fn events_left_in_text(&self, lines: &Lines) -> Result<usize, AllocError> {
         match run_all(self.alloc, lines, self.settings)? {
             Verdict::Pass(_) => Ok(0),
-            verdict => self.left_from(&parse(self.alloc, lines)?, line_in(verdict)),
+            verdict => self.events_left_at_stop(
+                &parse(self.alloc, lines)?,
+                line_of_verdict(verdict),
+            ),
         }
     }
 
     /// How many events are left where the run of a script stops at a line.
-    fn left_from(&self, parsed: &Parsed, line: usize) -> Result<usize, AllocError>
+    fn events_left_at_stop(&self, parsed: &Parsed, line: usize) -> Result<usize, AllocError>
         requires { length parsed.now.events ≤ 4096 }
     {
-        match find_stop(self.alloc, parsed, self.settings, line)? {
+        match run_to_failure_on_line(self.alloc, parsed, self.settings, line)? {
             Some(stop) => Ok(parsed.events.len().saturating_sub(stop.passed)),
             None => Ok(usize::MAX),
         }

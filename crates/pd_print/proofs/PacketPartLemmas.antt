@@ -13,7 +13,7 @@ use Rattle.pd_lex.specs.Tokens.{lexeme}
 use Rattle.pd_lex.specs.Lexing.{items}
 use Rattle.pd_script.specs.declared.packets.PacketFlags.{PacketFlags}
 use Rattle.pd_script.specs.Items.{is_flags, text_of}
-use Rattle.pd_script.specs.Values.{is_flag, flags_of}
+use Rattle.pd_script.specs.Values.{is_flag_letter, flags_of}
 use Rattle.pd_script.specs.Spelling.{IsInt}
 use Rattle.pd_script.specs.PacketGrammar.{IsFlags, IsOctets, IsNumbered, IsAck, IsWin}
 use Rattle.pd_print.specs.Packets.{flags_text, numbered}
@@ -26,7 +26,7 @@ abbrev point : Bool → List ℕ
 point ack = cond ack (46 ∷ []) []
 
 module _ (lines : List (List ℕ)) (plain : list_all is_line lines ≡ true) where
-  lettered : (letters : List ℕ) (ack : Bool) (p : Place) (rest : List ℕ) → begins_name letters ≡ true → list_all is_word letters ≡ true → list_all is_flag letters ≡ true → IsLeftAt lines p (letters ++ (point ack ++ (32 ∷ rest))) → ReadTo lines PacketFlags IsFlags (record (flags_of letters) { ack = ack }) p (32 ∷ rest)
+  lettered : (letters : List ℕ) (ack : Bool) (p : Place) (rest : List ℕ) → begins_name letters ≡ true → list_all is_word letters ≡ true → list_all is_flag_letter letters ≡ true → IsLeftAt lines p (letters ++ (point ack ++ (32 ∷ rest))) → ReadTo lines PacketFlags IsFlags (record (flags_of letters) { ack = ack }) p (32 ∷ rest)
   unfolding IsFlags flags_of
   lettered letters true p rest begins words flags h =
       let w = word_passed lines plain letters p (46 ∷ 32 ∷ rest) begins words refl h in

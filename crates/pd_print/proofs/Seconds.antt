@@ -11,7 +11,7 @@ use Rattle.std.proofs.Math.Nat.{mod-lt}
 use Rattle.std.proofs.lemmas.Nat.{div-add-mod'}
 use Rattle.std.proofs.lemmas.Bool.Decides.{nat_tests}
 use Rattle.pd_lex.specs.Octets.{is_digit}
-use Rattle.pd_script.specs.Values.{number, whole_len, whole_digits, six_decimals, microseconds}
+use Rattle.pd_script.specs.Values.{number, len_before_point, whole_digits, microseconds_of_decimals, microseconds}
 use Rattle.pd_script.proofs.Apart.{and-left, and-right}
 use Rattle.pd_print.specs.Numbers.{digits_of, shortest_digits, fixed_seconds_text, fraction_text, seconds_text}
 use Rattle.pd_print.proofs.DigitLemmas.{Written, decimal_written, six_are_enough, digits_of-value, length-digits_of, filled_up}
@@ -53,7 +53,7 @@ six_after v (a ∷ b ∷ c ∷ d ∷ e ∷ []) h = absurd (omega (arith, h))
 six_after v (a ∷ b ∷ c ∷ d ∷ e ∷ f ∷ []) h = omega arith
 six_after v (a ∷ b ∷ c ∷ d ∷ e ∷ f ∷ g ∷ ds) h = absurd (omega (arith, h))
 
-value_is : (text whole six : List ℕ) (w part : ℕ) → whole_digits text ≡ whole → six_decimals text ≡ six → length six ≡ 6 → number whole ≡ w → number six ≡ part → microseconds text ≡ w * 1000000 + part
+value_is : (text whole six : List ℕ) (w part : ℕ) → whole_digits text ≡ whole → microseconds_of_decimals text ≡ six → length six ≡ 6 → number whole ≡ w → number six ≡ part → microseconds text ≡ w * 1000000 + part
 unfolding microseconds
 value_is text whole six w part front back long first second =
     rw (front, back) (after-append 0 whole six ∙ (six_after (number whole) six long ∙ rw (first, second) refl))
@@ -62,7 +62,7 @@ value_is text whole six w part front back long first second =
 with_decimals : (whole ds six : List ℕ) (z w part : ℕ) → Written w whole → ds ++ replicate z 48 ≡ six → length six ≡ 6 → number six ≡ part → microseconds (whole ++ 46 ∷ ds) ≡ w * 1000000 + part
 with_decimals whole ds six z w part h full long value = value_is (whole ++ 46 ∷ ds) whole six w part front back long h.value value
   where
-    run : whole_len (whole ++ 46 ∷ ds) ≡ length whole
+    run : len_before_point (whole ++ 46 ∷ ds) ≡ length whole
     run = run_len no_point whole (46 ∷ ds) (no_points whole h.digits) refl
 
     front : whole_digits (whole ++ 46 ∷ ds) ≡ whole
@@ -81,20 +81,20 @@ with_decimals whole ds six z w part h full long value = value_is (whole ++ 46 �
         ∙ (take-append-add ds (replicate 6 48) z
         ∙ (ap (λ (zs : List ℕ). ds ++ zs) (take-replicate z 6 48 (omega (arith, few))) ∙ full))
 
-    back : six_decimals (whole ++ 46 ∷ ds) ≡ six
+    back : microseconds_of_decimals (whole ++ 46 ∷ ds) ≡ six
     back = rw (run, rest) first_six
 
 -- digits alone
 without_decimals : (whole : List ℕ) (w : ℕ) → Written w whole → microseconds whole ≡ w * 1000000 + 0
 without_decimals whole w h = value_is whole whole (48 ∷ 48 ∷ 48 ∷ 48 ∷ 48 ∷ 48 ∷ []) w 0 front back refl h.value refl
   where
-    run : whole_len whole ≡ length whole
+    run : len_before_point whole ≡ length whole
     run = run_all no_point whole (no_points whole h.digits)
 
     front : whole_digits whole ≡ whole
     front = rw run (take-length whole)
 
-    back : six_decimals whole ≡ 48 ∷ 48 ∷ 48 ∷ 48 ∷ 48 ∷ 48 ∷ []
+    back : microseconds_of_decimals whole ≡ 48 ∷ 48 ∷ 48 ∷ 48 ∷ 48 ∷ 48 ∷ []
     back = rw (run, drop_all (length whole + 1) whole (omega arith)) refl
 
 -- ---- moments

@@ -15,27 +15,31 @@ pub fn put_number(out: &mut Vec<u8>, number: u64) -> Result<(), AllocError>
 }
 
 /// Adds the last digits of a number, so many, with zeros in front.
-pub fn put_digits(out: &mut Vec<u8>, places: u32, number: u64) -> Result<(), AllocError>
+pub fn put_last_digits(out: &mut Vec<u8>, places: u32, number: u64) -> Result<(), AllocError>
     ensures { OnOk result (out.new.items ≡ out.old.items ++ digits_of places number) }
 {
     if places == 0 {
         return Ok(());
     }
-    put_digits(out, places - 1, number / 10)?;
+    put_last_digits(out, places - 1, number / 10)?;
     out.push(b'0' + (number % 10) as u8)?;
     Ok(())
 }
 
 /// Adds the same without the zeros at the end.
 #[tactic(auto, using(crate::proofs::DigitLemmas::shortening))]
-pub fn put_shortest(out: &mut Vec<u8>, places: u32, number: u64) -> Result<(), AllocError>
+pub fn put_digits_without_end_zeros(
+    out: &mut Vec<u8>,
+    places: u32,
+    number: u64,
+) -> Result<(), AllocError>
     ensures { OnOk result (out.new.items ≡ out.old.items ++ shortest_digits places number) }
 {
     if places == 0 {
         Ok(())
     } else if number % 10 == 0 {
-        put_shortest(out, places - 1, number / 10)
+        put_digits_without_end_zeros(out, places - 1, number / 10)
     } else {
-        put_digits(out, places, number)
+        put_last_digits(out, places, number)
     }
 }

@@ -1,7 +1,7 @@
 //! Packets, answers and moments as octets of the script language.
 //!
 //! `write_event` writes an event in which a packet arrives or leaves (`Direction`), and
-//! `write_sent` one of a segment that was sent, with every field written (`sent_packet`).
+//! `write_sent_event` one of a segment that was sent, with every field written (`sent_packet`).
 //! `write_answer` writes the result of a call, `write_time` and `write_fixed_seconds` times. `PacketParts` has
 //! the parts of a packet apart, for a caller that puts each into a column. A function that begins with `put_`
 //! adds octets to others.
@@ -33,6 +33,6 @@ mod times;
 pub use answers::{put_answer, write_answer};
 pub use laws::{law_lines_are_scripts, law_sent_packets_agree};
 pub use packet_texts::{Direction, put_event, write_event};
-pub use parts::{PacketParts, write_parts};
-pub use sent_packets::{sent_packet, write_sent};
+pub use parts::{PacketParts, write_packet_parts};
+pub use sent_packets::{sent_packet, write_sent_event};
 pub use times::{put_time, write_fixed_seconds, write_time};

@@ -16,27 +16,27 @@ pub fn put_options(out: &mut Vec<u8>, options: &Options) -> Result<(), AllocErro
         Options::Any => out.extend_from_slice(b" <...>"),
         Options::Listed(options) => {
             out.extend_from_slice(b" <")?;
-            put_list(out, options.as_slice())?;
+            put_option_list(out, options.as_slice())?;
             out.extend_from_slice(b">")
         }
     }
 }
 
 /// Adds options with commas between them.
-fn put_list(out: &mut Vec<u8>, options: &[PacketOption]) -> Result<(), AllocError>
+fn put_option_list(out: &mut Vec<u8>, options: &[PacketOption]) -> Result<(), AllocError>
     ensures { OnOk result (out.new.items ≡ out.old.items ++ list_text options.now) }
 {
     match options {
         [] => Ok(()),
         [first, others @ ..] => {
             put_option(out, first)?;
-            put_others(out, others)
+            put_following_options(out, others)
         }
     }
 }
 
 /// Adds options with a comma before each.
-fn put_others(out: &mut Vec<u8>, others: &[PacketOption]) -> Result<(), AllocError>
+fn put_following_options(out: &mut Vec<u8>, others: &[PacketOption]) -> Result<(), AllocError>
     ensures { OnOk result (out.new.items ≡ out.old.items ++ flat_map next_option_text others.now) }
 {
     for option in others {
@@ -51,35 +51,35 @@ fn put_option(out: &mut Vec<u8>, option: &PacketOption) -> Result<(), AllocError
     ensures { OnOk result (out.new.items ≡ out.old.items ++ option_text option.now) }
 {
     match option {
-        PacketOption::Mss(mss) => put_value(out, b"mss ", *mss),
-        PacketOption::Wscale(shift) => put_value(out, b"wscale ", *shift),
+        PacketOption::Mss(mss) => put_word_and_number(out, b"mss ", *mss),
+        PacketOption::Wscale(shift) => put_word_and_number(out, b"wscale ", *shift),
         PacketOption::SackOk => out.extend_from_slice(b"sackOK"),
         PacketOption::Nop => out.extend_from_slice(b"nop"),
         PacketOption::Eol => out.extend_from_slice(b"eol"),
         PacketOption::Timestamp(value, echo) => {
-            put_value(out, b"TS val ", *value)?;
-            put_value(out, b" ecr ", *echo)
+            put_word_and_number(out, b"TS val ", *value)?;
+            put_word_and_number(out, b" ecr ", *echo)
         }
         PacketOption::Sack(blocks) => {
             out.extend_from_slice(b"sack")?;
-            put_blocks(out, blocks.as_slice())
+            put_sack_blocks(out, blocks.as_slice())
         }
     }
 }
 
 /// Adds SACK blocks with a blank before each.
-fn put_blocks(out: &mut Vec<u8>, blocks: &[SackBlock]) -> Result<(), AllocError>
+fn put_sack_blocks(out: &mut Vec<u8>, blocks: &[SackBlock]) -> Result<(), AllocError>
     ensures { OnOk result (out.new.items ≡ out.old.items ++ flat_map block_text blocks.now) }
 {
     for block in blocks {
-        put_value(out, b" ", block.left)?;
-        put_value(out, b":", block.right)?;
+        put_word_and_number(out, b" ", block.left)?;
+        put_word_and_number(out, b":", block.right)?;
     }
     Ok(())
 }
 
 /// Adds a word and a number.
-fn put_value(out: &mut Vec<u8>, word: &[u8], n: u64) -> Result<(), AllocError>
+fn put_word_and_number(out: &mut Vec<u8>, word: &[u8], n: u64) -> Result<(), AllocError>
     ensures { OnOk result (out.new.items ≡ out.old.items ++ (word.now ++ decimal n)) }
 {
     out.extend_from_slice(word)?;

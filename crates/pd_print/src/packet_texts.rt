@@ -76,8 +76,8 @@ fn put_packet(out: &mut Vec<u8>, packet: &Packet) -> Result<(), AllocError>
     ensures { OnOk result (out.new.items ≡ out.old.items ++ packet_text packet.now) }
 {
     put_flags(out, packet.flags)?;
-    put_octets(out, packet)?;
-    put_fields(out, packet)?;
+    put_seq_range(out, packet)?;
+    put_ack_and_win(out, packet)?;
     put_options(out, &packet.options)
 }
 
@@ -85,15 +85,15 @@ fn put_packet(out: &mut Vec<u8>, packet: &Packet) -> Result<(), AllocError>
 pub fn put_flags(out: &mut Vec<u8>, flags: PacketFlags) -> Result<(), AllocError>
     ensures { OnOk result (out.new.items ≡ out.old.items ++ flags_text flags) }
 {
-    put_letter(out, flags.fin, b'F')?;
-    put_letter(out, flags.syn, b'S')?;
-    put_letter(out, flags.rst, b'R')?;
-    put_letter(out, flags.psh, b'P')?;
-    put_point(out, flags)
+    put_letter_if_wanted(out, flags.fin, b'F')?;
+    put_letter_if_wanted(out, flags.syn, b'S')?;
+    put_letter_if_wanted(out, flags.rst, b'R')?;
+    put_letter_if_wanted(out, flags.psh, b'P')?;
+    put_ack_point_or_dash(out, flags)
 }
 
 /// Adds the octet if it is wanted.
-fn put_letter(out: &mut Vec<u8>, wanted: bool, octet: u8) -> Result<(), AllocError>
+fn put_letter_if_wanted(out: &mut Vec<u8>, wanted: bool, octet: u8) -> Result<(), AllocError>
     ensures { OnOk result (out.new.items ≡ out.old.items ++ flag_letter wanted octet) }
 {
     if wanted {
@@ -103,7 +103,7 @@ fn put_letter(out: &mut Vec<u8>, wanted: bool, octet: u8) -> Result<(), AllocErr
 }
 
 /// Adds the point of ACK, or `-` where no flag is set.
-fn put_point(out: &mut Vec<u8>, flags: PacketFlags) -> Result<(), AllocError>
+fn put_ack_point_or_dash(out: &mut Vec<u8>, flags: PacketFlags) -> Result<(), AllocError>
     ensures { OnOk result (out.new.items ≡ out.old.items ++ point_text flags) }
 {
     if flags.ack {
@@ -116,35 +116,39 @@ fn put_point(out: &mut Vec<u8>, flags: PacketFlags) -> Result<(), AllocError>
 }
 
 /// Adds the start, the end and the length.
-pub fn put_octets(out: &mut Vec<u8>, packet: &Packet) -> Result<(), AllocError>
+pub fn put_seq_range(out: &mut Vec<u8>, packet: &Packet) -> Result<(), AllocError>
     ensures { OnOk result (out.new.items ≡ out.old.items ++ octets_text packet.now) }
 {
-    put_field(out, b" ", packet.start)?;
-    put_field(out, b":", packet.end)?;
-    put_field(out, b"(", packet.length)?;
+    put_word_and_number(out, b" ", packet.start)?;
+    put_word_and_number(out, b":", packet.end)?;
+    put_word_and_number(out, b"(", packet.length)?;
     out.extend_from_slice(b")")
 }
 
 /// Adds the acknowledgment number and the window where they are written.
-fn put_fields(out: &mut Vec<u8>, packet: &Packet) -> Result<(), AllocError>
+fn put_ack_and_win(out: &mut Vec<u8>, packet: &Packet) -> Result<(), AllocError>
     ensures { OnOk result (out.new.items ≡ out.old.items ++ fields_text packet.now) }
 {
-    put_numbered(out, b" ack ", packet.ack)?;
-    put_numbered(out, b" win ", packet.win)
+    put_word_and_number_if_any(out, b" ack ", packet.ack)?;
+    put_word_and_number_if_any(out, b" win ", packet.win)
 }
 
 /// Adds a word and a number where one is written.
-pub fn put_numbered(out: &mut Vec<u8>, word: &[u8], number: Option<u32>) -> Result<(), AllocError>
+pub fn put_word_and_number_if_any(
+    out: &mut Vec<u8>,
+    word: &[u8],
+    number: Option<u32>,
+) -> Result<(), AllocError>
     ensures { OnOk result (out.new.items ≡ out.old.items ++ numbered word.now number) }
 {
     match number {
         None => Ok(()),
-        Some(number) => put_field(out, word, number),
+        Some(number) => put_word_and_number(out, word, number),
     }
 }
 
 /// Adds a word and a number.
-fn put_field(out: &mut Vec<u8>, word: &[u8], n: u32) -> Result<(), AllocError>
+fn put_word_and_number(out: &mut Vec<u8>, word: &[u8], n: u32) -> Result<(), AllocError>
     ensures { OnOk result (out.new.items ≡ out.old.items ++ (word.now ++ decimal n)) }
 {
     out.extend_from_slice(word)?;

@@ -26,13 +26,13 @@ pub fn sent_packet(alloc: Global, segment: &Segment) -> Result<Packet, AllocErro
     ensures fits { IfOk result (λ packet. FitsSegment segment.now → FitsPacket Direction.Outbound packet) }
 {
     Ok(Packet {
-        flags: written_flags(&segment.flags),
+        flags: script_flags_of(&segment.flags),
         start: segment.start,
-        end: writable(segment.end),
-        length: segment.len(),
-        ack: Some(writable(segment.ack)),
+        end: same_number_in_range(segment.end),
+        length: segment.data_len(),
+        ack: Some(same_number_in_range(segment.ack)),
         win: Some(u32::from(segment.win)),
-        options: written_options(alloc, &segment.options)?,
+        options: script_options_of(alloc, &segment.options)?,
     })
 }
 
@@ -40,7 +40,7 @@ pub fn sent_packet(alloc: Global, segment: &Segment) -> Result<Packet, AllocErro
 ///
 /// # Errors
 /// `AllocError` where a growth is refused.
-pub fn write_sent(alloc: Global, time: Time, segment: &Segment) -> Result<Vec<u8>, AllocError>
+pub fn write_sent_event(alloc: Global, time: Time, segment: &Segment) -> Result<Vec<u8>, AllocError>
     ensures octets { IfOk result (λ text. text.items ≡ event_text time Direction.Outbound (packet_of segment.now)) }
 
     // It has no newline.
@@ -54,14 +54,14 @@ pub fn write_sent(alloc: Global, time: Time, segment: &Segment) -> Result<Vec<u8
 }
 
 /// The number, which has 32 bits, so that a script can write it.
-fn writable(number: u32) -> u32
+fn same_number_in_range(number: u32) -> u32
     ensures same { result ≡ number }
     ensures small { IsSmall result }
 {
     number
 }
 
-fn written_flags(flags: &pd_seg::Flags) -> PacketFlags
+fn script_flags_of(flags: &pd_seg::Flags) -> PacketFlags
     ensures { result ≡ written_flags flags.now }
 {
     PacketFlags {
@@ -74,29 +74,29 @@ fn written_flags(flags: &pd_seg::Flags) -> PacketFlags
     }
 }
 
-fn written_options(alloc: Global, options: &SegOptions) -> Result<Options, AllocError>
+fn script_options_of(alloc: Global, options: &SegOptions) -> Result<Options, AllocError>
     ensures options { IfOk result (λ written. written ≡ options_of options.now) }
     ensures small { IfOk result (λ written. AreSmallOptions written) }
 {
     if options.as_slice().is_empty() {
         Ok(Options::Absent)
     } else {
-        Ok(Options::Listed(written_list(alloc, options.as_slice())?))
+        Ok(Options::Listed(script_option_list_of(alloc, options.as_slice())?))
     }
 }
 
-fn written_list(alloc: Global, options: &[SegOption]) -> Result<OptionList, AllocError>
+fn script_option_list_of(alloc: Global, options: &[SegOption]) -> Result<OptionList, AllocError>
     ensures list { IfOk result (λ list. list ≡ map option_of options.now) }
     ensures small { IfOk result (λ list. AllByRecursion IsSmallOption list) }
 {
     let mut list = OptionList::new(alloc);
     for option in options {
-        list.push(written_option(alloc, option)?)?;
+        list.push(script_option_of(alloc, option)?)?;
     }
     Ok(list)
 }
 
-fn written_option(alloc: Global, option: &SegOption) -> Result<PacketOption, AllocError>
+fn script_option_of(alloc: Global, option: &SegOption) -> Result<PacketOption, AllocError>
     ensures option { IfOk result (λ written. written ≡ option_of option.now) }
     ensures small { IfOk result (λ written. IsSmallOption written) }
 {
@@ -109,22 +109,25 @@ fn written_option(alloc: Global, option: &SegOption) -> Result<PacketOption, All
         SegOption::Timestamp(value, echo) => {
             PacketOption::Timestamp(u64::from(*value), u64::from(*echo))
         }
-        SegOption::Sack(spans) => PacketOption::Sack(written_blocks(alloc, spans.as_slice())?),
+        SegOption::Sack(spans) => PacketOption::Sack(script_sack_blocks_of(
+            alloc,
+            spans.as_slice(),
+        )?),
     })
 }
 
-fn written_blocks(alloc: Global, spans: &[Span]) -> Result<SackBlockList, AllocError>
+fn script_sack_blocks_of(alloc: Global, spans: &[Span]) -> Result<SackBlockList, AllocError>
     ensures blocks { IfOk result (λ blocks. blocks ≡ map block_of spans.now) }
     ensures small { IfOk result (λ blocks. AllByRecursion FitsBlock blocks) }
 {
     let mut blocks = SackBlockList::new(alloc);
     for span in spans {
-        blocks.push(written_block(*span))?;
+        blocks.push(script_sack_block_of(*span))?;
     }
     Ok(blocks)
 }
 
-fn written_block(span: Span) -> SackBlock
+fn script_sack_block_of(span: Span) -> SackBlock
     ensures block { result ≡ block_of span }
     ensures small { FitsBlock result }
 {

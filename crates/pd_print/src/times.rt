@@ -5,7 +5,7 @@ ghost use Rattle.pd_script.specs.Grammar.{IsTime};
 ghost use Rattle.pd_print.specs.Numbers.{fixed_seconds_text, seconds_text, fraction_text, time_text};
 ghost use Rattle.pd_print.specs.RoundTrip.{IsReadAs, FitsTime};
 
-use crate::digits::{put_digits, put_number, put_shortest};
+use crate::digits::{put_digits_without_end_zeros, put_last_digits, put_number};
 use pd_script::Time;
 use std::alloc::{AllocError, Global};
 
@@ -25,7 +25,7 @@ pub fn write_fixed_seconds(alloc: Global, time_us: u64) -> Result<Vec<u8>, Alloc
     let mut out = Vec::new(alloc);
     put_number(&mut out, time_us / SECOND)?;
     out.extend_from_slice(b".")?;
-    put_digits(&mut out, 6, time_us % SECOND)?;
+    put_last_digits(&mut out, 6, time_us % SECOND)?;
     Ok(out)
 }
 
@@ -53,21 +53,21 @@ pub fn put_time(out: &mut Vec<u8>, time: Time) -> Result<(), AllocError>
 {
     match time {
         Time::Any => out.extend_from_slice(b"*"),
-        Time::Absolute(time_us) => put_seconds(out, b"", time_us),
-        Time::Relative(time_us) => put_seconds(out, b"+", time_us),
+        Time::Absolute(time_us) => put_signed_seconds(out, b"", time_us),
+        Time::Relative(time_us) => put_signed_seconds(out, b"+", time_us),
         Time::AbsoluteRange(first, last) => {
-            put_seconds(out, b"", first)?;
-            put_seconds(out, b"~", last)
+            put_signed_seconds(out, b"", first)?;
+            put_signed_seconds(out, b"~", last)
         }
         Time::RelativeRange(first, last) => {
-            put_seconds(out, b"+", first)?;
-            put_seconds(out, b"~+", last)
+            put_signed_seconds(out, b"+", first)?;
+            put_signed_seconds(out, b"~+", last)
         }
     }
 }
 
 /// Adds a sign, and seconds with no more decimals than they take.
-fn put_seconds(out: &mut Vec<u8>, sign: &[u8], time: u64) -> Result<(), AllocError>
+fn put_signed_seconds(out: &mut Vec<u8>, sign: &[u8], time: u64) -> Result<(), AllocError>
     ensures { OnOk result (out.new.items ≡ out.old.items ++ (sign.now ++ seconds_text time)) }
 {
     out.extend_from_slice(sign)?;
@@ -83,5 +83,5 @@ fn put_fraction(out: &mut Vec<u8>, part: u64) -> Result<(), AllocError>
         return Ok(());
     }
     out.extend_from_slice(b".")?;
-    put_shortest(out, 6, part)
+    put_digits_without_end_zeros(out, 6, part)
 }

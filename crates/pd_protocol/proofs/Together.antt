@@ -6,14 +6,14 @@ use Rattle.clap.specs.declared.parser.matches.ArgMatches.{ArgMatches}
 use Rattle.clap.specs.declared.error.kind.ErrorKind.{ErrorKind}
 use Rattle.clap.specs.declared.error.kind.ErrorKind.TheVariants.{ArgumentConflict, MissingRequiredArgument}
 use Rattle.clap.proofs.WalkLemmas.{first_value-rows}
-use Rattle.pd_protocol.specs.OptionTable.{pdregress, is_written, together_faults, word_faults, refusals_by}
+use Rattle.pd_protocol.specs.OptionTable.{pdregress, is_option_given, together_faults, word_faults, refusals_by}
 use Rattle.pd_protocol.proofs.SettingsText.{simple_pdregress}
 
 some_now : (r : Option (Bor (List ℕ))) → is_some r ≡ is_some (option_map (λ (s : Bor (List ℕ)). s.now) r)
 some_now None = refl
 some_now (Some s) = refl
 
-pub written : (id : List ℕ) (m : ArgMatches) (words : List Text) → HasMatchesOf pdregress words m → (r : Option (Bor (List ℕ))) → option_map (λ (s : Bor (List ℕ)). s.now) r ≡ first_value (found_of m) id → is_some r ≡ is_written id words
+pub written : (id : List ℕ) (m : ArgMatches) (words : List Text) → HasMatchesOf pdregress words m → (r : Option (Bor (List ℕ))) → option_map (λ (s : Bor (List ℕ)). s.now) r ≡ first_value (found_of m) id → is_some r ≡ is_option_given id words
 written id m words h r e =
     let found : option_map (λ (s : Bor (List ℕ)). s.now) r ≡ first_of id (matches_of pdregress words) = e ∙ (first_value-rows (found_of m) id ∙ ap (first_of id) (h simple_pdregress).0) in
     some_now r ∙ ap (λ (o : Option (List ℕ)). is_some o) found

@@ -27,9 +27,9 @@ sets (key ∷ value ∷ []) = Set key (value_of value)
 sets words = Bad
 
 -- a command without further words
-abbrev pub without_arguments : CommandLine → List (List ℕ) → CommandLine
-without_arguments command_line [] = command_line
-without_arguments command_line words = Bad
+abbrev pub bad_if_arguments : CommandLine → List (List ℕ) → CommandLine
+bad_if_arguments command_line [] = command_line
+bad_if_arguments command_line words = Bad
 
 -- the command of a line with these words
 abbrev pub command_line_by : List (List ℕ) → CommandLine
@@ -39,8 +39,8 @@ command_line_by (word ∷ words) =
     if bytes_eq word (codes "edit") then edits words else (
     if bytes_eq word (codes "remove") then removes words else (
     if bytes_eq word (codes "set") then sets words else (
-    if bytes_eq word (codes "show") then without_arguments Show words else (
-    if bytes_eq word (codes "settle") then without_arguments Settle words else Bad)))))
+    if bytes_eq word (codes "show") then bad_if_arguments Show words else (
+    if bytes_eq word (codes "settle") then bad_if_arguments Settle words else Bad)))))
 
 -- the command of a line; one of more than 256 octets is bad
 abbrev pub command_line_of : List ℕ → CommandLine

@@ -96,33 +96,33 @@ without_sign [] = []
 without_sign (octet ∷ word) = if octet == 43 || octet == 45 then word else octet ∷ word
 
 -- the number that an argument writes; 0 where that is no number up to 64, which `clap` doesn't let through
-abbrev pub workers_in : List ℕ → ℕ
-workers_in word =
+abbrev pub worker_count_in : List ℕ → ℕ
+worker_count_in word =
     let digits = without_sign word in
     if are_digits digits && nat_le (number_of digits) 64 then number_of digits else 0
 
 -- how many workers arguments ask for: none where `--workers` isn't written
 abbrev pub worker_count : List Text → ℕ
-worker_count words = workers_in (option_text pdregress (codes "workers") words)
+worker_count words = worker_count_in (option_text pdregress (codes "workers") words)
 
 -- the number that an argument writes; 64 where that is no number from 1 to 1,024, which `clap` doesn't let through
-abbrev pub cache_in : List ℕ → ℕ
-cache_in word =
+abbrev pub cache_size_in : List ℕ → ℕ
+cache_size_in word =
     let digits = without_sign word in
     let number = number_of digits in
     if are_digits digits && nat_le 1 number && nat_le number 1024 then number else 64
 
 -- how many tracks arguments ask for
 abbrev pub cache_size : List Text → ℕ
-cache_size words = cache_in (option_text pdregress (codes "cache") words)
+cache_size words = cache_size_in (option_text pdregress (codes "cache") words)
 
 -- the names of scripts that arguments single out
 abbrev pub only_names : List Text → List Text
 only_names words = unwrap_or (all_of (codes "only") (matches_of pdregress words)) []
 
 -- an option without a default value is written
-abbrev pub is_written : List ℕ → List Text → Bool
-is_written name words = is_some (first_of name (matches_of pdregress words))
+abbrev pub is_option_given : List ℕ → List Text → Bool
+is_option_given name words = is_some (first_of name (matches_of pdregress words))
 
 -- a flag is written
 abbrev pub has_flag : List ℕ → List Text → Bool
@@ -143,11 +143,11 @@ asks_leftovers words = has_flag (codes "leftovers") words
 
 -- `--workers`, whatever its number, is beside `--steps` or `--explain`
 abbrev pub are_in_conflict : List Text → Bool
-are_in_conflict words = is_written (codes "workers") words && (asks_steps words || asks_explain words)
+are_in_conflict words = is_option_given (codes "workers") words && (asks_steps words || asks_explain words)
 
 -- `--only`, `--json` or `--leftovers` is without `--explain`
 abbrev pub lack_explain : List Text → Bool
-lack_explain words = not (asks_explain words) && (is_written (codes "only") words || asks_json words || asks_leftovers words)
+lack_explain words = not (asks_explain words) && (is_option_given (codes "only") words || asks_json words || asks_leftovers words)
 
 -- why options are refused together of which each may be written: one is beside another that it doesn't go with, or without the
 -- one to which it belongs

@@ -47,7 +47,7 @@ pub fn next_command<R: InputStream>(
     match next_command_line(alloc, line_reader, reader)? {
         Some(CommandLine::Add(name, count)) => {
             let lines = take_lines(alloc, line_reader, reader, count)?;
-            Ok(Some(Command::Add(name, text_of(lines))))
+            Ok(Some(Command::Add(name, text_within_limits(lines))))
         }
         Some(CommandLine::Edit(name, from, remove, count)) => {
             let lines = take_lines(alloc, line_reader, reader, count)?;
@@ -122,17 +122,17 @@ fn take_lines<R: InputStream>(
     ensures reads { IfOk result (λ _. IfKnown (Spends line_reader.old line_reader.new) (R.remaining reader.old) (R.remaining reader.new)) }
     ensures cause { IfErr result (IsCaused (R.has_failed reader.new) line_reader.old line_reader.new (R.remaining reader.old)) }
 {
-    let mut text_builder = TextBuilder::with_capacity(alloc, count)?;
+    let mut text_builder = TextBuilder::with_line_capacity(alloc, count)?;
     for _turn in 0..count {
         if add_buffered_line(line_reader, &mut text_builder)? {
             continue;
         }
         match line_reader.next_line(alloc, reader, MAX_OCTETS)? {
             NextLine::Whole(line) => {
-                text_builder.add(line.as_slice())?;
+                text_builder.add_line(line.as_slice())?;
                 line_reader.recycle(line);
             }
-            NextLine::Long => text_builder.add_long(),
+            NextLine::Long => text_builder.add_oversized_line(),
             NextLine::End => return Err(ServeFault::Truncated),
         }
     }
@@ -157,13 +157,13 @@ fn add_buffered_line(
         return Ok(false);
     };
     let octets = line.len() + 1;
-    text_builder.add(without_carriage_return(line))?;
+    text_builder.add_line(without_carriage_return(line))?;
     line_reader.consume(octets);
     Ok(true)
 }
 
 /// The text of lines; none where there are none, or they are over the limits of a text.
-pub fn text_of(lines: Option<LineList>) -> Option<Lines>
+pub fn text_within_limits(lines: Option<LineList>) -> Option<Lines>
     ensures { result ≡ option_and_then fitted lines }
 {
     match lines {

@@ -1,10 +1,10 @@
 //! The lines of commands.
 ghost use Rattle.std.specs.Prelude.{◌≡◌, ◌&&◌, ℕ, Some, None, IfOk, if◌then◌else◌, map};
 ghost use Rattle.pd_protocol.specs.Words.{words_of, is_count, number_of};
-ghost use Rattle.pd_protocol.specs.CommandLines.{command_line_of, command_line_by, adds, edits, removes, sets, without_arguments};
+ghost use Rattle.pd_protocol.specs.CommandLines.{command_line_of, command_line_by, adds, edits, removes, sets, bad_if_arguments};
 ghost use Rattle.pd_protocol.specs.NextCommand.{is_empty_line};
 
-use crate::numbers::{count, value};
+use crate::numbers::{parse_count, parse_value};
 use pd_settings::Value;
 use pd_text::Name;
 use std::alloc::{AllocError, Global};
@@ -50,47 +50,47 @@ impl CommandLine {
             [] => Ok(CommandLine::Empty),
             [first, rest @ ..] => {
                 if *first == b"add".as_slice() {
-                    return CommandLine::add(alloc, rest);
+                    return CommandLine::parse_add(alloc, rest);
                 }
                 if *first == b"edit".as_slice() {
-                    return CommandLine::edit(alloc, rest);
+                    return CommandLine::parse_edit(alloc, rest);
                 }
                 if *first == b"remove".as_slice() {
-                    return CommandLine::remove(alloc, rest);
+                    return CommandLine::parse_remove(alloc, rest);
                 }
                 if *first == b"set".as_slice() {
-                    return CommandLine::set(alloc, rest);
+                    return CommandLine::parse_set(alloc, rest);
                 }
                 if *first == b"show".as_slice() {
-                    return Ok(without_arguments(CommandLine::Show, rest));
+                    return Ok(bad_if_arguments(CommandLine::Show, rest));
                 }
                 if *first == b"settle".as_slice() {
-                    return Ok(without_arguments(CommandLine::Settle, rest));
+                    return Ok(bad_if_arguments(CommandLine::Settle, rest));
                 }
                 Ok(CommandLine::Bad)
             }
         }
     }
 
-    fn add(alloc: Global, words: &[&[u8]]) -> Result<CommandLine, AllocError>
+    fn parse_add(alloc: Global, words: &[&[u8]]) -> Result<CommandLine, AllocError>
         ensures { IfOk result (λ command_line. command_line ≡ adds (map (λ w. w.now) words.now)) }
     {
         match words {
-            [name, lines] => match count(lines) {
-                Some(lines) => Ok(CommandLine::Add(name_of(alloc, name)?, lines)),
+            [name, lines] => match parse_count(lines) {
+                Some(lines) => Ok(CommandLine::Add(name_from_octets(alloc, name)?, lines)),
                 None => Ok(CommandLine::Bad),
             },
             _ => Ok(CommandLine::Bad),
         }
     }
 
-    fn edit(alloc: Global, words: &[&[u8]]) -> Result<CommandLine, AllocError>
+    fn parse_edit(alloc: Global, words: &[&[u8]]) -> Result<CommandLine, AllocError>
         ensures { IfOk result (λ command_line. command_line ≡ edits (map (λ w. w.now) words.now)) }
     {
         match words {
-            [name, from, remove, lines] => match counts(from, remove, lines) {
+            [name, from, remove, lines] => match parse_edit_numbers(from, remove, lines) {
                 Some((from, remove, lines)) => {
-                    Ok(CommandLine::Edit(name_of(alloc, name)?, from, remove, lines))
+                    Ok(CommandLine::Edit(name_from_octets(alloc, name)?, from, remove, lines))
                 }
                 None => Ok(CommandLine::Bad),
             },
@@ -98,20 +98,20 @@ impl CommandLine {
         }
     }
 
-    fn remove(alloc: Global, words: &[&[u8]]) -> Result<CommandLine, AllocError>
+    fn parse_remove(alloc: Global, words: &[&[u8]]) -> Result<CommandLine, AllocError>
         ensures { IfOk result (λ command_line. command_line ≡ removes (map (λ w. w.now) words.now)) }
     {
         match words {
-            [name] => Ok(CommandLine::Remove(name_of(alloc, name)?)),
+            [name] => Ok(CommandLine::Remove(name_from_octets(alloc, name)?)),
             _ => Ok(CommandLine::Bad),
         }
     }
 
-    fn set(alloc: Global, words: &[&[u8]]) -> Result<CommandLine, AllocError>
+    fn parse_set(alloc: Global, words: &[&[u8]]) -> Result<CommandLine, AllocError>
         ensures { IfOk result (λ command_line. command_line ≡ sets (map (λ w. w.now) words.now)) }
     {
         match words {
-            [key, word] => Ok(CommandLine::Set(name_of(alloc, key)?, value(word))),
+            [key, word] => Ok(CommandLine::Set(name_from_octets(alloc, key)?, parse_value(word))),
             _ => Ok(CommandLine::Bad),
         }
     }
@@ -125,8 +125,8 @@ impl CommandLine {
 }
 
 /// A command without further words.
-fn without_arguments(command_line: CommandLine, words: &[&[u8]]) -> CommandLine
-    ensures { result ≡ without_arguments command_line (map (λ w. w.now) words.now) }
+fn bad_if_arguments(command_line: CommandLine, words: &[&[u8]]) -> CommandLine
+    ensures { result ≡ bad_if_arguments command_line (map (λ w. w.now) words.now) }
 {
     match words {
         [] => command_line,
@@ -135,12 +135,16 @@ fn without_arguments(command_line: CommandLine, words: &[&[u8]]) -> CommandLine
 }
 
 /// The numbers of an edit.
-fn counts(from: &[u8], remove: &[u8], lines: &[u8]) -> Option<(usize, usize, usize)>
+fn parse_edit_numbers(from: &[u8], remove: &[u8], lines: &[u8]) -> Option<(usize, usize, usize)>
     ensures { let good = is_count from.now && is_count remove.now && is_count lines.now in
         let numbers : ℕ × ℕ × ℕ = (number_of from.now, number_of remove.now, number_of lines.now) in
         result ≡ (if good then Some numbers else None) }
 {
-    Some((count(from)?, count(remove)?, count(lines)?))
+    Some((
+        parse_count(from)?,
+        parse_count(remove)?,
+        parse_count(lines)?,
+    ))
 }
 
 /// The words of a line, which are parted by spaces.
@@ -153,7 +157,7 @@ fn words(alloc: Global, line: &[u8]) -> Result<Vec<&[u8]>, AllocError>
 }
 
 /// A name of its own with these octets.
-fn name_of(alloc: Global, octets: &[u8]) -> Result<Name, AllocError>
+fn name_from_octets(alloc: Global, octets: &[u8]) -> Result<Name, AllocError>
     ensures { IfOk result (λ name. name ≡ octets.now) }
 {
     let mut own = Vec::new(alloc);

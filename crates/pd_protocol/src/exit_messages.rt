@@ -17,7 +17,12 @@ use std::io::Write;
 pub const FAULT_STATUS: u8 = 2;
 
 /// Writes `clap`'s message on arguments that it refuses to the program of this name.
-pub fn refuse<E: Write>(alloc: Global, program: &str, error: &Error, err: &mut E) -> Exit
+pub fn exit_with_clap_error<E: Write>(
+    alloc: Global,
+    program: &str,
+    error: &Error,
+    err: &mut E,
+) -> Exit
     ensures status { result.status ≡ 2 }
     ensures memory { let line = fault_line program.now (ProgramFault.Serving ServeFault.OutOfMemory) in
         kind_of error.now ≡ ErrorKind.OutOfMemory → WritesTo result.stderr_ok (E.contents err.old) (E.contents err.new) line }
@@ -31,15 +36,15 @@ pub fn refuse<E: Write>(alloc: Global, program: &str, error: &Error, err: &mut E
             };
         }
     }
-    fail(program, err, ProgramFault::Serving(ServeFault::OutOfMemory))
+    exit_with_fault(program, err, ProgramFault::Serving(ServeFault::OutOfMemory))
 }
 
 /// Ends a run of the program of this name at a fault: says its line.
-pub fn fail<E: Write>(program: &str, err: &mut E, fault: ProgramFault) -> Exit
+pub fn exit_with_fault<E: Write>(program: &str, err: &mut E, fault: ProgramFault) -> Exit
     ensures status { result.status ≡ 2 }
     ensures stderr { WritesTo result.stderr_ok (E.contents err.old) (E.contents err.new) (fault_line program.now fault) }
 {
-    let stderr_ok = try_write_line(program, err, fault.text());
+    let stderr_ok = try_write_program_line(program, err, fault.text());
     Exit {
         status: FAULT_STATUS,
         stderr_ok,
@@ -47,7 +52,7 @@ pub fn fail<E: Write>(program: &str, err: &mut E, fault: ProgramFault) -> Exit
 }
 
 /// Says a text after the name of a program, as a line.
-pub(crate) fn try_write_line<E: Write>(program: &str, err: &mut E, text: &str) -> bool
+pub(crate) fn try_write_program_line<E: Write>(program: &str, err: &mut E, text: &str) -> bool
     ensures { WritesTo result (E.contents err.old) (E.contents err.new) (line_of program.now text.now) }
 {
     if !try_write(err, program.as_bytes()) {

@@ -1,9 +1,9 @@
 //! The arguments of the programs and their input: options, lines, commands, faults, and the text that is written of them.
 //!
 //! `arguments` gives the arguments of a call, and `options` reads those of `pdregress` into `Options`.
-//! `settings_of` reads the text of the settings. An `LineReader` takes lines off a reader
+//! `settings_from_toml` reads the text of the settings. An `LineReader` takes lines off a reader
 //! (`InputStream`) block by block, and `next_command` takes the next `Command`. A `ServeFault` or a
-//! `ProgramFault` says why a program stops; `fail` and `refuse` write it and give the `Exit`.
+//! `ProgramFault` says why a program stops; `exit_with_fault` and `exit_with_clap_error` write it and give the `Exit`.
 //!
 //! The commands of an input are defined on its octets alone, however its reader cuts them: `commands`
 //! (specs/Commands.antt). Arguments are taken exactly as `clap`'s own clauses take them: `HasChosen`
@@ -40,18 +40,18 @@ mod settings_text;
 mod text_builder;
 mod verdicts;
 
-pub use command::{Command, next_command, text_of};
+pub use command::{Command, next_command, text_within_limits};
 pub use exit::Exit;
-pub use exit_messages::{FAULT_STATUS, fail, refuse};
+pub use exit_messages::{FAULT_STATUS, exit_with_clap_error, exit_with_fault};
 pub use faults::ServeFault;
 pub use input_stream::InputStream;
 pub use line_reader::{LineReader, NextLine, without_carriage_return};
 pub use option_table::settings_option;
 pub use output_stream::{try_write, write_all};
 pub use parse_options::{is_true, options, refusal_together};
-pub use program_arguments::{arguments, refuse_arguments};
+pub use program_arguments::{arguments, exit_with_unreadable_arguments};
 pub use program_faults::ProgramFault;
 pub use program_options::{ExplainOptions, Options};
-pub use settings_text::settings_of;
+pub use settings_text::settings_from_toml;
 pub use text_builder::TextBuilder;
-pub use verdicts::{put_number, put_verdict};
+pub use verdicts::{put_verdict, put_word_and_number};

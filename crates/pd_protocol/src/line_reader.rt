@@ -87,8 +87,8 @@ impl LineReader {
         ensures held { IfErr result (λ fault. fault ≡ ServeFault.Read → NoNewline self.old.0) }
         ensures cause { IfErr result (IsCaused (R.has_failed reader.new) self.old self.new (R.remaining reader.old)) }
     {
-        let (line, found) = self.read_line(alloc, reader, limit + 2)?;
-        Ok(next_line_of(line, found, limit))
+        let (line, found) = self.read_capped_line(alloc, reader, limit + 2)?;
+        Ok(classify_line(line, found, limit))
     }
 
     /// The line that comes next, without its newline, where it lies whole in what was read.
@@ -132,7 +132,7 @@ impl LineReader {
     }
 
     /// Reads one line with its newline, or the last one; what is beyond so many octets is dropped.
-    fn read_line<R: InputStream>(
+    fn read_capped_line<R: InputStream>(
         &mut self,
         alloc: Global,
         reader: &mut R,
@@ -228,13 +228,13 @@ fn extend_capped(line: &mut Vec<u8>, piece: &[u8], cap: usize) -> Result<(), All
 }
 
 /// The line that was taken, where these first octets were kept of it, or of the last one.
-fn next_line_of(line: Vec<u8>, found: bool, limit: usize) -> NextLine
+fn classify_line(line: Vec<u8>, found: bool, limit: usize) -> NextLine
     ensures line { (whole old new : List ℕ) → NoNewline whole → line.items ≡ take (limit + 2) whole → Cuts whole found old new → TakesLine limit result old new }
     ensures octets { NoNewline line.items → IsOfLine result }
 {
     let mut line = line;
     if found {
-        strip(&mut line);
+        strip_carriage_return(&mut line);
         if line.len() <= limit {
             return NextLine::Whole(line);
         }
@@ -261,7 +261,7 @@ pub fn without_carriage_return(line: &[u8]) -> &[u8]
 }
 
 /// Drops one carriage return at the end.
-fn strip(line: &mut Vec<u8>)
+fn strip_carriage_return(line: &mut Vec<u8>)
     ensures { line.new.items ≡ strip_carriage_return line.old.items }
 {
     let octets = without_carriage_return(line.as_slice()).len();

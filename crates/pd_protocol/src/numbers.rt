@@ -6,7 +6,7 @@ ghost use Rattle.pd_protocol.specs.Words.{are_digits, is_count, number_of, value
 use pd_settings::Value;
 
 /// The number that digits write, where it fits.
-pub fn number(word: &[u8]) -> Option<u64>
+pub fn parse_number(word: &[u8]) -> Option<u64>
     ensures { let n = number_of word.now in
         result ≡ (if are_digits word.now && nat_lt n (2 ^ 64) then Some n else None) }
 {
@@ -33,23 +33,23 @@ fn with_digit(n: u64, digit: u8) -> Option<u64>
 }
 
 /// The number that one to six digits write.
-pub fn count(word: &[u8]) -> Option<usize>
+pub fn parse_count(word: &[u8]) -> Option<usize>
     ensures { result ≡ (if is_count word.now then Some (number_of word.now) else None) }
 {
     if word.len() > 6 {
         return None;
     }
-    match number(word) {
+    match parse_number(word) {
         Some(n) => Some(n as usize),
         None => None,
     }
 }
 
 /// The value that a word writes for a setting.
-pub fn value(word: &[u8]) -> Value
+pub fn parse_value(word: &[u8]) -> Value
     ensures { result ≡ value_of word.now }
 {
-    if let Some(n) = number(word) {
+    if let Some(n) = parse_number(word) {
         return Value::Number(n);
     }
     if word == b"true".as_slice() {

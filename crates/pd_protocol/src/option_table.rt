@@ -39,11 +39,11 @@ pub(crate) fn command_without_conflicts<'a>(alloc: Global) -> Result<Command<'a>
     ensures memory { IfErr result (λ error. kind_of error ≡ ErrorKind.OutOfMemory) }
 {
     let command = base_command(alloc)?;
-    Ok(with_options(alloc, command)?)
+    Ok(add_other_options(alloc, command)?)
 }
 
 /// A command that takes settings and a cache, with each other option.
-fn with_options<'a>(alloc: Global, command: Command<'a>) -> Result<Command<'a>, AllocError>
+fn add_other_options<'a>(alloc: Global, command: Command<'a>) -> Result<Command<'a>, AllocError>
     requires { app_of command ≡ with_rule (with_rule (new_app (codes "pdregress")) settings_rule) cache_rule }
     ensures { IfOk result (λ whole. app_of whole ≡ pdregress) }
 {
@@ -74,7 +74,7 @@ fn push_options<'a>(
     options: &mut Vec<Arg<'a>>,
     are_workers_apart: bool,
 ) -> Result<(), AllocError> {
-    options.push(workers_with_conflicts(alloc, are_workers_apart)?)?;
+    options.push(workers_option_with_conflicts(alloc, are_workers_apart)?)?;
     options.push(steps_option(alloc))?;
     options.push(explain_option(alloc))?;
     options.push(only_option(alloc).requires_arg("explain")?)?;
@@ -84,7 +84,7 @@ fn push_options<'a>(
 }
 
 /// `--workers N`, with the options that may be beside it.
-fn workers_with_conflicts<'a>(
+fn workers_option_with_conflicts<'a>(
     alloc: Global,
     are_workers_apart: bool,
 ) -> Result<Arg<'a>, AllocError> {

@@ -2,9 +2,9 @@
 ghost use Rattle.std.specs.Prelude.{bytes_eq, codes, ◌≡◌, ◌≢◌, ◌⊎◌, ◌≤◌, ◌||◌, List, [], IfOk, IfErr, IfSome, map, option_map, unwrap_or};
 ghost use Rattle.clap.specs.Words.{HasMatchesOf, Text, found_of, kind_of, matched_of, raw_values};
 ghost use Rattle.pd_protocol.specs.ChosenOptions.{names_of, report_options, HasChosen};
-ghost use Rattle.pd_protocol.specs.OptionTable.{pdregress, without_sign, workers_in, cache_in, is_written, has_flag, asks_json, asks_leftovers, are_in_conflict, lack_explain, refusals};
+ghost use Rattle.pd_protocol.specs.OptionTable.{pdregress, without_sign, worker_count_in, cache_size_in, is_option_given, has_flag, asks_json, asks_leftovers, are_in_conflict, lack_explain, refusals};
 
-use crate::numbers::number;
+use crate::numbers::parse_number;
 use crate::option_table::{command_with_conflicts, command_without_conflicts};
 use crate::program_options::{ExplainOptions, Options};
 use clap::error::ErrorKind;
@@ -17,7 +17,7 @@ use std::convert::AsStr;
 /// # Errors
 /// `clap`'s message on the arguments, the text of `--help` among it.
 pub fn options<'a, S: AsStr>(alloc: Global, words: &'a [S]) -> Result<Options<'a>, Error>
-    ensures chosen { IfOk result (λ options. HasChosen (map S.text words.entry.now) options) }
+    ensures chosen_options { IfOk result (λ options. HasChosen (map S.text words.entry.now) options) }
     ensures few { IfOk result (λ options. options.workers ≤ 64) }
     ensures some { IfOk result (λ options. 1 ≤ options.cache) }
     ensures most { IfOk result (λ options. options.cache ≤ 1024) }
@@ -26,11 +26,11 @@ pub fn options<'a, S: AsStr>(alloc: Global, words: &'a [S]) -> Result<Options<'a
 {
     let command = command_without_conflicts(alloc)?;
     let matches = command.try_get_matches_from(words)?;
-    if are_refused_together(&matches) {
-        let with_conflicts = command_with_conflicts(alloc, is_in_conflict(&matches));
+    if are_options_conflicting(&matches) {
+        let with_conflicts = command_with_conflicts(alloc, has_workers_conflict(&matches));
         return Err(refusal_together(with_conflicts, words));
     }
-    Ok(chosen(alloc, &matches)?)
+    Ok(chosen_options(alloc, &matches)?)
 }
 
 /// The error with which `clap` refuses arguments of which it takes each by itself, by a command that knows which options go together; or
@@ -40,21 +40,21 @@ pub fn refusal_together<'a, S: AsStr>(
     arguments: &'a [S],
 ) -> Error {
     match command {
-        Ok(mut command) => refusal_by(&mut command, arguments),
+        Ok(mut command) => clap_error_of(&mut command, arguments),
         Err(error) => error,
     }
 }
 
 /// The message of a command on arguments that it refuses, or that are refused all the same.
-fn refusal_by<'a, S: AsStr>(command: &mut Command<'a>, arguments: &'a [S]) -> Error {
+fn clap_error_of<'a, S: AsStr>(command: &mut Command<'a>, arguments: &'a [S]) -> Error {
     match command.try_get_matches_from_mut(arguments) {
-        Ok(_) => conflict_in(command),
+        Ok(_) => conflict_error(command),
         Err(error) => error,
     }
 }
 
 /// That options can't be used together.
-fn conflict_in(command: &mut Command<'_>) -> Error {
+fn conflict_error(command: &mut Command<'_>) -> Error {
     match command.error(
         ErrorKind::ArgumentConflict,
         "these options can't be used together",
@@ -65,17 +65,18 @@ fn conflict_in(command: &mut Command<'_>) -> Error {
 }
 
 /// Whether arguments are refused together of which each may be written.
-fn are_refused_together(matches: &ArgMatches<'_>) -> bool
+fn are_options_conflicting(matches: &ArgMatches<'_>) -> bool
     ensures { (words : List Text) → HasMatchesOf pdregress words matches.now → result ≡ (are_in_conflict words || lack_explain words) }
 {
-    is_in_conflict(matches) || lacks_explain(matches)
+    has_workers_conflict(matches) || lacks_explain(matches)
 }
 
 /// Whether `--workers` is beside an option that goes without workers.
-fn is_in_conflict(matches: &ArgMatches<'_>) -> bool
+fn has_workers_conflict(matches: &ArgMatches<'_>) -> bool
     ensures { (words : List Text) → HasMatchesOf pdregress words matches.now → result ≡ are_in_conflict words }
 {
-    is_written(matches, "workers") && (has_flag(matches, "steps") || has_flag(matches, "explain"))
+    is_option_given(matches, "workers")
+        && (has_flag(matches, "steps") || has_flag(matches, "explain"))
 }
 
 /// Whether an option is without `--explain`, to which it belongs.
@@ -83,14 +84,14 @@ fn lacks_explain(matches: &ArgMatches<'_>) -> bool
     ensures { (words : List Text) → HasMatchesOf pdregress words matches.now → result ≡ lack_explain words }
 {
     !has_flag(matches, "explain")
-        && (is_written(matches, "only")
+        && (is_option_given(matches, "only")
             || has_flag(matches, "json")
             || has_flag(matches, "leftovers"))
 }
 
 /// Whether an option without a default value is written.
-fn is_written(matches: &ArgMatches<'_>, name: &str) -> bool
-    ensures { (words : List Text) → HasMatchesOf pdregress words matches.now → result ≡ is_written name.now words }
+fn is_option_given(matches: &ArgMatches<'_>, name: &str) -> bool
+    ensures { (words : List Text) → HasMatchesOf pdregress words matches.now → result ≡ is_option_given name.now words }
 {
     matches.get_str(name).is_some()
 }
@@ -103,8 +104,8 @@ fn has_flag(matches: &ArgMatches<'_>, name: &str) -> bool
 }
 
 /// The options that arguments choose which aren't refused.
-fn chosen<'a>(alloc: Global, matches: &ArgMatches<'a>) -> Result<Options<'a>, AllocError>
-    ensures chosen { (words : List Text) → HasMatchesOf pdregress words matches.now → IfOk result (λ options. HasChosen words options) }
+fn chosen_options<'a>(alloc: Global, matches: &ArgMatches<'a>) -> Result<Options<'a>, AllocError>
+    ensures chosen_options { (words : List Text) → HasMatchesOf pdregress words matches.now → IfOk result (λ options. HasChosen words options) }
     ensures few { IfOk result (λ options. options.workers ≤ 64) }
     ensures some { IfOk result (λ options. 1 ≤ options.cache) }
     ensures most { IfOk result (λ options. options.cache ≤ 1024) }
@@ -112,8 +113,8 @@ fn chosen<'a>(alloc: Global, matches: &ArgMatches<'a>) -> Result<Options<'a>, Al
     let explain = explain_options(alloc, matches)?;
     Ok(Options {
         settings: matches.get_str("settings").unwrap_or(""),
-        workers: workers_in(matches.get_str("workers").unwrap_or("").as_bytes()),
-        cache: cache_in(matches.get_str("cache").unwrap_or("").as_bytes()),
+        workers: worker_count_in(matches.get_str("workers").unwrap_or("").as_bytes()),
+        cache: cache_size_in(matches.get_str("cache").unwrap_or("").as_bytes()),
         steps: has_flag(matches, "steps"),
         explain,
     })
@@ -131,14 +132,14 @@ fn explain_options<'a>(
         return Ok(None);
     }
     Ok(Some(ExplainOptions {
-        only: names_in(alloc, matches)?,
+        only: only_names(alloc, matches)?,
         json: has_flag(matches, "json"),
         leftovers: has_flag(matches, "leftovers"),
     }))
 }
 
 /// The names that are singled out.
-fn names_in<'a>(alloc: Global, matches: &ArgMatches<'a>) -> Result<Vec<&'a str>, AllocError>
+fn only_names<'a>(alloc: Global, matches: &ArgMatches<'a>) -> Result<Vec<&'a str>, AllocError>
     ensures { IfOk result (λ names. names_of names.items ≡ unwrap_or (option_map raw_values (matched_of (found_of matches.now) (codes "only"))) []) }
 {
     match matches.get_strs("only") {
@@ -155,23 +156,23 @@ pub fn is_true(word: &[u8]) -> bool
 }
 
 /// The number of workers that an argument writes, which `clap` let through.
-fn workers_in(word: &[u8]) -> usize
-    ensures count { result ≡ workers_in word.now }
+fn worker_count_in(word: &[u8]) -> usize
+    ensures count { result ≡ worker_count_in word.now }
     ensures few { result ≤ 64 }
 {
-    match number(without_sign(word)) {
+    match parse_number(without_sign(word)) {
         Some(count) if count <= 64 => count as usize,
         _ => 0,
     }
 }
 
 /// The number of tracks that an argument writes, which `clap` let through.
-fn cache_in(word: &[u8]) -> usize
-    ensures size { result ≡ cache_in word.now }
+fn cache_size_in(word: &[u8]) -> usize
+    ensures size { result ≡ cache_size_in word.now }
     ensures some { 1 ≤ result }
     ensures most { result ≤ 1024 }
 {
-    match number(without_sign(word)) {
+    match parse_number(without_sign(word)) {
         Some(size) if 1 <= size && size <= 1024 => size as usize,
         _ => 64,
     }

@@ -5,7 +5,7 @@ ghost use Rattle.pd_protocol.specs.ProgramFaults.{fault_line, line_of};
 ghost use Rattle.pd_protocol.specs.WriterOutput.{WritesTo};
 
 use crate::exit::Exit;
-use crate::exit_messages::{FAULT_STATUS, fail, try_write_line};
+use crate::exit_messages::{FAULT_STATUS, exit_with_fault, try_write_program_line};
 use crate::faults::ServeFault;
 use crate::program_faults::ProgramFault;
 use std::env::Env;
@@ -22,7 +22,11 @@ pub fn arguments<H: Env + AllocGlobal>(rt: &H) -> io::Result<Vec<String>> {
 }
 
 /// Writes why the arguments of a call of the program of this name could not be read.
-pub fn refuse_arguments<E: Write>(program: &str, error: &io::Error, err: &mut E) -> Exit
+pub fn exit_with_unreadable_arguments<E: Write>(
+    program: &str,
+    error: &io::Error,
+    err: &mut E,
+) -> Exit
     ensures status { result.status ≡ 2 }
     ensures memory { let line = fault_line program.now (ProgramFault.Serving ServeFault.OutOfMemory) in
         error_kind error.now ≡ ErrorKind.OutOfMemory → WritesTo result.stderr_ok (E.contents err.old) (E.contents err.new) line }
@@ -30,9 +34,9 @@ pub fn refuse_arguments<E: Write>(program: &str, error: &io::Error, err: &mut E)
         error_kind error.now ≢ ErrorKind.OutOfMemory → WritesTo result.stderr_ok (E.contents err.old) (E.contents err.new) line }
 {
     if error.kind() == ErrorKind::OutOfMemory {
-        return fail(program, err, ProgramFault::Serving(ServeFault::OutOfMemory));
+        return exit_with_fault(program, err, ProgramFault::Serving(ServeFault::OutOfMemory));
     }
-    let stderr_ok = try_write_line(program, err, "the arguments can't be read as text");
+    let stderr_ok = try_write_program_line(program, err, "the arguments can't be read as text");
     Exit {
         status: FAULT_STATUS,
         stderr_ok,

@@ -11,7 +11,7 @@ use std::alloc::Global;
 ///
 /// # Errors
 /// `NotToml` where the text is none; what `pd_settings` says of its keys and values; `OutOfMemory`.
-pub fn settings_of(alloc: Global, text: &str) -> Result<Settings, ProgramFault>
+pub fn settings_from_toml(alloc: Global, text: &str) -> Result<Settings, ProgramFault>
     ensures ok { IfOk result (λ settings. settings_in text.now ≡ Ok settings) }
     ensures err { IfErr result (λ fault. (settings_in text.now ≡ Err fault) ⊎ (fault ≡ ProgramFault.Serving ServeFault.OutOfMemory)) }
 {

@@ -48,7 +48,7 @@ impl TextBuilder {
     ///
     /// # Errors
     /// `AllocError` where the room is refused.
-    pub fn with_capacity(alloc: Global, lines: usize) -> Result<TextBuilder, AllocError>
+    pub fn with_line_capacity(alloc: Global, lines: usize) -> Result<TextBuilder, AllocError>
         ensures { IfOk result (λ text_builder. text_builder ≡ Some []) }
     {
         let most = lines.min(MAX_LINES);
@@ -65,7 +65,7 @@ impl TextBuilder {
     ///
     /// # Errors
     /// `AllocError` where a growth is refused.
-    pub fn add(&mut self, line: &[u8]) -> Result<(), AllocError>
+    pub fn add_line(&mut self, line: &[u8]) -> Result<(), AllocError>
         requires { NoNewline line.now }
         ensures { OnOk result (self.new ≡ option_and_then (λ t. fitted (t ++ line.now ∷ [])) self.old) }
     {
@@ -83,7 +83,7 @@ impl TextBuilder {
     }
 
     /// Adds a line that alone is over the limits.
-    pub fn add_long(&mut self)
+    pub fn add_oversized_line(&mut self)
         ensures { self.new ≡ None }
     {
         self.is_too_large = true;

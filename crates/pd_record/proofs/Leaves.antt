@@ -22,8 +22,8 @@ use Rattle.pd_match.specs.Calls.{result_mismatch}
 use Rattle.pd_match.specs.Packets.{mismatch}
 use Rattle.pd_run.specs.Prechecks.{failed_precheck}
 use Rattle.pd_run.specs.RunStates.{RunStateView, KeepsTime}
-use Rattle.pd_run.specs.Step.{tolerance_of, comparison_noted, on_step, with_state, action_time, acted, arrives, on_arrival, answers, on_answer, on_expiry, expires, awaited, packet_taken, leaves, performed, outcome, step}
-use Rattle.pd_run.specs.Times.{is_single, time_of, time_range_of, may_be_in_time, base_after}
+use Rattle.pd_run.specs.Step.{tolerance_of, comparison_noted, on_step, with_state, action_time, acted, arrives, on_arrival, answers, on_answer, on_expiry, expires, awaited, packet_taken, leaves, performed, event_outcome, step}
+use Rattle.pd_run.specs.Times.{is_single_moment, time_of, time_range_of, may_be_in_time, base_after}
 use Rattle.pd_run.specs.declared.stop_reason.StopReason.{StopReason}
 use Rattle.pd_run.specs.declared.stop_reason.StopReason.TheVariants.{Missing}
 use Rattle.pd_run.proofs.Bounds.{given, agreed, goes, unbarred, step_performs}
@@ -31,7 +31,7 @@ use Rattle.pd_record.specs.Recorder.{oldest_of, or_expired, due_where, leaves_ne
 
 -- no check barred an event whose step goes on
 pub step_unbarred : (r s : RunStateView) (e : Event) → step r e ≡ Ok s → failed_precheck r.base e ≡ None
-step_unbarred r s e h = (unbarred (performed r e e.action) (failed_precheck r.base e) s (goes e.line (outcome r e) s h)).0
+step_unbarred r s e h = (unbarred (performed r e e.action) (failed_precheck r.base e) s (goes e.line (event_outcome r e) s h)).0
 
 -- ---- inputs
 
@@ -228,10 +228,10 @@ pub record IsMoved (may : ℕ → Bool) (r s : RunStateView) (time : Time) (sent
   pub base : s.base ≡ time_of r.base time
   pub until : (until : ℕ) → ((at : ℕ) → may at ≡ true → at ≤ until) → r.clock ≤ until → s.clock ≤ until
 
-single_base : (base : ℕ) (time : Time) (at : ℕ) → is_single time ≡ true → base_after base time at ≡ time_of base time
+single_base : (base : ℕ) (time : Time) (at : ℕ) → is_single_moment time ≡ true → base_after base time at ≡ time_of base time
 single_base base time at single = ap (λ (b : Bool). if b then time_of base time else max base at) single
 
-stood : (may : ℕ → Bool) (r s q : RunStateView) (e : Event) (sent other : Sent) → is_single e.time ≡ true → KeepsTime r.clock r.host.state
+stood : (may : ℕ → Bool) (r s q : RunStateView) (e : Event) (sent other : Sent) → is_single_moment e.time ≡ true → KeepsTime r.clock r.host.state
     → Stands r sent → q ≡ comparison_noted r → s.base ≡ base_after q.base e.time other.at → s.clock ≡ q.clock → IsMoved may r s e.time sent
 stood may r s q e sent other single up stands same base clock =
     let its : s.clock ≡ r.clock = clock ∙ ap (λ (x : RunStateView). x.clock) same in
@@ -247,7 +247,7 @@ ahead : (now most : ℕ) (due : Option ℕ) (at : ℕ) → IfSome due (λ d. (no
 ahead now most None at h is = absurd cc
 ahead now most (Some d) at h is = let same : d ≡ at = cc in subst (λ (x : ℕ). now < x) same h.0
 
-came : (puts_after : AdvancesPutOutAfter) (may : ℕ → Bool) (r s q : RunStateView) (e : Event) (sent other : Sent) → is_single e.time ≡ true → KeepsTime r.clock r.host.state
+came : (puts_after : AdvancesPutOutAfter) (may : ℕ → Bool) (r s q : RunStateView) (e : Event) (sent other : Sent) → is_single_moment e.time ≡ true → KeepsTime r.clock r.host.state
     → Expires may r sent → Awaited (comparison_noted r) q e → s.base ≡ base_after q.base e.time other.at → s.clock ≡ q.clock → IsMoved may r s e.time sent
 came puts_after may r s q e sent other single up h wait base clock =
     let due : wait.1 ≡ h.1 = (let both_due : Some wait.1 ≡ Some h.1 = sym wait.3 ∙ h.3 in cc) in
@@ -261,7 +261,7 @@ came puts_after may r s q e sent other single up h wait base clock =
       until = λ until bounds early. (let within : h.1 ≤ until = bounds h.1 h.4 in omega (arith, its, due, within));
     }
 
-pub moved : AdvancesPutOutAfter → (may : ℕ → Bool) (r s : RunStateView) (e : Event) (p : Packet) (sent : Sent) → e.action ≡ Outbound p → is_single e.time ≡ true
+pub moved : AdvancesPutOutAfter → (may : ℕ → Bool) (r s : RunStateView) (e : Event) (p : Packet) (sent : Sent) → e.action ≡ Outbound p → is_single_moment e.time ≡ true
     → KeepsTime r.clock r.host.state → leaves_next may r ≡ Some sent → step r e ≡ Ok s → IsMoved may r s e.time sent
 moved puts_after may r s e p sent is single up next h =
     let last = after_packet r s e p is h in

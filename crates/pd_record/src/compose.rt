@@ -27,15 +27,15 @@ pub fn compose_recording(
     };
     let mut writer = Writer::new(alloc, lines, senders);
     for _ in script.header.as_slice() {
-        writer.put_item(&layouts.read_item(alloc)?)?;
+        writer.put_header_item(&layouts.read_header_item(alloc)?)?;
     }
     for (after, event_recording) in script.places.iter().zip(recorded_script.per_event.iter()) {
         let layout = layouts.read_event(alloc, *after)?;
         write_event(&mut writer, &layout, event_recording)?;
     }
     write_packets(&mut writer, recorded_script.rest.as_slice())?;
-    writer.put_comments(&layouts.rest())?;
-    writer.finish(recorded_script.count)
+    writer.put_comments(&layouts.into_remaining_trivia())?;
+    writer.into_recording(recorded_script.count)
 }
 
 /// Puts what was recorded of an event into lines.
@@ -54,7 +54,7 @@ fn write_event(
 /// Puts packets into lines.
 fn write_packets(writer: &mut Writer, packets: &[RecordedEvent]) -> Result<(), RecordError> {
     for packet in packets {
-        writer.put_packet(packet)?;
+        writer.put_packet_line(packet)?;
     }
     Ok(())
 }

@@ -1,6 +1,6 @@
 //! Where recording a script stops, for those who explain it.
 ghost use Rattle.std.specs.Prelude.{◌≡◌, ◌≤◌, IfOk, length};
-ghost use Rattle.pd_record.specs.Stops.{recording_stop, stop_on, stop_from};
+ghost use Rattle.pd_record.specs.Stops.{recording_stop, stop_if_on_line, stop_from};
 ghost use Rattle.pd_record.specs.Inner.{Sound};
 
 use crate::record_error::RecordError;
@@ -37,13 +37,13 @@ pub fn find_recording_stop(
     ensures { IfOk result (λ stop. stop ≡ recording_stop line header.now.items events.now settings.now) }
 {
     match Recorder::new(alloc, header, settings, false) {
-        Ok(start) => find_stop_among(alloc, start, events, line),
+        Ok(start) => record_to_stop_on_line(alloc, start, events, line),
         Err(RecordError::OutOfMemory) => Err(AllocError),
         Err(_) => Ok(None),
     }
 }
 
-fn find_stop_among(
+fn record_to_stop_on_line(
     alloc: Global,
     start: Recorder,
     events: &[Event],
@@ -57,7 +57,7 @@ fn find_stop_among(
     let mut recorder = start;
     let mut passed = 0;
     for event in events {
-        let stop = stop_on(&recorder, event, passed, line)?;
+        let stop = stop_if_on_line(&recorder, event, passed, line)?;
         match recorder.record(alloc, event) {
             Ok(_) => passed += 1,
             Err(RecordError::OutOfMemory) => return Err(AllocError),
@@ -68,13 +68,13 @@ fn find_stop_among(
 }
 
 /// How recording stands at an event on a line, after so many others.
-fn stop_on(
+fn stop_if_on_line(
     recorder: &Recorder,
     event: &Event,
     passed: usize,
     line: usize,
 ) -> Result<Option<RecordingStop>, AllocError>
-    ensures { IfOk result (λ stop. stop ≡ stop_on line passed recorder.now event.now) }
+    ensures { IfOk result (λ stop. stop ≡ stop_if_on_line line passed recorder.now event.now) }
 {
     if event.line != line {
         return Ok(None);

@@ -58,7 +58,7 @@ fn read_events(
                 if i + 1 == MAX_EVENTS && lookahead_line.is_some() {
                     return Ok(None);
                 }
-                append(&mut events, event)?;
+                append_event(&mut events, event)?;
                 places.push(after)?;
             }
             NextEventStatus::End => return Ok(Some(events)),
@@ -69,7 +69,7 @@ fn read_events(
     Ok(Some(events))
 }
 
-fn append(events: &mut Vec<Event>, event: Event) -> Result<(), AllocError>
+fn append_event(events: &mut Vec<Event>, event: Event) -> Result<(), AllocError>
     ensures { OnOk result (events.new.items ≡ events.old.items ++ event ∷ []) }
 {
     events.push(event)?;

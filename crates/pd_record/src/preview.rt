@@ -19,7 +19,7 @@ use std::alloc::AllocError;
 /// # Errors
 /// `AllocError` where a growth is refused.
 pub fn next_packet(host: &Host, due: Option<u64>) -> Result<Option<Sent>, AllocError>
-    requires live { host.now.ended ≡ None }
+    requires live { host.now.end_reason ≡ None }
     requires early { IfSome due (λ at. at < 2 ^ 62) }
     ensures { IfOk result (λ sent. sent ≡ next_packet host.now.state due) }
 {
@@ -41,8 +41,8 @@ pub fn next_packet(host: &Host, due: Option<u64>) -> Result<Option<Sent>, AllocE
 ///
 /// # Errors
 /// `Stopped` where the sender halts, and `OutOfMemory`.
-pub fn answer_of(host: &Host, line: usize, at: u64, call: &Call) -> Result<Answer, RecordError>
-    requires live { host.now.ended ≡ None }
+pub fn answer_to_call(host: &Host, line: usize, at: u64, call: &Call) -> Result<Answer, RecordError>
+    requires live { host.now.end_reason ≡ None }
     requires early { at < 2 ^ 62 }
     requires short { IsShort host.now.state }
     ensures { Finds (answered line (then_on (called call.now at) (advanced at host.now.state))) result }

@@ -23,7 +23,7 @@ impl SenderSnapshot {
     ghost use Rattle.pd_record.specs.SenderSnapshots.{snapshot_of};
 
     /// How the sender of a host stands.
-    pub fn of(host: &Host) -> SenderSnapshot
+    pub fn of_host(host: &Host) -> SenderSnapshot
         ensures { result ≡ snapshot_of host.now }
     {
         SenderSnapshot {

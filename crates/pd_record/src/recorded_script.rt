@@ -55,7 +55,7 @@ pub fn record_script(
         per_event,
         rest,
         count: recorder.count(),
-        senders: recorder.into_senders(),
+        senders: recorder.into_sender_snapshots(),
     })
 }
 
@@ -74,12 +74,15 @@ fn record_events(
     let mut per_event = Vec::new(alloc);
     for event in events {
         let event_recording = recorder.record(alloc, event)?;
-        append(&mut per_event, event_recording)?;
+        append_event_recording(&mut per_event, event_recording)?;
     }
     Ok(per_event)
 }
 
-fn append(list: &mut Vec<EventRecording>, event_recording: EventRecording) -> Result<(), AllocError>
+fn append_event_recording(
+    list: &mut Vec<EventRecording>,
+    event_recording: EventRecording,
+) -> Result<(), AllocError>
     ensures { OnOk result (list.new.items ≡ list.old.items ++ event_recording ∷ []) }
 {
     list.push(event_recording)?;
@@ -95,14 +98,14 @@ pub fn events_of(alloc: Global, recorded_script: RecordedScript) -> Result<Vec<E
 {
     let mut events = Vec::new(alloc);
     for event_recording in recorded_script.per_event {
-        add_all(&mut events, event_recording.before)?;
-        add_own(&mut events, event_recording.own)?;
+        push_recorded_events(&mut events, event_recording.before)?;
+        push_own_event(&mut events, event_recording.own)?;
     }
-    add_all(&mut events, recorded_script.rest)?;
+    push_recorded_events(&mut events, recorded_script.rest)?;
     Ok(events)
 }
 
-fn add_all(events: &mut Vec<Event>, list: Vec<RecordedEvent>) -> Result<(), AllocError>
+fn push_recorded_events(events: &mut Vec<Event>, list: Vec<RecordedEvent>) -> Result<(), AllocError>
     ensures { OnOk result (events.new.items ≡ events.old.items ++ events_in list.items) }
 {
     for recorded in list {
@@ -111,7 +114,7 @@ fn add_all(events: &mut Vec<Event>, list: Vec<RecordedEvent>) -> Result<(), Allo
     Ok(())
 }
 
-fn add_own(events: &mut Vec<Event>, own: Option<OwnEvent>) -> Result<(), AllocError>
+fn push_own_event(events: &mut Vec<Event>, own: Option<OwnEvent>) -> Result<(), AllocError>
     ensures { OnOk result (events.new.items ≡ events.old.items ++ event_in own) }
 {
     match own {

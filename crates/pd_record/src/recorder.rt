@@ -7,7 +7,7 @@ ghost use Rattle.pd_run.specs.Times.{time_of, time_range_of, may_be_in_time};
 ghost use Rattle.pd_record.specs.Recorder.{action_time, answer_at, arrives, recorder_at_start, calls, departs, event_at, expects, inputs, leaves_next, left_by, recorded, refusal_at, precheck_at, stepped, happened, with_base, with_unmet};
 ghost use Rattle.pd_record.specs.Inner.{Finds, Gives, Goes, IsReached, Sound};
 
-use crate::preview::{answer_of, next_packet};
+use crate::preview::{answer_to_call, next_packet};
 use crate::record_error::RecordError;
 use crate::recorded::{EventRecording, OwnEvent, RecordedAnswer, RecordedEvent, SenderSnapshot};
 use crate::results::expected_result_of;
@@ -91,7 +91,7 @@ impl Recorder {
     }
 
     /// How the sender stood after each recorded event, in order; nothing where no trace was asked for.
-    pub fn into_senders(self) -> Option<Vec<SenderSnapshot>> {
+    pub fn into_sender_snapshots(self) -> Option<Vec<SenderSnapshot>> {
         let Recorder { senders, .. } = self;
         senders
     }
@@ -135,9 +135,9 @@ impl Recorder {
             return Err(refusal);
         }
         match &event.action {
-            Action::Outbound(_) => self.record_expected(alloc, event),
+            Action::Outbound(_) => self.match_expected_packet(alloc, event),
             Action::Inbound(packet) => self.record_arrival(alloc, event, packet),
-            Action::Call(call) => self.call(alloc, event, call),
+            Action::Call(call) => self.record_call_event(alloc, event, call),
             Action::Command | Action::Code => {
                 Err(RecordError::Stopped(Verdict::Unsupported(event.line)))
             }
@@ -189,7 +189,7 @@ impl Recorder {
     }
 
     /// A call is made.
-    fn call(
+    fn record_call_event(
         &mut self,
         alloc: Global,
         event: &Event,
@@ -204,7 +204,7 @@ impl Recorder {
     {
         let at = self.action_time(event);
         let before = self.record_departures(alloc, event.line, at)?;
-        let own = self.record_call(event.line, at, call)?;
+        let own = self.make_and_record_call(event.line, at, call)?;
         self.base = time_of(self.base, event.time);
         Ok(EventRecording {
             before,
@@ -233,9 +233,9 @@ impl Recorder {
             let Some(sent) = self.next_packet_until(until)? else {
                 return Ok(before);
             };
-            let recorded = self.record_packet(alloc, line, &sent)?;
-            append(&mut before, recorded)?;
-            self.add_unmet(sent.at)?;
+            let recorded = self.record_sent_packet(alloc, line, &sent)?;
+            append_recorded_event(&mut before, recorded)?;
+            self.add_unmet_packet(sent.at)?;
         }
         Err(RecordError::TooManyEvents)
     }
@@ -268,7 +268,7 @@ impl Recorder {
     }
 
     /// A packet was recorded that no expected packet has met.
-    fn add_unmet(&mut self, at: u64) -> Result<(), AllocError>
+    fn add_unmet_packet(&mut self, at: u64) -> Result<(), AllocError>
         ensures { OnOk result (self.new ≡ with_unmet self.old at) }
     {
         self.unmet.push_back(at)?;
@@ -276,7 +276,12 @@ impl Recorder {
     }
 
     /// Makes a call, and records it with what the sender answers.
-    fn record_call(&mut self, line: usize, at: u64, call: &Call) -> Result<OwnEvent, RecordError>
+    fn make_and_record_call(
+        &mut self,
+        line: usize,
+        at: u64,
+        call: &Call,
+    ) -> Result<OwnEvent, RecordError>
         requires sound { Sound self.old }
         requires early { at < 2 ^ 61 }
         ensures own { Gives (λ own. own) (calls line at call.now self.old) result self.new }
@@ -304,12 +309,12 @@ impl Recorder {
     {
         match self.refusal_at(at) {
             Some(refusal) => Err(refusal),
-            None => answer_of(self.run.host(), line, at, call),
+            None => answer_to_call(self.run.host(), line, at, call),
         }
     }
 
     /// An expected packet meets the oldest that none met before: one that was recorded, else the one that leaves next.
-    fn record_expected(
+    fn match_expected_packet(
         &mut self,
         alloc: Global,
         event: &Event,
@@ -323,13 +328,13 @@ impl Recorder {
     {
         if let Some(at) = self.unmet.pop_front() {
             self.base = base_after(self.base, event.time, at);
-            return Ok(no_recording(alloc));
+            return Ok(empty_event_recording(alloc));
         }
         let Some(sent) = self.next_packet_in_time(event)? else {
             self.base = base_after(self.base, event.time, self.base);
-            return Ok(no_recording(alloc));
+            return Ok(empty_event_recording(alloc));
         };
-        let recorded = self.record_packet(alloc, event.line, &sent)?;
+        let recorded = self.record_sent_packet(alloc, event.line, &sent)?;
         self.base = base_after(self.base, event.time, sent.at);
         Ok(EventRecording {
             before: Vec::new(alloc),
@@ -341,7 +346,7 @@ impl Recorder {
     }
 
     /// Records a packet as it left.
-    fn record_packet(
+    fn record_sent_packet(
         &mut self,
         alloc: Global,
         line: usize,
@@ -377,16 +382,16 @@ impl Recorder {
         }
         let event = self.event_at(line, at, action);
         self.step(&event)?;
-        self.note_sender()?;
+        self.note_sender_snapshot()?;
         Ok(RecordedEvent { event, at })
     }
 
     /// Notes the sender's state, where a trace has it.
-    fn note_sender(&mut self) -> Result<(), AllocError>
+    fn note_sender_snapshot(&mut self) -> Result<(), AllocError>
         ensures { self.new ≡ self.old }
     {
         if let Some(senders) = &mut self.senders {
-            senders.push(SenderSnapshot::of(self.run.host()))?;
+            senders.push(SenderSnapshot::of_host(self.run.host()))?;
         }
         Ok(())
     }
@@ -436,7 +441,7 @@ impl Recorder {
 }
 
 /// An event that records nothing.
-fn no_recording(alloc: Global) -> EventRecording
+fn empty_event_recording(alloc: Global) -> EventRecording
     ensures before { result.before ≡ [] }
     ensures own { result.own ≡ None }
 {
@@ -446,7 +451,10 @@ fn no_recording(alloc: Global) -> EventRecording
     }
 }
 
-fn append(list: &mut Vec<RecordedEvent>, recorded: RecordedEvent) -> Result<(), AllocError>
+fn append_recorded_event(
+    list: &mut Vec<RecordedEvent>,
+    recorded: RecordedEvent,
+) -> Result<(), AllocError>
     ensures { OnOk result (list.new.items ≡ list.old.items ++ recorded ∷ []) }
 {
     list.push(recorded)?;

@@ -14,7 +14,7 @@ use crate::placed_script::{Script, read_script};
 use crate::record_error::RecordError;
 use crate::recorded_script::{RecordedScript, events_of, record_script};
 use crate::recording_text::Recording;
-use crate::unchanged::is_unchanged;
+use crate::unchanged::is_own_recording;
 use pd_host::{law_advances, law_sending_one_by_one};
 use pd_layout::is_canonical_script;
 use pd_run::{law_runs_are_bounded, law_verdicts_have_reasons, run_all};
@@ -61,10 +61,10 @@ pub fn record(
         with_trace,
     )?;
     // A text that is its own recording keeps its lines.
-    if is_unchanged(alloc, lines, &script, &recorded_script, with_trace)? {
+    if is_own_recording(alloc, lines, &script, &recorded_script, with_trace)? {
         unchanged_recording(alloc, lines, &script, &recorded_script)
     } else {
-        write(alloc, lines, &script, recorded_script)
+        compose_and_reread(alloc, lines, &script, recorded_script)
     }
 }
 
@@ -88,7 +88,7 @@ fn unchanged_recording(
 
 /// The recording that is written anew, and read again. Then it passes, since each recorded event was a step of the recorder's
 /// run.
-fn write(
+fn compose_and_reread(
     alloc: Global,
     lines: &Lines,
     script: &Script,
@@ -97,7 +97,7 @@ fn write(
     ensures written { IfOk result (IsWritten script.now.header.items (events_of recorded_script)) }
     ensures refused { IfErr result (Refuses (Ok recorded_script)) }
 {
-    let recording = written(alloc, lines, script, &recorded_script)?;
+    let recording = compose_lines(alloc, lines, script, &recorded_script)?;
     let events = events_of(alloc, recorded_script)?;
     if recording.events == events.len()
         && is_canonical_script(alloc, &recording.lines, &script.header, events.as_slice())?
@@ -109,7 +109,7 @@ fn write(
 }
 
 /// The recording, in lines.
-fn written(
+fn compose_lines(
     alloc: Global,
     lines: &Lines,
     script: &Script,

@@ -11,12 +11,12 @@ pub fn expected_result_of(answer: Answer) -> ExpectedResult
 {
     match answer {
         Answer::Number(number) => ExpectedResult::Int(number),
-        Answer::Error(error) => ExpectedResult::Negative(1, Some(name_of(error))),
+        Answer::Error(error) => ExpectedResult::Negative(1, Some(error_name_of(error))),
     }
 }
 
 /// The name of an error in a script.
-fn name_of(error: Errno) -> ErrorName
+fn error_name_of(error: Errno) -> ErrorName
     ensures { result ≡ name_of error }
 {
     match error {

@@ -19,7 +19,7 @@ use std::alloc::{AllocError, Global};
 ///
 /// # Errors
 /// `AllocError` where a growth is refused.
-pub fn is_unchanged(
+pub fn is_own_recording(
     alloc: Global,
     lines: &Lines,
     script: &Script,
@@ -43,42 +43,45 @@ fn are_as_recorded(events: &[Event], recorded_script: &RecordedScript) -> bool
 {
     let mut left = events;
     for event_recording in recorded_script.per_event.as_slice() {
-        match after_event(left, event_recording) {
+        match strip_event_recording(left, event_recording) {
             Some(after) => left = after,
             None => return false,
         }
     }
-    match after_all(left, recorded_script.rest.as_slice()) {
+    match strip_recorded_events(left, recorded_script.rest.as_slice()) {
         Some(after) => after.is_empty(),
         None => false,
     }
 }
 
 /// The events after those that were recorded of one event of a script; nothing where they don't begin with these.
-fn after_event<'a>(events: &'a [Event], event_recording: &EventRecording) -> Option<&'a [Event]>
+fn strip_event_recording<'a>(
+    events: &'a [Event],
+    event_recording: &EventRecording,
+) -> Option<&'a [Event]>
     ensures { GoesAfter events.now (events_recorded event_recording.now) result }
 {
-    let after = after_all(events, event_recording.before.as_slice())?;
-    after_own_event(after, &event_recording.own)
+    let after = strip_recorded_events(events, event_recording.before.as_slice())?;
+    strip_own_event(after, &event_recording.own)
 }
 
 /// The events after what is in the place of an event.
-fn after_own_event<'a>(events: &'a [Event], own: &Option<OwnEvent>) -> Option<&'a [Event]>
+fn strip_own_event<'a>(events: &'a [Event], own: &Option<OwnEvent>) -> Option<&'a [Event]>
     ensures { GoesAfter events.now (event_in own.now) result }
 {
     match own {
-        Some(own) => after_one(events, &own.recorded.event),
+        Some(own) => strip_event(events, &own.recorded.event),
         None => Some(events),
     }
 }
 
 /// The events after some that were recorded.
-fn after_all<'a>(events: &'a [Event], list: &[RecordedEvent]) -> Option<&'a [Event]>
+fn strip_recorded_events<'a>(events: &'a [Event], list: &[RecordedEvent]) -> Option<&'a [Event]>
     ensures { GoesAfter events.now (events_in list.now) result }
 {
     let mut left = events;
     for recorded in list {
-        match after_one(left, &recorded.event) {
+        match strip_event(left, &recorded.event) {
             Some(after) => left = after,
             None => return None,
         }
@@ -87,7 +90,7 @@ fn after_all<'a>(events: &'a [Event], list: &[RecordedEvent]) -> Option<&'a [Eve
 }
 
 /// The events after one.
-fn after_one<'a>(events: &'a [Event], event: &Event) -> Option<&'a [Event]>
+fn strip_event<'a>(events: &'a [Event], event: &Event) -> Option<&'a [Event]>
     ensures { GoesAfter events.now (event.now ∷ []) result }
 {
     match events {

@@ -61,10 +61,10 @@ impl<'a> Writer<'a> {
     ///
     /// # Errors
     /// `TooLarge` and `OutOfMemory`.
-    pub fn put_item(&mut self, layout: &Layout) -> Result<(), RecordError> {
+    pub fn put_header_item(&mut self, layout: &Layout) -> Result<(), RecordError> {
         self.put_comments(&layout.leading)?;
         put_text_span(&mut self.line, self.source, layout.parts.event)?;
-        self.put_trail(&layout.trailing)?;
+        self.put_trailing_comments(&layout.trailing)?;
         self.end_line()
     }
 
@@ -91,24 +91,24 @@ impl<'a> Writer<'a> {
                 recorded_answer,
             )?,
         }
-        self.put_trail(&layout.trailing)?;
-        self.end_event(&own.recorded)
+        self.put_trailing_comments(&layout.trailing)?;
+        self.end_line_with_trace(&own.recorded)
     }
 
     /// Writes a packet that left before an input.
     ///
     /// # Errors
     /// `TooLarge` and `OutOfMemory`.
-    pub fn put_packet(&mut self, recorded: &RecordedEvent) -> Result<(), RecordError> {
+    pub fn put_packet_line(&mut self, recorded: &RecordedEvent) -> Result<(), RecordError> {
         self.put_packet_event(recorded)?;
-        self.end_event(recorded)
+        self.end_line_with_trace(recorded)
     }
 
     /// The recording, which has so many events.
     ///
     /// # Errors
     /// `TooLarge` where it has too many lines or octets.
-    pub fn finish(self, events: usize) -> Result<Recording, RecordError> {
+    pub fn into_recording(self, events: usize) -> Result<Recording, RecordError> {
         let Writer {
             list,
             trace_entries,
@@ -166,7 +166,7 @@ impl<'a> Writer<'a> {
     }
 
     /// Adds the comments that stay on the line of an event.
-    fn put_trail(&mut self, trailing: &[TriviaPart]) -> Result<(), RecordError> {
+    fn put_trailing_comments(&mut self, trailing: &[TriviaPart]) -> Result<(), RecordError> {
         for piece in trailing {
             if let TriviaPart::Comment(text_span) = piece {
                 self.line.extend_from_slice(b" ")?;
@@ -188,19 +188,23 @@ impl<'a> Writer<'a> {
     }
 
     /// Ends the line of an event.
-    fn end_event(&mut self, recorded: &RecordedEvent) -> Result<(), RecordError> {
+    fn end_line_with_trace(&mut self, recorded: &RecordedEvent) -> Result<(), RecordError> {
         let traced = self.list.len().saturating_add(self.trace_entries.len());
         self.end_line()?;
-        self.trace_event(recorded, traced)?;
+        self.push_trace_entry(recorded, traced)?;
         Ok(())
     }
 
     /// Marks the event whose line was ended, where a trace has it; the trace has so many lines before it.
-    fn trace_event(&mut self, recorded: &RecordedEvent, traced: usize) -> Result<(), AllocError> {
+    fn push_trace_entry(
+        &mut self,
+        recorded: &RecordedEvent,
+        traced: usize,
+    ) -> Result<(), AllocError> {
         let Some(sender) = self.senders.get(self.trace_entries.len()) else {
             return Ok(());
         };
-        let origin = self.origin(&recorded.event.action, traced, sender.unmatched);
+        let origin = self.track_packet_origin(&recorded.event.action, traced, sender.unmatched);
         self.trace_entries.push(TraceEntry {
             lines: self.list.len(),
             at: recorded.at,
@@ -212,7 +216,12 @@ impl<'a> Writer<'a> {
 
     /// The input or timer that let a packet go. Before an input acts all packets that left are recorded, so those that are
     /// unmatched after it are its own.
-    fn origin(&mut self, action: &Action, traced: usize, unmatched: usize) -> Option<Origin> {
+    fn track_packet_origin(
+        &mut self,
+        action: &Action,
+        traced: usize,
+        unmatched: usize,
+    ) -> Option<Origin> {
         match action {
             Action::Outbound(_) if self.left_of_input == 0 => Some(Origin::Timer),
             Action::Outbound(_) => {
@@ -231,7 +240,7 @@ impl<'a> Writer<'a> {
     fn end_line(&mut self) -> Result<(), RecordError> {
         push_lines(&mut self.list, self.line.as_slice())?;
         self.line.clear();
-        if self.list.octets() > MAX_OCTETS {
+        if self.list.octet_count() > MAX_OCTETS {
             return Err(RecordError::TooLarge);
         }
         Ok(())

@@ -7,7 +7,7 @@ use Rattle.pd_recover.specs.declared.ack.Ack.{Ack}
 use Rattle.pd_recover.specs.declared.ack.SackNews.{SackNews}
 use Rattle.pd_recover.specs.declared.ack_action.AckAction.{AckAction}
 use Rattle.pd_recover.specs.Acks.{acked_by, renewed, grown_by, dup_ack_counted, new_octets_acked}
-use Rattle.pd_recover.specs.Cong.{CongView, window_by, limit_of, growth, restart_rule, restart_window}
+use Rattle.pd_recover.specs.Cong.{CongView, initial_window_by_rule, limit_of, cwnd_growth, idle_restart_rule, restart_window}
 use Rattle.pd_recover.specs.Laws.{CountsOctets, slow_start_of, KeepsSlowStart, RestartsWhenIdle, DefaultsAreRfc5681}
 use Rattle.pd_recover.proofs.Cases.{either, selective_cases, plain_cases, sack_cases, number_cases}
 
@@ -17,7 +17,7 @@ below : (a b : ℕ) → a < b → nat_lt a b ≡ true
 below a b h = grind (arith, nat_tests)
 
 -- in slow start
-in_slow_start : (smss n : ℕ) (w : CongView) → w.cwnd < w.ssthresh → growth smss n w ≡ min n (limit_of w * smss)
+in_slow_start : (smss n : ℕ) (w : CongView) → w.cwnd < w.ssthresh → cwnd_growth smss n w ≡ min n (limit_of w * smss)
 in_slow_start smss n w h = ap (λ (b : Bool). if b then min n (limit_of w * smss) else max (smss * smss / w.cwnd) 1) (below w.cwnd w.ssthresh h)
 
 first_least : (n m : ℕ) → min n m ≤ n
@@ -70,7 +70,7 @@ keeps_slow_start ack w = told_kept w ack ack.sack (renewed ack w) (renewed_kept 
 
 no_wider : (o : Option InitialWindow) (smss cwnd : ℕ) → restart_window o smss cwnd ≤ cwnd
 no_wider None smss cwnd = omega arith
-no_wider (Some rule) smss cwnd = second_least (window_by rule smss) cwnd
+no_wider (Some rule) smss cwnd = second_least (initial_window_by_rule rule smss) cwnd
 
 itself : (n : ℕ) → n ≤ n
 itself n = omega arith
@@ -92,7 +92,7 @@ pub restarts_when_idle : RestartsWhenIdle
 restarts_when_idle = record {
   idle = λ smss rule w by. ap (λ (o : Option InitialWindow). restart_window o smss w.cwnd) by;
   no_wider = λ smss idle w.
-      either (λ (n : ℕ). n ≤ w.cwnd) idle (restart_window w.restart_rule smss w.cwnd) w.cwnd (no_wider w.restart_rule smss w.cwnd) (itself w.cwnd);
+      either (λ (n : ℕ). n ≤ w.cwnd) idle (restart_window w.idle_restart_rule smss w.cwnd) w.cwnd (no_wider w.idle_restart_rule smss w.cwnd) (itself w.cwnd);
   busy = λ smss w. refl;
   off = λ smss idle w none.
       with_start w _ _
@@ -110,5 +110,5 @@ is_as_before = record {
   counting = λ smss n w one slow.
       in_slow_start smss n w slow ∙ ap (λ (l : ℕ). min n (l * smss)) (one_segment w one) ∙ omega arith;
   limit = λ settings smss syn_ack_resent one. one;
-  restart = λ settings smss syn_ack_resent off. ap (λ (on : Bool). restart_rule on settings.initial_window) off;
+  restart = λ settings smss syn_ack_resent off. ap (λ (on : Bool). idle_restart_rule on settings.initial_window) off;
 }

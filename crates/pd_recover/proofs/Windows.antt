@@ -6,7 +6,7 @@ use Rattle.pd_recover.specs.declared.ack_action.AckAction.{AckAction}
 use Rattle.pd_settings.specs.declared.initial_window.InitialWindow.{InitialWindow}
 use Rattle.pd_settings.specs.declared.initial_window.InitialWindow.TheVariants.{Rfc5681, Rfc6928}
 use Rattle.pd_recover.specs.Acks.{acked, renewed, acked_by, acked_with_sack, acked_without_sack, selective_duplicate, plain_duplicate, dup_ack_counted, grown_by, new_octets_acked, entered, recovery_ended, with_delivered, retransmitted, is_duplicate}
-use Rattle.pd_recover.specs.Cong.{CongView, is_prr_recovering, window_by, first_window, widened, growth, restart_window, restarted, sndcnt, with_prr_cwnd}
+use Rattle.pd_recover.specs.Cong.{CongView, is_prr_recovering, initial_window_by_rule, window_at_establishment, widened, cwnd_growth, restart_window, restarted, sndcnt, with_prr_cwnd}
 use Rattle.pd_recover.specs.Prr.{uses_prr}
 use Rattle.pd_recover.specs.Laws.{IsWithin, StaysWithin}
 use Rattle.pd_recover.proofs.Cases.{selective_cases, plain_cases}
@@ -41,7 +41,7 @@ half_initial initial flight smss = omega arith
 abbrev IsInRange : ℕ → ℕ → Type 0
 IsInRange smss window = (smss ≤ window) × (window ≤ 2 ^ 30)
 
-pub in_range : (rule : InitialWindow) (smss : ℕ) → smss ≤ 65495 → IsInRange smss (window_by rule smss)
+pub in_range : (rule : InitialWindow) (smss : ℕ) → smss ≤ 65495 → IsInRange smss (initial_window_by_rule rule smss)
 in_range Rfc6928 smss small = (omega arith, omega (arith, small))
 in_range Rfc5681 smss small = first (nat_lt 2190 smss) (nat_lt 1095 smss)
   where
@@ -50,7 +50,7 @@ in_range Rfc5681 smss small = first (nat_lt 2190 smss) (nat_lt 1095 smss)
     first false true = (omega arith, omega arith)
     first false false = (omega arith, omega arith)
 
-first_in_range : (rule : InitialWindow) (smss : ℕ) (syn_ack_resent : Bool) → smss ≤ 65495 → IsInRange smss (first_window rule smss syn_ack_resent)
+first_in_range : (rule : InitialWindow) (smss : ℕ) (syn_ack_resent : Bool) → smss ≤ 65495 → IsInRange smss (window_at_establishment rule smss syn_ack_resent)
 first_in_range rule smss true small = (omega arith, omega (arith, small))
 first_in_range rule smss false small = in_range rule smss small
 
@@ -89,7 +89,7 @@ module _ (initial : ℕ) (ack : Ack) (small : ack.smss ≤ 65495) (few : ack.top
 
   grown_by-within : (w : CongView) → Within w → Within (grown_by ack w)
   grown_by-within w h =
-      chosen Within (nat_lt 0 ack.acked) _ w (λ _. widened-within initial ack.smss small (growth ack.smss ack.acked w) w h) (λ _. h)
+      chosen Within (nat_lt 0 ack.acked) _ w (λ _. widened-within initial ack.smss small (cwnd_growth ack.smss ack.acked w) w h) (λ _. h)
 
   recovery_ended-within : (w : CongView) → w.recovering ≡ true → Within w → Within (recovery_ended w)
   recovery_ended-within w r h = record {
@@ -176,7 +176,7 @@ lesser smss a b h k l = (omega (arith, h, k), omega (arith, l))
 -- no wider than it was
 no_wider : (o : Option InitialWindow) (smss cwnd : ℕ) → cwnd ≤ 2 ^ 30 → restart_window o smss cwnd ≤ 2 ^ 30
 no_wider None smss cwnd h = h
-no_wider (Some rule) smss cwnd h = lowered (window_by rule smss) cwnd h
+no_wider (Some rule) smss cwnd h = lowered (initial_window_by_rule rule smss) cwnd h
   where
     lowered : (a b : ℕ) → b ≤ 2 ^ 30 → min a b ≤ 2 ^ 30
     lowered a b l = omega (arith, l)
@@ -184,13 +184,13 @@ no_wider (Some rule) smss cwnd h = lowered (window_by rule smss) cwnd h
 -- the window after an idle time
 after_idle : (o : Option InitialWindow) (smss cwnd : ℕ) → smss ≤ 65495 → IsInRange smss cwnd → IsInRange smss (restart_window o smss cwnd)
 after_idle None smss cwnd small h = h
-after_idle (Some rule) smss cwnd small h = lesser smss (window_by rule smss) cwnd (in_range rule smss small).0 h.0 h.1
+after_idle (Some rule) smss cwnd small h = lesser smss (initial_window_by_rule rule smss) cwnd (in_range rule smss small).0 h.0 h.1
 
 pub restarted-within : (initial smss : ℕ) (idle : Bool) (w : CongView) → smss ≤ 65495 → IsWithin smss initial w
     → IsWithin smss initial (restarted smss idle w)
 restarted-within initial smss idle w small h = record {
-  cwnd_from = λ calm. chosen (λ n. smss ≤ n) idle _ _ (λ _. (after_idle w.restart_rule smss w.cwnd small (h.cwnd_from calm, h.cwnd_to)).0) (λ _. h.cwnd_from calm);
-  cwnd_to = chosen (λ n. n ≤ 2 ^ 30) idle _ _ (λ _. no_wider w.restart_rule smss w.cwnd h.cwnd_to) (λ _. h.cwnd_to);
+  cwnd_from = λ calm. chosen (λ n. smss ≤ n) idle _ _ (λ _. (after_idle w.idle_restart_rule smss w.cwnd small (h.cwnd_from calm, h.cwnd_to)).0) (λ _. h.cwnd_from calm);
+  cwnd_to = chosen (λ n. n ≤ 2 ^ 30) idle _ _ (λ _. no_wider w.idle_restart_rule smss w.cwnd h.cwnd_to) (λ _. h.cwnd_to);
   ssthresh_from = h.ssthresh_from;
   ssthresh_to = h.ssthresh_to;
   recovering = h.recovering;

@@ -38,8 +38,8 @@ abbrev pub half_of : Ack → CongView → ℕ
 half_of ack w = halved ack.smss ack.una ack.top w
 
 -- the new segment at top, where data is queued and the peer's window takes it (RFC 6675, section 4, NextSeg, rule 2)
-abbrev pub new_segment : ℕ → ℕ → ℕ → ℕ → ℕ → Option Span
-new_segment smss una top end rwnd =
+abbrev pub new_segment_within_rwnd : ℕ → ℕ → ℕ → ℕ → ℕ → Option Span
+new_segment_within_rwnd smss una top end rwnd =
     let to = top + min smss (end - top) in
     if nat_lt top to && nat_le to (una + rwnd) then Some (record { start = top; end = to }) else None
 
@@ -122,11 +122,11 @@ sent_limited ack (Some segment) w =
 -- each duplicate before that sends one new segment, where limited transmit is on (step 1; RFC 3042)
 abbrev pub limited_transmit : Ack → CongView → CongView × AckAction
 limited_transmit ack w =
-    if w.limited_transmit then sent_limited ack (new_segment ack.smss ack.una ack.top ack.end ack.rwnd) w else (w, Nothing)
+    if w.limited_transmit then sent_limited ack (new_segment_within_rwnd ack.smss ack.una ack.top ack.end ack.rwnd) w else (w, Nothing)
 
 -- the segment at una, SMSS octets at most
-abbrev pub first_outstanding : Ack → Span
-first_outstanding ack = record { start = ack.una; end = min (ack.una + ack.smss) ack.top }
+abbrev pub first_outstanding_segment : Ack → Span
+first_outstanding_segment ack = record { start = ack.una; end = min (ack.una + ack.smss) ack.top }
 
 -- DupThresh duplicates begin recovery: the window is as if each were a segment that has left the network (steps 2 and 3)
 abbrev pub retransmitted : Ack → CongView → CongView
@@ -140,7 +140,7 @@ retransmitted ack w = record w {
 abbrev pub plain_duplicate : Ack → CongView → CongView × AckAction
 plain_duplicate ack w =
     if nat_lt w.dup_acks dup_thresh then limited_transmit ack w
-    else if w.dup_acks == dup_thresh then (retransmitted ack w, FastRetransmit (first_outstanding ack))
+    else if w.dup_acks == dup_thresh then (retransmitted ack w, FastRetransmit (first_outstanding_segment ack))
     else (widened ack.smss w, Ordinary)
 
 -- an ACK where SACK wasn't agreed; a duplicate below RecoveryPoint isn't counted

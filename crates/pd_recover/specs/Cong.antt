@@ -35,7 +35,7 @@ pub record CongView : Type 0 where
   -- whether slow start began at an expiry last (RFC 3465, section 2.3)
   pub follows_expiry : Bool
   -- the rule for IW, where the window restarts by it after an idle time (RFC 5681, section 4.1)
-  pub restart_rule : Option InitialWindow
+  pub idle_restart_rule : Option InitialWindow
   -- the algorithm of recovery with SACK, and what PRR keeps of it (RFC 9937, section 6)
   pub recovery_algorithm : RecoveryAlgorithm
   pub prr : PrrState
@@ -59,32 +59,32 @@ abbrev pub IsCongView : CongView → Type 0
 IsCongView w = IsRanged w.cwnd w.ssthresh w.dup_acks w.limited_octets (is_prr_recovering w.recovering w.recovery_algorithm) w.prr
 
 -- how many segments the initial window of RFC 5681 holds (section 3.1)
-abbrev pub first_segments : ℕ → ℕ
-first_segments smss =
+abbrev pub rfc5681_initial_segments : ℕ → ℕ
+rfc5681_initial_segments smss =
     if nat_lt 2190 smss then 2
     else if nat_lt 1095 smss then 3
     else 4
 
 -- the initial window by the rule of the settings (RFC 5681, section 3.1; RFC 6928, section 2)
-abbrev pub window_by : InitialWindow → ℕ → ℕ
-window_by Rfc5681 smss = first_segments smss * smss
-window_by Rfc6928 smss = min (10 * smss) (max (2 * smss) 14600)
+abbrev pub initial_window_by_rule : InitialWindow → ℕ → ℕ
+initial_window_by_rule Rfc5681 smss = rfc5681_initial_segments smss * smss
+initial_window_by_rule Rfc6928 smss = min (10 * smss) (max (2 * smss) 14600)
 
 -- the same, or one segment where the SYN/ACK was sent again (RFC 5681, section 3.1; own under RFC 6928, whose section 2
 -- goes back to one segment only where it was sent again more than once)
-abbrev pub first_window : InitialWindow → ℕ → Bool → ℕ
-first_window rule smss syn_ack_resent = if syn_ack_resent then smss else window_by rule smss
+abbrev pub window_at_establishment : InitialWindow → ℕ → Bool → ℕ
+window_at_establishment rule smss syn_ack_resent = if syn_ack_resent then smss else initial_window_by_rule rule smss
 
 -- IW's rule where the setting is on
-abbrev pub restart_rule : Bool → InitialWindow → Option InitialWindow
-restart_rule on rule = if on then Some rule else None
+abbrev pub idle_restart_rule : Bool → InitialWindow → Option InitialWindow
+idle_restart_rule on rule = if on then Some rule else None
 
 -- the state at establishment, by the settings' rule for the initial window, their first threshold, their L, whether they
 -- have limited transmit and the restart after an idle time, and their rate of recovery; whether the SYN/ACK was sent again
 -- counts
 abbrev pub begun : Settings → ℕ → Bool → CongView
 begun settings smss syn_ack_resent = record {
-  cwnd = first_window settings.initial_window smss syn_ack_resent;
+  cwnd = window_at_establishment settings.initial_window smss syn_ack_resent;
   ssthresh = settings.initial_ssthresh;
   dup_acks = 0;
   limited_transmit = settings.limited_transmit;
@@ -96,7 +96,7 @@ begun settings smss syn_ack_resent = record {
   expired = false;
   abc_limit = settings.abc_limit;
   follows_expiry = false;
-  restart_rule = restart_rule settings.slow_start_after_idle settings.initial_window;
+  idle_restart_rule = idle_restart_rule settings.slow_start_after_idle settings.initial_window;
   recovery_algorithm = settings.recovery_algorithm;
   prr = no_prr;
 }
@@ -122,12 +122,12 @@ limit_of w = if w.follows_expiry then 1 else w.abc_limit
 
 -- by how much an ACK of n new octets widens the window: slow start below ssthresh, else congestion avoidance (RFC 5681,
 -- section 3.1, equations 2 and 3; RFC 3465, section 2.2)
-abbrev pub growth : ℕ → ℕ → CongView → ℕ
-growth smss n w = if nat_lt w.cwnd w.ssthresh then min n (limit_of w * smss) else max (smss * smss / w.cwnd) 1
+abbrev pub cwnd_growth : ℕ → ℕ → CongView → ℕ
+cwnd_growth smss n w = if nat_lt w.cwnd w.ssthresh then min n (limit_of w * smss) else max (smss * smss / w.cwnd) 1
 
 -- the window after an ACK of n new octets (RFC 5681, section 3.1)
 abbrev pub grown : ℕ → ℕ → CongView → CongView
-grown smss n w = widened (growth smss n w) w
+grown smss n w = widened (cwnd_growth smss n w) w
 
 -- half of what is outstanding, without what limited transmit has sent, 2 segments at least (RFC 5681, section 3.2,
 -- step 2; equation 4)
@@ -156,14 +156,14 @@ timed_out smss una top w = record w {
 -- RW, the restart window: min(IW, cwnd) (RFC 5681, section 4.1); without a rule for IW the window stays
 abbrev pub restart_window : Option InitialWindow → ℕ → ℕ → ℕ
 restart_window None smss cwnd = cwnd
-restart_window (Some rule) smss cwnd = min (window_by rule smss) cwnd
+restart_window (Some rule) smss cwnd = min (initial_window_by_rule rule smss) cwnd
 
 -- sending begins: after an idle time the window is RW at most (RFC 5681, section 4.1), and the slow start that begins so
 -- doesn't follow an expiry (own)
 abbrev pub restarted : ℕ → Bool → CongView → CongView
 restarted smss idle w = record w {
-  cwnd = if idle then restart_window w.restart_rule smss w.cwnd else w.cwnd;
-  follows_expiry = if idle && is_some w.restart_rule then false else w.follows_expiry;
+  cwnd = if idle then restart_window w.idle_restart_rule smss w.cwnd else w.cwnd;
+  follows_expiry = if idle && is_some w.idle_restart_rule then false else w.follows_expiry;
 }
 
 -- By PRR (RFC 9937, section 6)

@@ -14,10 +14,10 @@ use Rattle.pd_recover.specs.declared.next_segment.NextSegment.TheVariants.{Rescu
 use Rattle.pd_recover.specs.declared.ack.Ack.{Ack}
 use Rattle.pd_recover.specs.declared.ack.Delivery.{Delivery}
 use Rattle.pd_recover.specs.declared.ack_action.AckAction.TheVariants.{StepC, Entry, Nothing}
-use Rattle.pd_recover.specs.Prr.{uses_prr, no_prr, begun_with, delivery_counted, with_sent, proportion, is_forced}
+use Rattle.pd_recover.specs.Prr.{uses_prr, no_prr, begun_with, delivery_counted, with_sent, proportional_ssthresh, is_forced}
 use Rattle.pd_recover.specs.Acks.{renewed, acked}
-use Rattle.pd_recover.specs.NextSeg.{IsSendable, segment_of, new_data, next_send, step_c_segment, with_sent_noted}
-use Rattle.pd_recover.specs.Cong.{CongView, IsCongView, window_by, begun, begun_settings, is_prr_recovering, limit_of, growth, timed_out, restarted, with_prr_out, sndcnt, with_prr_cwnd}
+use Rattle.pd_recover.specs.NextSeg.{IsSendable, segment_of, new_segment_on_board, next_send, step_c_segment, with_sent_noted}
+use Rattle.pd_recover.specs.Cong.{CongView, IsCongView, initial_window_by_rule, begun, begun_settings, is_prr_recovering, limit_of, cwnd_growth, timed_out, restarted, with_prr_out, sndcnt, with_prr_cwnd}
 
 -- the window lies between one segment, in recovery by PRR 0, and 2^30, the threshold between 2 segments, or its initial value where that is lower,
 -- and 2^30; in recovery it is at least 2 segments
@@ -63,14 +63,14 @@ BeginsByUses =
 -- in slow start an ACK widens the window by no more octets than it acknowledges, nor than L segments have: by one segment
 -- at most in the slow start after an expiry (RFC 3465, sections 2.2 and 2.3)
 pub record CountsOctets : Type 0 where
-  pub acknowledged : (smss n : ℕ) (w : CongView) → w.cwnd < w.ssthresh → growth smss n w ≤ n
-  pub limited : (smss n : ℕ) (w : CongView) → w.cwnd < w.ssthresh → growth smss n w ≤ limit_of w * smss
-  pub all : (smss n : ℕ) (w : CongView) → w.cwnd < w.ssthresh → n ≤ limit_of w * smss → growth smss n w ≡ n
+  pub acknowledged : (smss n : ℕ) (w : CongView) → w.cwnd < w.ssthresh → cwnd_growth smss n w ≤ n
+  pub limited : (smss n : ℕ) (w : CongView) → w.cwnd < w.ssthresh → cwnd_growth smss n w ≤ limit_of w * smss
+  pub all : (smss n : ℕ) (w : CongView) → w.cwnd < w.ssthresh → n ≤ limit_of w * smss → cwnd_growth smss n w ≡ n
   pub after_expiry : (smss una top : ℕ) (w : CongView) → limit_of (timed_out smss una top w) ≡ 1
 
 -- the setting of slow start, and whether it began at an expiry last
 abbrev pub slow_start_of : CongView → ℕ × (Option InitialWindow × Bool)
-slow_start_of w = (w.abc_limit, (w.restart_rule, w.follows_expiry))
+slow_start_of w = (w.abc_limit, (w.idle_restart_rule, w.follows_expiry))
 
 -- ACKs leave it, so that the slow start after an expiry counts as such until a restart (RFC 3465, section 2.3)
 abbrev pub KeepsSlowStart : Type 0
@@ -80,24 +80,24 @@ KeepsSlowStart = (ack : Ack) (w : CongView) → slow_start_of (acked ack w).0 �
 -- goes on without one, all stays as it is
 pub record RestartsWhenIdle : Type 0 where
   pub idle :
-      (smss : ℕ) (rule : InitialWindow) (w : CongView) → w.restart_rule ≡ Some rule
-      → (restarted smss true w).cwnd ≡ min (window_by rule smss) w.cwnd
+      (smss : ℕ) (rule : InitialWindow) (w : CongView) → w.idle_restart_rule ≡ Some rule
+      → (restarted smss true w).cwnd ≡ min (initial_window_by_rule rule smss) w.cwnd
   pub no_wider : (smss : ℕ) (idle : Bool) (w : CongView) → (restarted smss idle w).cwnd ≤ w.cwnd
   pub busy : (smss : ℕ) (w : CongView) → restarted smss false w ≡ w
-  pub off : (smss : ℕ) (idle : Bool) (w : CongView) → w.restart_rule ≡ None → restarted smss idle w ≡ w
+  pub off : (smss : ℕ) (idle : Bool) (w : CongView) → w.idle_restart_rule ≡ None → restarted smss idle w ≡ w
 
 -- where the settings are 1 and false, slow start widens by min(N, SMSS) (RFC 5681, section 3.1, equation 2), and no idle
 -- time changes the window
 pub record DefaultsAreRfc5681 : Type 0 where
   pub counting :
       (smss n : ℕ) (w : CongView) → w.abc_limit ≡ 1 → w.cwnd < w.ssthresh
-      → growth smss n w ≡ min n smss
+      → cwnd_growth smss n w ≡ min n smss
   pub limit :
       (settings : Settings) (smss : ℕ) (syn_ack_resent : Bool) → settings.abc_limit ≡ 1
       → (begun settings smss syn_ack_resent).abc_limit ≡ 1
   pub restart :
       (settings : Settings) (smss : ℕ) (syn_ack_resent : Bool) → settings.slow_start_after_idle ≡ false
-      → (begun settings smss syn_ack_resent).restart_rule ≡ None
+      → (begun settings smss syn_ack_resent).idle_restart_rule ≡ None
 
 -- Proportional Rate Reduction (RFC 9937, section 6)
 
@@ -115,7 +115,7 @@ pub record SendsInProportion : Type 0 where
       → (with_prr_cwnd smss pipe w).cwnd - pipe ≤ sndcnt smss pipe w
   pub proportional :
       (smss pipe : ℕ) (w : CongView) → forces smss pipe w ≡ false → w.ssthresh < pipe
-      → w.prr.prr_out + sndcnt smss pipe w ≤ max w.prr.prr_out (proportion w.ssthresh w.prr)
+      → w.prr.prr_out + sndcnt smss pipe w ≤ max w.prr.prr_out (proportional_ssthresh w.ssthresh w.prr)
   pub target :
       (smss pipe : ℕ) (w : CongView) → forces smss pipe w ≡ false → pipe ≤ w.ssthresh
       → pipe + sndcnt smss pipe w ≤ w.ssthresh
@@ -221,4 +221,4 @@ pub record ChoosesSendable : Type 0 where
       → (sent : NextSegment) → next_send rwnd s w ≡ Some sent → IsSendable s (segment_of sent)
   pub limited :
       (rwnd : ℕ) (s : BoardView) → IsBoardView s
-      → (segment : Span) → new_data rwnd s ≡ Some segment → IsSendable s segment
+      → (segment : Span) → new_segment_on_board rwnd s ≡ Some segment → IsSendable s segment

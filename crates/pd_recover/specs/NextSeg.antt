@@ -6,7 +6,7 @@ use Rattle.pd_board.specs.Retransmit.{run_at, next_lost, next_hole, rescue}
 use Rattle.pd_board.specs.Board.{BoardView}
 use Rattle.pd_recover.specs.declared.next_segment.NextSegment.{NextSegment}
 use Rattle.pd_recover.specs.declared.next_segment.NextSegment.TheVariants.{Lost, New, Hole, Rescue}
-use Rattle.pd_recover.specs.Acks.{new_segment}
+use Rattle.pd_recover.specs.Acks.{new_segment_within_rwnd}
 use Rattle.pd_recover.specs.Cong.{CongView, with_prr_out}
 
 -- the octets of a segment
@@ -28,8 +28,8 @@ abbrev pub lost_run : BoardView → CongView → Option NextSegment
 lost_run s w = option_map (λ x. Lost (run_at x s)) (next_lost w.high_rxt s)
 
 -- rule 2: up to SMSS octets of new data, where the peer's window takes them
-abbrev pub new_data : ℕ → BoardView → Option Span
-new_data rwnd s = new_segment s.smss s.una s.top s.end rwnd
+abbrev pub new_segment_on_board : ℕ → BoardView → Option Span
+new_segment_on_board rwnd s = new_segment_within_rwnd s.smss s.una s.top s.end rwnd
 
 -- rule 3: from the first octet that wasn't sent again and lies below a SACKed one
 abbrev pub hole_run : BoardView → CongView → Option NextSegment
@@ -40,8 +40,8 @@ abbrev pub rescue_run : BoardView → CongView → Option NextSegment
 rescue_run s w = if nat_lt w.rescue_rxt s.una then option_map (λ segment. Rescue segment) (rescue s) else None
 
 -- the first rule that gives a segment, by what the second one gives
-abbrev pub first_by_rules : Option Span → BoardView → CongView → Option NextSegment
-first_by_rules unsent s w =
+abbrev pub first_by_next_seg_rules : Option Span → BoardView → CongView → Option NextSegment
+first_by_next_seg_rules unsent s w =
     option_or (lost_run s w)
     (option_or (option_map (λ segment. New segment) unsent)
     (option_or (hole_run s w)
@@ -49,19 +49,19 @@ first_by_rules unsent s w =
 
 -- NextSeg: the first rule that gives a segment; by rule 5 there is none
 abbrev pub next_send : ℕ → BoardView → CongView → Option NextSegment
-next_send rwnd s w = first_by_rules (new_data rwnd s) s w
+next_send rwnd s w = first_by_next_seg_rules (new_segment_on_board rwnd s) s w
 
 -- cwnd - pipe is at least SMSS: a full segment has room between what is on the way and the window
-abbrev pub has_room : ℕ → BoardView → CongView → Bool
-has_room pipe s w = nat_le s.smss (w.cwnd - pipe)
+abbrev pub has_room_for_segment : ℕ → BoardView → CongView → Bool
+has_room_for_segment pipe s w = nat_le s.smss (w.cwnd - pipe)
 
 -- step C: the next segment while there is room
 abbrev pub step_c_segment : ℕ → ℕ → BoardView → CongView → Option NextSegment
-step_c_segment rwnd pipe s w = if has_room pipe s w then next_send rwnd s w else None
+step_c_segment rwnd pipe s w = if has_room_for_segment pipe s w then next_send rwnd s w else None
 
 -- limited transmit: new data while there is room (section 5, step 3)
-abbrev pub limited_segment : ℕ → ℕ → BoardView → CongView → Option Span
-limited_segment rwnd pipe s w = if has_room pipe s w then new_data rwnd s else None
+abbrev pub limited_transmit_segment : ℕ → ℕ → BoardView → CongView → Option Span
+limited_transmit_segment rwnd pipe s w = if has_room_for_segment pipe s w then new_segment_on_board rwnd s else None
 
 -- the number that a segment sent by these rules moves: rules 1 and 3 HighRxt, rule 4 RescueRxt
 abbrev pub moved : NextSegment → CongView → CongView

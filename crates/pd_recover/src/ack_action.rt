@@ -8,10 +8,10 @@ pub enum AckAction {
     Ordinary,
     /// Segments by NextSeg, as long as cwnd - pipe allows one (RFC 6675, section 5, step C).
     StepC,
-    /// Loss recovery begins (RFC 6675, section 5, step 4): the segment at SND.UNA again, which `Cong::enter_recovery`
+    /// Loss recovery begins (RFC 6675, section 5, step 4): the segment at SND.UNA again, which `Cong::note_entry_retransmit`
     /// counts, then as `StepC`.
     Entry,
-    /// New segments, as long as cwnd - pipe allows one, which `Cong::count_limited` counts (RFC 6675, section 5,
+    /// New segments, as long as cwnd - pipe allows one, which `Cong::count_limited_transmit_octets` counts (RFC 6675, section 5,
     /// step 3).
     LimitedTransmit,
     /// One new segment (RFC 3042).

@@ -1,6 +1,6 @@
 //! The congestion window and what loss recovery keeps.
 ghost use Rattle.std.specs.Prelude.{◌≡◌, ◌-◌, ◌<◌, ◌≤◌, ◌^◌};
-ghost use Rattle.pd_recover.specs.Cong.{IsCongView, first_segments, window_by, first_window, restart_rule, begun, begun_settings, timed_out, restarted, entered_to, with_limited, is_prr_recovering, with_prr_out, sndcnt, with_prr_cwnd};
+ghost use Rattle.pd_recover.specs.Cong.{IsCongView, rfc5681_initial_segments, initial_window_by_rule, window_at_establishment, idle_restart_rule, begun, begun_settings, timed_out, restarted, entered_to, with_limited, is_prr_recovering, with_prr_out, sndcnt, with_prr_cwnd};
 ghost use Rattle.pd_recover.specs.Prr.{uses_prr, unforced_sndcnt};
 
 mod next_seg;
@@ -49,7 +49,7 @@ pub struct Cong {
     /// Whether slow start began at an expiry last (RFC 3465, section 2.3).
     follows_expiry: bool,
     /// The rule for IW, where the window restarts by it after an idle time (RFC 5681, section 4.1).
-    restart_rule: Option<InitialWindow>,
+    idle_restart_rule: Option<InitialWindow>,
     /// The algorithm of recovery with SACK (RFC 6675, section 5; RFC 9937, section 6).
     recovery_algorithm: RecoveryAlgorithm,
     /// The state of PRR in a recovery with SACK (RFC 9937, section 6).
@@ -61,11 +61,11 @@ impl Model for Cong {
 
     ghost Value = { CongView };
 
-    ghost view = { λ c. record { cwnd = c.cwnd; ssthresh = c.ssthresh; dup_acks = c.dup_acks; limited_transmit = c.limited_transmit; limited_octets = c.limited_octets; recovering = c.recovering; recovery_point = c.recovery_point; high_rxt = c.high_rxt; rescue_rxt = c.rescue_rxt; expired = c.expired; abc_limit = c.abc_limit; follows_expiry = c.follows_expiry; restart_rule = c.restart_rule; recovery_algorithm = c.recovery_algorithm; prr = c.prr } };
+    ghost view = { λ c. record { cwnd = c.cwnd; ssthresh = c.ssthresh; dup_acks = c.dup_acks; limited_transmit = c.limited_transmit; limited_octets = c.limited_octets; recovering = c.recovering; recovery_point = c.recovery_point; high_rxt = c.high_rxt; rescue_rxt = c.rescue_rxt; expired = c.expired; abc_limit = c.abc_limit; follows_expiry = c.follows_expiry; idle_restart_rule = c.idle_restart_rule; recovery_algorithm = c.recovery_algorithm; prr = c.prr } };
 
     ghost invariant = { λ c. IsRanged c.cwnd c.ssthresh c.dup_acks c.limited_octets (is_prr_recovering c.recovering c.recovery_algorithm) c.prr };
 
-    ghost inverse = { λ c. record { cwnd = c.cwnd; ssthresh = c.ssthresh; dup_acks = c.dup_acks; limited_transmit = c.limited_transmit; limited_octets = c.limited_octets; recovering = c.recovering; recovery_point = c.recovery_point; high_rxt = c.high_rxt; rescue_rxt = c.rescue_rxt; expired = c.expired; abc_limit = c.abc_limit; follows_expiry = c.follows_expiry; restart_rule = c.restart_rule; recovery_algorithm = c.recovery_algorithm; prr = c.prr } };
+    ghost inverse = { λ c. record { cwnd = c.cwnd; ssthresh = c.ssthresh; dup_acks = c.dup_acks; limited_transmit = c.limited_transmit; limited_octets = c.limited_octets; recovering = c.recovering; recovery_point = c.recovery_point; high_rxt = c.high_rxt; rescue_rxt = c.rescue_rxt; expired = c.expired; abc_limit = c.abc_limit; follows_expiry = c.follows_expiry; idle_restart_rule = c.idle_restart_rule; recovery_algorithm = c.recovery_algorithm; prr = c.prr } };
 }
 
 impl Clone for Cong {
@@ -80,8 +80,8 @@ impl Copy for Cong {}
 const LARGER_INITIAL_WINDOW: u32 = 14_600;
 
 /// How many segments the initial window of RFC 5681 holds, at this SMSS in octets (section 3.1).
-fn first_segments(smss: u16) -> u32
-    ensures { result ≡ first_segments smss }
+fn rfc5681_initial_segments(smss: u16) -> u32
+    ensures { result ≡ rfc5681_initial_segments smss }
 {
     if smss > 2_190 {
         2
@@ -93,37 +93,37 @@ fn first_segments(smss: u16) -> u32
 }
 
 /// The initial window by a rule, in octets as SMSS is.
-fn window_by(rule: InitialWindow, smss: u16) -> u32
-    ensures { result ≡ window_by rule smss }
+fn initial_window_by_rule(rule: InitialWindow, smss: u16) -> u32
+    ensures { result ≡ initial_window_by_rule rule smss }
 {
     let segment = u32::from(smss);
     match rule {
-        InitialWindow::Rfc5681 => first_segments(smss) * segment,
+        InitialWindow::Rfc5681 => rfc5681_initial_segments(smss) * segment,
         InitialWindow::Rfc6928 => (10 * segment).min((2 * segment).max(LARGER_INITIAL_WINDOW)),
     }
 }
 
 /// The same, or one segment where the SYN/ACK was sent again.
-fn first_window(rule: InitialWindow, smss: u16, syn_ack_resent: bool) -> u32
-    ensures { result ≡ first_window rule smss syn_ack_resent }
+fn window_at_establishment(rule: InitialWindow, smss: u16, syn_ack_resent: bool) -> u32
+    ensures { result ≡ window_at_establishment rule smss syn_ack_resent }
 {
     if syn_ack_resent {
         u32::from(smss)
     } else {
-        window_by(rule, smss)
+        initial_window_by_rule(rule, smss)
     }
 }
 
 /// IW's rule, where the setting is on.
-fn restart_rule(on: bool, rule: InitialWindow) -> Option<InitialWindow>
-    ensures { result ≡ restart_rule on rule }
+fn idle_restart_rule(on: bool, rule: InitialWindow) -> Option<InitialWindow>
+    ensures { result ≡ idle_restart_rule on rule }
 {
     if on { Some(rule) } else { None }
 }
 
 impl Cong {
     /// The state at establishment: the initial window (RFC 5681, section 3.1; RFC 6928, section 2), one segment where
-    /// the SYN/ACK was sent again. SMSS is in octets. Of the settings it looks at those of `with_consulted_settings`
+    /// the SYN/ACK was sent again. SMSS is in octets. Of the settings it looks at those of `with_congestion_settings`
     /// alone.
     pub fn new(settings: &Settings, smss: u16, syn_ack_resent: bool) -> Cong
         requires from { 64 ≤ smss }
@@ -133,7 +133,7 @@ impl Cong {
     {
         settings.law_invariant();
         Cong {
-            cwnd: first_window(settings.initial_window, smss, syn_ack_resent),
+            cwnd: window_at_establishment(settings.initial_window, smss, syn_ack_resent),
             ssthresh: settings.initial_ssthresh,
             dup_acks: 0,
             limited_transmit: settings.limited_transmit,
@@ -145,14 +145,17 @@ impl Cong {
             expired: false,
             abc_limit: settings.abc_limit,
             follows_expiry: false,
-            restart_rule: restart_rule(settings.slow_start_after_idle, settings.initial_window),
+            idle_restart_rule: idle_restart_rule(
+                settings.slow_start_after_idle,
+                settings.initial_window,
+            ),
             recovery_algorithm: settings.recovery_algorithm,
             prr: PrrState::NONE,
         }
     }
 
     /// With the settings that `new` consults.
-    pub fn with_consulted_settings(consulted_settings: SettingSet) -> SettingSet
+    pub fn with_congestion_settings(consulted_settings: SettingSet) -> SettingSet
         ensures { result ≡ begun_settings consulted_settings }
     {
         SettingSet {
@@ -243,7 +246,7 @@ impl Cong {
 
     /// Sending begins, with this SMSS in octets. After an idle time cwnd is RW, the restart window, at most, where the
     /// setting was on (RFC 5681, section 4.1).
-    pub fn restart(&mut self, smss: u16, idle: bool)
+    pub fn restart_cwnd_if_idle(&mut self, smss: u16, idle: bool)
         requires from { 64 ≤ smss }
         requires to { smss ≤ 65495 }
         ensures { self.new ≡ restarted smss idle self.old }
@@ -251,8 +254,8 @@ impl Cong {
         if !idle {
             return;
         }
-        if let Some(rule) = self.restart_rule {
-            self.cwnd = window_by(rule, smss).min(self.cwnd);
+        if let Some(rule) = self.idle_restart_rule {
+            self.cwnd = initial_window_by_rule(rule, smss).min(self.cwnd);
             self.follows_expiry = false;
         }
     }
@@ -282,7 +285,7 @@ impl Cong {
     }
 
     /// An entry has sent the segment at SND.UNA again (RFC 6675, section 5, step 4.3).
-    pub fn enter_recovery(&mut self, segment: Span)
+    pub fn note_entry_retransmit(&mut self, segment: Span)
         ensures { self.new ≡ entered_to segment self.old }
     {
         self.high_rxt = segment.end;
@@ -321,10 +324,10 @@ impl Cong {
         if pipe > self.ssthresh {
             return self
                 .prr
-                .proportion(self.ssthresh)
+                .proportional_ssthresh(self.ssthresh)
                 .saturating_sub(u64::from(self.prr.prr_out));
         }
-        u64::from(self.ssthresh - pipe).min(self.prr.limit(smss))
+        u64::from(self.ssthresh - pipe).min(self.prr.sndcnt_limit(smss))
     }
 
     /// Whether recovery goes on by PRR, where `set_prr_cwnd` sets the window. Without SACK nothing calls it.
@@ -346,7 +349,7 @@ impl Cong {
     }
 
     /// Limited transmit has sent this many octets; without SACK `on_ack` counts them itself.
-    pub fn count_limited(&mut self, octets: u32)
+    pub fn count_limited_transmit_octets(&mut self, octets: u32)
         requires { octets ≤ 65495 }
         ensures { self.new ≡ with_limited octets self.old }
     {

@@ -1,6 +1,6 @@
 //! The state of Proportional Rate Reduction in a recovery.
 ghost use Rattle.std.specs.Prelude.{◌≡◌, ◌<◌, ◌≤◌, ◌^◌};
-ghost use Rattle.pd_recover.specs.Prr.{IsPrrState, no_prr, begun_with, delivery_counted, with_sent, proportion, limit};
+ghost use Rattle.pd_recover.specs.Prr.{IsPrrState, no_prr, begun_with, delivery_counted, with_sent, proportional_ssthresh, sndcnt_limit};
 
 use crate::ack::Delivery;
 
@@ -38,7 +38,7 @@ impl PrrState {
         ensures known { IsPrrState result }
     {
         PrrState {
-            // `proportion` divides by it.
+            // `proportional_ssthresh` divides by it.
             recover_fs: recover_fs.max(1),
             ..PrrState::NONE
         }
@@ -74,9 +74,9 @@ impl PrrState {
     }
 
     /// The part of ssthresh that is as large as the part of RecoverFS that was delivered, rounded up. ssthresh is in octets.
-    pub fn proportion(self, ssthresh: u32) -> u64
+    pub fn proportional_ssthresh(self, ssthresh: u32) -> u64
         requires { IsPrrState self }
-        ensures { result ≡ proportion ssthresh self }
+        ensures { result ≡ proportional_ssthresh ssthresh self }
     {
         let delivered = u64::from(self.prr_delivered);
         let recover_fs = u64::from(self.recover_fs);
@@ -85,9 +85,9 @@ impl PrrState {
 
     /// How many octets the last ACK lets out where the pipe isn't above ssthresh and ssthresh leaves room for them, with this
     /// SMSS in octets.
-    pub fn limit(self, smss: u16) -> u64
+    pub fn sndcnt_limit(self, smss: u16) -> u64
         requires { IsPrrState self }
-        ensures { result ≡ limit smss self }
+        ensures { result ≡ sndcnt_limit smss self }
     {
         let unsent = self.prr_delivered.saturating_sub(self.prr_out);
         let octets = u64::from(unsent.max(self.delivered_data));

@@ -68,18 +68,18 @@ last_place place [] = place
 last_place place (d ∷ ds) = last_place d.after ds
 
 -- a line at or below the first so many; no line is none of them
-abbrev pub is_within : ℕ → Option ℕ → Bool
-is_within same None = false
-is_within same (Some line) = nat_le line same
+abbrev pub is_decided_within : ℕ → Option ℕ → Bool
+is_decided_within same None = false
+is_decided_within same (Some line) = nat_le line same
 
 -- where an event isn't decided by some first lines, none after it is
 abbrev pub ReachesRise : List ParsedEvent → Type 0
 ReachesRise [] = Unit {0}
-ReachesRise (d ∷ ds) = ((same : ℕ) → is_within same d.lookahead_line ≡ false → count_by (λ (e : ParsedEvent). is_within same e.lookahead_line) ds ≡ 0) × ReachesRise ds
+ReachesRise (d ∷ ds) = ((same : ℕ) → is_decided_within same d.lookahead_line ≡ false → count_by (λ (e : ParsedEvent). is_decided_within same e.lookahead_line) ds ≡ 0) × ReachesRise ds
 
 -- how many events the first lines of a text decide
 unfoldable pub kept_of : ℕ → ReadingView → ℕ
-kept_of same r = count_by (λ (d : ParsedEvent). is_within same d.lookahead_line) r.events
+kept_of same r = count_by (λ (d : ParsedEvent). is_decided_within same d.lookahead_line) r.events
 
 -- the reading is that of some text whose first lines are those of this one
 pub record IsReadingOfFirst (same : ℕ) (lines : List (List ℕ)) (r : ReadingView) : Type 0 where

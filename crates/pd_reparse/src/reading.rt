@@ -47,7 +47,7 @@ impl Reading {
         ensures { IfOk result (λ reading. reading ≡ record { header = header; events = events; fault = fault }) }
     {
         let mut events = events;
-        events.freeze()?;
+        events.pack_into_blocks()?;
         Ok(Reading {
             header,
             events,
@@ -88,11 +88,11 @@ impl Reading {
         requires { count ≤ length self.now.events }
         ensures { IfOk result (λ events. events ≡ take count self.now.events) }
     {
-        self.events.first(count)
+        self.events.share_first(count)
     }
 
     /// The place after the first events, one at least.
-    pub fn place_after(&self, count: usize) -> Place
+    pub fn place_after_events(&self, count: usize) -> Place
         requires some { 0 < count }
         requires within { count ≤ length self.now.events }
         ensures { (start : Place) → last_place start (take count self.now.events) ≡ result }

@@ -4,7 +4,7 @@ ghost use Rattle.pd_lex.specs.Lexing.{items};
 ghost use Rattle.pd_reparse.specs.Reading.{IsReadingOfFirst, ReachesRise, reading_of, kept_of};
 ghost use Rattle.pd_reparse.specs.Steps.{IsReadOn, IsStep};
 
-use crate::parsed_event::{ParsedEvent, count_within};
+use crate::parsed_event::{ParsedEvent, count_decided_within};
 use crate::read_step::ReadStep;
 use crate::reading::Reading;
 use crate::reread_result::Reread;
@@ -26,7 +26,7 @@ pub fn read(alloc: Global, lines: &Lines) -> Result<Reading, AllocError>
 {
     let header = read_header(alloc, lines)?;
     let place = header.end();
-    read_rest(alloc, lines, header, SharedList::new(alloc), place)
+    read_remaining_events(alloc, lines, header, SharedList::new(alloc), place)
 }
 
 /// Reads a text again whose first `same` lines are those of the text that was read before: the
@@ -56,8 +56,8 @@ pub fn reread(
     lines.law_invariant();
     let header = old.header().copy()?;
     let events = old.first_events(kept)?;
-    let place = old.place_after(kept);
-    let reading = read_rest(alloc, lines, header, events, place)?;
+    let place = old.place_after_events(kept);
+    let reading = read_remaining_events(alloc, lines, header, events, place)?;
     Ok(Reread { reading, kept })
 }
 
@@ -67,11 +67,11 @@ fn count_kept(old: &Reading, same: usize) -> usize
     requires { ReachesRise old.now.events }
     ensures { result ≡ kept_of same old.now }
 {
-    count_within(old.events(), same)
+    count_decided_within(old.events(), same)
 }
 
 /// Reads the events from a place on, after a header and events that are known.
-fn read_rest(
+fn read_remaining_events(
     alloc: Global,
     lines: &Lines,
     header: Header,
@@ -82,11 +82,11 @@ fn read_rest(
     ensures { IfOk result (λ reading. IsReadOn reading header front (4096 - length front) (items lines.now place)) }
 {
     let mut events = front;
-    events.reserve(lines_from(lines, place))?;
+    events.reserve(count_lines_from(lines, place))?;
     let mut reader = EventReader::at(lines, place);
     'events: for i in events.len()..MAX_EVENTS {
         let mut parsed_event = ParsedEvent::placeholder();
-        match next_step(alloc, &mut reader, MAX_EVENTS - i - 1, &mut parsed_event)? {
+        match read_next_event(alloc, &mut reader, MAX_EVENTS - i - 1, &mut parsed_event)? {
             ReadStep::Goes => events.push(parsed_event)?,
             ReadStep::Stops(fault) => return Ok(Reading::new(header, events, fault)?),
         }
@@ -96,14 +96,14 @@ fn read_rest(
 }
 
 /// How many lines there are from a place on.
-fn lines_from(lines: &Lines, place: Place) -> usize
+fn count_lines_from(lines: &Lines, place: Place) -> usize
     ensures { result ≡ length lines.now + 1 - place.line }
 {
     (lines.len() + 1).saturating_sub(place.line)
 }
 
 /// Reads the next event in the place of another, where so many more may follow it.
-fn next_step(
+fn read_next_event(
     alloc: Global,
     reader: &mut EventReader,
     more: usize,

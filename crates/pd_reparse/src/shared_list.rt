@@ -67,7 +67,7 @@ impl<T: Drop> SharedList<T> {
         requires { index < length self.now }
         ensures { result.now ≡ get_or self.now index result.now }
     {
-        let (block, at) = locate(self.blocks.as_slice(), index);
+        let (block, at) = locate_item(self.blocks.as_slice(), index);
         if block < self.blocks.len() {
             &self.blocks[block].as_slice()[at]
         } else {
@@ -87,7 +87,7 @@ impl<T: Drop> SharedList<T> {
     }
 
     /// The blocks, and the items after them.
-    pub fn parts(&self) -> (&[SharedBlock<T>], &[T])
+    pub fn blocks_and_rest(&self) -> (&[SharedBlock<T>], &[T])
         ensures { items_in result.0.now ++ result.1.now ≡ self.now }
     {
         (self.blocks.as_slice(), self.rest.as_slice())
@@ -105,10 +105,10 @@ impl<T: TryClone + Drop> SharedList<T> {
         if self.count == usize::MAX {
             return Err(AllocError);
         }
-        append(&mut self.rest, item)?;
+        push_with_first_capacity(&mut self.rest, item)?;
         self.count += 1;
         if self.rest.len() == BLOCK_LEN {
-            self.freeze()?;
+            self.pack_into_blocks()?;
         }
         Ok(())
     }
@@ -130,7 +130,7 @@ impl<T: TryClone + Drop> SharedList<T> {
     ///
     /// # Errors
     /// As for `push`.
-    pub fn freeze(&mut self) -> Result<(), AllocError>
+    pub fn pack_into_blocks(&mut self) -> Result<(), AllocError>
         ensures { OnOk result (self.new ≡ self.old) }
     {
         if self.rest.is_empty() {
@@ -142,7 +142,7 @@ impl<T: TryClone + Drop> SharedList<T> {
             rest,
             count,
         } = mem::replace(self, SharedList::new(alloc));
-        let mut items = gather(alloc, &mut blocks, rest)?;
+        let mut items = merge_trailing_blocks(alloc, &mut blocks, rest)?;
         items.shrink_to_fit();
         blocks.push(SharedBlock::new(alloc, items)?)?;
         *self = SharedList {
@@ -157,7 +157,7 @@ impl<T: TryClone + Drop> SharedList<T> {
     ///
     /// # Errors
     /// `AllocError` where memory for what isn't shared is refused.
-    pub fn first(&self, count: usize) -> Result<SharedList<T>, AllocError>
+    pub fn share_first(&self, count: usize) -> Result<SharedList<T>, AllocError>
         requires { count ≤ length self.now }
         ensures { IfOk result (λ list. list ≡ take count self.now) }
     {
@@ -165,12 +165,12 @@ impl<T: TryClone + Drop> SharedList<T> {
         if count == 0 {
             return Ok(SharedList::new(alloc));
         }
-        let (whole, last) = locate(self.blocks.as_slice(), count - 1);
-        let mut blocks = shared_front(alloc, self.blocks.as_slice(), whole)?;
+        let (whole, last) = locate_item(self.blocks.as_slice(), count - 1);
+        let mut blocks = shared_first_blocks(alloc, self.blocks.as_slice(), whole)?;
         let rest = if whole < self.blocks.len() {
-            share_or_clone(alloc, &mut blocks, &self.blocks[whole], last + 1)?
+            share_or_clone_first(alloc, &mut blocks, &self.blocks[whole], last + 1)?
         } else {
-            cloned_front(alloc, self.rest.as_slice(), last + 1)?
+            cloned_first_items(alloc, self.rest.as_slice(), last + 1)?
         };
         Ok(SharedList {
             blocks,
@@ -181,7 +181,7 @@ impl<T: TryClone + Drop> SharedList<T> {
 }
 
 /// In which block the item at an index stands, and where in it; after the blocks where it is in none.
-fn locate<T: Drop>(blocks: &[SharedBlock<T>], index: usize) -> (usize, usize)
+fn locate_item<T: Drop>(blocks: &[SharedBlock<T>], index: usize) -> (usize, usize)
     ensures within { result.0 ≤ length blocks.now }
     ensures before { length (items_in (take result.0 blocks.now)) + result.1 ≡ index }
     ensures inside { result.0 < length blocks.now → result.1 < length (get_or blocks.now result.0 []) }
@@ -198,24 +198,24 @@ fn locate<T: Drop>(blocks: &[SharedBlock<T>], index: usize) -> (usize, usize)
 }
 
 /// The first blocks, shared, with room for two more: one that is shared in part, and one of what is put after it.
-fn shared_front<T: Drop>(
+fn shared_first_blocks<T: Drop>(
     alloc: Global,
     blocks: &[SharedBlock<T>],
     count: usize,
 ) -> Result<Vec<SharedBlock<T>>, AllocError>
     requires { count ≤ length blocks.now }
-    ensures { IfOk result (λ shared_front. shared_front.items ≡ take count blocks.now) }
+    ensures { IfOk result (λ shared_first_blocks. shared_first_blocks.items ≡ take count blocks.now) }
 {
-    let mut shared_front = Vec::with_capacity(alloc, count + 2)?;
+    let mut shared_first_blocks = Vec::with_capacity(alloc, count + 2)?;
     for i in 0..count {
         let block = &blocks[i];
-        shared_front.push(block.first(block.len())?)?;
+        shared_first_blocks.push(block.share_first(block.len())?)?;
     }
-    Ok(shared_front)
+    Ok(shared_first_blocks)
 }
 
 /// Puts the first items of a block after these blocks where that pays, else gives copies of them.
-fn share_or_clone<T: TryClone + Drop>(
+fn share_or_clone_first<T: TryClone + Drop>(
     alloc: Global,
     blocks: &mut Vec<SharedBlock<T>>,
     block: &SharedBlock<T>,
@@ -225,15 +225,15 @@ fn share_or_clone<T: TryClone + Drop>(
     ensures { IfOk result (λ rest. items_in blocks.new.items ++ rest.items ≡ items_in blocks.old.items ++ take count block.now) }
 {
     if block.should_share(count) {
-        blocks.push(block.first(count)?)?;
+        blocks.push(block.share_first(count)?)?;
         return Ok(Vec::new(alloc));
     }
-    cloned_front(alloc, block.as_slice(), count)
+    cloned_first_items(alloc, block.as_slice(), count)
 }
 
 /// Takes away the last blocks that become one with the items after them, and gives all these items. Each has no more items
 /// than are after it, and room for them.
-fn gather<T: TryClone + Drop>(
+fn merge_trailing_blocks<T: TryClone + Drop>(
     alloc: Global,
     blocks: &mut Vec<SharedBlock<T>>,
     rest: Vec<T>,
@@ -247,7 +247,7 @@ fn gather<T: TryClone + Drop>(
         if most < block.len() {
             break;
         }
-        let mut more = cloned_front(alloc, block.as_slice(), block.len())?;
+        let mut more = cloned_first_items(alloc, block.as_slice(), block.len())?;
         more.append(&mut items)?;
         items = more;
         blocks.truncate(i);
@@ -256,23 +256,23 @@ fn gather<T: TryClone + Drop>(
 }
 
 /// Copies of the first items.
-fn cloned_front<T: TryClone + Drop>(
+fn cloned_first_items<T: TryClone + Drop>(
     alloc: Global,
     items: &[T],
     count: usize,
 ) -> Result<Vec<T>, AllocError>
     requires { count ≤ length items.now }
-    ensures { IfOk result (λ cloned_front. cloned_front.items ≡ take count items.now) }
+    ensures { IfOk result (λ cloned_first_items. cloned_first_items.items ≡ take count items.now) }
 {
-    let mut cloned_front = Vec::with_capacity(alloc, count)?;
+    let mut cloned_first_items = Vec::with_capacity(alloc, count)?;
     for i in 0..count {
-        cloned_front.push(items[i].try_clone()?)?;
+        cloned_first_items.push(items[i].try_clone()?)?;
     }
-    Ok(cloned_front)
+    Ok(cloned_first_items)
 }
 
 /// Puts an item after these, the first with room for some more where none was made.
-fn append<T: Drop>(items: &mut Vec<T>, item: T) -> Result<(), AllocError>
+fn push_with_first_capacity<T: Drop>(items: &mut Vec<T>, item: T) -> Result<(), AllocError>
     ensures ok { OnOk result (items.new.items ≡ items.old.items ++ item ∷ []) }
     ensures err { OnErr result (items.new.items ≡ items.old.items) }
 {

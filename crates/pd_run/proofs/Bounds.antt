@@ -26,8 +26,8 @@ use Rattle.pd_match.specs.declared.kinds.Kind.{Kind}
 use Rattle.pd_run.specs.Prechecks.{failed_precheck}
 use Rattle.pd_run.specs.InboundSegment.{segment_in}
 use Rattle.pd_run.specs.Limits.{is_long, written_times, written_blocking_end, is_action_over, is_over_limit}
-use Rattle.pd_run.specs.Step.{RunStateView, tolerance_of, comparison_noted, on_step, judged, with_state, action_time, acted, arrives, on_arrival, answers, on_answer, on_expiry, expires, awaited, packet_taken, performed, unless_failed_precheck, outcome, at_line, step}
-use Rattle.pd_run.specs.Times.{is_single, time_of, time_range_of, may_be_in_time, base_after}
+use Rattle.pd_run.specs.Step.{RunStateView, tolerance_of, comparison_noted, on_step, judged, with_state, action_time, acted, arrives, on_arrival, answers, on_answer, on_expiry, expires, awaited, packet_taken, performed, unless_failed_precheck, event_outcome, at_line, step}
+use Rattle.pd_run.specs.Times.{is_single_moment, time_of, time_range_of, may_be_in_time, base_after}
 use Rattle.pd_run.specs.declared.prechecks.Precheck.{Precheck}
 use Rattle.pd_run.specs.declared.prechecks.Precheck.TheVariants.{OverLimit}
 use Rattle.pd_run.specs.declared.stop_reason.StopReason.{StopReason}
@@ -45,7 +45,7 @@ pub record IsKept (K : ℕ → SenderState → Type 0) : Type 0 where
 
 -- the clock and the base of a run that goes on lie at or before a moment, and that is known of its sender
 pub record IsWithin (K : ℕ → SenderState → Type 0) (n : ℕ) (r : RunStateView) : Type 0 where
-  pub live : r.host.ended ≡ None
+  pub live : r.host.end_reason ≡ None
   pub clock : r.clock ≤ n
   pub base : r.base ≤ n
   pub up_to : K r.clock r.host.state
@@ -91,10 +91,10 @@ both next (Ok s) t h = (s, refl, h)
 both next (Err halt) t h = absurd cc
 
 -- an input to a host that hasn't ended shows this
-goes_on : (old new : HostView) (rule : SenderState → Result SenderState Halt) (u : Unit {0}) → old.ended ≡ None → Goes old rule (Ok u) new → rule old.state ≡ Ok new.state
+goes_on : (old new : HostView) (rule : SenderState → Result SenderState Halt) (u : Unit {0}) → old.end_reason ≡ None → Goes old rule (Ok u) new → rule old.state ≡ Ok new.state
 goes_on old new rule u live h = let told : GoesFrom None old rule (Ok u) new = subst (λ o. GoesFrom o old rule (Ok u) new) live h in told.0
 
-answers_on : (old new : HostView) (rule : SenderState → Result (SenderState × Answer) Halt) (a : Answer) → old.ended ≡ None → Answers old rule (Ok a) new → rule old.state ≡ Ok (new.state, a)
+answers_on : (old new : HostView) (rule : SenderState → Result (SenderState × Answer) Halt) (a : Answer) → old.end_reason ≡ None → Answers old rule (Ok a) new → rule old.state ≡ Ok (new.state, a)
 answers_on old new rule a live h = let told : AnswersFrom None old rule (Ok a) new = subst (λ o. AnswersFrom o old rule (Ok a) new) live h in told.0
 
 -- an event acts at the clock or later
@@ -120,7 +120,7 @@ unbarred came None s h = (refl, h)
 unbarred came (Some bar) s h = absurd cc
 
 pub step_performs : (r s : RunStateView) (e : Event) → step r e ≡ Ok s → performed r e e.action ≡ Ok s
-step_performs r s e h = (unbarred (performed r e e.action) (failed_precheck r.base e) s (goes e.line (outcome r e) s h)).1
+step_performs r s e h = (unbarred (performed r e e.action) (failed_precheck r.base e) s (goes e.line (event_outcome r e) s h)).1
 
 -- its numbers are within their limits
 pub within_limits : (base : ℕ) (e : Event) → failed_precheck base e ≡ None → is_over_limit e ≡ false
@@ -132,7 +132,7 @@ within_limits base e h = go (is_over_limit e) _ h
 
 pub step_unlimited : (r s : RunStateView) (e : Event) → step r e ≡ Ok s → is_over_limit e ≡ false
 step_unlimited r s e h =
-    within_limits r.base e (unbarred (performed r e e.action) (failed_precheck r.base e) s (goes e.line (outcome r e) s h)).0
+    within_limits r.base e (unbarred (performed r e e.action) (failed_precheck r.base e) s (goes e.line (event_outcome r e) s h)).0
 
 step_short : (r s : RunStateView) (e : Event) → step r e ≡ Ok s → list_any is_long (written_times e.time) ≡ false
 step_short r s e h = or_false _ _ (or_false _ _ (step_unlimited r s e h))
@@ -140,7 +140,7 @@ step_short r s e h = or_false _ _ (or_false _ _ (step_unlimited r s e h))
 module _ (K : ℕ → SenderState → Type 0) (laws : IsKept K) where
   -- of a sender that hasn't ended it is known at a moment
   abbrev Knows : HostView → ℕ → Type 0
-  Knows host clock = host.ended ≡ None → K clock host.state
+  Knows host clock = host.end_reason ≡ None → K clock host.state
 
   -- a packet that arrives, and a call, after all expiries up to a later moment
   pub arrival_keeps_up : (segment : Segment) (clock moment : ℕ) (s t : SenderState) → clock ≤ moment → K clock s
@@ -157,14 +157,14 @@ module _ (K : ℕ → SenderState → Type 0) (laws : IsKept K) where
 
   -- so the sender is up to date at the moment of the packet, and of the call
   pub host_after_arrival : (old new : HostView) (segment : Segment) (clock moment : ℕ) (u : Unit {0})
-      → Knows old clock → old.ended ≡ None → clock ≤ moment
+      → Knows old clock → old.end_reason ≡ None → clock ≤ moment
       → Goes old (λ s. then_on (arrived segment moment) (advanced moment s)) (Ok u) new
       → Knows new moment
   host_after_arrival old new segment clock moment u up live le h =
       λ _. arrival_keeps_up segment clock moment old.state new.state le (up live) (goes_on old new (λ s. then_on (arrived segment moment) (advanced moment s)) u live h)
 
   pub host_after_call : (old new : HostView) (call : Call) (clock moment : ℕ) (answer : Answer)
-      → Knows old clock → old.ended ≡ None → clock ≤ moment
+      → Knows old clock → old.end_reason ≡ None → clock ≤ moment
       → Answers old (λ s. then_on (called call moment) (advanced moment s)) (Ok answer) new
       → Knows new moment
   host_after_call old new call clock moment answer up live le h =
@@ -172,7 +172,7 @@ module _ (K : ℕ → SenderState → Type 0) (laws : IsKept K) where
 
   -- and the sender is up to date there
   pub host_after_expiry : (old new : HostView) (clock at : ℕ) (u : Unit {0})
-      → Knows old clock → old.ended ≡ None → deadline_of old.state ≡ Some at
+      → Knows old clock → old.end_reason ≡ None → deadline_of old.state ≡ Some at
       → Goes old (advanced at) (Ok u) new
       → Knows new at
   host_after_expiry old new clock at u up live is h =
@@ -216,7 +216,7 @@ module _ (K : ℕ → SenderState → Type 0) (laws : IsKept K) where
       subst (IsWithin K n) same (record {
         live = within.live;
         clock = within.clock;
-        base = base_within (is_single e.time) (time_of r.base e.time) r.base sent.at n moment within.base (omega arith);
+        base = base_within (is_single_moment e.time) (time_of r.base e.time) r.base sent.at n moment within.base (omega arith);
         up_to = laws.taking r.clock r.host within.up_to;
       })
 

@@ -32,7 +32,7 @@ use Rattle.pd_run.specs.InboundSegment.{segment_in}
 use Rattle.pd_run.specs.Laws.{ToleranceStays}
 use Rattle.pd_run.specs.Prechecks.{failed_precheck}
 use Rattle.pd_run.specs.Run.{start_of, tolerance_in, states_from, states_in}
-use Rattle.pd_run.specs.Step.{RunStateView, tolerance_of, comparison_noted, on_step, judged, with_state, action_time, acted, arrives, on_arrival, answers, on_answer, on_expiry, expires, awaited, packet_taken, leaves, performed, unless_failed_precheck, outcome, at_line, step}
+use Rattle.pd_run.specs.Step.{RunStateView, tolerance_of, comparison_noted, on_step, judged, with_state, action_time, acted, arrives, on_arrival, answers, on_answer, on_expiry, expires, awaited, packet_taken, leaves, performed, unless_failed_precheck, event_outcome, at_line, step}
 use Rattle.pd_run.specs.Times.{time_range_of, base_after, may_be_in_time}
 use Rattle.pd_run.specs.declared.verdict.Verdict.{Verdict}
 use Rattle.pd_run.specs.declared.prechecks.Precheck.{Precheck}
@@ -359,7 +359,7 @@ steps_only_use laws r s e b h agree =
     let u : RunStateView = run_with_settings b r in
     ap (at_line e.line)
     (unbarred_too (failed_precheck r.base e) (performed r e e.action) (performed u e e.action) s (run_with_settings b s)
-    (λ k. performed_again laws r s e e.action b k agree) (goes e.line (outcome r e) s h))
+    (λ k. performed_again laws r s e e.action b k agree) (goes e.line (event_outcome r e) s h))
 
 -- Whole runs
 
@@ -407,10 +407,10 @@ same_states laws (e ∷ es) m r s b h agree = go (λ k t u. same_states laws es 
         let same : t ≡ s = cc in
         stepped zero t o (subst (Grows t) same (refl, includes_itself (consulted_settings_of t))) refl
     go ih (suc m) (Ok t) o h =
-        let note_comparison = steps_note laws r t e o in
+        let note_tolerance_use = steps_note laws r t e o in
         stepped (suc m) t o (states_grow laws es m t s h)
         (ap (λ (w : List RunStateView). run_with_settings b t ∷ w)
-        (ih m t s h (subst (λ (x : Settings). Agree (consulted_settings_of s) x b) (sym note_comparison.0) agree)))
+        (ih m t s h (subst (λ (x : Settings). Agree (consulted_settings_of s) x b) (sym note_tolerance_use.0) agree)))
     go ih m (Err v) o h = absurd cc
 
 -- a text's run begins the same, but for the settings held

@@ -17,7 +17,7 @@ use Rattle.pd_host.specs.Arrivals.{arrived}
 use Rattle.pd_host.specs.Calls.{called}
 use Rattle.pd_host.specs.Expiries.{advanced, deadline_of}
 use Rattle.pd_host.specs.Growth.{asked_by, HasRoomFor, ExpiriesQueueNothing, CallsAskFew}
-use Rattle.pd_host.specs.Syscalls.{is_tcp, is_tcp_level, no_delay, socket_syscall, option_syscall, flags_syscall, address_syscall, listen_syscall, write_syscall, close_syscall, syscall_in, syscall_of}
+use Rattle.pd_host.specs.Syscalls.{is_tcp, is_tcp_level, no_delay_syscall, socket_syscall, setsockopt_syscall, fcntl_syscall, bind_or_accept_syscall, listen_syscall, write_syscall, close_syscall, syscall_in, syscall_of}
 use Rattle.pd_host.specs.Host.{HostView, IsShort, queued_to, without_oldest}
 use Rattle.pd_host.specs.InputResults.{GoesFrom, Goes}
 use Rattle.pd_host.specs.declared.halts.HostEnd.{HostEnd}
@@ -55,7 +55,7 @@ socket_asks sndbuf (_ ∷ Word SockStream ∷ protocol ∷ []) = by_protocol (is
     by_protocol false = nothing
 socket_asks sndbuf _ = nothing
 
-no_delay_asks : (sndbuf fd n : ℕ) → IsSmall (asked_by sndbuf (no_delay fd n))
+no_delay_asks : (sndbuf fd n : ℕ) → IsSmall (asked_by sndbuf (no_delay_syscall fd n))
 no_delay_asks sndbuf fd n = by_value (n == 1) (n == 0)
   where
     by_value : (a b : Bool) → IsSmall (asked_by sndbuf (if a then Some (On fd (NoDelay true)) else if b then Some (On fd (NoDelay false)) else None))
@@ -63,24 +63,24 @@ no_delay_asks sndbuf fd n = by_value (n == 1) (n == 0)
     by_value false true = nothing
     by_value false false = nothing
 
-option_asks : (sndbuf : ℕ) (arguments : List Argument) → IsSmall (asked_by sndbuf (option_syscall arguments))
+option_asks : (sndbuf : ℕ) (arguments : List Argument) → IsSmall (asked_by sndbuf (setsockopt_syscall arguments))
 option_asks sndbuf (Int fd ∷ Word SolSocket ∷ Word SoReuseaddr ∷ _ ∷ _ ∷ []) = nothing
 option_asks sndbuf (Int fd ∷ Word level ∷ Word TcpNodelay ∷ Element n ∷ _ ∷ []) = by_level (is_tcp_level level)
   where
-    by_level : (b : Bool) → IsSmall (asked_by sndbuf (if b then no_delay fd n else None))
+    by_level : (b : Bool) → IsSmall (asked_by sndbuf (if b then no_delay_syscall fd n else None))
     by_level true = no_delay_asks sndbuf fd n
     by_level false = nothing
 option_asks sndbuf _ = nothing
 
-flags_ask : (sndbuf : ℕ) (arguments : List Argument) → IsSmall (asked_by sndbuf (flags_syscall arguments))
+flags_ask : (sndbuf : ℕ) (arguments : List Argument) → IsSmall (asked_by sndbuf (fcntl_syscall arguments))
 flags_ask sndbuf (Int fd ∷ Word FSetfl ∷ _ ∷ []) = nothing
 flags_ask sndbuf _ = nothing
 
-bind_asks : (sndbuf : ℕ) (arguments : List Argument) → IsSmall (asked_by sndbuf (address_syscall Bind arguments))
+bind_asks : (sndbuf : ℕ) (arguments : List Argument) → IsSmall (asked_by sndbuf (bind_or_accept_syscall Bind arguments))
 bind_asks sndbuf (Int fd ∷ _ ∷ _ ∷ []) = nothing
 bind_asks sndbuf _ = nothing
 
-accept_asks : (sndbuf : ℕ) (arguments : List Argument) → IsSmall (asked_by sndbuf (address_syscall Accept arguments))
+accept_asks : (sndbuf : ℕ) (arguments : List Argument) → IsSmall (asked_by sndbuf (bind_or_accept_syscall Accept arguments))
 accept_asks sndbuf (Int fd ∷ _ ∷ _ ∷ []) = nothing
 accept_asks sndbuf _ = nothing
 
@@ -112,7 +112,7 @@ asks sndbuf UnknownCall arguments h = nothing
 -- after the expiries up to a moment there is room for what a call asks for
 pub room_for : ExpiriesQueueNothing → CallsAskFew → (until : ℕ) (call : Call) (old new : HostView) (u : Unit {0}) → Goes old (advanced until) (Ok u) new
     → IsShort old.state → HasRoomFor (asked_by new.state.settings.sndbuf (syscall_of call)) new.state
-room_for still few until call old new u h short = go old.ended h
+room_for still few until call old new u h short = go old.end_reason h
   where
     go : (o : Option HostEnd) → GoesFrom o old (advanced until) (Ok u) new → HasRoomFor (asked_by new.state.settings.sndbuf (syscall_of call)) new.state
     go None told = omega (arith, short, still until old.state new.state told.0, few new.state.settings call)

@@ -7,7 +7,7 @@ use Rattle.pd_run.specs.declared.stepper.StepEnd.{StepEnd}
 use Rattle.pd_run.specs.declared.verdict.Verdict.{Verdict}
 
 -- a step of a run whose host hasn't ended shows this
-pub tells : (old new : RunStateView) (e : Event) (end : StepEnd) → old.host.ended ≡ None → Steps old e end new → IsStepEnd (step old e) end new
+pub tells : (old new : RunStateView) (e : Event) (end : StepEnd) → old.host.end_reason ≡ None → Steps old e end new → IsStepEnd (step old e) end new
 tells old new e end live h = subst (λ o. StepsFrom o old e end new) live h
 
 -- after a step that goes on, the verdict is that of the events left

@@ -17,8 +17,8 @@ abbrev pub span_in : SackBlock → Span
 span_in block = record { start = block.left; end = block.right }
 
 -- a number of 32 bits; a larger one, which no text has, stands as the largest
-abbrev pub in_32_bits : ℕ → ℕ
-in_32_bits n = min n (2 ^ 32 - 1)
+abbrev pub saturated_to_32_bits : ℕ → ℕ
+saturated_to_32_bits n = min n (2 ^ 32 - 1)
 
 -- an option with its values
 abbrev pub option_in : PacketOption → SegOption
@@ -27,7 +27,7 @@ option_in (written.Wscale n) = Wscale n
 option_in written.SackOk = SackOk
 option_in written.Nop = Nop
 option_in written.Eol = Eol
-option_in (written.Timestamp n m) = Timestamp (in_32_bits n) (in_32_bits m)
+option_in (written.Timestamp n m) = Timestamp (saturated_to_32_bits n) (saturated_to_32_bits m)
 option_in (written.Sack blocks) = Sack (map span_in blocks)
 
 -- the options in their order

@@ -61,7 +61,7 @@ ToleranceStays = (r s : RunStateView) (e : Event) → step r e ≡ Ok s → tole
 -- a run that goes on, after n events: its sender hasn't ended and is up to date, the clock and the base lie at most 3,600
 -- seconds an event after the start, and at most 262,144 octets an event were queued
 pub record IsUnderway (n : ℕ) (r : RunStateView) : Type 0 where
-  pub live : r.host.ended ≡ None
+  pub live : r.host.end_reason ≡ None
   pub clock : r.clock ≤ 3600000000 * n
   pub base : r.base ≤ 3600000000 * n
   pub up_to : KeepsTime r.clock r.host.state

@@ -42,9 +42,9 @@ abbrev pub is_high : ℕ → Bool
 is_high n = nat_lt (2 ^ 31 - 1) n
 
 -- a number is written, and above this one
-abbrev pub is_some_over : ℕ → Option ℕ → Bool
-is_some_over most None = false
-is_some_over most (Some n) = nat_lt most n
+abbrev pub is_present_number_over : ℕ → Option ℕ → Bool
+is_present_number_over most None = false
+is_present_number_over most (Some n) = nat_lt most n
 
 -- an edge of a block is over its limit
 abbrev pub is_block_over : SackBlock → Bool
@@ -65,7 +65,7 @@ are_options_over _ = false
 -- a number of the packet is over its limit; a window field is at most 65,535
 abbrev pub is_packet_over : Packet → Bool
 is_packet_over p =
-    is_high p.start || is_high p.end || is_some_over (2 ^ 31 - 1) p.ack || is_some_over 65535 p.win || are_options_over p.options
+    is_high p.start || is_high p.end || is_present_number_over (2 ^ 31 - 1) p.ack || is_present_number_over 65535 p.win || are_options_over p.options
 
 -- the call's name is `write`
 abbrev pub is_write : Function → Bool

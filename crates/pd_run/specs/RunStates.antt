@@ -22,4 +22,4 @@ pub record KeepsTime (now : ℕ) (s : SenderState) : Type 0 where
 
 -- the sender of a run that goes on is up to date at the run's clock
 abbrev pub IsUpToDate : HostView → ℕ → Type 0
-IsUpToDate host clock = host.ended ≡ None → KeepsTime clock host.state
+IsUpToDate host clock = host.end_reason ≡ None → KeepsTime clock host.state

@@ -120,8 +120,8 @@ unless_failed_precheck came None = came
 unless_failed_precheck came (Some bar) = Err (FailedPrecheck bar)
 
 -- how an event ends: the run goes on in the next state, or stops for a reason
-abbrev pub outcome : RunStateView → Event → Result RunStateView StopReason
-outcome r e = unless_failed_precheck (performed r e e.action) (failed_precheck r.base e)
+abbrev pub event_outcome : RunStateView → Event → Result RunStateView StopReason
+event_outcome r e = unless_failed_precheck (performed r e e.action) (failed_precheck r.base e)
 
 -- the same with the reason's verdict at a line
 abbrev pub at_line : ℕ → Result RunStateView StopReason → Result RunStateView Verdict
@@ -130,11 +130,11 @@ at_line line (Err reason) = Err (verdict_at line reason)
 
 -- one event: the next state, or the verdict of a stop
 abbrev pub step : RunStateView → Event → Result RunStateView Verdict
-step r e = at_line e.line (outcome r e)
+step r e = at_line e.line (event_outcome r e)
 
 -- why a run stops at an event; nothing where it goes on
 abbrev pub stop_reason : RunStateView → Event → Option StopReason
-stop_reason r e = result_err (outcome r e)
+stop_reason r e = result_err (event_outcome r e)
 
 -- the answer of a step, and the state that it left where the run goes on
 abbrev pub IsStepEnd : Result RunStateView Verdict → StepEnd → RunStateView → Type 0
@@ -150,4 +150,4 @@ StepsFrom (Some ending.OutOfMemory) old e end new = ⊥
 
 -- the same of a run, by how its sender stands before the step
 abbrev pub Steps : RunStateView → Event → StepEnd → RunStateView → Type 0
-Steps old e end new = StepsFrom old.host.ended old e end new
+Steps old e end new = StepsFrom old.host.end_reason old e end new

@@ -4,10 +4,10 @@ use Rattle.pd_script.specs.declared.timing.Time.{Time}
 use Rattle.pd_script.specs.declared.timing.Time.TheVariants.{Any, Absolute, Relative, AbsoluteRange, RelativeRange}
 
 -- a time that is one moment
-abbrev pub is_single : Time → Bool
-is_single (Absolute t) = true
-is_single (Relative t) = true
-is_single _ = false
+abbrev pub is_single_moment : Time → Bool
+is_single_moment (Absolute t) = true
+is_single_moment (Relative t) = true
+is_single_moment _ = false
 
 -- the moment of a single time
 abbrev pub time_of : ℕ → Time → ℕ
@@ -24,10 +24,10 @@ time_range_of base (AbsoluteRange first last) = Some (first, last)
 time_range_of base (RelativeRange first last) = Some (base + first, base + last)
 
 -- an absolute time, or the first bound of an absolute range, lies below the base
-abbrev pub is_backwards : ℕ → Time → Bool
-is_backwards base (Absolute t) = nat_lt t base
-is_backwards base (AbsoluteRange first last) = nat_lt first base
-is_backwards base _ = false
+abbrev pub is_before_base : ℕ → Time → Bool
+is_before_base base (Absolute t) = nat_lt t base
+is_before_base base (AbsoluteRange first last) = nat_lt first base
+is_before_base base _ = false
 
 -- a moment at or before the last one and the tolerance; for `*` any moment
 abbrev pub may_be_in_time : Option (ℕ × ℕ) → ℕ → ℕ → Bool
@@ -37,4 +37,4 @@ may_be_in_time (Some time_range) tolerance at = nat_le at (time_range.1 + tolera
 -- the base after a packet that left at a moment: the event's time; after a range or `*` the later of the old base and
 -- that moment
 abbrev pub base_after : ℕ → Time → ℕ → ℕ
-base_after base time at = if is_single time then time_of base time else max base at
+base_after base time at = if is_single_moment time then time_of base time else max base at

@@ -49,7 +49,7 @@ pub fn failed_check_of(host: &Host, packet: &Packet) -> Result<Option<SegmentChe
 /// # Errors
 /// Why the host has ended, here or before.
 #[inline(always)]
-pub fn answer(host: &mut Host, call: &Call, now: u64) -> Result<Answer, HostEnd>
+pub fn call_answer(host: &mut Host, call: &Call, now: u64) -> Result<Answer, HostEnd>
     requires early { now < 2 ^ 62 }
     requires short { IsShort host.old.state }
     ensures { Answers host.old (λ s. then_on (called call.now now) (advanced now s)) result host.new }

@@ -2,7 +2,7 @@
 ghost use Rattle.std.specs.Prelude.{◌≡◌, ◌^◌, ◌-◌, false, min, map, IfOk};
 ghost use Rattle.std.specs.List.{list_any};
 ghost use Rattle.pd_match.specs.Agreement.{flags_of};
-ghost use Rattle.pd_run.specs.InboundSegment.{in_32_bits, span_in, option_in, options_in, segment_in};
+ghost use Rattle.pd_run.specs.InboundSegment.{saturated_to_32_bits, span_in, option_in, options_in, segment_in};
 ghost use Rattle.pd_run.specs.Limits.{is_block_over, is_option_over, are_options_over, is_packet_over};
 
 use pd_script::{Options, Packet, PacketOption, SackBlock};
@@ -46,13 +46,13 @@ fn options_of(alloc: Global, options: &Options) -> Result<SegOptions, AllocError
     ensures { IfOk result (λ list. list ≡ options_in options.now) }
 {
     match options {
-        Options::Listed(list) => list_of(alloc, list.as_slice()),
+        Options::Listed(list) => option_list_of(alloc, list.as_slice()),
         Options::Absent | Options::Any => Ok(SegOptions::new(alloc)),
     }
 }
 
 #[tactic(auto, using(crate::proofs::WithinLimits::none_at))]
-fn list_of(alloc: Global, options: &[PacketOption]) -> Result<SegOptions, AllocError>
+fn option_list_of(alloc: Global, options: &[PacketOption]) -> Result<SegOptions, AllocError>
     requires fits { list_any is_option_over options.now ≡ false }
     ensures { IfOk result (λ list. list ≡ map option_in options.now) }
 {
@@ -74,15 +74,15 @@ fn option_of(alloc: Global, option: &PacketOption) -> Result<SegOption, AllocErr
         PacketOption::Nop => SegOption::Nop,
         PacketOption::Eol => SegOption::Eol,
         PacketOption::Timestamp(value, echo) => {
-            SegOption::Timestamp(in_32_bits(*value), in_32_bits(*echo))
+            SegOption::Timestamp(saturated_to_32_bits(*value), saturated_to_32_bits(*echo))
         }
         PacketOption::Sack(blocks) => SegOption::Sack(blocks_of(alloc, blocks.as_slice())?),
     })
 }
 
 /// A number of 32 bits; a larger one, which no text has, stands as the largest.
-fn in_32_bits(number: u64) -> u32
-    ensures { result ≡ in_32_bits number }
+fn saturated_to_32_bits(number: u64) -> u32
+    ensures { result ≡ saturated_to_32_bits number }
 {
     number.min(u64::from(u32::MAX)) as u32
 }

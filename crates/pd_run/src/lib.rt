@@ -2,7 +2,7 @@
 //!
 //! `run_all` gives the `Verdict` of a text. A `RunState` is what a run holds between two events:
 //! the host, the clock, the base of relative times, and the header's tolerance. A `Stepper` takes a
-//! run through one event at a time, and counts. `find_stop` and `RunState::stop_reason` look at an event
+//! run through one event at a time, and counts. `run_to_failure_on_line` and `RunState::stop_reason` look at an event
 //! that stops a run once more, and give the reason (`StopReason`) with the packet or the answer that
 //! differs.
 //!
@@ -25,7 +25,7 @@
 //! - The clock moves only by events, and by the expiries that an expected packet waits for. Nothing
 //!   waits, so a run takes the time of its steps, whatever times its script has, and has the same
 //!   verdict on any machine.
-//! - The verdict and its reason come from one function, `RunState::outcome`: `step` makes the
+//! - The verdict and its reason come from one function, `RunState::event_outcome`: `step` makes the
 //!   verdict of what it gives, and `stop_reason` calls it on a copy. So an explanation can't be of another
 //!   stop (the law `law_verdicts_have_reasons`).
 //! - A step has conditions on its clock, its base and the queued octets; a run has none. Each event
@@ -61,8 +61,8 @@ pub use pd_match::Kind;
 pub use prechecks::{Precheck, failed_precheck};
 pub use run_state::RunState;
 pub use stepper::{Plain, StepEnd, Stepper};
-pub use stop_point::{StopPoint, find_stop, stop_reason_on};
+pub use stop_point::{StopPoint, run_to_failure_on_line, stop_reason_if_on_line};
 pub use stop_reason::StopReason;
 pub use times::{base_after, may_be_in_time, time_of, time_range_of};
 pub use verdict::Verdict;
-pub use whole_run::{run_all, run_with};
+pub use whole_run::{run_all, run_with_stepper};

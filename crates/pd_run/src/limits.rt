@@ -1,7 +1,7 @@
 //! The limits of an event's numbers.
 ghost use Rattle.std.specs.Prelude.{◌≡◌};
 ghost use Rattle.std.specs.List.{list_any};
-ghost use Rattle.pd_run.specs.Limits.{is_long, written_times, written_blocking_end, is_some_over, is_block_over, is_option_over, are_options_over, is_packet_over, is_write, is_count_over, is_action_over, is_over_limit};
+ghost use Rattle.pd_run.specs.Limits.{is_long, written_times, written_blocking_end, is_present_number_over, is_block_over, is_option_over, are_options_over, is_packet_over, is_write, is_count_over, is_action_over, is_over_limit};
 
 use pd_script::{
     Action, Argument, BlockingEnd, Call, Event, Function, Options, Packet, PacketOption, SackBlock,
@@ -37,12 +37,12 @@ const MAX_WRITE: u64 = 262_144;
 pub fn is_over_limit(event: &Event) -> bool
     ensures { result ≡ is_over_limit event.now }
 {
-    is_time_over(event.time)
+    is_time_over_limit(event.time)
         || is_blocking_end_over(event.blocking_end)
         || is_action_over(&event.action)
 }
 
-fn is_time_over(time: Time) -> bool
+fn is_time_over_limit(time: Time) -> bool
     ensures { result ≡ list_any is_long (written_times time) }
 {
     match time {
@@ -90,13 +90,13 @@ fn is_packet_over(packet: &Packet) -> bool
 {
     packet.start > MAX_NUMBER
         || packet.end > MAX_NUMBER
-        || is_some_over(MAX_NUMBER, packet.ack)
-        || is_some_over(MAX_WINDOW_FIELD, packet.win)
+        || is_present_number_over(MAX_NUMBER, packet.ack)
+        || is_present_number_over(MAX_WINDOW_FIELD, packet.win)
         || are_options_over(&packet.options)
 }
 
-fn is_some_over(most: u32, number: Option<u32>) -> bool
-    ensures { result ≡ is_some_over most number }
+fn is_present_number_over(most: u32, number: Option<u32>) -> bool
+    ensures { result ≡ is_present_number_over most number }
 {
     match number {
         None => false,
@@ -108,13 +108,13 @@ fn are_options_over(options: &Options) -> bool
     ensures { result ≡ are_options_over options.now }
 {
     match options {
-        Options::Listed(list) => list.len() > MAX_OPTIONS || is_one_over(list.as_slice()),
+        Options::Listed(list) => list.len() > MAX_OPTIONS || is_any_option_over(list.as_slice()),
         Options::Absent => false,
         Options::Any => false,
     }
 }
 
-fn is_one_over(options: &[PacketOption]) -> bool
+fn is_any_option_over(options: &[PacketOption]) -> bool
     ensures { result ≡ list_any is_option_over options.now }
 {
     options.iter().any(|option| is_option_over(option))
@@ -126,12 +126,13 @@ fn is_option_over(option: &PacketOption) -> bool
     match option {
         PacketOption::Mss(n) => *n > MAX_MSS,
         PacketOption::Wscale(n) => *n > MAX_SHIFT,
-        PacketOption::Sack(blocks) => blocks.len() > MAX_BLOCKS || is_edge_high(blocks.as_slice()),
+        PacketOption::Sack(blocks) => blocks.len() > MAX_BLOCKS
+            || is_any_edge_over(blocks.as_slice()),
         _ => false,
     }
 }
 
-fn is_edge_high(blocks: &[SackBlock]) -> bool
+fn is_any_edge_over(blocks: &[SackBlock]) -> bool
     ensures { result ≡ list_any is_block_over blocks.now }
 {
     let highest = u64::from(MAX_NUMBER);

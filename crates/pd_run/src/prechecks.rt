@@ -4,8 +4,8 @@ ghost use Rattle.pd_run.specs.Prechecks.{failed_precheck};
 ghost use Rattle.pd_run.specs.Verdicts.{precheck_verdict};
 
 use crate::limits::is_over_limit;
-use crate::supported::is_run;
-use crate::times::is_backwards;
+use crate::supported::is_shape_supported;
+use crate::times::is_before_base;
 use crate::verdict::Verdict;
 use pd_match::Kind;
 use pd_script::Event;
@@ -42,9 +42,9 @@ pub fn failed_precheck(base: u64, event: &Event) -> Option<Precheck>
 {
     if is_over_limit(event) {
         Some(Precheck::OverLimit)
-    } else if !is_run(event) {
+    } else if !is_shape_supported(event) {
         Some(Precheck::NotRun)
-    } else if is_backwards(base, event.time) {
+    } else if is_before_base(base, event.time) {
         Some(Precheck::Backwards)
     } else {
         None

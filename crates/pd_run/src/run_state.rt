@@ -99,11 +99,11 @@ impl RunState {
     #[inline(always)]
     pub fn copy(&self) -> Result<RunState, AllocError>
         ensures ok { IfOk result (λ copy. copy ≡ self.now) }
-        ensures again { self.now.host.ended ≡ Some OutOfMemory → IsErr result }
+        ensures again { self.now.host.end_reason ≡ Some OutOfMemory → IsErr result }
     {
-        let cloned_parts = self.host.cloned_parts()?;
+        let copied_heap_parts = self.host.copied_heap_parts()?;
         Ok(RunState {
-            host: self.host.with_cloned_parts(cloned_parts),
+            host: self.host.with_heap_parts(copied_heap_parts),
             ..*self
         })
     }
@@ -168,7 +168,7 @@ impl RunState {
     }
 
     /// A packet is expected.
-    fn note_comparison(&mut self)
+    fn note_tolerance_use(&mut self)
         ensures { self.new ≡ comparison_noted self.old }
     {
         self.used_tolerance = self.used_tolerance || self.header_tolerance.is_none();
@@ -184,7 +184,7 @@ impl RunState {
     }
 
     /// The base becomes the time of an event that acted.
-    fn set_base(&mut self, event: &Event)
+    fn set_base_to_event_time(&mut self, event: &Event)
         requires base { self.old.base < 2 ^ 61 }
         requires short { list_any is_long (written_times event.now.time) ≡ false }
         ensures { self.new ≡ record self.old { base = time_of self.old.base event.now.time } }

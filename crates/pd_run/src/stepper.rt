@@ -85,7 +85,7 @@ impl Stepper for Plain {
         requires base { state.old.base < 2 ^ 61 }
         requires short { IsShort state.old.host.state }
         ensures ends { IfOk result (λ end. Steps state.old event.now end state.new) }
-        ensures memory { OnErr result (state.new.host.ended ≡ Some OutOfMemory) }
+        ensures memory { OnErr result (state.new.host.end_reason ≡ Some OutOfMemory) }
         ensures one_more { self.new ≡ self.old + 1 }
     {
         self.steps += 1;

@@ -1,7 +1,7 @@
 //! Where a run stops, and why.
 ghost use Rattle.std.specs.Prelude.{◌≡◌, ◌<◌, ◌≤◌, ◌^◌, None, IfOk, length};
 ghost use Rattle.pd_host.specs.Host.{IsShort, fresh_host};
-ghost use Rattle.pd_run.specs.StopPoints.{stop_reason_on, stop_from, stop_in};
+ghost use Rattle.pd_run.specs.StopPoints.{stop_reason_if_on_line, stop_from, stop_in};
 
 use crate::laws::law_sender;
 use crate::run_state::RunState;
@@ -27,7 +27,7 @@ pub struct StopPoint {
 ///
 /// # Errors
 /// `AllocError` where a growth is refused.
-pub fn find_stop(
+pub fn run_to_failure_on_line(
     alloc: Global,
     parsed: &Parsed,
     settings: &Settings,
@@ -37,7 +37,7 @@ pub fn find_stop(
     ensures { IfOk result (λ stop. stop ≡ stop_in line settings.now parsed.now) }
 {
     match RunState::new(alloc, &parsed.header, settings) {
-        Ok(start) => find_stop_among(parsed.events.as_slice(), settings, start, line),
+        Ok(start) => run_events_to_failure(parsed.events.as_slice(), settings, start, line),
         Err(_) => Ok(None),
     }
 }
@@ -46,16 +46,16 @@ pub fn find_stop(
 ///
 /// # Errors
 /// `AllocError` where a growth is refused.
-pub fn stop_reason_on(
+pub fn stop_reason_if_on_line(
     run: &RunState,
     event: &Event,
     line: usize,
 ) -> Result<Option<StopReason>, AllocError>
-    requires live { run.now.host.ended ≡ None }
+    requires live { run.now.host.end_reason ≡ None }
     requires clock { run.now.clock < 2 ^ 61 }
     requires base { run.now.base < 2 ^ 61 }
     requires short { IsShort run.now.host.state }
-    ensures { IfOk result (λ reason. reason ≡ stop_reason_on line run.now event.now) }
+    ensures { IfOk result (λ reason. reason ≡ stop_reason_if_on_line line run.now event.now) }
 {
     if event.line == line {
         run.stop_reason(event)
@@ -64,7 +64,7 @@ pub fn stop_reason_on(
     }
 }
 
-fn find_stop_among(
+fn run_events_to_failure(
     events: &[Event],
     settings: &Settings,
     start: RunState,
@@ -80,7 +80,7 @@ fn find_stop_among(
     let mut state = start;
     let mut passed = 0;
     for event in events {
-        if let Some(stop_reason) = stop_reason_on(&state, event, line)? {
+        if let Some(stop_reason) = stop_reason_if_on_line(&state, event, line)? {
             let before = state;
             return Ok(Some(StopPoint {
                 passed,

@@ -41,7 +41,7 @@ impl StopKind {
     ///
     /// # Errors
     /// `AllocError` where it ended out of memory.
-    pub fn by(ending: HostEnd) -> Result<StopKind, AllocError>
+    pub fn from_host_end(ending: HostEnd) -> Result<StopKind, AllocError>
         ensures { result ≡ ended_by ending }
     {
         match ending {

@@ -2,13 +2,13 @@
 ghost use Rattle.std.specs.Prelude.{◌≡◌, ◌<◌, ◌^◌, false};
 ghost use Rattle.std.specs.List.{list_any};
 ghost use Rattle.pd_run.specs.Limits.{is_long, written_times};
-ghost use Rattle.pd_run.specs.Times.{is_single, time_of, time_range_of, is_backwards, may_be_in_time, base_after};
+ghost use Rattle.pd_run.specs.Times.{is_single_moment, time_of, time_range_of, is_before_base, may_be_in_time, base_after};
 
 use pd_script::Time;
 
 /// Whether a time is one moment.
-pub fn is_single(time: Time) -> bool
-    ensures { result ≡ is_single time }
+pub fn is_single_moment(time: Time) -> bool
+    ensures { result ≡ is_single_moment time }
 {
     matches!(time, Time::Absolute(_) | Time::Relative(_))
 }
@@ -43,8 +43,8 @@ pub fn time_range_of(base: u64, time: Time) -> Option<(u64, u64)>
 }
 
 /// Whether an absolute time, or the first bound of an absolute range, lies before the base.
-pub fn is_backwards(base: u64, time: Time) -> bool
-    ensures { result ≡ is_backwards base time }
+pub fn is_before_base(base: u64, time: Time) -> bool
+    ensures { result ≡ is_before_base base time }
 {
     match time {
         Time::Absolute(t) => t < base,
@@ -71,7 +71,7 @@ pub fn base_after(base: u64, time: Time, at: u64) -> u64
     requires short { list_any is_long (written_times time) ≡ false }
     ensures { result ≡ base_after base time at }
 {
-    if is_single(time) {
+    if is_single_moment(time) {
         time_of(base, time)
     } else {
         base.max(at)

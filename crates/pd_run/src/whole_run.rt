@@ -22,7 +22,7 @@ pub fn run_all(alloc: Global, lines: &Lines, settings: &Settings) -> Result<Verd
     ensures grammar { IfOk result (IsVerdictOf lines.now settings.now) }
 {
     law_verdicts_are_grammatical();
-    run_with(alloc, lines, settings, &mut Plain::new())
+    run_with_stepper(alloc, lines, settings, &mut Plain::new())
 }
 
 /// As `run_all`, with the stepper that takes the steps: as many as there are events up to the stop, the stop's included,
@@ -30,7 +30,7 @@ pub fn run_all(alloc: Global, lines: &Lines, settings: &Settings) -> Result<Verd
 ///
 /// # Errors
 /// `AllocError` where a growth is refused, or the stepper answers it.
-pub fn run_with<S: Stepper>(
+pub fn run_with_stepper<S: Stepper>(
     alloc: Global,
     lines: &Lines,
     settings: &Settings,

@@ -7,7 +7,7 @@ use Rattle.std.proofs.lemmas.List.{length-take, length-append, length-replicate,
 use Rattle.std.proofs.lemmas.Bool.{cases_lt}
 use Rattle.pd_lex.specs.Scanned.{wrapped_digit}
 use Rattle.pd_lex.proofs.Capped.{most, few_is, capped_is}
-use Rattle.pd_script.specs.Values.{number, whole_len, whole_digits, six_decimals, microseconds}
+use Rattle.pd_script.specs.Values.{number, len_before_point, whole_digits, microseconds_of_decimals, microseconds}
 
 pub ruleset capping = (capped_is)
 
@@ -48,19 +48,19 @@ after_six v (a ∷ b ∷ c ∷ d ∷ e ∷ f ∷ []) h = omega arith
 after_six v (a ∷ b ∷ c ∷ d ∷ e ∷ f ∷ g ∷ ds) h = absurd (omega (arith, h))
 
 -- the decimals after the whole part
-pub microseconds_is : (text : List ℕ) → min (min (min (number (whole_digits text)) most * 1000000) most + fold wrapped_digit 0 (six_decimals text)) most ≡ min (microseconds text) most
+pub microseconds_is : (text : List ℕ) → min (min (min (number (whole_digits text)) most * 1000000) most + fold wrapped_digit 0 (microseconds_of_decimals text)) most ≡ min (microseconds text) most
 unfolding microseconds
 microseconds_is text =
-    let six = six_decimals text in
-    let long : length six ≡ 6 = six_long (drop (whole_len text + 1) text) in
+    let six = microseconds_of_decimals text in
+    let long : length six ≡ 6 = six_long (drop (len_before_point text + 1) text) in
     let few : fold wrapped_digit 0 six ≡ min (digits_value_after 10 0 six) most = few_is six (omega (arith, long)) in
     let all : number (whole_digits text ++ six) ≡ number (whole_digits text) * 1000000 + digits_value_after 10 0 six = digits_value_after-append 10 0 (whole_digits text) six ∙ after_six (number (whole_digits text)) six long in
     omega (arith, few, all)
 
 -- with no decimals
-pub whole_is : (text : List ℕ) → whole_len text ≡ length text → min (min (number (whole_digits text)) most * 1000000) most ≡ min (microseconds text) most
+pub whole_is : (text : List ℕ) → len_before_point text ≡ length text → min (min (number (whole_digits text)) most * 1000000) most ≡ min (microseconds text) most
 whole_is text h =
-    let none : drop (whole_len text + 1) text ≡ [] = drop_all (whole_len text + 1) text (omega (arith, h)) in
-    let zero_is : fold wrapped_digit 0 (six_decimals text) ≡ 0 = rw none refl in
+    let none : drop (len_before_point text + 1) text ≡ [] = drop_all (len_before_point text + 1) text (omega (arith, h)) in
+    let zero_is : fold wrapped_digit 0 (microseconds_of_decimals text) ≡ 0 = rw none refl in
     let all = microseconds_is text in
     omega (arith, zero_is, all)

@@ -7,7 +7,7 @@ use Rattle.pd_lex.specs.declared.token.TokenKind.TheVariants as kinds
 use Rattle.pd_lex.specs.Octets.{is_digit}
 use Rattle.pd_lex.specs.Spellings.{IsSpelled}
 use Rattle.pd_lex.specs.Tokens.{Item, lexeme, ending, bad}
-use Rattle.pd_script.specs.Values.{sign, number, hex_number, microseconds, is_flag, option_named}
+use Rattle.pd_script.specs.Values.{sign, number, hex_number, microseconds, is_flag_letter, option_named}
 
 -- digits alone
 abbrev pub is_int_kind : TokenKind → Bool
@@ -122,7 +122,7 @@ is_named name t = is_token (λ kind text. is_word_kind kind && bytes_eq text nam
 
 -- a word of flags' letters alone
 abbrev pub is_flags : Item → Bool
-is_flags t = is_token (λ kind text. is_word_kind kind && list_all is_flag text) t
+is_flags t = is_token (λ kind text. is_word_kind kind && list_all is_flag_letter text) t
 
 -- a word that names a TCP option
 abbrev pub is_option : Item → Bool

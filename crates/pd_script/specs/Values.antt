@@ -27,20 +27,20 @@ abbrev pub hex_number : List ℕ → ℕ
 hex_number text = digits_value 16 (drop 2 text)
 
 -- how many octets are before the point
-abbrev pub whole_len : List ℕ → ℕ
-whole_len text = prefix_len (λ octet. not (octet == sign ".")) text
+abbrev pub len_before_point : List ℕ → ℕ
+len_before_point text = prefix_len (λ octet. not (octet == sign ".")) text
 
 -- the digits before the point
 abbrev pub whole_digits : List ℕ → List ℕ
-whole_digits text = take (whole_len text) text
+whole_digits text = take (len_before_point text) text
 
 -- the six decimals after the point; those not written are zeros, further ones are dropped
-abbrev pub six_decimals : List ℕ → List ℕ
-six_decimals text = take 6 (drop (whole_len text + 1) text ++ replicate 6 (sign "0"))
+abbrev pub microseconds_of_decimals : List ℕ → List ℕ
+microseconds_of_decimals text = take 6 (drop (len_before_point text + 1) text ++ replicate 6 (sign "0"))
 
 -- the microseconds of seconds in digits, or in digits with a point
 unfoldable pub microseconds : List ℕ → ℕ
-microseconds text = number (whole_digits text ++ six_decimals text)
+microseconds text = number (whole_digits text ++ microseconds_of_decimals text)
 
 -- the name of a call
 abbrev pub function_name : Function → List ℕ
@@ -116,8 +116,8 @@ unfoldable pub option_named : List ℕ → Option OptionName
 option_named text = find (λ o. bytes_eq (option_name o) text) named_options
 
 -- the letters of flags: F, S, R, P, U, E, W and C
-abbrev pub is_flag : ℕ → Bool
-is_flag octet = (octet == sign "F") || (octet == sign "S") || (octet == sign "R") || (octet == sign "P") || (octet == sign "U") || (octet == sign "E") || (octet == sign "W") || (octet == sign "C")
+abbrev pub is_flag_letter : ℕ → Bool
+is_flag_letter octet = (octet == sign "F") || (octet == sign "S") || (octet == sign "R") || (octet == sign "P") || (octet == sign "U") || (octet == sign "E") || (octet == sign "W") || (octet == sign "C")
 
 -- the flags that letters name, without the point
 unfoldable pub flags_of : List ℕ → PacketFlags

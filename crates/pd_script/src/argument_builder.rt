@@ -29,7 +29,7 @@ impl ArgumentBuilder {
     ghost use Rattle.pd_script.specs.ArgumentReading.{single_token_builder, extended_builder, built_argument, is_empty};
 
     #[inline(always)]
-    fn single(token: &Token) -> ArgumentBuilder
+    fn from_first_token(token: &Token) -> ArgumentBuilder
         ensures { result ≡ single_token_builder (shown token.now) }
     {
         if is_any_int(token) {
@@ -45,20 +45,20 @@ impl ArgumentBuilder {
 
     /// Takes one token more; a mixed draft stays as it is.
     #[inline(always)]
-    pub fn add(&mut self, token: &Token)
+    pub fn add_token(&mut self, token: &Token)
         ensures { self.new ≡ extended_builder self.old (shown token.now) }
     {
         match *self {
             ArgumentBuilder::Mixed => {}
-            ArgumentBuilder::Empty => *self = ArgumentBuilder::single(token),
-            _ => self.go_on(token),
+            ArgumentBuilder::Empty => *self = ArgumentBuilder::from_first_token(token),
+            _ => self.add_later_token(token),
         }
     }
 
     /// Takes one token more, not the first. It is apart, since most drafts are empty or mixed.
     #[cold]
     #[inline(never)]
-    fn go_on(&mut self, token: &Token)
+    fn add_later_token(&mut self, token: &Token)
         requires { is_empty self.old ≡ false }
         ensures { self.new ≡ extended_builder self.old (shown token.now) }
     {

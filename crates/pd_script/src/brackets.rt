@@ -1,6 +1,6 @@
 //! Pairs of brackets.
 ghost use Rattle.std.specs.Prelude.{◌≡◌, ◌<◌, ◌≤◌, [], ◌∷◌, length, Some, None, IfSome, IfNone, OnOk, OnErr, nat_eq, ◌==◌};
-ghost use Rattle.pd_script.specs.Brackets.{opened_by, is_closing, closing_octet, pairs_after};
+ghost use Rattle.pd_script.specs.Brackets.{bracket_opened_by, is_closing_bracket, closing_octet, pairs_after};
 ghost use Rattle.pd_script.specs.Cursor.{shown};
 
 use crate::parse_error::ParseError;
@@ -36,8 +36,8 @@ impl Bracket {
 }
 
 /// The pair that a token opens.
-fn opened_by(token: &Token) -> Option<Bracket>
-    ensures { result ≡ opened_by (shown token.now) }
+fn bracket_opened_by(token: &Token) -> Option<Bracket>
+    ensures { result ≡ bracket_opened_by (shown token.now) }
 {
     if is_symbol(token, b'(') {
         Some(Bracket::Round)
@@ -50,8 +50,8 @@ fn opened_by(token: &Token) -> Option<Bracket>
     }
 }
 
-fn is_closing(token: &Token) -> bool
-    ensures { result ≡ is_closing (shown token.now) }
+fn is_closing_bracket(token: &Token) -> bool
+    ensures { result ≡ is_closing_bracket (shown token.now) }
 {
     is_symbol(token, b')') || is_symbol(token, b']') || is_symbol(token, b'}')
 }
@@ -114,18 +114,18 @@ impl OpenPairs {
     /// # Errors
     /// `Syntax` where the token opens a pair while so many are open, or closes another than the innermost, or none is open.
     #[inline(always)]
-    pub fn update(&mut self, token: &Token, most: usize) -> Result<(), ParseError>
+    pub fn update_by_token(&mut self, token: &Token, most: usize) -> Result<(), ParseError>
         requires { most ≤ 16 }
         ensures ok { OnOk result (pairs_after most self.old (shown token.now) ≡ Some self.new) }
         ensures err { OnErr result (pairs_after most self.old (shown token.now) ≡ None) }
         ensures syntax { OnErr result (result ≡ Err ParseError.Syntax) }
     {
-        if let Some(bracket) = opened_by(token) {
+        if let Some(bracket) = bracket_opened_by(token) {
             if self.len() >= most {
                 return Err(ParseError::Syntax);
             }
             self.push(bracket);
-        } else if is_closing(token) {
+        } else if is_closing_bracket(token) {
             let Some(bracket) = self.pop() else {
                 return Err(ParseError::Syntax);
             };

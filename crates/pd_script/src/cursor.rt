@@ -9,7 +9,7 @@ ghost use Rattle.pd_script.specs.Cursor.{IsPeeked, Leaves, Moves};
 use crate::argument_builder::BracketContext;
 use crate::brackets::{MAX_DEPTH, OpenPairs};
 use crate::parse_error::ParseError;
-use pd_lex::{Lexed, Lookahead, Place, look_ahead, read_on_line};
+use pd_lex::{Lexed, Lookahead, Place, lookahead_at, update_lookahead};
 use pd_text::Lines;
 use std::marker::Model;
 
@@ -42,7 +42,7 @@ impl<'a> Cursor<'a> {
     {
         Cursor {
             lines,
-            lookahead: look_ahead(lines, place),
+            lookahead: lookahead_at(lines, place),
         }
     }
 
@@ -87,7 +87,7 @@ impl<'a> Cursor<'a> {
         ensures { self.new ≡ after_token self.old }
     {
         if let Lexed::Token(token) = self.lookahead.next {
-            read_on_line(self.lines, token.to, &mut self.lookahead);
+            update_lookahead(self.lines, token.to, &mut self.lookahead);
         }
     }
 
@@ -106,7 +106,7 @@ impl<'a> Cursor<'a> {
     ///
     /// # Errors
     /// `Syntax` where no token comes next, or its bracket doesn't go with the open pairs; the cursor stays there.
-    pub fn note_part(&mut self, pairs: OpenPairs) -> Result<OpenPairs, ParseError>
+    pub fn take_note_token(&mut self, pairs: OpenPairs) -> Result<OpenPairs, ParseError>
         ensures { Leaves result self.new (note_part_at pairs self.old) }
     {
         let Lexed::Token(token) = self.lookahead.next else {
@@ -114,7 +114,7 @@ impl<'a> Cursor<'a> {
         };
         let mut pairs = pairs;
         // The note's own brackets are a pair, too.
-        pairs.update(&token, MAX_DEPTH - 1)?;
+        pairs.update_by_token(&token, MAX_DEPTH - 1)?;
         self.advance();
         Ok(pairs)
     }
@@ -124,14 +124,14 @@ impl<'a> Cursor<'a> {
     /// # Errors
     /// `Syntax` where no token comes next, or its bracket doesn't go with the open pairs; the cursor stays there.
     #[inline(always)]
-    pub fn part(&mut self, inside: &mut BracketContext) -> Result<(), ParseError>
+    pub fn take_argument_token(&mut self, inside: &mut BracketContext) -> Result<(), ParseError>
         ensures { Moves result inside.new self.new (part_at inside.old self.old) }
     {
         let Lexed::Token(token) = &self.lookahead.next else {
             return Err(ParseError::Syntax);
         };
-        inside.pairs.update(token, MAX_DEPTH)?;
-        inside.builder.add(token);
+        inside.pairs.update_by_token(token, MAX_DEPTH)?;
+        inside.builder.add_token(token);
         self.advance_inline();
         Ok(())
     }

@@ -122,7 +122,7 @@ impl<'a> Cursor<'a> {
         if !self.starts_event() {
             return Ok(NextEventStatus::Fault(self.line()));
         }
-        match self.event(alloc, event) {
+        match self.take_event(alloc, event) {
             Ok(()) => {}
             Err(ParseError::Syntax) => return Ok(NextEventStatus::Fault(self.line())),
             Err(ParseError::OutOfMemory) => return Err(AllocError),

@@ -11,7 +11,7 @@ use crate::calls::{ErrorName, Function};
 use crate::cursor::Cursor;
 use crate::names::{OptionName, error_named, function_named, option_named};
 use crate::numbers::{TIME_LIMIT, hex_number, microseconds};
-use crate::packets::{PacketFlags, are_flags};
+use crate::packets::{PacketFlags, are_flag_letters};
 use crate::parse_error::ParseError;
 use crate::script_events::Action;
 use pd_lex::{Lexed, Token, TokenKind};
@@ -28,7 +28,7 @@ macro_rules! next_token {
 
 /// A number of the grammar, of which none is above 4,294,967,295.
 #[inline(always)]
-fn bounded(number: u64) -> Result<u32, ParseError>
+fn checked_u32(number: u64) -> Result<u32, ParseError>
     ensures { result ≡ (if is_small number then Ok number else Err Syntax) }
 {
     let Ok(number) = u32::try_from(number) else {
@@ -43,7 +43,7 @@ impl<'a> Cursor<'a> {
     /// # Errors
     /// `Syntax` where the next token isn't this symbol, which isn't taken then.
     #[tactic(auto, using(crate::proofs::Symbols::one_octet), unfolding(pd_lex::specs::Lexing::lexeme_of))]
-    pub fn symbol(&mut self, octet: u8) -> Result<usize, ParseError>
+    pub fn take_symbol(&mut self, octet: u8) -> Result<usize, ParseError>
         ensures { Leaves result self.new (symbol_at octet self.old) }
     {
         let (symbol, from) = next_token!(self, TokenKind::Symbol, symbol, from);
@@ -59,10 +59,10 @@ impl<'a> Cursor<'a> {
     /// # Errors
     /// `Syntax` where the next token is no whole number, or one above 4,294,967,295. It isn't taken then.
     #[tactic(auto, unfolding(pd_lex::specs::Lexing::lexeme_of))]
-    pub fn int(&mut self) -> Result<u32, ParseError>
+    pub fn take_int(&mut self) -> Result<u32, ParseError>
         ensures { Leaves result self.new (int_at self.old) }
     {
-        let number = bounded(next_token!(self, TokenKind::Int, number))?;
+        let number = checked_u32(next_token!(self, TokenKind::Int, number))?;
         self.advance();
         Ok(number)
     }
@@ -72,10 +72,10 @@ impl<'a> Cursor<'a> {
     /// # Errors
     /// `Syntax` where the next token is no whole number, or one above 4,294,967,295 or below the least. It isn't taken then.
     #[tactic(auto, unfolding(pd_lex::specs::Lexing::lexeme_of))]
-    pub fn int_from(&mut self, least: u32) -> Result<u32, ParseError>
+    pub fn take_int_at_least(&mut self, least: u32) -> Result<u32, ParseError>
         ensures { Leaves result self.new (int_from_at least self.old) }
     {
-        let number = bounded(next_token!(self, TokenKind::Int, number))?;
+        let number = checked_u32(next_token!(self, TokenKind::Int, number))?;
         if number < least {
             return Err(ParseError::Syntax);
         }
@@ -88,10 +88,10 @@ impl<'a> Cursor<'a> {
     /// # Errors
     /// `Syntax` where the next token isn't a whole number with this value. It isn't taken then.
     #[tactic(auto, unfolding(pd_lex::specs::Lexing::lexeme_of))]
-    pub fn int_equal(&mut self, wanted: u32) -> Result<u32, ParseError>
+    pub fn take_int_equal_to(&mut self, wanted: u32) -> Result<u32, ParseError>
         ensures { Leaves result self.new (int_of_at wanted self.old) }
     {
-        let number = bounded(next_token!(self, TokenKind::Int, number))?;
+        let number = checked_u32(next_token!(self, TokenKind::Int, number))?;
         if number != wanted {
             return Err(ParseError::Syntax);
         }
@@ -104,11 +104,11 @@ impl<'a> Cursor<'a> {
     /// # Errors
     /// `Syntax` where the next token is no hexadecimal number, or one above 4,294,967,295. It isn't taken then.
     #[tactic(auto, unfolding(pd_lex::specs::Lexing::lexeme_of))]
-    pub fn hex(&mut self) -> Result<u32, ParseError>
+    pub fn take_hex(&mut self) -> Result<u32, ParseError>
         ensures { Leaves result self.new (hex_at self.old) }
     {
         let text = next_token!(self, TokenKind::Hex, text);
-        let number = bounded(hex_number(text))?;
+        let number = checked_u32(hex_number(text))?;
         self.advance();
         Ok(number)
     }
@@ -119,7 +119,7 @@ impl<'a> Cursor<'a> {
     /// `Syntax` where the next token is no number, or one of 4,294,967,296 seconds or more. It isn't taken then.
     #[tactic(auto, unfolding(pd_lex::specs::Lexing::lexeme_of))]
     #[inline(always)]
-    pub fn num(&mut self) -> Result<(usize, u64), ParseError>
+    pub fn take_seconds(&mut self) -> Result<(usize, u64), ParseError>
         ensures { Leaves result self.new (num_at self.old) }
     {
         let (text, from) = next_token!(self, TokenKind::Int | TokenKind::Decimal, text, from);
@@ -137,7 +137,7 @@ impl<'a> Cursor<'a> {
     /// `Syntax` where the next token is no number, or one of 4,294,967,296 seconds or more, or below the least. It isn't
     /// taken then.
     #[tactic(auto, unfolding(pd_lex::specs::Lexing::lexeme_of))]
-    pub fn num_from(&mut self, least: u64) -> Result<u64, ParseError>
+    pub fn take_seconds_at_least(&mut self, least: u64) -> Result<u64, ParseError>
         ensures { Leaves result self.new (num_from_at least self.old) }
     {
         let text = next_token!(self, TokenKind::Int | TokenKind::Decimal, text);
@@ -155,11 +155,11 @@ impl<'a> Cursor<'a> {
     /// `Syntax` where the next token is no word, or has another octet than `F`, `S`, `R`, `P`, `U`, `E`, `W` and `C`. It
     /// isn't taken then.
     #[tactic(auto, unfolding(pd_lex::specs::Lexing::lexeme_of))]
-    pub fn letters(&mut self) -> Result<PacketFlags, ParseError>
+    pub fn take_flag_letters(&mut self) -> Result<PacketFlags, ParseError>
         ensures { Leaves result self.new (letters_at self.old) }
     {
         let text = next_token!(self, TokenKind::Word, text);
-        if !are_flags(text) {
+        if !are_flag_letters(text) {
             return Err(ParseError::Syntax);
         }
         self.advance();
@@ -171,7 +171,7 @@ impl<'a> Cursor<'a> {
     /// # Errors
     /// `Syntax` where the next token is no word that names an option. It isn't taken then.
     #[tactic(auto, unfolding(pd_lex::specs::Lexing::lexeme_of))]
-    pub fn option_name(&mut self) -> Result<OptionName, ParseError>
+    pub fn take_option_name(&mut self) -> Result<OptionName, ParseError>
         ensures { Leaves result self.new (option_name_at self.old) }
     {
         let text = next_token!(self, TokenKind::Word, text);
@@ -188,7 +188,7 @@ impl<'a> Cursor<'a> {
     /// `Syntax` where the next token is no word. It isn't taken then.
     #[tactic(auto, unfolding(pd_lex::specs::Lexing::lexeme_of))]
     #[inline(always)]
-    pub fn function(&mut self) -> Result<Function, ParseError>
+    pub fn take_function_name(&mut self) -> Result<Function, ParseError>
         ensures { Leaves result self.new (function_at self.old) }
     {
         let text = next_token!(self, TokenKind::Word, text);
@@ -201,7 +201,7 @@ impl<'a> Cursor<'a> {
     /// # Errors
     /// `Syntax` where the next token is no word. It isn't taken then.
     #[tactic(auto, unfolding(pd_lex::specs::Lexing::lexeme_of))]
-    pub fn error(&mut self) -> Result<ErrorName, ParseError>
+    pub fn take_error_name(&mut self) -> Result<ErrorName, ParseError>
         ensures { Leaves result self.new (error_at self.old) }
     {
         let text = next_token!(self, TokenKind::Word, text);
@@ -214,7 +214,7 @@ impl<'a> Cursor<'a> {
     /// # Errors
     /// `Syntax` where the next token isn't three points. It isn't taken then.
     #[tactic(auto, unfolding(pd_lex::specs::Lexing::lexeme_of))]
-    pub fn dots(&mut self) -> Result<(), ParseError>
+    pub fn take_dots(&mut self) -> Result<(), ParseError>
         ensures { Leaves result self.new (dots_at self.old) }
     {
         next_token!(self, TokenKind::Dots);
@@ -227,7 +227,7 @@ impl<'a> Cursor<'a> {
     /// # Errors
     /// `Syntax` where the next token isn't this word. It isn't taken then.
     #[tactic(auto, unfolding(pd_lex::specs::Lexing::lexeme_of))]
-    pub fn named(&mut self, name: &[u8]) -> Result<(), ParseError>
+    pub fn take_word(&mut self, name: &[u8]) -> Result<(), ParseError>
         ensures { Leaves result self.new (named_at name.now self.old) }
     {
         let text = next_token!(self, TokenKind::Word, text);
@@ -243,7 +243,7 @@ impl<'a> Cursor<'a> {
     /// # Errors
     /// `Syntax` where the next token is no shell command. It isn't taken then.
     #[tactic(auto, unfolding(pd_lex::specs::Lexing::lexeme_of))]
-    pub fn command(&mut self, action: &mut Action) -> Result<(), ParseError>
+    pub fn take_command(&mut self, action: &mut Action) -> Result<(), ParseError>
         ensures { Moves result action.new self.new (command_at self.old) }
     {
         next_token!(self, TokenKind::Cmd);
@@ -257,7 +257,7 @@ impl<'a> Cursor<'a> {
     /// # Errors
     /// `Syntax` where the next token isn't code. It isn't taken then.
     #[tactic(auto, unfolding(pd_lex::specs::Lexing::lexeme_of))]
-    pub fn code(&mut self, action: &mut Action) -> Result<(), ParseError>
+    pub fn take_code(&mut self, action: &mut Action) -> Result<(), ParseError>
         ensures { Moves result action.new self.new (code_at self.old) }
     {
         next_token!(self, TokenKind::Code);

@@ -13,7 +13,7 @@ use pd_text::Lines;
 use std::alloc::{AllocError, Global};
 
 /// The header item that a token is.
-fn header_item(token: &Token) -> Option<HeaderItem>
+fn header_item_of(token: &Token) -> Option<HeaderItem>
     ensures { result ≡ given is_header (λ t. header_item t) (shown token.now) }
 {
     let kind = match token.kind {
@@ -34,7 +34,7 @@ fn next_header_item(lines: &Lines, place: Place) -> Option<(HeaderItem, Place)>
 {
     lines.law_invariant();
     match next_token(lines, place) {
-        Lexed::Token(token) => match header_item(&token) {
+        Lexed::Token(token) => match header_item_of(&token) {
             Some(item) => Some((item, token.to)),
             None => None,
         },

@@ -55,7 +55,7 @@ impl<'a> Cursor<'a> {
 
     /// Whether an Int or a Decimal below 4,294,967,296 seconds comes next.
     #[tactic(auto, unfolding(pd_lex::specs::Lexing::lexeme_of))]
-    pub fn is_num(&self) -> bool
+    pub fn is_seconds(&self) -> bool
         ensures { result ≡ next_is is_num self.now }
     {
         match self.peek() {
@@ -80,7 +80,7 @@ impl<'a> Cursor<'a> {
 
     /// Whether this word comes next.
     #[tactic(auto, unfolding(pd_lex::specs::Lexing::lexeme_of))]
-    pub fn is_named(&self, name: &[u8]) -> bool
+    pub fn is_this_word(&self, name: &[u8]) -> bool
         ensures { result ≡ next_is (is_named name.now) self.now }
     {
         match self.peek() {
@@ -104,6 +104,6 @@ impl<'a> Cursor<'a> {
     pub fn starts_event(&self) -> bool
         ensures { result ≡ next_is starts_event self.now }
     {
-        self.is_num() || self.is_symbol(b'+') || self.is_symbol(b'*')
+        self.is_seconds() || self.is_symbol(b'+') || self.is_symbol(b'*')
     }
 }

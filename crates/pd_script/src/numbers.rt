@@ -3,10 +3,10 @@ ghost use Rattle.std.specs.Prelude.{◌≡◌, ◌+◌, ◌-◌, ◌*◌, ◌^�
 ghost use Rattle.std.specs.List.{list_all};
 ghost use Rattle.pd_lex.specs.Octets.{is_digit};
 ghost use Rattle.pd_script.specs.Items.{is_digits};
-ghost use Rattle.pd_script.specs.Values.{hex_number, whole_len, microseconds};
+ghost use Rattle.pd_script.specs.Values.{hex_number, len_before_point, microseconds};
 ghost use Rattle.pd_lex.specs.Scanned.{wrapped_digit};
 
-use pd_lex::{digit_value, number, value_after};
+use pd_lex::{decimal_value, digit_value, value_with_more_digits};
 
 /// A time is below so many microseconds.
 pub const TIME_LIMIT: u64 = 4_294_967_296_000_000;
@@ -26,19 +26,19 @@ fn hex_digits(text: &[u8]) -> &[u8]
 pub fn hex_number(text: &[u8]) -> u64
     ensures { result ≡ min (hex_number text.now) (2 ^ 64 - 1) }
 {
-    value_after(16, 0, hex_digits(text))
+    value_with_more_digits(16, 0, hex_digits(text))
 }
 
 /// How many octets are before the point.
-fn whole_len(text: &[u8]) -> usize
-    ensures len { result ≡ whole_len text.now }
+fn len_before_point(text: &[u8]) -> usize
+    ensures len { result ≡ len_before_point text.now }
     ensures within { result ≤ length text.now }
 {
     text.iter().take_while(|octet| **octet != b'.').count()
 }
 
 /// The digits after the point, which follows so many.
-fn decimals(text: &[u8], len: usize) -> &[u8]
+fn digits_after_point(text: &[u8], len: usize) -> &[u8]
     requires { len ≤ length text.now }
     ensures { result.now ≡ drop (len + 1) text.now }
 {
@@ -50,7 +50,7 @@ fn decimals(text: &[u8], len: usize) -> &[u8]
 }
 
 /// The decimal at a place after the point; one that isn't written is a zero.
-fn decimal_at(decimals: &[u8], place: usize) -> u8
+fn decimal_or_zero_at(decimals: &[u8], place: usize) -> u8
     ensures { result ≡ get_or decimals.now place 48 }
 {
     if place < decimals.len() {
@@ -61,14 +61,14 @@ fn decimal_at(decimals: &[u8], place: usize) -> u8
 }
 
 /// The number that the first six decimals write.
-fn six_decimals(decimals: &[u8]) -> u64
+fn microseconds_of_decimals(decimals: &[u8]) -> u64
     ensures { result ≡ fold wrapped_digit 0 (take 6 (decimals.now ++ replicate 6 48)) }
 {
     let mut number = 0u64;
     'places: for place in 0..6usize {
         number = number
             .wrapping_mul(10)
-            .wrapping_add(digit_value(decimal_at(decimals, place)));
+            .wrapping_add(digit_value(decimal_or_zero_at(decimals, place)));
     }
     number
 }
@@ -77,12 +77,12 @@ fn six_decimals(decimals: &[u8]) -> u64
 pub fn microseconds(text: &[u8]) -> u64
     ensures { result ≡ min (microseconds text.now) (2 ^ 64 - 1) }
 {
-    let len = whole_len(text);
-    let whole = number(&text[..len]).saturating_mul(1_000_000);
+    let len = len_before_point(text);
+    let whole = decimal_value(&text[..len]).saturating_mul(1_000_000);
     if len == text.len() {
         return whole;
     }
-    whole.saturating_add(six_decimals(decimals(text, len)))
+    whole.saturating_add(microseconds_of_decimals(digits_after_point(text, len)))
 }
 
 fn is_digit_octet(octet: u8) -> bool
@@ -91,7 +91,7 @@ fn is_digit_octet(octet: u8) -> bool
     matches!(octet, b'0'..=b'9')
 }
 
-fn all_digits(octets: &[u8]) -> bool
+fn are_digits(octets: &[u8]) -> bool
     ensures { result ≡ list_all is_digit octets.now }
 {
     octets.iter().all(|octet| is_digit_octet(*octet))
@@ -101,5 +101,5 @@ fn all_digits(octets: &[u8]) -> bool
 pub fn is_digits(octets: &[u8]) -> bool
     ensures { result ≡ is_digits octets.now }
 {
-    0 < octets.len() && all_digits(octets)
+    0 < octets.len() && are_digits(octets)
 }

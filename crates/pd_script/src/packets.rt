@@ -1,7 +1,7 @@
 //! Packets as a script writes them.
 ghost use Rattle.std.specs.Prelude.{◌≡◌, ◌==◌, ◌||◌, [], ◌∷◌, ◌++◌, length, IfOk, OnOk};
 ghost use Rattle.std.specs.List.{list_any, list_all};
-ghost use Rattle.pd_script.specs.Values.{is_flag};
+ghost use Rattle.pd_script.specs.Values.{is_flag_letter};
 
 use std::alloc::{AllocError, Global};
 use std::marker::Model;
@@ -63,14 +63,14 @@ pub struct PacketFlags {
 }
 
 /// Whether a letter is among them.
-fn has(letters: &[u8], letter: u8) -> bool
+fn has_letter(letters: &[u8], letter: u8) -> bool
     ensures { result ≡ list_any (λ octet. octet == letter) letters.now }
 {
     letters.iter().any(|octet| *octet == letter)
 }
 
 /// Whether a letter of a flag that isn't run is among them.
-fn has_other(letters: &[u8]) -> bool
+fn has_other_flag(letters: &[u8]) -> bool
     ensures { result ≡ list_any (λ octet. (octet == 85) || (octet == 69) || (octet == 87) || (octet == 67)) letters.now }
 {
     letters.iter().any(|octet| *octet == b'U' || *octet == b'E' || *octet == b'W' || *octet == b'C')
@@ -85,12 +85,12 @@ impl PacketFlags {
         ensures { result ≡ flags_of letters.now }
     {
         PacketFlags {
-            syn: has(letters, b'S'),
-            fin: has(letters, b'F'),
-            rst: has(letters, b'R'),
-            psh: has(letters, b'P'),
+            syn: has_letter(letters, b'S'),
+            fin: has_letter(letters, b'F'),
+            rst: has_letter(letters, b'R'),
+            psh: has_letter(letters, b'P'),
             ack: false,
-            other: has_other(letters),
+            other: has_other_flag(letters),
         }
     }
 
@@ -102,17 +102,17 @@ impl PacketFlags {
     }
 }
 
-fn is_flag(octet: u8) -> bool
-    ensures { result ≡ is_flag octet }
+fn is_flag_letter(octet: u8) -> bool
+    ensures { result ≡ is_flag_letter octet }
 {
     matches!(octet, b'F' | b'S' | b'R' | b'P' | b'U' | b'E' | b'W' | b'C')
 }
 
 /// Whether the octets are letters of flags alone.
-pub fn are_flags(octets: &[u8]) -> bool
-    ensures { result ≡ list_all is_flag octets.now }
+pub fn are_flag_letters(octets: &[u8]) -> bool
+    ensures { result ≡ list_all is_flag_letter octets.now }
 {
-    octets.iter().all(|octet| is_flag(*octet))
+    octets.iter().all(|octet| is_flag_letter(*octet))
 }
 
 /// The TCP options of a packet.

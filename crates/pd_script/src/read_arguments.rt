@@ -14,7 +14,7 @@ use std::alloc::Global;
 
 impl<'a> Cursor<'a> {
     /// Whether it is between two arguments or after the last.
-    fn is_between(&self, inside: &BracketContext) -> bool
+    fn is_at_argument_end(&self, inside: &BracketContext) -> bool
         ensures { result ≡ is_between inside.now self.now }
     {
         inside.pairs.is_empty() && (self.is_symbol(b')') || self.is_symbol(b','))
@@ -26,7 +26,7 @@ impl<'a> Cursor<'a> {
     /// `Syntax` where an argument is empty or none goes on, and the cursor is there; `OutOfMemory` where a growth is
     /// refused.
     #[inline(always)]
-    pub fn arguments(&mut self, alloc: Global) -> Result<Arguments, ParseError>
+    pub fn take_arguments(&mut self, alloc: Global) -> Result<Arguments, ParseError>
         ensures { Leaves result self.new (arguments_at self.old) }
     {
         let mut arguments = Arguments::new(alloc);
@@ -36,8 +36,8 @@ impl<'a> Cursor<'a> {
         }
         let mut inside = BracketContext::at_start();
         'tokens: loop {
-            if !self.is_between(&inside) {
-                self.part(&mut inside)?;
+            if !self.is_at_argument_end(&inside) {
+                self.take_argument_token(&mut inside)?;
                 continue;
             }
             if inside.builder.is_empty() {
@@ -55,7 +55,7 @@ impl<'a> Cursor<'a> {
     }
 
     /// Whether the bracket that ends a note is here.
-    fn is_last(&self, pairs: &OpenPairs) -> bool
+    fn is_at_note_end(&self, pairs: &OpenPairs) -> bool
         ensures { result ≡ is_last pairs.now self.now }
     {
         pairs.is_empty() && self.is_symbol(b')')
@@ -65,16 +65,16 @@ impl<'a> Cursor<'a> {
     ///
     /// # Errors
     /// `Syntax` where no note goes on; the cursor is there.
-    pub fn note_inside(&mut self) -> Result<(), ParseError>
+    pub fn skip_note_body(&mut self) -> Result<(), ParseError>
         ensures { SkipsNote result self.new (machine_at note_move [] self.old) }
     {
         let mut pairs = OpenPairs::new();
         'tokens: loop {
-            if self.is_last(&pairs) {
+            if self.is_at_note_end(&pairs) {
                 self.advance();
                 return Ok(());
             }
-            pairs = self.note_part(pairs)?;
+            pairs = self.take_note_token(pairs)?;
         }
     }
 }

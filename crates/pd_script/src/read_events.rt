@@ -15,7 +15,7 @@ impl<'a> Cursor<'a> {
     /// Takes a time, and answers the line of its first token with it.
     #[tactic(auto, using(crate::proofs::Symbols::one_octet), unfolding(crate::specs::EventReading::time_at, pd_lex::specs::Lexing::lexeme_of))]
     #[inline(always)]
-    fn time(&mut self) -> Result<(usize, Time), ParseError>
+    fn take_time(&mut self) -> Result<(usize, Time), ParseError>
         ensures { Leaves result self.new (time_at self.old) }
     {
         match self.peek() {
@@ -25,108 +25,108 @@ impl<'a> Cursor<'a> {
                     symbol: b'*',
                     ..
                 },
-            ) => Ok((self.symbol(b'*')?, Time::Any)),
+            ) => Ok((self.take_symbol(b'*')?, Time::Any)),
             Lexed::Token(
                 Token {
                     kind: TokenKind::Symbol,
                     symbol: b'+',
                     ..
                 },
-            ) => self.relative_time(),
-            _ => self.absolute_time(),
+            ) => self.take_relative_time(),
+            _ => self.take_absolute_time(),
         }
     }
 
-    fn absolute_time(&mut self) -> Result<(usize, Time), ParseError>
+    fn take_absolute_time(&mut self) -> Result<(usize, Time), ParseError>
         ensures { Leaves result self.new (absolute_at self.old) }
     {
-        let (line, first) = self.num()?;
+        let (line, first) = self.take_seconds()?;
         if !self.is_symbol(b'~') {
             return Ok((line, Time::Absolute(first)));
         }
-        self.symbol(b'~')?;
-        let second = self.num_from(first)?;
+        self.take_symbol(b'~')?;
+        let second = self.take_seconds_at_least(first)?;
         Ok((line, Time::AbsoluteRange(first, second)))
     }
 
     #[inline(always)]
-    fn relative_time(&mut self) -> Result<(usize, Time), ParseError>
+    fn take_relative_time(&mut self) -> Result<(usize, Time), ParseError>
         ensures { Leaves result self.new (relative_at self.old) }
     {
-        let line = self.symbol(b'+')?;
-        let (_, first) = self.num()?;
+        let line = self.take_symbol(b'+')?;
+        let (_, first) = self.take_seconds()?;
         if !self.is_symbol(b'~') {
             return Ok((line, Time::Relative(first)));
         }
-        self.symbol(b'~')?;
+        self.take_symbol(b'~')?;
         if self.is_symbol(b'+') {
-            self.symbol(b'+')?;
+            self.take_symbol(b'+')?;
         }
-        let second = self.num_from(first)?;
+        let second = self.take_seconds_at_least(first)?;
         Ok((line, Time::RelativeRange(first, second)))
     }
 
     /// Takes the end of a blocking call, if one is written.
     #[tactic(auto, unfolding(crate::specs::EventReading::maybe_blocking_end_at))]
     #[inline(always)]
-    fn blocking_end(&mut self) -> Result<Option<BlockingEnd>, ParseError>
+    fn take_blocking_end(&mut self) -> Result<Option<BlockingEnd>, ParseError>
         ensures { Leaves result self.new (maybe_blocking_end_at self.old) }
     {
         if !self.is_dots() {
             return Ok(None);
         }
-        self.dots()?;
+        self.take_dots()?;
         if self.is_symbol(b'+') {
-            self.symbol(b'+')?;
-            let (_, microseconds) = self.num()?;
+            self.take_symbol(b'+')?;
+            let (_, microseconds) = self.take_seconds()?;
             return Ok(Some(BlockingEnd::Relative(microseconds)));
         }
-        let (_, microseconds) = self.num()?;
+        let (_, microseconds) = self.take_seconds()?;
         Ok(Some(BlockingEnd::Absolute(microseconds)))
     }
 
     /// Takes the result of a call.
     #[tactic(auto, unfolding(crate::specs::EventReading::expected_result_at))]
     #[inline(always)]
-    fn expected_result(&mut self) -> Result<ExpectedResult, ParseError>
+    fn take_expected_result(&mut self) -> Result<ExpectedResult, ParseError>
         ensures { Leaves result self.new (expected_result_at self.old) }
     {
         if self.is_int() {
-            return Ok(ExpectedResult::Int(self.int()?));
+            return Ok(ExpectedResult::Int(self.take_int()?));
         }
         if self.is_hex() {
-            return Ok(ExpectedResult::Hex(self.hex()?));
+            return Ok(ExpectedResult::Hex(self.take_hex()?));
         }
-        self.symbol(b'-')?;
-        let number = self.int()?;
+        self.take_symbol(b'-')?;
+        let number = self.take_int()?;
         if !self.is_word() {
             return Ok(ExpectedResult::Negative(number, None));
         }
-        let name = self.error()?;
+        let name = self.take_error_name()?;
         Ok(ExpectedResult::Negative(number, Some(name)))
     }
 
     /// Goes over a note.
     #[tactic(auto, unfolding(crate::specs::EventReading::note_at))]
-    fn note(&mut self) -> Result<(), ParseError>
+    fn skip_note(&mut self) -> Result<(), ParseError>
         ensures { Leaves result self.new (note_at self.old) }
     {
-        self.symbol(b'(')?;
-        self.note_inside()
+        self.take_symbol(b'(')?;
+        self.skip_note_body()
     }
 
     #[tactic(auto, unfolding(crate::specs::EventReading::call_at))]
     #[inline(always)]
-    fn call(&mut self, alloc: Global) -> Result<Call, ParseError>
+    fn take_call(&mut self, alloc: Global) -> Result<Call, ParseError>
         ensures { Leaves result self.new (call_at self.old) }
     {
-        let function = self.function()?;
-        self.symbol(b'(')?;
-        let arguments = self.arguments(alloc)?;
-        self.symbol(b'=')?;
-        let result = self.expected_result()?;
+        let function = self.take_function_name()?;
+        self.take_symbol(b'(')?;
+        let arguments = self.take_arguments(alloc)?;
+        self.take_symbol(b'=')?;
+        let result = self.take_expected_result()?;
         if self.is_symbol(b'(') {
-            self.note()?;
+            self.skip_note()?;
         }
         Ok(Call {
             function,
@@ -137,37 +137,37 @@ impl<'a> Cursor<'a> {
 
     /// Takes a call in the place of an action.
     #[inline(always)]
-    fn call_action(&mut self, alloc: Global, action: &mut Action) -> Result<(), ParseError>
+    fn take_call_action(&mut self, alloc: Global, action: &mut Action) -> Result<(), ParseError>
         ensures { Moves result action.new self.new (call_action_at self.old) }
     {
-        *action = Action::Call(self.call(alloc)?);
+        *action = Action::Call(self.take_call(alloc)?);
         Ok(())
     }
 
     /// Takes a packet that arrives in the place of an action.
     #[inline(never)]
-    fn inbound(&mut self, alloc: Global, action: &mut Action) -> Result<(), ParseError>
+    fn take_inbound(&mut self, alloc: Global, action: &mut Action) -> Result<(), ParseError>
         ensures { Moves result action.new self.new (inbound_at self.old) }
     {
-        self.symbol(b'<')?;
-        *action = Action::Inbound(self.packet(alloc, true)?);
+        self.take_symbol(b'<')?;
+        *action = Action::Inbound(self.take_packet(alloc, true)?);
         Ok(())
     }
 
     /// Takes a packet that leaves in the place of an action.
     #[inline(never)]
-    fn outbound(&mut self, alloc: Global, action: &mut Action) -> Result<(), ParseError>
+    fn take_outbound(&mut self, alloc: Global, action: &mut Action) -> Result<(), ParseError>
         ensures { Moves result action.new self.new (outbound_at self.old) }
     {
-        self.symbol(b'>')?;
-        *action = Action::Outbound(self.packet(alloc, false)?);
+        self.take_symbol(b'>')?;
+        *action = Action::Outbound(self.take_packet(alloc, false)?);
         Ok(())
     }
 
     /// Takes an action in the place of another.
     #[tactic(auto, using(crate::proofs::Symbols::one_octet), unfolding(crate::specs::EventReading::action_at, pd_lex::specs::Lexing::lexeme_of))]
     #[inline(always)]
-    fn action(&mut self, alloc: Global, action: &mut Action) -> Result<(), ParseError>
+    fn take_action(&mut self, alloc: Global, action: &mut Action) -> Result<(), ParseError>
         ensures { Moves result action.new self.new (action_at self.old) }
     {
         match self.peek() {
@@ -176,28 +176,28 @@ impl<'a> Cursor<'a> {
                     kind: TokenKind::Cmd,
                     ..
                 },
-            ) => self.command(action),
+            ) => self.take_command(action),
             Lexed::Token(
                 Token {
                     kind: TokenKind::Code,
                     ..
                 },
-            ) => self.code(action),
+            ) => self.take_code(action),
             Lexed::Token(
                 Token {
                     kind: TokenKind::Symbol,
                     symbol: b'<',
                     ..
                 },
-            ) => self.inbound(alloc, action),
+            ) => self.take_inbound(alloc, action),
             Lexed::Token(
                 Token {
                     kind: TokenKind::Symbol,
                     symbol: b'>',
                     ..
                 },
-            ) => self.outbound(alloc, action),
-            _ => self.call_action(alloc, action),
+            ) => self.take_outbound(alloc, action),
+            _ => self.take_call_action(alloc, action),
         }
     }
 
@@ -207,13 +207,13 @@ impl<'a> Cursor<'a> {
     /// `Syntax` where no event goes on, and the cursor is there; `OutOfMemory` where a growth is refused.
     #[tactic(auto, unfolding(crate::specs::EventReading::event_at))]
     #[inline(always)]
-    pub fn event(&mut self, alloc: Global, event: &mut Event) -> Result<(), ParseError>
+    pub fn take_event(&mut self, alloc: Global, event: &mut Event) -> Result<(), ParseError>
         ensures { Moves result event.new self.new (event_at self.old) }
     {
-        let (line, time) = self.time()?;
+        let (line, time) = self.take_time()?;
         event.line = line;
         event.time = time;
-        event.blocking_end = self.blocking_end()?;
-        self.action(alloc, &mut event.action)
+        event.blocking_end = self.take_blocking_end()?;
+        self.take_action(alloc, &mut event.action)
     }
 }

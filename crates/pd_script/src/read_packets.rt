@@ -14,7 +14,7 @@ use std::alloc::Global;
 
 impl<'a> Cursor<'a> {
     #[tactic(auto, using(crate::proofs::Symbols::one_octet), unfolding(crate::specs::PacketReading::flags_at, pd_lex::specs::Lexing::lexeme_of))]
-    fn flags(&mut self) -> Result<PacketFlags, ParseError>
+    fn take_flags(&mut self) -> Result<PacketFlags, ParseError>
         ensures { Leaves result self.new (flags_at self.old) }
     {
         match self.peek() {
@@ -25,7 +25,7 @@ impl<'a> Cursor<'a> {
                     ..
                 },
             ) => {
-                self.symbol(b'-')?;
+                self.take_symbol(b'-')?;
                 Ok(PacketFlags::of_letters(&[]))
             }
             Lexed::Token(
@@ -35,68 +35,68 @@ impl<'a> Cursor<'a> {
                     ..
                 },
             ) => {
-                self.symbol(b'.')?;
+                self.take_symbol(b'.')?;
                 Ok(PacketFlags::of_letters(&[]).with_ack())
             }
-            _ => self.lettered_flags(),
+            _ => self.take_lettered_flags(),
         }
     }
 
     /// Takes flags that are written in letters.
-    fn lettered_flags(&mut self) -> Result<PacketFlags, ParseError>
+    fn take_lettered_flags(&mut self) -> Result<PacketFlags, ParseError>
         ensures { Leaves result self.new (lettered_at self.old) }
     {
-        let flags = self.letters()?;
+        let flags = self.take_flag_letters()?;
         if !self.is_symbol(b'.') {
             return Ok(flags);
         }
-        self.symbol(b'.')?;
+        self.take_symbol(b'.')?;
         Ok(flags.with_ack())
     }
 
     /// Takes the start, the end and the length.
     #[tactic(auto, unfolding(crate::specs::PacketReading::octets_at))]
-    fn octets(&mut self) -> Result<(u32, u32, u32), ParseError>
+    fn take_seq_range(&mut self) -> Result<(u32, u32, u32), ParseError>
         ensures { Leaves result self.new (octets_at self.old) }
     {
-        let start = self.int()?;
-        self.symbol(b':')?;
-        let end = self.int_from(start)?;
-        self.symbol(b'(')?;
-        let length = self.int_equal(end.saturating_sub(start))?;
-        self.symbol(b')')?;
+        let start = self.take_int()?;
+        self.take_symbol(b':')?;
+        let end = self.take_int_at_least(start)?;
+        self.take_symbol(b'(')?;
+        let length = self.take_int_equal_to(end.saturating_sub(start))?;
+        self.take_symbol(b')')?;
         Ok((start, end, length))
     }
 
     #[tactic(auto, unfolding(crate::specs::PacketReading::ack_at))]
-    fn ack(&mut self) -> Result<Option<u32>, ParseError>
+    fn take_ack(&mut self) -> Result<Option<u32>, ParseError>
         ensures { Leaves result self.new (ack_at self.old) }
     {
-        if !self.is_named(b"ack") {
+        if !self.is_this_word(b"ack") {
             return Ok(None);
         }
-        self.named(b"ack")?;
-        Ok(Some(self.int()?))
+        self.take_word(b"ack")?;
+        Ok(Some(self.take_int()?))
     }
 
     /// Takes the window, which an inbound packet has.
     #[tactic(auto, unfolding(crate::specs::PacketReading::win_at))]
-    fn win(&mut self, inbound: bool) -> Result<Option<u32>, ParseError>
+    fn take_win(&mut self, inbound: bool) -> Result<Option<u32>, ParseError>
         ensures { Leaves result self.new (win_at inbound self.old) }
     {
-        if !inbound && !self.is_named(b"win") {
+        if !inbound && !self.is_this_word(b"win") {
             return Ok(None);
         }
-        self.named(b"win")?;
-        Ok(Some(self.int()?))
+        self.take_word(b"win")?;
+        Ok(Some(self.take_int()?))
     }
 
-    fn block(&mut self) -> Result<SackBlock, ParseError>
+    fn sack_block(&mut self) -> Result<SackBlock, ParseError>
         ensures { Leaves result self.new (block_at self.old) }
     {
-        let left = self.int()?;
-        self.symbol(b':')?;
-        let right = self.int()?;
+        let left = self.take_int()?;
+        self.take_symbol(b':')?;
+        let right = self.take_int()?;
         Ok(SackBlock {
             left: u64::from(left),
             right: u64::from(right),
@@ -104,100 +104,104 @@ impl<'a> Cursor<'a> {
     }
 
     /// Takes one block or more.
-    fn blocks(&mut self, alloc: Global) -> Result<SackBlockList, ParseError>
+    fn take_sack_blocks(&mut self, alloc: Global) -> Result<SackBlockList, ParseError>
         ensures { Leaves result self.new (blocks_at self.old) }
     {
         let mut blocks = SackBlockList::new(alloc);
-        blocks.push(self.block()?)?;
+        blocks.push(self.sack_block()?)?;
         'more: while self.is_int() {
-            let block = self.block()?;
-            blocks.push(block)?;
+            let sack_block = self.sack_block()?;
+            blocks.push(sack_block)?;
         }
         Ok(blocks)
     }
 
-    fn timestamp(&mut self) -> Result<PacketOption, ParseError>
+    fn take_timestamp(&mut self) -> Result<PacketOption, ParseError>
         ensures { Leaves result self.new (timestamp_at self.old) }
     {
-        self.named(b"val")?;
-        let val = self.int()?;
-        self.named(b"ecr")?;
-        let ecr = self.int()?;
+        self.take_word(b"val")?;
+        let val = self.take_int()?;
+        self.take_word(b"ecr")?;
+        let ecr = self.take_int()?;
         Ok(PacketOption::Timestamp(u64::from(val), u64::from(ecr)))
     }
 
     /// Takes what follows the name of an option.
     #[tactic(auto, unfolding(crate::specs::PacketReading::option_rest_at))]
-    fn option_rest(&mut self, alloc: Global, name: OptionName) -> Result<PacketOption, ParseError>
+    fn take_option_rest(
+        &mut self,
+        alloc: Global,
+        name: OptionName,
+    ) -> Result<PacketOption, ParseError>
         ensures { Leaves result self.new (option_rest_at name self.old) }
     {
         match name {
-            OptionName::Mss => Ok(PacketOption::Mss(u64::from(self.int()?))),
-            OptionName::Wscale => Ok(PacketOption::Wscale(u64::from(self.int()?))),
+            OptionName::Mss => Ok(PacketOption::Mss(u64::from(self.take_int()?))),
+            OptionName::Wscale => Ok(PacketOption::Wscale(u64::from(self.take_int()?))),
             OptionName::SackOk => Ok(PacketOption::SackOk),
             OptionName::Nop => Ok(PacketOption::Nop),
             OptionName::Eol => Ok(PacketOption::Eol),
-            OptionName::Timestamp => self.timestamp(),
-            OptionName::Sack => Ok(PacketOption::Sack(self.blocks(alloc)?)),
+            OptionName::Timestamp => self.take_timestamp(),
+            OptionName::Sack => Ok(PacketOption::Sack(self.take_sack_blocks(alloc)?)),
         }
     }
 
     #[tactic(auto, unfolding(crate::specs::PacketReading::option_at))]
-    fn option(&mut self, alloc: Global) -> Result<PacketOption, ParseError>
+    fn packet_option(&mut self, alloc: Global) -> Result<PacketOption, ParseError>
         ensures { Leaves result self.new (option_at self.old) }
     {
-        let name = self.option_name()?;
-        self.option_rest(alloc, name)
+        let name = self.take_option_name()?;
+        self.take_option_rest(alloc, name)
     }
 
-    fn next_option(&mut self, alloc: Global) -> Result<PacketOption, ParseError>
+    fn packet_option_after_comma(&mut self, alloc: Global) -> Result<PacketOption, ParseError>
         ensures { Leaves result self.new (next_option_at self.old) }
     {
-        self.symbol(b',')?;
-        self.option(alloc)
+        self.take_symbol(b',')?;
+        self.packet_option(alloc)
     }
 
     /// Takes one option or more.
-    fn some_options(&mut self, alloc: Global) -> Result<OptionList, ParseError>
+    fn take_some_options(&mut self, alloc: Global) -> Result<OptionList, ParseError>
         ensures { Leaves result self.new (some_options_at self.old) }
     {
         let mut options = OptionList::new(alloc);
-        options.push(self.option(alloc)?)?;
+        options.push(self.packet_option(alloc)?)?;
         'more: while self.is_symbol(b',') {
-            let option = self.next_option(alloc)?;
-            options.push(option)?;
+            let packet_option = self.packet_option_after_comma(alloc)?;
+            options.push(packet_option)?;
         }
         Ok(options)
     }
 
     /// Takes options up to the bracket that ends them.
-    fn list(&mut self, alloc: Global) -> Result<Options, ParseError>
+    fn take_listed_options(&mut self, alloc: Global) -> Result<Options, ParseError>
         ensures { Leaves result self.new (list_at self.old) }
     {
         if self.is_symbol(b'>') {
-            self.symbol(b'>')?;
+            self.take_symbol(b'>')?;
             return Ok(Options::Listed(OptionList::new(alloc)));
         }
-        let options = self.some_options(alloc)?;
-        self.symbol(b'>')?;
+        let options = self.take_some_options(alloc)?;
+        self.take_symbol(b'>')?;
         Ok(Options::Listed(options))
     }
 
     /// Takes the options, if any are written.
     #[tactic(auto, unfolding(crate::specs::PacketReading::options_at))]
-    fn options(&mut self, alloc: Global, inbound: bool) -> Result<Options, ParseError>
+    fn take_options(&mut self, alloc: Global, inbound: bool) -> Result<Options, ParseError>
         ensures { Leaves result self.new (options_at inbound self.old) }
     {
         if !self.is_symbol(b'<') {
             return Ok(Options::Absent);
         }
-        self.symbol(b'<')?;
+        self.take_symbol(b'<')?;
         if !inbound && self.is_dots() {
-            self.dots()?;
-            self.symbol(b'>')?;
+            self.take_dots()?;
+            self.take_symbol(b'>')?;
             return Ok(Options::Any);
         }
-        self.list(alloc)
+        self.take_listed_options(alloc)
     }
 
     /// Takes a packet; an inbound one has a window and lists its options.
@@ -205,14 +209,14 @@ impl<'a> Cursor<'a> {
     /// # Errors
     /// `Syntax` where no packet goes on, and the cursor is there; `OutOfMemory` where a growth is refused.
     #[tactic(auto, unfolding(crate::specs::PacketReading::packet_at))]
-    pub fn packet(&mut self, alloc: Global, inbound: bool) -> Result<Packet, ParseError>
+    pub fn take_packet(&mut self, alloc: Global, inbound: bool) -> Result<Packet, ParseError>
         ensures { Leaves result self.new (packet_at inbound self.old) }
     {
-        let flags = self.flags()?;
-        let (start, end, length) = self.octets()?;
-        let ack = self.ack()?;
-        let win = self.win(inbound)?;
-        let options = self.options(alloc, inbound)?;
+        let flags = self.take_flags()?;
+        let (start, end, length) = self.take_seq_range()?;
+        let ack = self.take_ack()?;
+        let win = self.take_win(inbound)?;
+        let options = self.take_options(alloc, inbound)?;
         Ok(Packet {
             flags,
             start,

@@ -22,7 +22,7 @@ pub const MAX_EVENTS: usize = 4_096;
 impl<'a> Cursor<'a> {
     /// Takes all events. After the last that a script may have, another one is the fault, and what
     /// it follows isn't kept.
-    fn events(&mut self, alloc: Global) -> Result<EventsAndFault, AllocError>
+    fn take_events(&mut self, alloc: Global) -> Result<EventsAndFault, AllocError>
         ensures { IfOk result (λ found. found ≡ found_in 4096 self.old) }
     {
         let mut events = Events::new(alloc);
@@ -75,17 +75,17 @@ pub fn parse(alloc: Global, lines: &Lines) -> Result<Parsed, AllocError>
     // The laws of tokens do no work: what is said of the items and their lines rests on them.
     law_longest_pieces();
     law_first_lines();
-    let parsed = read(alloc, lines)?;
+    let parsed = read_header_and_events(alloc, lines)?;
     lines.law_invariant();
     Ok(parsed)
 }
 
 #[tactic(auto, unfolding(crate::specs::Script::script_of, crate::specs::Script::script_in))]
-fn read(alloc: Global, lines: &Lines) -> Result<Parsed, AllocError>
+fn read_header_and_events(alloc: Global, lines: &Lines) -> Result<Parsed, AllocError>
     ensures { IfOk result (λ parsed. parsed ≡ script_of lines.now) }
 {
     let header = read_header(alloc, lines)?;
-    let EventsAndFault { events, fault } = Cursor::at(lines, header.end()).events(alloc)?;
+    let EventsAndFault { events, fault } = Cursor::at(lines, header.end()).take_events(alloc)?;
     Ok(Parsed {
         header,
         events,

@@ -3,7 +3,7 @@ ghost use Rattle.std.specs.Prelude.{◌≡◌, [], ◌∷◌, ◌++◌, length, 
 ghost use Rattle.pd_lex.specs.Places.{first_place};
 
 use crate::numbers::is_digits;
-use pd_lex::{Place, number};
+use pd_lex::{Place, decimal_value};
 use std::alloc::{AllocError, Global};
 use std::marker::Model;
 
@@ -66,7 +66,7 @@ impl HeaderKind {
         if !is_digits(digits) {
             return HeaderKind::OtherOption;
         }
-        let number = number(digits);
+        let number = decimal_value(digits);
         if number > MAX_TOLERANCE {
             return HeaderKind::OtherOption;
         }

@@ -9,12 +9,12 @@ use pd_settings::{Key, Value};
 pub fn is_same(one: &Act, other: &Act) -> bool
     ensures { IsTrue result ↔ (one.now ≡ other.now) }
 {
-    is_same_truth(one, other) || is_same_kind(one, other)
+    is_same_boolean_set(one, other) || is_same_act_of_any_kind(one, other)
 }
 
 /// Whether both set one setting to one truth value.
 #[inline(always)]
-fn is_same_truth(one: &Act, other: &Act) -> bool
+fn is_same_boolean_set(one: &Act, other: &Act) -> bool
     ensures { IsTrue result → one.now ≡ other.now }
 {
     match (one, other) {
@@ -27,7 +27,7 @@ fn is_same_truth(one: &Act, other: &Act) -> bool
 
 /// Whether both are the same act, whatever they do.
 #[inline(never)]
-fn is_same_kind(one: &Act, other: &Act) -> bool
+fn is_same_act_of_any_kind(one: &Act, other: &Act) -> bool
     ensures { IsTrue result ↔ (one.now ≡ other.now) }
 {
     one.is_same(other)

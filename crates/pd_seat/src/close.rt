@@ -8,7 +8,7 @@ ghost use Rattle.pd_seat.specs.Faults.{close_fault_text};
 use crate::faults::ShowFault;
 use crate::seat::Seat;
 use crate::shared_book::Held;
-use crate::verify::{is_each_below, is_each_once, is_own_of_each};
+use crate::verify::{are_acts_noted_with_each_seat, are_all_notes_below, has_each_seat_once};
 use pd_book::Book;
 
 /// Why a closing fails, and what it gives back: of `H` is what was to be closed.
@@ -41,10 +41,10 @@ impl Held {
         ensures ok { IfOk result (Closes self seats.items) }
         ensures err { IfErr result (RefusesClose self seats.items) }
     {
-        if !self.has_all(seats.as_slice()) {
+        if !self.are_all_seats(seats.as_slice()) {
             return Err(CloseFault::MissingSeat(self, seats));
         }
-        if !self.accounts(seats.as_slice()) {
+        if !self.has_just_acts_of_seats(seats.as_slice()) {
             return Err(CloseFault::Differs(self.into_book()));
         }
         Ok(self.into_book())
@@ -64,17 +64,17 @@ impl Held {
     }
 
     /// Whether these are all seats.
-    fn has_all(&self, seats: &[Seat]) -> bool
+    fn are_all_seats(&self, seats: &[Seat]) -> bool
         ensures { IsTrue result ↔ EachOnce self.now.seats seats.now }
     {
-        is_each_once(seats, self.seats)
+        has_each_seat_once(seats, self.seats)
     }
 
     /// Whether the acts that are noted are just those of the seats.
-    fn accounts(&self, seats: &[Seat]) -> bool
+    fn has_just_acts_of_seats(&self, seats: &[Seat]) -> bool
         ensures { IsTrue result ↔ Accounts self.now seats.now }
     {
-        is_each_below(self.notes.as_slice(), self.seats)
-            && is_own_of_each(seats, self.notes.as_slice(), self.book.history())
+        are_all_notes_below(self.notes.as_slice(), self.seats)
+            && are_acts_noted_with_each_seat(seats, self.notes.as_slice(), self.book.history())
     }
 }

@@ -9,7 +9,7 @@ use std::alloc::AllocError;
 ///
 /// # Errors
 /// `AllocError` where a growth is refused.
-pub fn reserve(
+pub fn reserve_notes_and_acts(
     notes: &mut Vec<usize>,
     more_notes: usize,
     own: &mut Vec<Act>,
@@ -24,7 +24,7 @@ pub fn reserve(
 }
 
 /// Adds an act.
-pub fn record(acts: &mut Vec<Act>, act: Act)
+pub fn push_act(acts: &mut Vec<Act>, act: Act)
     requires { vec_len acts.old < vec_capacity acts.old }
     ensures past { reverse acts.new.items ≡ act ∷ reverse acts.old.items }
     ensures capacity { vec_capacity acts.new ≡ vec_capacity acts.old }
@@ -33,7 +33,7 @@ pub fn record(acts: &mut Vec<Act>, act: Act)
 }
 
 /// Adds a note.
-pub fn note(notes: &mut Vec<usize>, number: usize)
+pub fn push_note(notes: &mut Vec<usize>, number: usize)
     requires { vec_len notes.old < vec_capacity notes.old }
     ensures past { reverse notes.new.items ≡ number ∷ reverse notes.old.items }
     ensures capacity { vec_capacity notes.new ≡ vec_capacity notes.old }
@@ -42,7 +42,7 @@ pub fn note(notes: &mut Vec<usize>, number: usize)
 }
 
 /// Drops a job.
-pub fn drop_job(open_jobs: &mut Vec<u64>, number: u64)
+pub fn drop_open_job(open_jobs: &mut Vec<u64>, number: u64)
     ensures { open_jobs.new.items ≡ filter (λ job. not (job == number)) open_jobs.old.items }
 {
     open_jobs.retain(|job| *job != number);
@@ -52,7 +52,11 @@ pub fn drop_job(open_jobs: &mut Vec<u64>, number: u64)
 ///
 /// # Errors
 /// `AllocError` where the job isn't open and a growth is refused.
-pub fn make_room(own: &mut Vec<Act>, open_jobs: &[u64], number: u64) -> Result<(), AllocError>
+pub fn make_room_for_end(
+    own: &mut Vec<Act>,
+    open_jobs: &[u64],
+    number: u64,
+) -> Result<(), AllocError>
     requires { length own.old.items + length open_jobs.now ≤ vec_capacity own.old }
     ensures items { own.new.items ≡ own.old.items }
     ensures kept { length own.new.items + length open_jobs.now ≤ vec_capacity own.new }

@@ -11,8 +11,10 @@ ghost use Rattle.pd_seat.specs.Seats.{new_seats, IsNew, RecordsAct, Unless, is_u
 
 use crate::faults::ShowFault;
 use crate::seat::Seat;
-use crate::seat_lists::{drop_job, make_room, note, record, reserve};
-use crate::verify::is_own;
+use crate::seat_lists::{
+    drop_open_job, make_room_for_end, push_act, push_note, reserve_notes_and_acts,
+};
+use crate::verify::are_acts_noted_with_seat;
 use pd_book::{Act, Book, BookFault, Done, FinishFault, Job, Report, Ruling, SharedEdit};
 use pd_settings::{Key, Settings, Value};
 use pd_text::{LineEdit, Lines, Name, Text};
@@ -87,12 +89,12 @@ impl Held {
     {
         let open = seat.open_jobs.len();
         let outstanding = self.book.outstanding_count();
-        reserve(&mut self.notes, outstanding + 1, &mut seat.own, open + 1)?;
-        let (text, act) = added(*self.notes.allocator(), &name, lines)?;
-        self.book.add_shared(name, text)?;
+        reserve_notes_and_acts(&mut self.notes, outstanding + 1, &mut seat.own, open + 1)?;
+        let (text, act) = text_and_add_act(*self.notes.allocator(), &name, lines)?;
+        self.book.add_with_shared_text(name, text)?;
         self.book.law_invariant();
-        note(&mut self.notes, seat.number);
-        record(&mut seat.own, act);
+        push_note(&mut self.notes, seat.number);
+        push_act(&mut seat.own, act);
         Ok(())
     }
 
@@ -107,12 +109,12 @@ impl Held {
         ensures tracks { self.new.book.tracks ≡ self.old.book.tracks }
         ensures refuses { OnErr result ((self.new ≡ self.old) × (seat.new ≡ seat.old)) }
     {
-        let edit = SharedEdit::copy_of(*self.notes.allocator(), edit)?;
-        self.edit_shared(seat, name, edit)
+        let edit = SharedEdit::from_copied_edit(*self.notes.allocator(), edit)?;
+        self.edit_with_shared_edit(seat, name, edit)
     }
 
     /// Edits the text of a script, where history and seat keep one edit.
-    fn edit_shared(
+    fn edit_with_shared_edit(
         &mut self,
         seat: &mut Seat,
         name: &Name,
@@ -126,12 +128,12 @@ impl Held {
     {
         let open = seat.open_jobs.len();
         let outstanding = self.book.outstanding_count();
-        reserve(&mut self.notes, outstanding + 1, &mut seat.own, open + 1)?;
-        let act = edited(&self.book, name, &edit)?;
-        self.book.edit_shared(name, edit)?;
+        reserve_notes_and_acts(&mut self.notes, outstanding + 1, &mut seat.own, open + 1)?;
+        let act = edit_act(&self.book, name, &edit)?;
+        self.book.edit_with_shared_edit(name, edit)?;
         self.book.law_invariant();
-        note(&mut self.notes, seat.number);
-        record(&mut seat.own, act);
+        push_note(&mut self.notes, seat.number);
+        push_act(&mut seat.own, act);
         Ok(())
     }
 
@@ -148,12 +150,12 @@ impl Held {
     {
         let open = seat.open_jobs.len();
         let outstanding = self.book.outstanding_count();
-        reserve(&mut self.notes, outstanding + 1, &mut seat.own, open + 1)?;
+        reserve_notes_and_acts(&mut self.notes, outstanding + 1, &mut seat.own, open + 1)?;
         let act = Act::Remove(self.book.interned_name(name)?);
         self.book.remove(name)?;
         self.book.law_invariant();
-        note(&mut self.notes, seat.number);
-        record(&mut seat.own, act);
+        push_note(&mut self.notes, seat.number);
+        push_act(&mut seat.own, act);
         Ok(())
     }
 
@@ -170,25 +172,25 @@ impl Held {
     {
         let open = seat.open_jobs.len();
         let outstanding = self.book.outstanding_count();
-        reserve(&mut self.notes, outstanding + 1, &mut seat.own, open + 1)?;
+        reserve_notes_and_acts(&mut self.notes, outstanding + 1, &mut seat.own, open + 1)?;
         self.book.set(key, value)?;
-        let Some(key) = Key::named(key) else {
+        let Some(key) = Key::from_name(key) else {
             return Ok(());
         };
         self.book.law_invariant();
-        note(&mut self.notes, seat.number);
-        record(&mut seat.own, Act::Set(key, value));
+        push_note(&mut self.notes, seat.number);
+        push_act(&mut seat.own, Act::Set(key, value));
         Ok(())
     }
 
     /// The act of the job that a start hands out, if a script waits.
-    fn next_start(&self) -> Result<Option<Act>, AllocError>
+    fn next_start_act(&self) -> Result<Option<Act>, AllocError>
         ensures { IfOk result (λ act. act ≡ option_map (λ task. Act.Start task.number task.name) (next_job self.now.book.history)) }
     {
-        let Some(name) = self.book.next_name() else {
+        let Some(name) = self.book.next_start_name() else {
             return Ok(None);
         };
-        Ok(Some(Act::Start(self.book.next_number(), name.share()?)))
+        Ok(Some(Act::Start(self.book.next_job_number(), name.share()?)))
     }
 
     /// Hands out the job of the first script that waits, with room for its end; `None`, which records nothing, where none
@@ -207,16 +209,16 @@ impl Held {
         let open = seat.open_jobs.len();
         let outstanding = self.book.outstanding_count();
         // For the start, for the end of its job, and for the ends of the other jobs.
-        reserve(&mut self.notes, outstanding + 2, &mut seat.own, open + 2)?;
+        reserve_notes_and_acts(&mut self.notes, outstanding + 2, &mut seat.own, open + 2)?;
         seat.open_jobs.reserve(1)?;
-        let act = self.next_start()?;
+        let act = self.next_start_act()?;
         let Some(job) = self.book.start()? else {
             return Ok(None);
         };
         self.book.law_invariant();
         if let Some(act) = act {
-            note(&mut self.notes, seat.number);
-            record(&mut seat.own, act);
+            push_note(&mut self.notes, seat.number);
+            push_act(&mut seat.own, act);
             seat.open_jobs.push_reserved(job.number());
         }
         Ok(Some(job))
@@ -238,12 +240,12 @@ impl Held {
         if !self.book.is_outstanding(done.number()) {
             return Err(FinishFault::NoSuchJob);
         }
-        make_room(&mut seat.own, seat.open_jobs.as_slice(), done.number())?;
+        make_room_for_end(&mut seat.own, seat.open_jobs.as_slice(), done.number())?;
         let ruling = self.book.finish(done)?;
         self.book.law_invariant();
-        note(&mut self.notes, seat.number);
-        record(&mut seat.own, Act::Finish(done.number(), ruling));
-        drop_job(&mut seat.open_jobs, done.number());
+        push_note(&mut self.notes, seat.number);
+        push_act(&mut seat.own, Act::Finish(done.number(), ruling));
+        drop_open_job(&mut seat.open_jobs, done.number());
         Ok(ruling)
     }
 
@@ -271,12 +273,12 @@ impl Held {
         if !self.book.is_outstanding(number) {
             return Err(FinishFault::NoSuchJob);
         }
-        make_room(&mut seat.own, seat.open_jobs.as_slice(), number)?;
+        make_room_for_end(&mut seat.own, seat.open_jobs.as_slice(), number)?;
         self.book.abandon(number)?;
         self.book.law_invariant();
-        note(&mut self.notes, seat.number);
-        record(&mut seat.own, Act::Abandon(number));
-        drop_job(&mut seat.open_jobs, number);
+        push_note(&mut self.notes, seat.number);
+        push_act(&mut seat.own, Act::Abandon(number));
+        drop_open_job(&mut seat.open_jobs, number);
         Ok(())
     }
 
@@ -308,7 +310,7 @@ impl Held {
         ensures noted { length self.now.notes ≡ length self.now.book.history.past }
     {
         seat.longest_shown <= self.notes.len()
-            && is_own(seat, self.notes.as_slice(), self.book.history())
+            && are_acts_noted_with_seat(seat, self.notes.as_slice(), self.book.history())
     }
 
     /// How many rows of the report are pending.
@@ -319,15 +321,15 @@ impl Held {
     }
 
     /// Whether a script waits for a start.
-    pub fn has_waiting(&self) -> bool
+    pub fn has_waiting_script(&self) -> bool
         ensures { result ≡ is_some (next self.now.book.history.past) }
     {
-        self.book.next_name().is_some()
+        self.book.next_start_name().is_some()
     }
 }
 
 /// A text of these lines, and the act that adds a script of it.
-fn added(alloc: Global, name: &Name, lines: Lines) -> Result<(Text, Act), AllocError>
+fn text_and_add_act(alloc: Global, name: &Name, lines: Lines) -> Result<(Text, Act), AllocError>
     ensures text { IfOk result (λ made. made.0 ≡ lines) }
     ensures act { IfOk result (λ made. made.1 ≡ Act.Add name.now lines) }
 {
@@ -337,7 +339,7 @@ fn added(alloc: Global, name: &Name, lines: Lines) -> Result<(Text, Act), AllocE
 }
 
 /// The act that edits a script so.
-fn edited(book: &Book, name: &Name, edit: &SharedEdit) -> Result<Act, AllocError>
+fn edit_act(book: &Book, name: &Name, edit: &SharedEdit) -> Result<Act, AllocError>
     ensures { IfOk result (λ act. act ≡ Act.Edit name.now edit.now) }
 {
     Ok(Act::Edit(book.interned_name(name)?, edit.share()?))

@@ -7,7 +7,7 @@ use crate::seat::Seat;
 use pd_book::Act;
 
 /// Whether the acts noted with this number are these.
-fn is_made_by(number: usize, notes: &[usize], acts: &[Act], own: &[Act]) -> bool
+fn are_acts_noted_with_number(number: usize, notes: &[usize], acts: &[Act], own: &[Act]) -> bool
     requires { length notes.now ≡ length acts.now }
     ensures { IsTrue result ↔ (made_by number notes.now acts.now ≡ own.now) }
 {
@@ -38,20 +38,20 @@ fn is_made_by(number: usize, notes: &[usize], acts: &[Act], own: &[Act]) -> bool
 }
 
 /// Whether the acts noted with a seat's number are its own.
-pub fn is_own(seat: &Seat, notes: &[usize], acts: &[Act]) -> bool
+pub fn are_acts_noted_with_seat(seat: &Seat, notes: &[usize], acts: &[Act]) -> bool
     requires { length notes.now ≡ length acts.now }
     ensures { IsTrue result ↔ (made_by seat.now.number (reverse notes.now) (reverse acts.now) ≡ seat.now.own) }
 {
-    is_made_by(seat.number, notes, acts, seat.own.as_slice())
+    are_acts_noted_with_number(seat.number, notes, acts, seat.own.as_slice())
 }
 
 /// Whether that is so of each of these seats.
-pub fn is_own_of_each(seats: &[Seat], notes: &[usize], acts: &[Act]) -> bool
+pub fn are_acts_noted_with_each_seat(seats: &[Seat], notes: &[usize], acts: &[Act]) -> bool
     requires { length notes.now ≡ length acts.now }
     ensures { IsTrue result ↔ All (λ seat. made_by seat.number (reverse notes.now) (reverse acts.now) ≡ seat.own) seats.now }
 {
     for seat in seats {
-        if !is_own(seat, notes, acts) {
+        if !are_acts_noted_with_seat(seat, notes, acts) {
             return false;
         }
     }
@@ -59,34 +59,34 @@ pub fn is_own_of_each(seats: &[Seat], notes: &[usize], acts: &[Act]) -> bool
 }
 
 /// Whether the seats' numbers are 0 to the last, each once.
-pub fn is_each_once(seats: &[Seat], count: usize) -> bool
+pub fn has_each_seat_once(seats: &[Seat], count: usize) -> bool
     ensures { IsTrue result ↔ EachOnce count seats.now }
 {
     if seats.len() != count {
         return false;
     }
     for number in 0..count {
-        if count_of(seats, number) != 1 {
+        if seat_count_of_number(seats, number) != 1 {
             return false;
         }
     }
     true
 }
 
-fn count_of(seats: &[Seat], number: usize) -> usize
+fn seat_count_of_number(seats: &[Seat], number: usize) -> usize
     ensures { result ≡ count_by (λ seat. seat.number == number) seats.now }
 {
     seats.iter().filter(|seat| seat.number == number).count()
 }
 
 /// Whether all notes are below the count.
-pub fn is_each_below(notes: &[usize], count: usize) -> bool
+pub fn are_all_notes_below(notes: &[usize], count: usize) -> bool
     ensures { IsTrue result ↔ All (λ note. note < count) (reverse notes.now) }
 {
-    all_below(notes, count)
+    are_notes_below(notes, count)
 }
 
-fn all_below(notes: &[usize], count: usize) -> bool
+fn are_notes_below(notes: &[usize], count: usize) -> bool
     ensures { IsTrue result ↔ All (λ note. note < count) notes.now }
 {
     notes.iter().all(|note| *note < count)

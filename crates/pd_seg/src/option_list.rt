@@ -111,7 +111,7 @@ impl SegOptions {
     pub fn is_same(&self, other: &SegOptions) -> bool
         ensures { IsTrue result ↔ (self.now ≡ other.now) }
     {
-        same_options(self.options.as_slice(), other.options.as_slice())
+        are_same_options(self.options.as_slice(), other.options.as_slice())
     }
 
     /// The same options once more.
@@ -129,7 +129,7 @@ impl SegOptions {
     }
 }
 
-fn same_options(mine: &[SegOption], its: &[SegOption]) -> bool
+fn are_same_options(mine: &[SegOption], its: &[SegOption]) -> bool
     ensures { IsTrue result ↔ (mine.now ≡ its.now) }
 {
     mine.len() == its.len()

@@ -71,7 +71,7 @@ impl SackSpans {
     pub fn is_same(&self, other: &SackSpans) -> bool
         ensures { IsTrue result ↔ (self.now ≡ other.now) }
     {
-        same_blocks(self.blocks.as_slice(), other.blocks.as_slice())
+        are_same_blocks(self.blocks.as_slice(), other.blocks.as_slice())
     }
 
     /// The same blocks once more.
@@ -87,7 +87,7 @@ impl SackSpans {
     }
 }
 
-fn same_blocks(mine: &[Span], its: &[Span]) -> bool
+fn are_same_blocks(mine: &[Span], its: &[Span]) -> bool
     ensures { IsTrue result ↔ (mine.now ≡ its.now) }
 {
     mine.len() == its.len()

@@ -33,7 +33,7 @@ pub struct Sent {
 
 impl Segment {
     /// How many octets of data the segment has.
-    pub fn len(&self) -> u32
+    pub fn data_len(&self) -> u32
         ensures { result ≡ self.now.end - self.now.start }
     {
         self.end.saturating_sub(self.start)

@@ -18,7 +18,7 @@ use Rattle.pd_settings.specs.declared.values.Value.TheVariants.{Number, Boolean,
 use Rattle.pd_settings.specs.Keys.{name_of}
 use Rattle.pd_settings.specs.Rows.{all_keys}
 use Rattle.pd_settings.specs.Settings.{value_at}
-use Rattle.pd_settings.specs.SettingSets.{Agree, agrees, agrees_at, has, is_same, is_same_at, is_same_value, is_same_window, is_same_algorithm}
+use Rattle.pd_settings.specs.SettingSets.{Agree, agrees, is_unconsulted_or_same, has, is_same, is_same_at, is_same_value, is_same_window, is_same_algorithm}
 use Rattle.pd_settings.proofs.Changes.{determined}
 use Rattle.pd_settings.proofs.Names.{named-name_of}
 
@@ -87,11 +87,11 @@ same_at : (consulted : SettingSet) (a b : Settings) → agrees consulted a b ≡
 same_at consulted a b h key e =
     same_value (value_at a key) (value_at b key)
     (holds (has consulted key) (is_same_value (value_at a key) (value_at b key))
-    (passed (λ k. bytes_eq (name_of k) (name_of key)) (agrees_at consulted a b) all_keys key h (named-name_of key)) e)
+    (passed (λ k. bytes_eq (name_of k) (name_of key)) (is_unconsulted_or_same consulted a b) all_keys key h (named-name_of key)) e)
 
 all_same : (consulted : SettingSet) (a b : Settings) → Agree consulted a b → agrees consulted a b ≡ true
 all_same consulted a b h =
-    passed_by_all (agrees_at consulted a b) all_keys
+    passed_by_all (is_unconsulted_or_same consulted a b) all_keys
     (λ key. where_used (has consulted key) (is_same_value (value_at a key) (value_at b key))
     (λ e. subst (λ v. is_same_value (value_at a key) v ≡ true) (h key e) (value_same (value_at a key))))
 
@@ -121,8 +121,8 @@ or_second false y h = h
 pub same_agrees : (consulted : SettingSet) (a b : Settings) → is_same a b ≡ true → agrees consulted a b ≡ true
 same_agrees consulted a b h = over all_keys h
   where
-    over : (keys : List Key) → list_all (is_same_at a b) keys ≡ true → list_all (agrees_at consulted a b) keys ≡ true
+    over : (keys : List Key) → list_all (is_same_at a b) keys ≡ true → list_all (is_unconsulted_or_same consulted a b) keys ≡ true
     over [] h = refl
     over (key ∷ keys) h =
         let parts = and_parts (is_same_at a b key) (list_all (is_same_at a b) keys) h in
-        and_from (agrees_at consulted a b key) (list_all (agrees_at consulted a b) keys) (or_second (not (has consulted key)) (is_same_at a b key) parts.0) (over keys parts.1)
+        and_from (is_unconsulted_or_same consulted a b key) (list_all (is_unconsulted_or_same consulted a b) keys) (or_second (not (has consulted key)) (is_same_at a b key) parts.0) (over keys parts.1)

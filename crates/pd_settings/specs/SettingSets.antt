@@ -93,9 +93,9 @@ abbrev pub is_same : Settings → Settings → Bool
 is_same a b = list_all (is_same_at a b) all_keys
 
 -- two settings are equal at a key, or the set doesn't have it
-abbrev pub agrees_at : SettingSet → Settings → Settings → Key → Bool
-agrees_at consulted a b key = not (has consulted key) || is_same_at a b key
+abbrev pub is_unconsulted_or_same : SettingSet → Settings → Settings → Key → Bool
+is_unconsulted_or_same consulted a b key = not (has consulted key) || is_same_at a b key
 
 -- whether two settings are equal at the keys of a set
 abbrev pub agrees : SettingSet → Settings → Settings → Bool
-agrees consulted a b = list_all (agrees_at consulted a b) all_keys
+agrees consulted a b = list_all (is_unconsulted_or_same consulted a b) all_keys

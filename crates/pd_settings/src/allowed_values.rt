@@ -18,7 +18,7 @@ pub enum AllowedValues {
 
 impl AllowedValues {
     /// Whether the number is one of the domain.
-    pub fn contains(&self, number: u64) -> bool
+    pub fn contains_number(&self, number: u64) -> bool
         ensures { IsTrue result ↔ Allows self.now (Number number) }
     {
         match self {

@@ -1,6 +1,6 @@
 //! Whether settings are equal, and whether they are where it matters.
 ghost use Rattle.std.specs.Prelude.{◌≡◌, ◌↔◌, IsTrue};
-ghost use Rattle.pd_settings.specs.SettingSets.{Agree, agrees, agrees_at, is_same, is_same_at, is_same_value};
+ghost use Rattle.pd_settings.specs.SettingSets.{Agree, agrees, is_unconsulted_or_same, is_same, is_same_at, is_same_value};
 
 use crate::keys::Key;
 use crate::setting_set::SettingSet;
@@ -54,10 +54,10 @@ impl Settings {
         ensures test { result ≡ agrees consulted.now self.now other.now }
         ensures fields { IsTrue result ↔ Agree consulted.now self.now other.now }
     {
-        self.agrees_everywhere(other, consulted)
+        self.agrees_on_each_key(other, consulted)
     }
 
-    fn agrees_everywhere(&self, other: &Settings, consulted: &SettingSet) -> bool
+    fn agrees_on_each_key(&self, other: &Settings, consulted: &SettingSet) -> bool
         ensures { result ≡ agrees consulted.now self.now other.now }
     {
         if self.is_same_everywhere(other) {
@@ -65,11 +65,11 @@ impl Settings {
         }
         Key::ALL
             .iter()
-            .all(|key| self.agrees_at(other, consulted, *key))
+            .all(|key| self.is_unconsulted_or_same(other, consulted, *key))
     }
 
-    fn agrees_at(&self, other: &Settings, consulted: &SettingSet, key: Key) -> bool
-        ensures { result ≡ agrees_at consulted.now self.now other.now key }
+    fn is_unconsulted_or_same(&self, other: &Settings, consulted: &SettingSet, key: Key) -> bool
+        ensures { result ≡ is_unconsulted_or_same consulted.now self.now other.now key }
     {
         !consulted.has(key) || self.is_same_at(other, key)
     }

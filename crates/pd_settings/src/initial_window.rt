@@ -16,7 +16,7 @@ impl InitialWindow {
     const ALL: [InitialWindow; 2] = [InitialWindow::Rfc5681, InitialWindow::Rfc6928];
 
     /// The one of a word; None where the word is no rule's.
-    pub fn named(word: &[u8]) -> Option<InitialWindow>
+    pub fn from_word(word: &[u8]) -> Option<InitialWindow>
         ensures { result ≡ window_named word.now }
     {
         InitialWindow::ALL

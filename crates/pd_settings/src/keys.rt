@@ -47,7 +47,7 @@ impl Key {
     ];
 
     /// The setting of a name; None where no setting has it.
-    pub fn named(name: &[u8]) -> Option<Key>
+    pub fn from_name(name: &[u8]) -> Option<Key>
         ensures { result ≡ key_named name.now }
     {
         Key::ALL.iter().copied().find(|key| key.name() == name)

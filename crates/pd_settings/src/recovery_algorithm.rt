@@ -16,7 +16,7 @@ impl RecoveryAlgorithm {
     const ALL: [RecoveryAlgorithm; 2] = [RecoveryAlgorithm::Rfc6675, RecoveryAlgorithm::Rfc9937];
 
     /// The one of a word; None where the word is no algorithm's.
-    pub fn named(word: &[u8]) -> Option<RecoveryAlgorithm>
+    pub fn from_word(word: &[u8]) -> Option<RecoveryAlgorithm>
         ensures { result ≡ algorithm_named word.now }
     {
         RecoveryAlgorithm::ALL

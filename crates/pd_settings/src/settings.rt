@@ -135,37 +135,37 @@ impl Settings {
     /// The settings with the key's field replaced by the value; None where the key doesn't take the value.
     ///
     /// Takes no memory.
-    pub fn replace(&self, key: Key, value: Value) -> Option<Settings>
+    pub fn with_value_at(&self, key: Key, value: Value) -> Option<Settings>
         ensures value { result ≡ replaced self.now key value }
         ensures accepted { IsSome result ↔ Allows (allowed_values_of key) value }
         ensures changed { IfSome result (ChangesOnly self.now key value) }
     {
-        self.replace_by_kind(key, value)
+        self.with_value_by_kind(key, value)
     }
 
-    fn replace_by_kind(&self, key: Key, value: Value) -> Option<Settings>
+    fn with_value_by_kind(&self, key: Key, value: Value) -> Option<Settings>
         ensures { result ≡ replaced self.now key value }
     {
         match value {
-            Value::Number(number) => self.replace_checked_number(key, number),
-            Value::Boolean(truth) => self.replace_boolean(key, truth),
-            Value::WindowRule(window) => self.replace_window_rule(key, window),
-            Value::Algorithm(algorithm) => self.replace_algorithm(key, algorithm),
+            Value::Number(number) => self.with_checked_number(key, number),
+            Value::Boolean(truth) => self.with_boolean(key, truth),
+            Value::WindowRule(window) => self.with_window_rule(key, window),
+            Value::Algorithm(algorithm) => self.with_algorithm(key, algorithm),
             Value::Other => None,
         }
     }
 
     #[tactic(auto, using(crate::proofs::Allowed::allowed_outside))]
-    fn replace_checked_number(&self, key: Key, number: u64) -> Option<Settings>
+    fn with_checked_number(&self, key: Key, number: u64) -> Option<Settings>
         ensures { result ≡ replaced self.now key (Number number) }
     {
-        if !key.allowed_values().contains(number) {
+        if !key.allowed_values().contains_number(number) {
             return None;
         }
-        self.replace_number(key, number)
+        self.with_number(key, number)
     }
 
-    fn replace_number(&self, key: Key, number: u64) -> Option<Settings>
+    fn with_number(&self, key: Key, number: u64) -> Option<Settings>
         requires { Allows (allowed_values_of key) (Number number) }
         ensures { result ≡ replaced self.now key (Number number) }
     {
@@ -189,7 +189,7 @@ impl Settings {
         }
     }
 
-    fn replace_boolean(&self, key: Key, truth: bool) -> Option<Settings>
+    fn with_boolean(&self, key: Key, truth: bool) -> Option<Settings>
         ensures { result ≡ replaced self.now key (Boolean truth) }
     {
         match key {
@@ -201,7 +201,7 @@ impl Settings {
         }
     }
 
-    fn replace_window_rule(&self, key: Key, window: InitialWindow) -> Option<Settings>
+    fn with_window_rule(&self, key: Key, window: InitialWindow) -> Option<Settings>
         ensures { result ≡ replaced self.now key (WindowRule window) }
     {
         match key {
@@ -210,7 +210,7 @@ impl Settings {
         }
     }
 
-    fn replace_algorithm(&self, key: Key, algorithm: RecoveryAlgorithm) -> Option<Settings>
+    fn with_algorithm(&self, key: Key, algorithm: RecoveryAlgorithm) -> Option<Settings>
         ensures { result ≡ replaced self.now key (Algorithm algorithm) }
     {
         match key {
@@ -229,14 +229,15 @@ impl Settings {
         ensures value { result ≡ with_value self.now key.now value }
         ensures changed { MatchResult result (IsChanged self.now key.now value) (IsRefused key.now value) }
     {
-        self.with_named(key, value)
+        self.with_value_by_name(key, value)
     }
 
-    fn with_named(&self, key: &[u8], value: Value) -> Result<Settings, SettingsFault>
+    fn with_value_by_name(&self, key: &[u8], value: Value) -> Result<Settings, SettingsFault>
         ensures { result ≡ with_value self.now key.now value }
     {
-        let key = Key::named(key).ok_or(SettingsFault::UnknownKey)?;
-        self.replace(key, value).ok_or(SettingsFault::BadValue)
+        let key = Key::from_name(key).ok_or(SettingsFault::UnknownKey)?;
+        self.with_value_at(key, value)
+            .ok_or(SettingsFault::BadValue)
     }
 
     /// The settings that a table writes; a setting that it doesn't write has its default.
@@ -251,11 +252,11 @@ impl Settings {
             (λ settings. AreAccepted (table_view table.now) × IsOverlay defaults (table_view table.now) settings)
             (IsFirstFault (table_view table.now)) }
     {
-        Settings::new().overlay(table)
+        Settings::new().with_table_values(table)
     }
 
     /// The settings with each entry's field replaced in the table's order, or the first fault.
-    fn overlay(&self, table: &Table) -> Result<Settings, SettingsFault>
+    fn with_table_values(&self, table: &Table) -> Result<Settings, SettingsFault>
         ensures { result ≡ overlaid self.now (table_view table.now) }
     {
         let mut settings = *self;

@@ -27,7 +27,7 @@ impl Value {
     pub fn from_word(word: &[u8]) -> Value
         ensures { result ≡ word_value word.now }
     {
-        match InitialWindow::named(word) {
+        match InitialWindow::from_word(word) {
             Some(window) => Value::WindowRule(window),
             None => Value::from_algorithm_word(word),
         }
@@ -37,7 +37,7 @@ impl Value {
     fn from_algorithm_word(word: &[u8]) -> Value
         ensures { result ≡ algorithm_word_value word.now }
     {
-        match RecoveryAlgorithm::named(word) {
+        match RecoveryAlgorithm::from_word(word) {
             Some(algorithm) => Value::Algorithm(algorithm),
             None => Value::Other,
         }

@@ -3,12 +3,12 @@ use Rattle.std.proofs.Common.{◌≡◌, ℕ, ◌+◌, ◌-◌, ◌≤◌, nat_l
 use Rattle.std.proofs.lemmas.List.{length-take, length-drop, drop-drop}
 use Rattle.std.proofs.lemmas.Bool.Decides.{nat_tests}
 use Rattle.pd_text.specs.Text.{fits_text, octets_of}
-use Rattle.pd_text.specs.Edit.{is_in_range, edited}
+use Rattle.pd_text.specs.Edit.{is_edit_in_range, edited}
 use Rattle.pd_text.specs.declared.line_edit.LineEdit.{LineEdit}
 use Rattle.pd_text.proofs.Placed.{both}
 use Rattle.pd_text.proofs.Ranges.{octets_append, octets_split}
 
-pub in_range : (lines : List (List ℕ)) (edit : LineEdit) → is_in_range lines edit ≡ true → (1 ≤ edit.from) × (edit.from + edit.remove ≤ length lines + 1)
+pub in_range : (lines : List (List ℕ)) (edit : LineEdit) → is_edit_in_range lines edit ≡ true → (1 ≤ edit.from) × (edit.from + edit.remove ≤ length lines + 1)
 in_range lines edit h =
     let parts = both (nat_le 1 edit.from) (nat_le (edit.from + edit.remove) (length lines + 1)) h in
     (grind (arith, nat_tests, parts.0), grind (arith, nat_tests, parts.1))
@@ -16,7 +16,7 @@ in_range lines edit h =
 abbrev pub removed : List (List ℕ) → LineEdit → List (List ℕ)
 removed lines edit = take (edit.from - 1 + edit.remove - (edit.from - 1)) (drop (edit.from - 1) lines)
 
-pub edited_length : (lines : List (List ℕ)) (edit : LineEdit) → is_in_range lines edit ≡ true → length (edited lines edit) + edit.remove ≡ length lines + length edit.insert
+pub edited_length : (lines : List (List ℕ)) (edit : LineEdit) → is_edit_in_range lines edit ≡ true → length (edited lines edit) + edit.remove ≡ length lines + length edit.insert
 edited_length lines edit h =
     let range = in_range lines edit h in
     let first = edit.from - 1 in

@@ -6,8 +6,8 @@ use Rattle.pd_text.specs.declared.faults.TextFault.TheVariants.{BadRange, TooLar
 use Rattle.pd_text.specs.declared.line_edit.LineEdit.{LineEdit}
 
 -- an edit lies within a text: it begins at a line or just past the last, and removes lines that are there
-abbrev pub is_in_range : List (List ℕ) → LineEdit → Bool
-is_in_range lines edit = nat_le 1 edit.from && nat_le (edit.from + edit.remove) (length lines + 1)
+abbrev pub is_edit_in_range : List (List ℕ) → LineEdit → Bool
+is_edit_in_range lines edit = nat_le 1 edit.from && nat_le (edit.from + edit.remove) (length lines + 1)
 
 -- the text after an edit: the lines before its first, the inserted ones, and what follows the removed ones
 abbrev pub edited : List (List ℕ) → LineEdit → List (List ℕ)
@@ -16,4 +16,4 @@ edited lines edit = take (edit.from - 1) lines ++ edit.insert ++ drop (edit.from
 -- why an edit is refused: it must lie within the text, and leave a text within the limits
 abbrev pub edit_refusal : List (List ℕ) → LineEdit → Option TextFault
 edit_refusal lines edit =
-    if is_in_range lines edit then (if fits_text (edited lines edit) then None else Some TooLarge) else Some BadRange
+    if is_edit_in_range lines edit then (if fits_text (edited lines edit) then None else Some TooLarge) else Some BadRange

@@ -1,7 +1,7 @@
 //! The limits of a text.
 ghost use Rattle.std.specs.Prelude.{◌≡◌, true, is_some};
 ghost use Rattle.pd_text.specs.Text.{fits_text, FitsText};
-ghost use Rattle.pd_text.specs.Edit.{is_in_range, edited};
+ghost use Rattle.pd_text.specs.Edit.{is_edit_in_range, edited};
 
 use crate::line_edit::LineEdit;
 use crate::line_list::LineList;
@@ -16,7 +16,7 @@ pub const MAX_OCTETS: usize = 65_536;
 pub fn fits(list: &LineList) -> bool
     ensures { result ≡ fits_text list.now }
 {
-    list.len() <= MAX_LINES && list.octets() <= MAX_OCTETS - list.len()
+    list.len() <= MAX_LINES && list.octet_count() <= MAX_OCTETS - list.len()
 }
 
 /// How many lines a text has, and how many octets without the lines' ends.
@@ -30,20 +30,20 @@ pub struct TextSize {
 
 /// The size of a text after an edit that lies within it, or `None` over the limits.
 pub fn edited_size(text: &LineList, edit: &LineEdit) -> Option<TextSize>
-    requires range { is_in_range text.now edit.now ≡ true }
+    requires range { is_edit_in_range text.now edit.now ≡ true }
     requires fits { FitsText text.now }
     ensures { is_some result ≡ fits_text (edited text.now edit.now) }
 {
     let first = edit.from - 1;
     let lines = text.len() - edit.remove;
-    let octets = text.octets() - text.octets_between(first, first + edit.remove);
+    let octets = text.octet_count() - text.octet_count_between(first, first + edit.remove);
     let room = MAX_OCTETS - octets - lines;
     let more = edit.insert.len();
-    if more > MAX_LINES - lines || more > room || edit.insert.octets() > room - more {
+    if more > MAX_LINES - lines || more > room || edit.insert.octet_count() > room - more {
         return None;
     }
     Some(TextSize {
         lines: lines + more,
-        octets: octets + edit.insert.octets(),
+        octets: octets + edit.insert.octet_count(),
     })
 }

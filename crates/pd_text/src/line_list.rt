@@ -4,7 +4,7 @@ ghost use Rattle.pd_text.specs.Text.{common_prefix, is_line, octets_of, AreLines
 ghost use Rattle.pd_text.specs.PackedLines.{lines_from, are_ends};
 
 use crate::limits::MAX_LINES;
-use crate::packed_lines::{PackedLines, offset, offset_after, push_shifted_ends};
+use crate::packed_lines::{PackedLines, push_shifted_ends, u32_offset, u32_offset_after};
 use std::alloc::{AllocError, Global};
 use std::marker::Model;
 
@@ -54,7 +54,7 @@ impl LineList {
         ensures same { OnErr result (self.new ≡ self.old) }
     {
         self.ends.reserve(1)?;
-        let end = offset_after(self.octets.len(), line.len())?;
+        let end = u32_offset_after(self.octets.len(), line.len())?;
         self.octets.extend_from_slice(line)?;
         self.ends.push_reserved(end);
         Ok(())
@@ -98,7 +98,7 @@ impl LineList {
     }
 
     /// How many octets its lines have, without their newlines.
-    pub fn octets(&self) -> usize
+    pub fn octet_count(&self) -> usize
         ensures { result + length self.now ≡ octets_of self.now }
     {
         self.octets.len()
@@ -131,12 +131,12 @@ impl LineList {
     pub fn is_same(&self, other: &LineList) -> bool
         ensures { IsTrue result ↔ (self.now ≡ other.now) }
     {
-        self.matches_in_place(other)
+        self.has_same_lines_in_place(other)
             || (self.len() == other.len() && self.same_front(other) == self.len())
     }
 
     /// Whether both have the same octets at the same places.
-    fn matches_in_place(&self, other: &LineList) -> bool
+    fn has_same_lines_in_place(&self, other: &LineList) -> bool
         ensures { IsTrue result → self.now ≡ other.now }
     {
         self.octets == other.octets && self.ends == other.ends
@@ -147,7 +147,7 @@ impl LineList {
         ensures { result ≡ common_prefix self.now other.now }
     {
         let most = self.len().min(other.len());
-        'lines: for i in self.common_prefix_at_once(other, most)..most {
+        'lines: for i in self.common_prefix_lower_bound(other, most)..most {
             if self.at(i) != other.at(i) {
                 return i;
             }
@@ -157,7 +157,7 @@ impl LineList {
 
     /// So many of at most `most` first lines that are equal: all but the last of them, where these are the same octets at the
     /// same places, as after a change at the end of a text; else as many as halving finds.
-    fn common_prefix_at_once(&self, other: &LineList, most: usize) -> usize
+    fn common_prefix_lower_bound(&self, other: &LineList, most: usize) -> usize
         requires within { most ≤ length self.now }
         requires beside { most ≤ length other.now }
         ensures few { result ≤ most }
@@ -166,16 +166,16 @@ impl LineList {
         let before_last = most.saturating_sub(1);
         if self
             .packed_lines()
-            .matches_in_place(&other.packed_lines(), 0, before_last)
+            .has_same_lines_in_place(&other.packed_lines(), 0, before_last)
         {
             return before_last;
         }
-        self.common_prefix_by_halving(other, most)
+        self.lower_bound_by_halving(other, most)
     }
 
     /// So many of at most `most` first lines that are equal: many lines at once, then half as many, down to one, as long as they
     /// are the same octets at the same places.
-    fn common_prefix_by_halving(&self, other: &LineList, most: usize) -> usize
+    fn lower_bound_by_halving(&self, other: &LineList, most: usize) -> usize
         requires within { most ≤ length self.now }
         requires beside { most ≤ length other.now }
         ensures few { result ≤ most }
@@ -187,7 +187,7 @@ impl LineList {
             if step <= most - same
                 && self
                     .packed_lines()
-                    .matches_in_place(&other.packed_lines(), same, same + step)
+                    .has_same_lines_in_place(&other.packed_lines(), same, same + step)
             {
                 same += step;
             }
@@ -196,12 +196,12 @@ impl LineList {
     }
 
     /// How many octets lines `from` up to `to` have, counted from 0, without their newlines.
-    pub fn octets_between(&self, from: usize, to: usize) -> usize
+    pub fn octet_count_between(&self, from: usize, to: usize) -> usize
         requires { (from ≤ to) × (to ≤ length self.now) }
         ensures { result + (to - from) ≡ octets_of (take (to - from) (drop from self.now)) }
     {
         let lines = self.packed_lines();
-        lines.start(to) - lines.start(from)
+        lines.line_start(to) - lines.line_start(from)
     }
 
     /// Adds lines `first` up to `end` of another list, counted from 0.
@@ -218,10 +218,10 @@ impl LineList {
         ensures { OnOk result (self.new ≡ self.old ++ take (end - first) (drop first list.now)) }
     {
         let lines = list.packed_lines();
-        let octets = lines.part(first, end);
-        let from = offset(lines.start(first))?;
-        let at = offset(self.octets.len())?;
-        let _last = offset_after(self.octets.len(), octets.len())?;
+        let octets = lines.octets_of_lines(first, end);
+        let from = u32_offset(lines.line_start(first))?;
+        let at = u32_offset(self.octets.len())?;
+        let _last = u32_offset_after(self.octets.len(), octets.len())?;
         self.ends.reserve(end - first)?;
         self.octets.extend_from_slice(octets)?;
         push_shifted_ends(&mut self.ends, &lines.ends[first..end], from, at);

@@ -1,7 +1,7 @@
 //! Texts: lists of lines within the limits.
 ghost use Rattle.std.specs.Prelude.{◌≡◌, ◌+◌, ◌-◌, ◌≤◌, true, take, drop, length, IfOk, IfErr, IsTrue, Err, None, unwrap_or, nat_le, if◌then◌else◌, option_copied, slice_get, ◌↔◌};
 ghost use Rattle.pd_text.specs.Text.{common_prefix, AreLines, FitsText};
-ghost use Rattle.pd_text.specs.Edit.{is_in_range, edited, edit_refusal};
+ghost use Rattle.pd_text.specs.Edit.{is_edit_in_range, edited, edit_refusal};
 
 use crate::faults::TextFault;
 use crate::limits::{TextSize, edited_size, fits};
@@ -99,18 +99,18 @@ impl Lines {
         ensures allowed { IfOk result (λ _. edit_refusal self.now edit.now ≡ None) }
         ensures err { IfErr result (λ e. e ≡ unwrap_or (edit_refusal self.now edit.now) TextFault.OutOfMemory) }
     {
-        if !self.is_in_range(edit) {
+        if !self.is_edit_in_range(edit) {
             return Err(TextFault::BadRange);
         }
         let Some(size) = edited_size(&self.list, edit) else {
             return Err(TextFault::TooLarge);
         };
-        let list = lines_after(&self.list, edit, size)?;
+        let list = lines_after_edit(&self.list, edit, size)?;
         Ok(Lines { list })
     }
 
-    fn is_in_range(&self, edit: &LineEdit) -> bool
-        ensures { result ≡ is_in_range self.now edit.now }
+    fn is_edit_in_range(&self, edit: &LineEdit) -> bool
+        ensures { result ≡ is_edit_in_range self.now edit.now }
     {
         let len = self.len();
         edit.from >= 1 && edit.from <= len + 1 && edit.remove <= len + 1 - edit.from
@@ -118,8 +118,12 @@ impl Lines {
 }
 
 /// The lines after an edit that lies within them, where they are of this size.
-fn lines_after(list: &LineList, edit: &LineEdit, size: TextSize) -> Result<LineList, AllocError>
-    requires { is_in_range list.now edit.now ≡ true }
+fn lines_after_edit(
+    list: &LineList,
+    edit: &LineEdit,
+    size: TextSize,
+) -> Result<LineList, AllocError>
+    requires { is_edit_in_range list.now edit.now ≡ true }
     ensures { IfOk result (λ new. new ≡ edited list.now edit.now) }
 {
     let len = list.len();

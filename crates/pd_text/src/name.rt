@@ -83,7 +83,7 @@ impl Name {
         ensures { result ≡ is_valid_name self.now }
     {
         let len = self.octets.len();
-        1 <= len && len <= 64 && all_name_octets(self.octets.as_slice())
+        1 <= len && len <= 64 && are_name_octets(self.octets.as_slice())
     }
 
     /// Whether both have the same octets.
@@ -112,7 +112,7 @@ fn is_name_octet_byte(octet: u8) -> bool
     matches!(octet, b'a'..=b'z' | b'A'..=b'Z' | b'0'..=b'9' | b'_' | b'-' | b'.')
 }
 
-fn all_name_octets(octets: &[u8]) -> bool
+fn are_name_octets(octets: &[u8]) -> bool
     ensures { result ≡ list_all is_name_octet octets.now }
 {
     octets.iter().all(|octet| is_name_octet_byte(*octet))

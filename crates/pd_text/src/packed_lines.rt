@@ -16,7 +16,7 @@ pub struct PackedLines<'a> {
 impl<'a> PackedLines<'a> {
     /// Where line `i` begins, counted from 0; after the last line, where that one ends.
     #[inline(always)]
-    pub fn start(&self, i: usize) -> usize
+    pub fn line_start(&self, i: usize) -> usize
         requires { i ≤ length self.now.ends.now }
         ensures { result ≡ start_at 0 i self.now.ends.now }
     {
@@ -25,13 +25,13 @@ impl<'a> PackedLines<'a> {
 
     /// The octets of lines `from` up to `to`, counted from 0.
     #[inline(always)]
-    pub fn part(&self, from: usize, to: usize) -> &'a [u8]
+    pub fn octets_of_lines(&self, from: usize, to: usize) -> &'a [u8]
         requires ends { IsTrue (are_ends 0 (length self.now.octets.now) self.now.ends.now) }
         requires order { from ≤ to }
         requires within { to ≤ length self.now.ends.now }
         ensures { result.now ≡ octets_between self.now.octets.now (start_at 0 from self.now.ends.now) (start_at 0 to self.now.ends.now) }
     {
-        &self.octets[self.start(from)..self.start(to)]
+        &self.octets[self.line_start(from)..self.line_start(to)]
     }
 
     /// The octets of line `i`, counted from 0.
@@ -41,11 +41,11 @@ impl<'a> PackedLines<'a> {
         requires within { i < length self.now.ends.now }
         ensures { slice_get (lines_from 0 self.now.octets.now self.now.ends.now) i ≡ Some result.now }
     {
-        self.part(i, i + 1)
+        self.octets_of_lines(i, i + 1)
     }
 
     /// Whether lines `from` up to `to` are at the same places in both, with the same octets.
-    pub fn matches_in_place(&self, other: &PackedLines<'_>, from: usize, to: usize) -> bool
+    pub fn has_same_lines_in_place(&self, other: &PackedLines<'_>, from: usize, to: usize) -> bool
         requires ends { IsTrue (are_ends 0 (length self.now.octets.now) self.now.ends.now) }
         requires others { IsTrue (are_ends 0 (length other.now.octets.now) other.now.ends.now) }
         requires order { from ≤ to }
@@ -55,16 +55,16 @@ impl<'a> PackedLines<'a> {
             let others = lines_from 0 other.now.octets.now other.now.ends.now in
             IsTrue result → take (to - from) (drop from lines) ≡ take (to - from) (drop from others) }
     {
-        if self.start(from) != other.start(from) {
+        if self.line_start(from) != other.line_start(from) {
             return false;
         }
-        if self.start(to) != other.start(to) {
+        if self.line_start(to) != other.line_start(to) {
             return false;
         }
         if self.ends[from..to] != other.ends[from..to] {
             return false;
         }
-        self.part(from, to) == other.part(from, to)
+        self.octets_of_lines(from, to) == other.octets_of_lines(from, to)
     }
 }
 
@@ -72,7 +72,7 @@ impl<'a> PackedLines<'a> {
 ///
 /// # Errors
 /// `AllocError` where 32 bits don't count so many.
-pub fn offset(octets: usize) -> Result<u32, AllocError>
+pub fn u32_offset(octets: usize) -> Result<u32, AllocError>
     ensures { IfOk result (λ offset. offset ≡ octets) }
 {
     match u32::try_from(octets) {
@@ -85,12 +85,12 @@ pub fn offset(octets: usize) -> Result<u32, AllocError>
 ///
 /// # Errors
 /// As for `offset`.
-pub fn offset_after(octets: usize, more: usize) -> Result<u32, AllocError>
+pub fn u32_offset_after(octets: usize, more: usize) -> Result<u32, AllocError>
     ensures offset { IfOk result (λ offset. offset ≡ octets + more) }
     ensures small { IfOk result (λ _. octets + more < 2 ^ 32) }
 {
     match octets.checked_add(more) {
-        Some(all) => offset(all),
+        Some(all) => u32_offset(all),
         None => Err(AllocError),
     }
 }

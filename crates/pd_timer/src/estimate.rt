@@ -26,7 +26,7 @@ pub struct Timeout {
 
 impl Estimate {
     /// The estimate after the first measurement, in microseconds (RFC 6298, section 2.2).
-    pub fn first(time: u64) -> Estimate
+    pub fn from_first_sample(time: u64) -> Estimate
         requires { time < 2 ^ 62 }
         ensures value { result ≡ first_estimate time }
         ensures small { IsEstimate result }
@@ -38,7 +38,7 @@ impl Estimate {
     }
 
     /// The estimate after one more measurement, in microseconds (RFC 6298, section 2.3).
-    pub fn next(self, time: u64) -> Estimate
+    pub fn with_next_sample(self, time: u64) -> Estimate
         requires small { IsEstimate self }
         requires time { time < 2 ^ 62 }
         ensures value { result ≡ next_estimate time self }
@@ -63,7 +63,7 @@ impl Estimate {
     }
 
     /// The clock's granularity, in microseconds, where it stands in the place of a smaller 4 * RTTVAR.
-    pub fn granularity(self, granularity_us: u64) -> Option<u64>
+    pub fn granularity_if_above_variation(self, granularity_us: u64) -> Option<u64>
         requires { IsEstimate self }
         ensures { result ≡ replacing_granularity granularity_us self }
     {

@@ -97,7 +97,7 @@ impl Rto {
 
     /// How the timeout comes from what was measured, with a clock of this granularity in microseconds; nothing before any
     /// measurement.
-    pub fn timeout(&self, granularity_us: u64) -> Option<Timeout>
+    pub fn rto_derivation(&self, granularity_us: u64) -> Option<Timeout>
         ensures { result ≡ timeout_in granularity_us self.now }
     {
         match self.estimate {
@@ -106,7 +106,7 @@ impl Rto {
                 let computed_us = estimate.timeout(granularity_us);
                 Some(Timeout {
                     estimate,
-                    granularity_us: estimate.granularity(granularity_us),
+                    granularity_us: estimate.granularity_if_above_variation(granularity_us),
                     computed_us,
                     bounded_us: clamp(computed_us, self.min_rto_us, self.max_rto_us),
                 })
@@ -121,8 +121,8 @@ impl Rto {
         ensures { self.new ≡ sampled time granularity_us self.old }
     {
         let estimate = match self.estimate {
-            None => Estimate::first(time),
-            Some(estimate) => estimate.next(time),
+            None => Estimate::from_first_sample(time),
+            Some(estimate) => estimate.with_next_sample(time),
         };
         self.estimate = Some(estimate);
         self.rto = clamp(
@@ -168,7 +168,7 @@ impl Rto {
     }
 
     /// The timeout at establishment where the timer expired in the handshake (RFC 6298, section 5.7).
-    pub fn reinitialize(&mut self)
+    pub fn set_timeout_after_handshake_expiry(&mut self)
         ensures { self.new ≡ reinitialized self.old }
     {
         self.rto = clamp(

@@ -40,7 +40,7 @@ pub fn run_job<S: Stepper>(alloc: Global, job: Job, stepper: &mut S) -> Result<D
 {
     let number = job.number();
     match run(alloc, &job, stepper) {
-        Ok(outcome) => match finish(alloc, job.into_task(), outcome) {
+        Ok(outcome) => match done_of_outcome(alloc, job.into_task(), outcome) {
             Ok(done) => Ok(done),
             Err(_) => Err(Unfinished { number }),
         },
@@ -49,7 +49,7 @@ pub fn run_job<S: Stepper>(alloc: Global, job: Job, stepper: &mut S) -> Result<D
 }
 
 /// The result of a task that was run.
-fn finish(alloc: Global, task: Task, outcome: JobOutcome) -> Result<Done, AllocError>
+fn done_of_outcome(alloc: Global, task: Task, outcome: JobOutcome) -> Result<Done, AllocError>
     requires { IsJobOutcome task outcome.verdict outcome.reading outcome.checkpoints }
     ensures { IfOk result (λ done. done ≡ task) }
 {
@@ -86,7 +86,7 @@ fn run<S: Stepper>(alloc: Global, job: &Job, stepper: &mut S) -> Result<JobOutco
     match RunState::header_tolerance_of(reading.header()) {
         // A question mark would move the state once more.
         Ok(header_tolerance) => match begin_run(alloc, job, kept, header_tolerance) {
-            Ok(progress) => run_rest(alloc, job, reading, progress, stepper),
+            Ok(progress) => run_remaining_events(alloc, job, reading, progress, stepper),
             Err(error) => Err(error),
         },
         Err(verdict) => Ok(JobOutcome {
@@ -98,7 +98,7 @@ fn run<S: Stepper>(alloc: Global, job: &Job, stepper: &mut S) -> Result<JobOutco
 }
 
 /// Runs the events of a job that are left.
-fn run_rest<S: Stepper>(
+fn run_remaining_events<S: Stepper>(
     alloc: Global,
     job: &Job,
     reading: Reading,

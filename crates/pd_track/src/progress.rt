@@ -69,17 +69,17 @@ impl Progress {
         self.checkpoints.reserve((events.len() - self.passed) / 4)?;
         for i in self.passed..events.len() {
             match stepper.step(&mut self.state, &events.at(i).event, settings)? {
-                StepEnd::Go if i + 1 < events.len() => self.pass()?,
-                StepEnd::Go => return self.pass_last(),
-                StepEnd::Stop(verdict) => return Ok(self.end(verdict)),
+                StepEnd::Go if i + 1 < events.len() => self.note_passed_event()?,
+                StepEnd::Go => return self.finish_after_last_event(),
+                StepEnd::Stop(verdict) => return Ok(self.into_finished_run(verdict)),
             }
         }
         let passed = self.passed;
-        Ok(self.end(Verdict::Pass(passed)))
+        Ok(self.into_finished_run(Verdict::Pass(passed)))
     }
 
     /// The run has ended.
-    fn end(self, verdict: Verdict) -> FinishedRun
+    fn into_finished_run(self, verdict: Verdict) -> FinishedRun
         ensures verdict { result.verdict ≡ verdict }
         ensures checkpoints { result.checkpoints ≡ self.checkpoints }
     {
@@ -90,7 +90,7 @@ impl Progress {
     }
 
     /// The last event has passed, and the run has ended: its state is kept if it is a fourth one.
-    fn pass_last(self) -> Result<FinishedRun, AllocError>
+    fn finish_after_last_event(self) -> Result<FinishedRun, AllocError>
         requires { self.passed < 4096 }
         ensures verdict { IfOk result (λ finished_run. finished_run.verdict ≡ Verdict.Pass (self.passed + 1)) }
         ensures checkpoints { IfOk result (λ finished_run. finished_run.checkpoints ≡ self.checkpoints ++ (if (self.passed + 1) % 4 == 0 then self.state ∷ [] else [])) }
@@ -110,7 +110,7 @@ impl Progress {
     }
 
     /// One more event has passed: each fourth state is kept.
-    fn pass(&mut self) -> Result<(), AllocError>
+    fn note_passed_event(&mut self) -> Result<(), AllocError>
         requires { self.old.passed < 4096 }
         ensures state { self.new.state ≡ self.old.state }
         ensures passed { OnOk result (self.new.passed ≡ self.old.passed + 1) }

@@ -27,7 +27,7 @@ pub fn read_job(alloc: Global, job: &Job) -> Result<Reread, AllocError>
     ensures kept { IfOk result (λ r. r.kept ≡ kept_before job.now) }
 {
     match job.track() {
-        Some(track) => read_after(alloc, track, job.text(), job.same()),
+        Some(track) => reread_after_track(alloc, track, job.text(), job.same()),
         None => Ok(Reread {
             reading: read(alloc, job.text().lines())?,
             kept: 0,
@@ -36,7 +36,12 @@ pub fn read_job(alloc: Global, job: &Job) -> Result<Reread, AllocError>
 }
 
 /// Reads a text that begins with the same lines as the track's.
-fn read_after(alloc: Global, track: &Track, text: &Text, same: usize) -> Result<Reread, AllocError>
+fn reread_after_track(
+    alloc: Global,
+    track: &Track,
+    text: &Text,
+    same: usize,
+) -> Result<Reread, AllocError>
     requires { same ≡ common_prefix track.now.text text.now }
     ensures reading { IfOk result (λ r. r.reading ≡ reading_of text.now) }
     ensures kept { IfOk result (λ r. r.kept ≡ kept track.now.text text.now) }
@@ -61,7 +66,7 @@ pub fn begin_run(
     ensures resumes { IfOk result (λ p. Resumes job.now.task.text job.now.task.settings p.passed p.state p.checkpoints) }
 {
     match job.track() {
-        Some(track) => begin_after(
+        Some(track) => begin_at_checkpoint(
             alloc,
             track,
             kept,
@@ -69,12 +74,12 @@ pub fn begin_run(
             &job.settings(),
             header_tolerance,
         ),
-        None => begin_fresh(alloc, job.text(), &job.settings(), header_tolerance),
+        None => begin_at_first_event(alloc, job.text(), &job.settings(), header_tolerance),
     }
 }
 
 /// Begins at the first event.
-fn begin_fresh(
+fn begin_at_first_event(
     alloc: Global,
     _text: &Text,
     settings: &Settings,
@@ -92,7 +97,7 @@ fn begin_fresh(
 }
 
 /// Begins in the last state of the track that serves.
-fn begin_after(
+fn begin_at_checkpoint(
     alloc: Global,
     track: &Track,
     events: usize,
@@ -105,9 +110,9 @@ fn begin_after(
     ensures passed { IfOk result (λ p. p.passed ≡ skipped_after_track track.now text.now settings.now) }
     ensures resumes { IfOk result (λ p. Resumes text.now settings.now p.passed p.state p.checkpoints) }
 {
-    let count = usable_count(track, events, settings);
+    let count = usable_checkpoint_count(track, events, settings);
     if count == 0 {
-        return begin_fresh(alloc, text, settings, header_tolerance);
+        return begin_at_first_event(alloc, text, settings, header_tolerance);
     }
     law_first_events();
     law_runs_are_bounded();
@@ -131,13 +136,13 @@ fn begin_after(
 }
 
 /// How many of the track's states serve a run under these settings of which so many events are kept.
-fn usable_count(track: &Track, kept: usize, settings: &Settings) -> usize
+fn usable_checkpoint_count(track: &Track, kept: usize, settings: &Settings) -> usize
     ensures within { result ≤ length (every_fourth 3 (states_of track.now.text track.now.settings)) }
     ensures kept { 4 * result ≤ kept }
     ensures agreeing { 0 < result → agrees (consulted_settings track.now (4 * result)) track.now.settings settings.now ≡ true }
     ensures greatest { 4 * result ≡ greatest (is_usable track.now settings.now) kept }
 {
-    last_agreeing(track, (kept / 4).min(checkpoint_count(track)), settings)
+    last_agreeing_checkpoint(track, (kept / 4).min(checkpoint_count(track)), settings)
 }
 
 /// How many states the track has.
@@ -148,14 +153,14 @@ fn checkpoint_count(track: &Track) -> usize
 }
 
 /// The last of the first states up to which nothing was consulted that differs.
-fn last_agreeing(track: &Track, most: usize, settings: &Settings) -> usize
+fn last_agreeing_checkpoint(track: &Track, most: usize, settings: &Settings) -> usize
     requires { most ≤ length (every_fourth 3 (states_of track.now.text track.now.settings)) }
     ensures within { result ≤ most }
     ensures agreeing { 0 < result → agrees (consulted_settings track.now (4 * result)) track.now.settings settings.now ≡ true }
     ensures none { (j : ℕ) → result < j → j ≤ most → agrees (consulted_settings track.now (4 * j)) track.now.settings settings.now ≡ false }
 {
     for i in 0..most {
-        if is_agreed(track, most - i, settings) {
+        if has_agreeing_settings_at(track, most - i, settings) {
             return most - i;
         }
     }
@@ -163,7 +168,7 @@ fn last_agreeing(track: &Track, most: usize, settings: &Settings) -> usize
 }
 
 /// Whether the settings agree with the track's on all that was consulted up to one of its states.
-fn is_agreed(track: &Track, count: usize, settings: &Settings) -> bool
+fn has_agreeing_settings_at(track: &Track, count: usize, settings: &Settings) -> bool
     requires some { 0 < count }
     requires within { count ≤ length (every_fourth 3 (states_of track.now.text track.now.settings)) }
     ensures { result ≡ agrees (consulted_settings track.now (4 * count)) track.now.settings settings.now }
@@ -197,6 +202,6 @@ fn first_checkpoints(track: &Track, count: usize) -> Result<SharedList<Checkpoin
     ensures states { IfOk result (λ shared. map (run_with_settings track.now.settings) shared ≡ take count (every_fourth 3 (states_of track.now.text track.now.settings))) }
     ensures held { IfOk result (λ shared. AgreeWhereConsulted track.now.settings shared) }
 {
-    let shared = track.checkpoints().first(count)?;
+    let shared = track.checkpoints().share_first(count)?;
     Ok(shared)
 }

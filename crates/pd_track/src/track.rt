@@ -49,7 +49,7 @@ impl Track {
         ensures { IfOk result (λ track. track ≡ record { text = text; settings = settings }) }
     {
         let mut checkpoints = checkpoints;
-        checkpoints.freeze()?;
+        checkpoints.pack_into_blocks()?;
         Ok(Track {
             track_data: Arc::new(alloc, TrackData::new(text, settings, reading, checkpoints))?,
         })

@@ -11,7 +11,7 @@ use Rattle.pd_protocol.specs.Input.{IfKnown, to_come}
 use Rattle.pd_protocol.specs.LinePieces.{CutsPiece}
 use Rattle.pd_protocol.proofs.BuildText.{known_at_hand}
 use Rattle.pd_protocol.proofs.Known.{known_map}
-use Rattle.pdrecord.specs.ScriptInput.{is_dropped, script_in, without_trace}
+use Rattle.pdrecord.specs.ScriptInput.{is_trace_line, script_in, without_trace}
 use Rattle.pdrecord.specs.Inner.{Gathers, with_line}
 
 -- one line more
@@ -36,16 +36,16 @@ SoFar text_builder old new = (texts : List (List ℕ)) × (text_builder ≡ fitt
 pub so_first : (g : Option (List (List ℕ))) (x : List ℕ) → g ≡ Some [] → SoFar g x x
 so_first g x e = ([], e, refl)
 
-keep_or_drop : (line : List ℕ) (rest : List (List ℕ)) (b : Bool) → is_dropped line ≡ b → without_trace (line ∷ rest) ≡ cond (not b) (line ∷ without_trace rest) (without_trace rest)
+keep_or_drop : (line : List ℕ) (rest : List (List ℕ)) (b : Bool) → is_trace_line line ≡ b → without_trace (line ∷ rest) ≡ cond (not b) (line ∷ without_trace rest) (without_trace rest)
 keep_or_drop line rest b e = ap (λ (b : Bool). cond (not b) (line ∷ without_trace rest) (without_trace rest)) e
 
-add_or_drop : (line : List ℕ) (g : Option (List (List ℕ))) (b : Bool) → is_dropped line ≡ b → with_line line g ≡ cond b g (option_and_then (λ texts. fitted (texts ++ line ∷ [])) g)
+add_or_drop : (line : List ℕ) (g : Option (List (List ℕ))) (b : Bool) → is_trace_line line ≡ b → with_line line g ≡ cond b g (option_and_then (λ texts. fitted (texts ++ line ∷ [])) g)
 add_or_drop line g b e = ap (λ (b : Bool). cond b g (option_and_then (λ texts. fitted (texts ++ line ∷ [])) g)) e
 
 pub so_more : (g h : Option (List (List ℕ))) (x y z : List ℕ) → SoFar g x y → Gathers true g h y z → SoFar h x z
-so_more g h x y z s t = go (is_dropped t.0) refl
+so_more g h x y z s t = go (is_trace_line t.0) refl
   where
-    go : (b : Bool) → is_dropped t.0 ≡ b → SoFar h x z
+    go : (b : Bool) → is_trace_line t.0 ≡ b → SoFar h x z
     go true e = (s.0, t.2 ∙ (add_or_drop t.0 g true e ∙ s.1), s.2 ∙ ap (λ (l : List (List ℕ)). s.0 ++ l) (ap without_trace t.1 ∙ keep_or_drop t.0 (lines z) true e))
     go false e = (
       s.0 ++ t.0 ∷ [],
@@ -82,7 +82,7 @@ gathers_whole g h line x y e t = (line, t.0, e)
 pub gathers_at_hand : (g h : Option (List (List ℕ))) (line old new : List ℕ) (left : Option (List ℕ)) → h ≡ with_line (strip_carriage_return line) g → CutsPiece line true old new → IfKnown (Gathers true g h) (prepend_known old left) (prepend_known new left)
 gathers_at_hand g h line old new left e cut = known_map (λ x y. lines x ≡ strip_carriage_return line ∷ lines y) (Gathers true g h) (prepend_known old left) (prepend_known new left) (λ x y t. (strip_carriage_return line, t, e)) (known_at_hand line old new left cut)
 
-not_dropped : (line : List ℕ) → 65536 < length line → is_dropped line ≡ false
+not_dropped : (line : List ℕ) → 65536 < length line → is_trace_line line ≡ false
 not_dropped line h = let e : nat_le (length line) 65536 ≡ false = grind (arith, nat_tests, h) in ap (λ (b : Bool). b && is_trace line) e
 
 no_long : (g : Option (List (List ℕ))) (line : List ℕ) → 65536 < length line → option_and_then (λ texts. fitted (texts ++ line ∷ [])) g ≡ None

@@ -8,21 +8,21 @@ use native.Mathlib.Numerals.{unary_clauses}
 use Rattle.std.specs.List.{slice_get}
 use Rattle.std.specs.Option.{option_copied}
 use Rattle.std.proofs.lemmas.List.Elements.{filter-append}
-use Rattle.pdrecord.specs.ScriptInput.{is_dropped, without_trace}
+use Rattle.pdrecord.specs.ScriptInput.{is_trace_line, without_trace}
 use Rattle.pdrecord.specs.Written.{IsWritten, joined}
 use Rattle.pdrecord.specs.Inner.{GoesOn}
 
 joined_more : (lines : List (List ℕ)) (line : List ℕ) → joined lines ++ (line ++ 10 ∷ []) ≡ joined (lines ++ line ∷ [])
 joined_more lines line = flat_map_more (λ (l : List ℕ). l ++ 10 ∷ []) [] lines line
 
-kept_more : (lines : List (List ℕ)) (line : List ℕ) (b : Bool) → is_dropped line ≡ b → without_trace (lines ++ line ∷ []) ≡ without_trace lines ++ cond (not b) (line ∷ []) []
-kept_more lines line b e = filter-append (λ (l : List ℕ). not (is_dropped l)) lines (line ∷ []) ∙ ap (λ (b : Bool). without_trace lines ++ cond (not b) (line ∷ []) []) e
+kept_more : (lines : List (List ℕ)) (line : List ℕ) (b : Bool) → is_trace_line line ≡ b → without_trace (lines ++ line ∷ []) ≡ without_trace lines ++ cond (not b) (line ∷ []) []
+kept_more lines line b e = filter-append (λ (l : List ℕ). not (is_trace_line l)) lines (line ∷ []) ∙ ap (λ (b : Bool). without_trace lines ++ cond (not b) (line ∷ []) []) e
 
 -- nothing is written of no line
 pub written_first : (tr : Bool) (out : List ℕ) → out ≡ [] → IsWritten tr [] out
 written_first tr out e = ([], e, refl, λ f. refl)
 
-written_line : (tr : Bool) (text : List (List ℕ)) (out new line : List ℕ) → IsWritten tr text out → is_dropped line ≡ false → new ≡ out ++ (line ++ 10 ∷ []) → IsWritten tr (text ++ line ∷ []) new
+written_line : (tr : Bool) (text : List (List ℕ)) (out new line : List ℕ) → IsWritten tr text out → is_trace_line line ≡ false → new ≡ out ++ (line ++ 10 ∷ []) → IsWritten tr (text ++ line ∷ []) new
 written_line tr text out new line w d e = (
   w.0 ++ line ∷ [],
   e ∙ (ap (λ (o : List ℕ). o ++ (line ++ 10 ∷ [])) w.1 ∙ joined_more w.0 line),
@@ -43,7 +43,7 @@ written_on tr text out new w (inr g) = (
 )
 
 -- a line, and what a trace has after it
-pub written_turn : (tr : Bool) (text more : List (List ℕ)) (out mid new line : List ℕ) → IsWritten tr text out → (is_dropped line ≡ false) × (mid ≡ out ++ (line ++ 10 ∷ [])) → GoesOn tr mid new → more ≡ text ++ line ∷ [] → IsWritten tr more new
+pub written_turn : (tr : Bool) (text more : List (List ℕ)) (out mid new line : List ℕ) → IsWritten tr text out → (is_trace_line line ≡ false) × (mid ≡ out ++ (line ++ 10 ∷ [])) → GoesOn tr mid new → more ≡ text ++ line ∷ [] → IsWritten tr more new
 written_turn tr text more out mid new line w l g e = subst (λ (t : List (List ℕ)). IsWritten tr t new) (sym e) (written_on tr (text ++ line ∷ []) mid new (written_line tr text out mid line w l.0 l.1) g)
 
 lent : (r : Option (Bor (List ℕ))) (d : Bor (List ℕ)) (x : List ℕ) → option_copied r ≡ Some x → (unwrap_or r d).now ≡ x

@@ -18,12 +18,12 @@ use Rattle.pdrecord.specs.declared.outcome.Outcome.{Outcome}
 use Rattle.pdrecord.specs.declared.outcome.Outcome.TheVariants.{Recorded, Refused}
 
 -- how many lines octets have, each ended by a newline
-abbrev pub lines_in : List ℕ → ℕ
-lines_in octets = count_by (λ octet. octet == 10) octets
+abbrev pub line_count : List ℕ → ℕ
+line_count octets = count_by (λ octet. octet == 10) octets
 
 -- a word, how many lines follow, and the name of a file
 abbrev pub title : List ℕ → List ℕ → List ℕ → List ℕ
-title word octets name = word ++ decimal (lines_in octets) ++ codes " " ++ name ++ codes "\n"
+title word octets name = word ++ decimal (line_count octets) ++ codes " " ++ name ++ codes "\n"
 
 -- the section of a file's script: its recording, or the lines that report why there is none, after a title
 abbrev pub section : List ℕ → Outcome → List ℕ

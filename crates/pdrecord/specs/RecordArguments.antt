@@ -42,28 +42,28 @@ pdrecord =
     with_rule (with_rule (with_rule (with_rule (with_rule (new_app (codes "pdrecord")) settings_rule) trace_rule) minimal_rule) drop_missing_rule) file_rule
 
 -- arguments have a flag of this name
-abbrev pub is_set : List ℕ → List Text → Bool
-is_set name arguments = bytes_eq (option_text pdrecord name arguments) (codes "true")
+abbrev pub is_flag_given : List ℕ → List Text → Bool
+is_flag_given name arguments = bytes_eq (option_text pdrecord name arguments) (codes "true")
 
 -- `--trace` is beside `--minimal`
-abbrev pub is_trace_of_minimal : List Text → Bool
-is_trace_of_minimal arguments = is_set (codes "trace") arguments && is_set (codes "minimal") arguments
+abbrev pub is_trace_beside_minimal : List Text → Bool
+is_trace_beside_minimal arguments = is_flag_given (codes "trace") arguments && is_flag_given (codes "minimal") arguments
 
 -- `--drop-missing` is without `--minimal`
-abbrev pub is_drop_alone : List Text → Bool
-is_drop_alone arguments = is_set (codes "drop-missing") arguments && not (is_set (codes "minimal") arguments)
+abbrev pub is_drop_missing_alone : List Text → Bool
+is_drop_missing_alone arguments = is_flag_given (codes "drop-missing") arguments && not (is_flag_given (codes "minimal") arguments)
 
 -- why the program refuses arguments
 abbrev pub refusals : List Text → Kinds
-refusals arguments = refusals_by pdrecord (is_trace_of_minimal arguments) (is_drop_alone arguments) arguments
+refusals arguments = refusals_by pdrecord (is_trace_beside_minimal arguments) (is_drop_missing_alone arguments) arguments
 
 -- how scripts are recorded, by whether the least change, one without comments, and a trace are asked for
-abbrev pub mode_by : Bool → Bool → Bool → RecordMode
-mode_by least drop trace = if least then Minimal drop else (if trace then Traced else Whole)
+abbrev pub record_mode : Bool → Bool → Bool → RecordMode
+record_mode least drop trace = if least then Minimal drop else (if trace then Traced else Whole)
 
 -- the way in which arguments have scripts recorded
 abbrev pub mode_chosen : List Text → RecordMode
-mode_chosen arguments = mode_by (is_set (codes "minimal") arguments) (is_set (codes "drop-missing") arguments) (is_set (codes "trace") arguments)
+mode_chosen arguments = record_mode (is_flag_given (codes "minimal") arguments) (is_flag_given (codes "drop-missing") arguments) (is_flag_given (codes "trace") arguments)
 
 -- the files that arguments name
 abbrev pub files_named : List Text → List Text

@@ -5,12 +5,12 @@ use Rattle.pd_protocol.specs.Commands.{fitted}
 use Rattle.pd_layout.specs.Traces.{is_trace}
 
 -- a line is dropped: one of a trace that isn't over the limits of a text by itself
-abbrev pub is_dropped : List ℕ → Bool
-is_dropped line = nat_le (length line) 65536 && is_trace line
+abbrev pub is_trace_line : List ℕ → Bool
+is_trace_line line = nat_le (length line) 65536 && is_trace line
 
 -- lines without those of a trace
 abbrev pub without_trace : List (List ℕ) → List (List ℕ)
-without_trace lines = filter (λ line. not (is_dropped line)) lines
+without_trace lines = filter (λ line. not (is_trace_line line)) lines
 
 -- the script that an input is: its lines without those of a trace, where these are within the limits of a text
 abbrev pub script_in : List ℕ → Option (List (List ℕ))

@@ -2,14 +2,14 @@
 ghost use Rattle.std.specs.Prelude.{◌≡◌, ◌++◌, IfOk, IfErr};
 ghost use Rattle.pd_protocol.specs.ChosenOptions.{names_of};
 ghost use Rattle.pdrecord.specs.RecordProgram.{IsStop};
-ghost use Rattle.pdrecord.specs.FileSections.{IsSection, Writes, WritesOne, lines_in, title};
+ghost use Rattle.pdrecord.specs.FileSections.{IsSection, Writes, WritesOne, line_count, title};
 
 use crate::file_source::FileSource;
 use crate::outcome::Outcome;
 use crate::program::outcome_of;
 use crate::record_options::RecordMode;
 use crate::script_input::ScriptInput;
-use pd_protocol::{InputStream, ServeFault, put_number, write_all};
+use pd_protocol::{InputStream, ServeFault, put_word_and_number, write_all};
 use pd_settings::Settings;
 use std::alloc::{AllocError, Global};
 use std::io::Write;
@@ -34,7 +34,7 @@ pub struct FileFault<'a> {
 ///
 /// # Errors
 /// The first file with `Read` where it can't be opened or read, `Write` where a write fails, `Differs` or `OutOfMemory`.
-pub fn put_sections<'a, R: InputStream + Drop, F: FileSource<R>, W: Write>(
+pub fn record_and_write_files<'a, R: InputStream + Drop, F: FileSource<R>, W: Write>(
     alloc: Global,
     settings: &Settings,
     mode: RecordMode,
@@ -46,7 +46,7 @@ pub fn put_sections<'a, R: InputStream + Drop, F: FileSource<R>, W: Write>(
 {
     let mut are_all_recorded = true;
     for name in names {
-        match put_section(alloc, settings, mode, name, files, out) {
+        match record_and_write_file(alloc, settings, mode, name, files, out) {
             Ok(is_recorded) => are_all_recorded &= is_recorded,
             Err(fault) => return Err(FileFault { name: *name, fault }),
         }
@@ -57,8 +57,8 @@ pub fn put_sections<'a, R: InputStream + Drop, F: FileSource<R>, W: Write>(
 /// Records the script of a file, and writes what came of it; whether it was recorded.
 ///
 /// # Errors
-/// As those of `put_sections`.
-fn put_section<R: InputStream + Drop, F: FileSource<R>, W: Write>(
+/// As those of `record_and_write_files`.
+fn record_and_write_file<R: InputStream + Drop, F: FileSource<R>, W: Write>(
     alloc: Global,
     settings: &Settings,
     mode: RecordMode,
@@ -68,7 +68,7 @@ fn put_section<R: InputStream + Drop, F: FileSource<R>, W: Write>(
 ) -> Result<bool, ServeFault>
     ensures { WritesOne settings.now mode (F.octets_in files.now) name.now result (W.contents out.old) (W.contents out.new) }
 {
-    let section = section_of(alloc, settings, mode, name, files)?;
+    let section = record_section(alloc, settings, mode, name, files)?;
     write_all(out, section.octets.as_slice())?;
     Ok(section.is_recorded)
 }
@@ -77,7 +77,7 @@ fn put_section<R: InputStream + Drop, F: FileSource<R>, W: Write>(
 ///
 /// # Errors
 /// `Read` where it can't be opened or read, `Differs` and `OutOfMemory`.
-fn section_of<R: InputStream + Drop, F: FileSource<R>>(
+fn record_section<R: InputStream + Drop, F: FileSource<R>>(
     alloc: Global,
     settings: &Settings,
     mode: RecordMode,
@@ -91,22 +91,27 @@ fn section_of<R: InputStream + Drop, F: FileSource<R>>(
     let input = ScriptInput::read(alloc, &mut file)?;
     match outcome_of(alloc, &input, settings, mode)? {
         Outcome::Recorded(octets) => Ok(Section {
-            octets: titled(alloc, b"recorded ", octets.as_slice(), name)?,
+            octets: octets_with_title(alloc, b"recorded ", octets.as_slice(), name)?,
             is_recorded: true,
         }),
         Outcome::Refused(message) => Ok(Section {
-            octets: titled(alloc, b"refused ", message.as_slice(), name)?,
+            octets: octets_with_title(alloc, b"refused ", message.as_slice(), name)?,
             is_recorded: false,
         }),
     }
 }
 
 /// Octets after their title.
-fn titled(alloc: Global, word: &[u8], octets: &[u8], name: &str) -> Result<Vec<u8>, AllocError>
+fn octets_with_title(
+    alloc: Global,
+    word: &[u8],
+    octets: &[u8],
+    name: &str,
+) -> Result<Vec<u8>, AllocError>
     ensures { IfOk result (λ section. section.items ≡ title word.now octets.now name.now ++ octets.now) }
 {
     let mut section = Vec::new(alloc);
-    put_number(&mut section, word, lines_in(octets))?;
+    put_word_and_number(&mut section, word, line_count(octets))?;
     section.extend_from_slice(b" ")?;
     section.extend_from_slice(name.as_bytes())?;
     section.extend_from_slice(b"\n")?;
@@ -115,8 +120,8 @@ fn titled(alloc: Global, word: &[u8], octets: &[u8], name: &str) -> Result<Vec<u
 }
 
 /// How many lines octets have, each ended by a newline.
-fn lines_in(octets: &[u8]) -> usize
-    ensures { result ≡ lines_in octets.now }
+fn line_count(octets: &[u8]) -> usize
+    ensures { result ≡ line_count octets.now }
 {
     octets.iter().filter(|octet| **octet == b'\n').count()
 }

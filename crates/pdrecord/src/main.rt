@@ -39,7 +39,7 @@ mod stop_cause;
 mod trace_text;
 
 use host_files::HostFiles;
-use pd_protocol::{arguments, refuse_arguments};
+use pd_protocol::{arguments, exit_with_unreadable_arguments};
 use program::{PROGRAM, run_with_files};
 use std::process::ExitCode;
 
@@ -56,7 +56,7 @@ fn main(rt: HostRuntime) -> ExitCode {
                 &mut rt.stderr(),
             )
         }
-        Err(error) => refuse_arguments(PROGRAM, &error, &mut rt.stderr()),
+        Err(error) => exit_with_unreadable_arguments(PROGRAM, &error, &mut rt.stderr()),
     };
     ExitCode::from(exit.status)
 }

@@ -4,9 +4,9 @@ ghost use Rattle.pd_run.specs.Run.{verdict_of};
 ghost use Rattle.pd_explain.specs.BlockLines.{AreIndented};
 ghost use Rattle.pdrecord.specs.RecordProgram.{IsMendedText, IsRefused, IsUnmade, IsReasonText};
 
-use crate::outcome::{Outcome, at_line, refusal_line, refusal_of};
+use crate::outcome::{Outcome, refusal_line, refusal_of, verdict_at_line};
 use crate::script_input::ScriptInput;
-use crate::trace_text::octets_of;
+use crate::trace_text::recording_octets;
 use pd_explain::{cause_text, explain};
 use pd_mend::{MendError, Mended, Unmendable, mend_script};
 use pd_protocol::{ServeFault, put_verdict};
@@ -21,7 +21,7 @@ use std::alloc::{AllocError, Global};
 /// # Errors
 /// `Differs` and `OutOfMemory`.
 #[tactic(auto, using(crate::proofs::MendedTexts::is_mended_text, crate::proofs::MendedTexts::own_verdict, crate::proofs::MendedTexts::is_stopped_text, crate::proofs::MendedTexts::is_large_text))]
-pub fn mended(
+pub fn outcome_of_mending(
     alloc: Global,
     input: &ScriptInput,
     lines: &Lines,
@@ -33,12 +33,12 @@ pub fn mended(
 {
     match mend_script(alloc, lines, settings, drop) {
         Ok(mended) => {
-            let recording = recording_of(alloc, mended);
-            Ok(Outcome::Recorded(octets_of(alloc, &recording, false)?))
+            let recording = recording_of_mended(alloc, mended);
+            Ok(Outcome::Recorded(recording_octets(alloc, &recording, false)?))
         }
         Err(MendError::Stopped(unmendable)) => {
-            let line = input.line_of(unmendable.line);
-            let outcome = refused(alloc, &unmendable, line, settings)?;
+            let line = input.input_line_of(unmendable.line);
+            let outcome = refusal_of_unmendable(alloc, &unmendable, line, settings)?;
             Ok(outcome)
         }
         Err(MendError::TooLarge) => {
@@ -50,7 +50,7 @@ pub fn mended(
 }
 
 /// A mended text, without a trace.
-fn recording_of(alloc: Global, mended: Mended) -> Recording
+fn recording_of_mended(alloc: Global, mended: Mended) -> Recording
     ensures { result.lines ≡ mended.lines }
 {
     Recording {
@@ -62,36 +62,36 @@ fn recording_of(alloc: Global, mended: Mended) -> Recording
 
 /// The outcome of a text at which no mend helps: its verdict at a line, and the lines that explain it.
 #[tactic(auto, using(crate::proofs::Below::is_stopped))]
-fn refused(
+fn refusal_of_unmendable(
     alloc: Global,
     unmendable: &Unmendable,
     line: usize,
     settings: &Settings,
 ) -> Result<Outcome, ServeFault>
     requires { unmendable.now.verdict ≡ verdict_of unmendable.now.lines settings.now }
-    ensures refused { IfOk result (IsRefused (RecordError.Stopped unmendable.now.verdict)) }
+    ensures refusal_of_unmendable { IfOk result (IsRefused (RecordError.Stopped unmendable.now.verdict)) }
     ensures only { IfErr result IsUnmade }
 {
-    let reason = reason_text(alloc, unmendable.verdict, line)?;
+    let reason = verdict_text_at_line(alloc, unmendable.verdict, line)?;
     let mut message = refusal_line(alloc, reason.as_slice())?;
-    let below = lines_below(alloc, unmendable, settings)?;
+    let below = explanation_lines(alloc, unmendable, settings)?;
     message.extend_from_slice(below.as_slice())?;
     Ok(Outcome::Refused(message))
 }
 
 /// A verdict at a line, as a report has it.
-fn reason_text(alloc: Global, verdict: Verdict, line: usize) -> Result<Vec<u8>, ServeFault>
+fn verdict_text_at_line(alloc: Global, verdict: Verdict, line: usize) -> Result<Vec<u8>, ServeFault>
     ensures reason_given { IfOk result (λ reason. IsReasonText (RecordError.Stopped verdict) reason.items) }
     ensures only { IfErr result IsUnmade }
 {
     let mut row = Vec::new(alloc);
-    put_verdict(&mut row, at_line(verdict, line))?;
+    put_verdict(&mut row, verdict_at_line(verdict, line))?;
     Ok(row)
 }
 
 /// The lines that explain the verdict of a text at which no mend helps, without origins, whose lines would be the mended text's.
 #[tactic(auto, using(crate::proofs::Below::no_lines))]
-fn lines_below(
+fn explanation_lines(
     alloc: Global,
     unmendable: &Unmendable,
     settings: &Settings,
@@ -100,7 +100,10 @@ fn lines_below(
     ensures { IfOk result (λ below. AreIndented below.items) }
 {
     match explain(alloc, &unmendable.lines, settings, unmendable.verdict)? {
-        Some(explanation) => cause_text(alloc, &explanation.cause.without_history(alloc)),
+        Some(explanation) => cause_text(
+            alloc,
+            &explanation.cause.without_origins_and_dropped(alloc),
+        ),
         None => Ok(Vec::new(alloc)),
     }
 }

@@ -2,10 +2,10 @@
 ghost use Rattle.std.specs.Prelude.{◌≡◌, ℕ, List, IfOk, IfErr, codes};
 ghost use Rattle.pd_explain.specs.BlockLines.{AreIndented};
 ghost use Rattle.pd_protocol.specs.Verdicts.{verdict_text};
-ghost use Rattle.pdrecord.specs.RecordProgram.{Explains, IsReasonText, IsRefused, IsUnmade, at_line, refusal_line};
+ghost use Rattle.pdrecord.specs.RecordProgram.{Explains, IsReasonText, IsRefused, IsUnmade, verdict_at_line, refusal_line};
 
 use crate::script_input::ScriptInput;
-use crate::stop_cause::cause_of;
+use crate::stop_cause::cause_of_verdict;
 use pd_explain::cause_text;
 use pd_protocol::{ServeFault, put_verdict};
 use pd_record::RecordError;
@@ -39,14 +39,14 @@ pub fn refusal_of(
 {
     let reason = reason_text(alloc, refusal, input)?;
     let mut message = refusal_line(alloc, reason.as_slice())?;
-    let below = lines_below(alloc, refusal, input, settings)?;
+    let below = explanation_lines(alloc, refusal, input, settings)?;
     message.extend_from_slice(below.as_slice())?;
     Ok(Outcome::Refused(message))
 }
 
 /// The lines below the one that reports why a script isn't recorded: those of a block where the script is why, else none.
 #[tactic(auto, using(crate::proofs::Below::explains_none))]
-fn lines_below(
+fn explanation_lines(
     alloc: Global,
     refusal: RecordError,
     input: &ScriptInput,
@@ -56,7 +56,7 @@ fn lines_below(
 {
     match (refusal, &input.lines) {
         (RecordError::Stopped(verdict), Some(lines)) => {
-            block_below(alloc, lines, settings, verdict)
+            stop_cause_lines(alloc, lines, settings, verdict)
         }
         _ => Ok(Vec::new(alloc)),
     }
@@ -64,7 +64,7 @@ fn lines_below(
 
 /// The lines of the block of a verdict with which recording a text stops, below its first one.
 #[tactic(auto, using(crate::proofs::Below::no_lines))]
-fn block_below(
+fn stop_cause_lines(
     alloc: Global,
     lines: &Lines,
     settings: &Settings,
@@ -72,7 +72,7 @@ fn block_below(
 ) -> Result<Vec<u8>, AllocError>
     ensures { IfOk result (λ below. AreIndented below.items) }
 {
-    match cause_of(alloc, lines, settings, verdict)? {
+    match cause_of_verdict(alloc, lines, settings, verdict)? {
         Some(cause) => cause_text(alloc, &cause),
         None => Ok(Vec::new(alloc)),
     }
@@ -90,8 +90,8 @@ fn reason_text(
     match refusal {
         RecordError::Stopped(verdict) => {
             let mut row = Vec::new(alloc);
-            let line = input.line_of(line_in(verdict));
-            put_verdict(&mut row, at_line(verdict, line))?;
+            let line = input.input_line_of(line_of_verdict(verdict));
+            put_verdict(&mut row, verdict_at_line(verdict, line))?;
             Ok(row)
         }
         RecordError::TooLarge => Ok(Vec::from_slice(alloc, b"2 TooLarge")?),
@@ -103,7 +103,7 @@ fn reason_text(
 }
 
 /// The line that a verdict names; 0 where it names none.
-fn line_in(verdict: Verdict) -> usize {
+fn line_of_verdict(verdict: Verdict) -> usize {
     match verdict {
         Verdict::Pass(_) => 0,
         Verdict::Fail(line, _)
@@ -114,8 +114,8 @@ fn line_in(verdict: Verdict) -> usize {
 }
 
 /// A verdict at another line.
-pub fn at_line(verdict: Verdict, line: usize) -> Verdict
-    ensures { result ≡ at_line line verdict }
+pub fn verdict_at_line(verdict: Verdict, line: usize) -> Verdict
+    ensures { result ≡ verdict_at_line line verdict }
 {
     match verdict {
         Verdict::Pass(events) => Verdict::Pass(events),

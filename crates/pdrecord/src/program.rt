@@ -9,16 +9,16 @@ ghost use Rattle.pdrecord.specs.RecordArguments.{pdrecord, mode_chosen, files_na
 ghost use Rattle.pdrecord.specs.FileSections.{EndsAfter, FinishesFiles, file_fault_line};
 ghost use Rattle.pd_protocol.specs.ChosenOptions.{names_of};
 
-use crate::file_sections::{FileFault, put_sections};
+use crate::file_sections::{FileFault, record_and_write_files};
 use crate::file_source::{FileSource, NoFiles};
-use crate::mend_outcome::mended;
+use crate::mend_outcome::outcome_of_mending;
 use crate::outcome::{Outcome, refusal_of};
 use crate::record_options::{RecordMode, RecordOptions, record_options};
 use crate::script_input::ScriptInput;
-use crate::trace_text::octets_of;
+use crate::trace_text::recording_octets;
 use pd_protocol::{
-    Exit, FAULT_STATUS, InputStream, ProgramFault, ServeFault, fail, refuse, settings_of,
-    try_write, write_all,
+    Exit, FAULT_STATUS, InputStream, ProgramFault, ServeFault, exit_with_clap_error,
+    exit_with_fault, settings_from_toml, try_write, write_all,
 };
 use pd_record::{RecordError, record};
 use pd_settings::Settings;
@@ -35,7 +35,7 @@ const NOT_RECORDED: u8 = 1;
 
 /// Runs the program that records on its arguments, of which the first is its own name, where no files are. Where `clap` refuses
 /// them, and for `--help`, it prints its own text on `err`, with the status 2.
-pub fn run_recording<S: AsStr, R: InputStream, W: Write, E: Write>(
+pub fn run_without_files<S: AsStr, R: InputStream, W: Write, E: Write>(
     alloc: Global,
     arguments: &[S],
     reader: &mut R,
@@ -68,7 +68,7 @@ pub fn run_with_files<
 {
     match record_options(alloc, arguments) {
         Ok(options) => run_with_options(alloc, &options, reader, files, out, err),
-        Err(error) => refuse(alloc, PROGRAM, &error, err),
+        Err(error) => exit_with_clap_error(alloc, PROGRAM, &error, err),
     }
 }
 
@@ -88,7 +88,7 @@ fn run_with_options<R: InputStream, Q: InputStream + Drop, F: FileSource<Q>, W: 
     if options.files.is_empty() {
         run_on_input(alloc, options, reader, out, err)
     } else {
-        run_files(alloc, options, files, out, err)
+        run_on_files(alloc, options, files, out, err)
     }
 }
 
@@ -104,11 +104,11 @@ fn run_on_input<R: InputStream, W: Write, E: Write>(
         FinishesRecording (R.has_failed reader.new) result options.now.settings.now options.now.mode input (W.contents out.old) (W.contents out.new) (E.contents err.old) (E.contents err.new) }
 {
     let end = record_input(alloc, options, reader);
-    finish(end, out, err)
+    exit_with_outcome(end, out, err)
 }
 
 /// Records the scripts of files, and writes what came of each.
-fn run_files<R: InputStream + Drop, F: FileSource<R>, W: Write, E: Write>(
+fn run_on_files<R: InputStream + Drop, F: FileSource<R>, W: Write, E: Write>(
     alloc: Global,
     options: &RecordOptions<'_>,
     files: &F,
@@ -117,18 +117,18 @@ fn run_files<R: InputStream + Drop, F: FileSource<R>, W: Write, E: Write>(
 ) -> Exit
     ensures { FinishesFiles (settings_in options.now.settings.now) options.now.mode (F.octets_in files.now) (names_of options.now.files.items) result (W.contents out.old) (W.contents out.new) (E.contents err.old) (E.contents err.new) }
 {
-    match settings_of(alloc, options.settings) {
+    match settings_from_toml(alloc, options.settings) {
         Ok(settings) => {
             let names = options.files.as_slice();
-            let end = put_sections(alloc, &settings, options.mode, names, files, out);
-            finish_files(end, err)
+            let end = record_and_write_files(alloc, &settings, options.mode, names, files, out);
+            exit_after_files(end, err)
         }
-        Err(fault) => fail(PROGRAM, err, fault),
+        Err(fault) => exit_with_fault(PROGRAM, err, fault),
     }
 }
 
 /// Ends a run over files.
-fn finish_files<E: Write>(end: Result<bool, FileFault<'_>>, err: &mut E) -> Exit
+fn exit_after_files<E: Write>(end: Result<bool, FileFault<'_>>, err: &mut E) -> Exit
     ensures { EndsAfter end.entry result (E.contents err.old) (E.contents err.new) }
 {
     match end {
@@ -136,12 +136,12 @@ fn finish_files<E: Write>(end: Result<bool, FileFault<'_>>, err: &mut E) -> Exit
             status: if are_all_recorded { 0 } else { NOT_RECORDED },
             stderr_ok: true,
         },
-        Err(stop) => fail_with_file(stop, err),
+        Err(stop) => exit_with_file_fault(stop, err),
     }
 }
 
 /// Ends a run at a fault with a file, and reports it.
-fn fail_with_file<E: Write>(stop: FileFault<'_>, err: &mut E) -> Exit
+fn exit_with_file_fault<E: Write>(stop: FileFault<'_>, err: &mut E) -> Exit
     ensures status { result.status ≡ 2 }
     ensures stderr { WritesTo result.stderr_ok (E.contents err.old) (E.contents err.new) (file_fault_line stop.entry.name.now stop.entry.fault) }
 {
@@ -151,11 +151,15 @@ fn fail_with_file<E: Write>(stop: FileFault<'_>, err: &mut E) -> Exit
             stderr_ok: false,
         };
     }
-    fail(stop.name, err, ProgramFault::Serving(stop.fault))
+    exit_with_fault(stop.name, err, ProgramFault::Serving(stop.fault))
 }
 
 /// Ends a run: writes a recording, or reports why there is none.
-fn finish<W: Write, E: Write>(end: Result<Outcome, ProgramFault>, out: &mut W, err: &mut E) -> Exit
+fn exit_with_outcome<W: Write, E: Write>(
+    end: Result<Outcome, ProgramFault>,
+    out: &mut W,
+    err: &mut E,
+) -> Exit
     ensures { Ends end result (W.contents out.old) (W.contents out.new) (E.contents err.old) (E.contents err.new) }
 {
     match end {
@@ -164,13 +168,13 @@ fn finish<W: Write, E: Write>(end: Result<Outcome, ProgramFault>, out: &mut W, e
                 status: 0,
                 stderr_ok: true,
             },
-            Err(fault) => fail(PROGRAM, err, ProgramFault::Serving(fault)),
+            Err(fault) => exit_with_fault(PROGRAM, err, ProgramFault::Serving(fault)),
         },
         Ok(Outcome::Refused(line)) => Exit {
             status: NOT_RECORDED,
             stderr_ok: try_write(err, line.as_slice()),
         },
-        Err(fault) => fail(PROGRAM, err, fault),
+        Err(fault) => exit_with_fault(PROGRAM, err, fault),
     }
 }
 
@@ -182,7 +186,7 @@ fn record_input<R: InputStream>(
 ) -> Result<Outcome, ProgramFault>
     ensures { IfSome (R.remaining reader.old) (Comes (R.has_failed reader.new) (settings_in options.now.settings.now) options.now.mode result) }
 {
-    let settings = settings_of(alloc, options.settings)?;
+    let settings = settings_from_toml(alloc, options.settings)?;
     let input = ScriptInput::read(alloc, reader)?;
     let outcome = outcome_of(alloc, &input, &settings, options.mode)?;
     Ok(outcome)
@@ -207,7 +211,7 @@ pub fn outcome_of(
     match mode {
         RecordMode::Whole => record_whole(alloc, input, lines, settings, false),
         RecordMode::Traced => record_whole(alloc, input, lines, settings, true),
-        RecordMode::Minimal(drop) => mended(alloc, input, lines, settings, drop),
+        RecordMode::Minimal(drop) => outcome_of_mending(alloc, input, lines, settings, drop),
     }
 }
 
@@ -223,7 +227,7 @@ fn record_whole(
     ensures only { IfErr result IsUnmade }
 {
     match record(alloc, lines, settings, with_trace) {
-        Ok(recording) => Ok(Outcome::Recorded(octets_of(alloc, &recording, with_trace)?)),
+        Ok(recording) => Ok(Outcome::Recorded(recording_octets(alloc, &recording, with_trace)?)),
         Err(refusal) => refusal_of(alloc, refusal, input, settings),
     }
 }

@@ -2,7 +2,7 @@
 ghost use Rattle.std.specs.Prelude.{false, ◌≡◌, ◌≢◌, ◌⊎◌, ◌||◌, List, [], IfOk, IfErr, codes, map, option_map, unwrap_or};
 ghost use Rattle.clap.specs.Words.{HasMatchesOf, Text, app_of, found_of, kind_of, matched_of, raw_values, rule_of};
 ghost use Rattle.pd_protocol.specs.ChosenOptions.{names_of};
-ghost use Rattle.pdrecord.specs.RecordArguments.{pdrecord, trace_rule, minimal_rule, drop_missing_rule, file_rule, is_set, is_trace_of_minimal, is_drop_alone, refusals, mode_by, HasRecordOptions};
+ghost use Rattle.pdrecord.specs.RecordArguments.{pdrecord, trace_rule, minimal_rule, drop_missing_rule, file_rule, is_flag_given, is_trace_beside_minimal, is_drop_missing_alone, refusals, record_mode, HasRecordOptions};
 
 use clap::error::ErrorKind;
 use clap::{Arg, ArgAction, ArgMatches, Command, Error};
@@ -67,37 +67,37 @@ pub fn record_options<'a, S: AsStr>(
 {
     let command = command_without_conflicts(alloc)?;
     let matches = command.try_get_matches_from(arguments)?;
-    if are_refused_together(&matches) {
-        let with_conflicts = command_with_conflicts(alloc, is_trace_of_minimal(&matches));
+    if are_options_conflicting(&matches) {
+        let with_conflicts = command_with_conflicts(alloc, is_trace_beside_minimal(&matches));
         return Err(refusal_together(with_conflicts, arguments));
     }
     Ok(options_of(alloc, &matches)?)
 }
 
 /// Whether options are refused together of which each may be written.
-fn are_refused_together(matches: &ArgMatches<'_>) -> bool
-    ensures { (arguments : List Text) → HasMatchesOf pdrecord arguments matches.now → result ≡ (is_trace_of_minimal arguments || is_drop_alone arguments) }
+fn are_options_conflicting(matches: &ArgMatches<'_>) -> bool
+    ensures { (arguments : List Text) → HasMatchesOf pdrecord arguments matches.now → result ≡ (is_trace_beside_minimal arguments || is_drop_missing_alone arguments) }
 {
-    is_trace_of_minimal(matches) || is_drop_alone(matches)
+    is_trace_beside_minimal(matches) || is_drop_missing_alone(matches)
 }
 
 /// Whether `--trace` is beside `--minimal`, of which there is no trace.
-fn is_trace_of_minimal(matches: &ArgMatches<'_>) -> bool
-    ensures { (arguments : List Text) → HasMatchesOf pdrecord arguments matches.now → result ≡ is_trace_of_minimal arguments }
+fn is_trace_beside_minimal(matches: &ArgMatches<'_>) -> bool
+    ensures { (arguments : List Text) → HasMatchesOf pdrecord arguments matches.now → result ≡ is_trace_beside_minimal arguments }
 {
-    is_set(matches, "trace") && is_set(matches, "minimal")
+    is_flag_given(matches, "trace") && is_flag_given(matches, "minimal")
 }
 
 /// Whether `--drop-missing` is without `--minimal`, to which it belongs.
-fn is_drop_alone(matches: &ArgMatches<'_>) -> bool
-    ensures { (arguments : List Text) → HasMatchesOf pdrecord arguments matches.now → result ≡ is_drop_alone arguments }
+fn is_drop_missing_alone(matches: &ArgMatches<'_>) -> bool
+    ensures { (arguments : List Text) → HasMatchesOf pdrecord arguments matches.now → result ≡ is_drop_missing_alone arguments }
 {
-    is_set(matches, "drop-missing") && !is_set(matches, "minimal")
+    is_flag_given(matches, "drop-missing") && !is_flag_given(matches, "minimal")
 }
 
 /// Whether a flag is written.
-fn is_set(matches: &ArgMatches<'_>, name: &str) -> bool
-    ensures { (arguments : List Text) → HasMatchesOf pdrecord arguments matches.now → result ≡ is_set name.now arguments }
+fn is_flag_given(matches: &ArgMatches<'_>, name: &str) -> bool
+    ensures { (arguments : List Text) → HasMatchesOf pdrecord arguments matches.now → result ≡ is_flag_given name.now arguments }
 {
     is_true(matches.get_str(name).unwrap_or("").as_bytes())
 }
@@ -106,20 +106,20 @@ fn is_set(matches: &ArgMatches<'_>, name: &str) -> bool
 fn options_of<'a>(alloc: Global, matches: &ArgMatches<'a>) -> Result<RecordOptions<'a>, AllocError>
     ensures { (arguments : List Text) → HasMatchesOf pdrecord arguments matches.now → IfOk result (λ options. HasRecordOptions arguments options) }
 {
-    let files = files_in(alloc, matches)?;
-    let is_minimal = is_set(matches, "minimal");
-    let drops_missing = is_set(matches, "drop-missing");
-    let with_trace = is_set(matches, "trace");
+    let files = file_names(alloc, matches)?;
+    let is_minimal = is_flag_given(matches, "minimal");
+    let drops_missing = is_flag_given(matches, "drop-missing");
+    let with_trace = is_flag_given(matches, "trace");
     Ok(RecordOptions {
         settings: matches.get_str("settings").unwrap_or(""),
-        mode: mode_by(is_minimal, drops_missing, with_trace),
+        mode: record_mode(is_minimal, drops_missing, with_trace),
         files,
     })
 }
 
 /// How scripts are recorded, by whether the least change, one without comments, and a trace are asked for.
-fn mode_by(is_minimal: bool, drops_missing: bool, with_trace: bool) -> RecordMode
-    ensures { result ≡ mode_by is_minimal drops_missing with_trace }
+fn record_mode(is_minimal: bool, drops_missing: bool, with_trace: bool) -> RecordMode
+    ensures { result ≡ record_mode is_minimal drops_missing with_trace }
 {
     if is_minimal {
         RecordMode::Minimal(drops_missing)
@@ -131,7 +131,7 @@ fn mode_by(is_minimal: bool, drops_missing: bool, with_trace: bool) -> RecordMod
 }
 
 /// The files that are named.
-fn files_in<'a>(alloc: Global, matches: &ArgMatches<'a>) -> Result<Vec<&'a str>, AllocError>
+fn file_names<'a>(alloc: Global, matches: &ArgMatches<'a>) -> Result<Vec<&'a str>, AllocError>
     ensures { IfOk result (λ names. names_of names.items ≡ unwrap_or (option_map raw_values (matched_of (found_of matches.now) (codes "file"))) []) }
 {
     match matches.get_strs("file") {
@@ -183,7 +183,7 @@ fn push_options<'a>(
     is_trace_apart: bool,
 ) -> Result<(), AllocError> {
     options.push(settings_option(alloc))?;
-    options.push(trace_with_conflicts(alloc, is_trace_apart)?)?;
+    options.push(trace_option_with_conflicts(alloc, is_trace_apart)?)?;
     options.push(minimal_option(alloc))?;
     options.push(drop_missing_option(alloc).requires_arg("minimal")?)?;
     options.push(file_option(alloc))?;
@@ -191,7 +191,10 @@ fn push_options<'a>(
 }
 
 /// `--trace`, with the options that may be beside it.
-fn trace_with_conflicts<'a>(alloc: Global, is_trace_apart: bool) -> Result<Arg<'a>, AllocError> {
+fn trace_option_with_conflicts<'a>(
+    alloc: Global,
+    is_trace_apart: bool,
+) -> Result<Arg<'a>, AllocError> {
     let trace = trace_option(alloc);
     if is_trace_apart {
         trace.conflicts_with("minimal")

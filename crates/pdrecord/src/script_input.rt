@@ -4,12 +4,13 @@ ghost use Rattle.std.specs.Bool.{OnTrue};
 ghost use Rattle.pd_protocol.specs.Input.{IfKnown, to_come, work_left, Spends, IsCaused, HasCause};
 ghost use Rattle.pd_protocol.specs.LinePieces.{NoNewline};
 ghost use Rattle.pd_protocol.specs.NextLines.{IsIo};
-ghost use Rattle.pdrecord.specs.ScriptInput.{is_dropped, script_in};
+ghost use Rattle.pdrecord.specs.ScriptInput.{is_trace_line, script_in};
 ghost use Rattle.pdrecord.specs.Inner.{Gathers, with_line};
 
 use pd_layout::is_trace;
 use pd_protocol::{
-    InputStream, LineReader, NextLine, ServeFault, TextBuilder, text_of, without_carriage_return,
+    InputStream, LineReader, NextLine, ServeFault, TextBuilder, text_within_limits,
+    without_carriage_return,
 };
 use pd_text::{Lines, MAX_LINES, MAX_OCTETS};
 use std::alloc::{AllocError, Global};
@@ -36,7 +37,7 @@ impl ScriptInput {
         let mut line_reader = LineReader::new(alloc);
         let mut text_builder = TextBuilder::new(alloc);
         let mut numbers = LineNumbers::new(alloc);
-        while read_line(
+        while read_and_gather_line(
             alloc,
             &mut line_reader,
             reader,
@@ -44,13 +45,13 @@ impl ScriptInput {
             &mut numbers,
         )? {}
         Ok(ScriptInput {
-            lines: text_of(text_builder.into_lines()),
+            lines: text_within_limits(text_builder.into_lines()),
             numbers,
         })
     }
 
     /// Which line of the input a line of the script is, both counted from 1.
-    pub fn line_of(&self, line: usize) -> usize {
+    pub fn input_line_of(&self, line: usize) -> usize {
         match self.numbers.kept_lines.get(line.saturating_sub(1)) {
             Some(number) => *number,
             None => line,
@@ -76,9 +77,9 @@ impl LineNumbers {
     }
 
     /// Counts a line, which is kept or dropped; no text has more than 4,096.
-    fn count(&mut self, line: &[u8]) -> Result<(), AllocError> {
+    fn count_line(&mut self, line: &[u8]) -> Result<(), AllocError> {
         self.read = self.read.saturating_add(1);
-        if self.kept_lines.len() < MAX_LINES && !is_dropped(line) {
+        if self.kept_lines.len() < MAX_LINES && !is_trace_line(line) {
             self.kept_lines.push(self.read)?;
         }
         Ok(())
@@ -86,7 +87,7 @@ impl LineNumbers {
 }
 
 /// Takes a line of an input; false where there is none.
-fn read_line<R: InputStream>(
+fn read_and_gather_line<R: InputStream>(
     alloc: Global,
     line_reader: &mut LineReader,
     reader: &mut R,
@@ -104,20 +105,20 @@ fn read_line<R: InputStream>(
     if let Some(line) = line_reader.buffered_line() {
         let octets = line.len() + 1;
         let line = without_carriage_return(line);
-        numbers.count(line)?;
-        gather(text_builder, line)?;
+        numbers.count_line(line)?;
+        add_unless_trace_line(text_builder, line)?;
         line_reader.consume(octets);
         return Ok(true);
     }
     match line_reader.next_line(alloc, reader, MAX_OCTETS)? {
         NextLine::Whole(line) => {
-            numbers.count(line.as_slice())?;
-            gather(text_builder, line.as_slice())?;
+            numbers.count_line(line.as_slice())?;
+            add_unless_trace_line(text_builder, line.as_slice())?;
             line_reader.recycle(line);
             Ok(true)
         }
         NextLine::Long => {
-            text_builder.add_long();
+            text_builder.add_oversized_line();
             Ok(true)
         }
         NextLine::End => Ok(false),
@@ -125,19 +126,19 @@ fn read_line<R: InputStream>(
 }
 
 /// Adds a line, unless it is dropped.
-fn gather(text_builder: &mut TextBuilder, line: &[u8]) -> Result<(), AllocError>
+fn add_unless_trace_line(text_builder: &mut TextBuilder, line: &[u8]) -> Result<(), AllocError>
     requires { NoNewline line.now }
     ensures { OnOk result (text_builder.new ≡ with_line line.now text_builder.old) }
 {
-    if is_dropped(line) {
+    if is_trace_line(line) {
         return Ok(());
     }
-    text_builder.add(line)
+    text_builder.add_line(line)
 }
 
 /// Whether a line is dropped: one of a trace that isn't over the limits of a text by itself.
-pub fn is_dropped(line: &[u8]) -> bool
-    ensures { result ≡ is_dropped line.now }
+pub fn is_trace_line(line: &[u8]) -> bool
+    ensures { result ≡ is_trace_line line.now }
 {
     line.len() <= MAX_OCTETS && is_trace(line)
 }

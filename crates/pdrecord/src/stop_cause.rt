@@ -1,5 +1,5 @@
 //! Why recording a script stops, as the cause that a block reports.
-use pd_explain::{Cause, Failed, cause_at, event_place, explain};
+use pd_explain::{Cause, Failed, cause_of_event_stop, event_place, explain};
 use pd_host::Halt;
 use pd_record::{RecordingStop, find_recording_stop};
 use pd_reparse::{ParsedEvent, Reading, read};
@@ -13,7 +13,7 @@ use std::alloc::{AllocError, Global};
 ///
 /// # Errors
 /// `AllocError` where a growth is refused.
-pub fn cause_of(
+pub fn cause_of_verdict(
     alloc: Global,
     lines: &Lines,
     settings: &Settings,
@@ -60,11 +60,11 @@ fn cause_of_stop(
         before: run,
         stop_reason,
     };
-    cause_in_text(alloc, lines, &stopped, base)
+    cause_of_stop_point(alloc, lines, &stopped, base)
 }
 
 /// The same where an event of a text stopped the run so.
-fn cause_in_text(
+fn cause_of_stop_point(
     alloc: Global,
     lines: &Lines,
     stopped: &StopPoint,
@@ -87,21 +87,21 @@ fn cause_of_event(
     base: u64,
 ) -> Result<Option<Cause>, AllocError> {
     let place = event_place(reading, stopped.passed);
-    let cause = cause_at(alloc, lines, place, parsed_event, stopped)?;
-    Ok(Some(counted_from(cause, base)))
+    let cause = cause_of_event_stop(alloc, lines, place, parsed_event, stopped)?;
+    Ok(Some(with_base_if_backwards(cause, base)))
 }
 
 /// A cause; a time that is too early counts from this moment, in microseconds since the start of the run.
-fn counted_from(cause: Cause, base: u64) -> Cause {
+fn with_base_if_backwards(cause: Cause, base: u64) -> Cause {
     let mut cause = cause;
     if let Cause::Failed(failure) = &mut cause {
-        set_base(&mut failure.failed, base);
+        set_backwards_base(&mut failure.failed, base);
     }
     cause
 }
 
 /// Puts this moment in the place of that from which a time that lies too early counts.
-fn set_base(failed: &mut Failed, base: u64) {
+fn set_backwards_base(failed: &mut Failed, base: u64) {
     if let Failed::Backwards(time_backwards) = failed {
         time_backwards.base = base;
     }

@@ -1,11 +1,11 @@
 //! The octets of a recording.
 ghost use Rattle.std.specs.Prelude.{◌≡◌, ◌++◌, ◌∷◌, [], true, false, IfOk, IfErr, OnOk};
 ghost use Rattle.pdrecord.specs.RecordProgram.{IsUnmade};
-ghost use Rattle.pdrecord.specs.ScriptInput.{is_dropped};
+ghost use Rattle.pdrecord.specs.ScriptInput.{is_trace_line};
 ghost use Rattle.pdrecord.specs.Written.{IsWritten};
 ghost use Rattle.pdrecord.specs.Inner.{GoesOn};
 
-use crate::script_input::is_dropped;
+use crate::script_input::is_trace_line;
 use pd_explain::write_sender;
 use pd_print::write_fixed_seconds;
 use pd_protocol::ServeFault;
@@ -17,7 +17,7 @@ use std::alloc::{AllocError, Global};
 /// # Errors
 /// `Differs` where a line of the recording would be taken for one of a trace, or one of the trace for none, which is a fault of
 /// this program; `OutOfMemory`.
-pub fn octets_of(
+pub fn recording_octets(
     alloc: Global,
     recording: &Recording,
     with_trace: bool,
@@ -28,9 +28,9 @@ pub fn octets_of(
     let mut out = Vec::new(alloc);
     let mut traced = 0usize;
     for done in 0..recording.lines.len() {
-        put_line(&mut out, recording.lines.line(done + 1).unwrap_or(&[]))?;
+        put_recording_line(&mut out, recording.lines.line(done + 1).unwrap_or(&[]))?;
         let trace_entry = recording.trace_entries.get(traced);
-        if put_trace_entry(alloc, &mut out, trace_entry, done + 1, with_trace)? {
+        if put_trace_at_event_end(alloc, &mut out, trace_entry, done + 1, with_trace)? {
             traced = traced.saturating_add(1);
         }
     }
@@ -38,11 +38,11 @@ pub fn octets_of(
 }
 
 /// Adds a line of the recording.
-fn put_line(out: &mut Vec<u8>, line: &[u8]) -> Result<(), ServeFault>
-    ensures line { OnOk result ((is_dropped line.now ≡ false) × (out.new.items ≡ out.old.items ++ (line.now ++ 10 ∷ []))) }
+fn put_recording_line(out: &mut Vec<u8>, line: &[u8]) -> Result<(), ServeFault>
+    ensures line { OnOk result ((is_trace_line line.now ≡ false) × (out.new.items ≡ out.old.items ++ (line.now ++ 10 ∷ []))) }
     ensures only { IfErr result IsUnmade }
 {
-    if is_dropped(line) {
+    if is_trace_line(line) {
         return Err(ServeFault::Differs);
     }
     add_line(out, line)?;
@@ -50,7 +50,7 @@ fn put_line(out: &mut Vec<u8>, line: &[u8]) -> Result<(), ServeFault>
 }
 
 /// Adds the line of an event after its last line, if a trace is written; whether an event ends there.
-fn put_trace_entry(
+fn put_trace_at_event_end(
     alloc: Global,
     out: &mut Vec<u8>,
     trace_entry: Option<&TraceEntry>,
@@ -63,7 +63,7 @@ fn put_trace_entry(
     match trace_entry {
         Some(trace_entry) if trace_entry.lines == number => {
             if with_trace {
-                put_trace(alloc, out, trace_entry)?;
+                put_trace_line(alloc, out, trace_entry)?;
             }
             Ok(true)
         }
@@ -72,12 +72,16 @@ fn put_trace_entry(
 }
 
 /// Adds the line of an event: its moment, how the sender stands, and of a packet that left what let it go.
-fn put_trace(alloc: Global, out: &mut Vec<u8>, trace_entry: &TraceEntry) -> Result<(), ServeFault>
+fn put_trace_line(
+    alloc: Global,
+    out: &mut Vec<u8>,
+    trace_entry: &TraceEntry,
+) -> Result<(), ServeFault>
     ensures line { OnOk result (GoesOn true out.old.items out.new.items) }
     ensures only { IfErr result IsUnmade }
 {
     let line = trace_line(alloc, trace_entry)?;
-    if !is_dropped(line.as_slice()) {
+    if !is_trace_line(line.as_slice()) {
         return Err(ServeFault::Differs);
     }
     add_line(out, line.as_slice())?;

@@ -1,6 +1,6 @@
 //! Calls of tokens, scripts and runs.
 use pd_lex::{Lexed, Place, TokenKind, next_token};
-use pd_run::{Plain, Stepper, run_all, run_with};
+use pd_run::{Plain, Stepper, run_all, run_with_stepper};
 use pd_script::{Parsed, parse};
 use pd_settings::Settings;
 use pd_text::Lines;
@@ -68,7 +68,7 @@ pub fn write_verdict_and_steps(
     output: &mut AnswerText,
 ) {
     let mut stepper = Plain::new();
-    match run_with(texts.alloc, lines, settings, &mut stepper) {
+    match run_with_stepper(texts.alloc, lines, settings, &mut stepper) {
         Ok(verdict) => write_run(output, verdict, stepper.count()),
         Err(_) => output.push_str(OUT_OF_MEMORY),
     }

@@ -27,7 +27,7 @@ pub fn answer(
 
 /// Says what the setting of a name is set to.
 fn get(settings: &Settings, name: &str, output: &mut AnswerText) {
-    match Key::named(name.as_bytes()) {
+    match Key::from_name(name.as_bytes()) {
         Some(key) => write_value(output, value_of(settings, key)),
         None => output.push_str(NO_SUCH_THING),
     }

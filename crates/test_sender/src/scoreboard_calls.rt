@@ -20,7 +20,7 @@ pub struct ScoreboardCalls {
     /// How many octets were SACKed before the last ACK.
     sacked: u32,
     /// How many were outstanding and not SACKed before it.
-    undelivered: u32,
+    undelivered_octets: u32,
     /// The number after the last lost octet before it.
     lost_edge: u32,
 }
@@ -78,7 +78,7 @@ impl ScoreboardCalls {
             board: Board::new(alloc, 1_000),
             window: Cong::new(&Settings::new(), 1_000, false),
             sacked: 0,
-            undelivered: 0,
+            undelivered_octets: 0,
             lost_edge: 0,
         }
     }
@@ -103,12 +103,14 @@ impl ScoreboardCalls {
         match call {
             "expire" => self.expire(row),
             "hear" => self.receive_ack(row),
-            "enter" => self.enter_recovery(row),
+            "enter" => self.note_entry_retransmit(row),
             "pipe" => row.expect("the pipe", self.board.pipe(self.window.high_rxt())),
             "pace" => self.set_prr_cwnd(row),
             "next" => self.recover(row),
             "limited" => self.transmit_limited(row),
-            "restart" => self.window.restart(self.board.smss(), row.is_set()),
+            "restart" => self
+                .window
+                .restart_cwnd_if_idle(self.board.smss(), row.is_set()),
             _ => row.note("its call, which is none"),
         }
     }
@@ -130,7 +132,7 @@ impl ScoreboardCalls {
         let limit = row.number();
         self.window = Cong::new(&settings(ssthresh, limit, row.word()), smss, is_resent);
         self.sacked = 0;
-        self.undelivered = 0;
+        self.undelivered_octets = 0;
         self.lost_edge = 0;
     }
 
@@ -159,7 +161,7 @@ impl ScoreboardCalls {
     fn acknowledge(&mut self, row: &mut RowReader<'_>) {
         let number = row.octets().clamp(self.board.una(), self.board.top());
         self.sacked = self.board.sacked_octets();
-        self.undelivered = self.board.undelivered();
+        self.undelivered_octets = self.board.undelivered_octets();
         self.lost_edge = self.board.lost_edge();
         self.board.take_ack(number);
     }
@@ -207,7 +209,7 @@ impl ScoreboardCalls {
             delivered_data: acked
                 .saturating_add(self.board.sacked_octets())
                 .saturating_sub(self.sacked),
-            recover_fs: self.undelivered,
+            recover_fs: self.undelivered_octets,
             safe_ack: acked > 0 && self.board.lost_edge() <= self.lost_edge,
         }
     }
@@ -224,10 +226,10 @@ impl ScoreboardCalls {
     }
 
     /// Recovery begins.
-    fn enter_recovery(&mut self, row: &mut RowReader<'_>) {
+    fn note_entry_retransmit(&mut self, row: &mut RowReader<'_>) {
         let segment = self.board.run_at(self.board.una());
         row.expect_segment("the segment of an entry", Some(segment));
-        self.window.enter_recovery(segment);
+        self.window.note_entry_retransmit(segment);
     }
 
     /// An ACK in recovery sets the window by PRR.
@@ -243,7 +245,7 @@ impl ScoreboardCalls {
     fn recover(&mut self, row: &mut RowReader<'_>) {
         let rwnd = row.octets();
         let pipe = row.octets();
-        match self.window.step_c(&self.board, rwnd, pipe) {
+        match self.window.step_c_segment(&self.board, rwnd, pipe) {
             Some(sent) => {
                 row.expect_word("the rule of step C", rule(sent));
                 row.expect_segment("a segment of step C", Some(sent.segment()));
@@ -257,11 +259,13 @@ impl ScoreboardCalls {
     fn transmit_limited(&mut self, row: &mut RowReader<'_>) {
         let rwnd = row.octets();
         let pipe = row.octets();
-        let found = self.window.limited_segment(&self.board, rwnd, pipe);
+        let found = self
+            .window
+            .limited_transmit_segment(&self.board, rwnd, pipe);
         row.expect_segment("a segment of limited transmit", found);
         if let Some(segment) = found {
             let count = segment.end.saturating_sub(segment.start);
-            self.window.count_limited(count.min(65_495));
+            self.window.count_limited_transmit_octets(count.min(65_495));
         }
     }
 

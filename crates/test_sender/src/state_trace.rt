@@ -84,7 +84,7 @@ fn put_copy(state: &mut RunState) -> bool
 /// Whether a copy of the run has halted as the run has, and a copy of its sender answers that.
 fn is_copied(state: &RunState) -> bool {
     match state.copy() {
-        Ok(copy) => copy.host().ended() == state.host().ended() && answers_alike(state),
+        Ok(copy) => copy.host().end_reason() == state.host().end_reason() && answers_alike(state),
         Err(_) => false,
     }
 }
@@ -92,7 +92,7 @@ fn is_copied(state: &RunState) -> bool {
 /// Whether a copy of the sender answers to what comes next how the sender has ended.
 fn answers_alike(state: &RunState) -> bool {
     match state.host().copy() {
-        Ok(mut sender) => sender.advance(0).err() == state.host().ended(),
+        Ok(mut sender) => sender.advance(0).err() == state.host().end_reason(),
         Err(_) => false,
     }
 }

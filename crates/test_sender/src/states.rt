@@ -2,7 +2,7 @@
 use crate::lines::one_line;
 use crate::output::OutputText;
 use crate::state_trace::StateTrace;
-use pd_run::{Verdict, run_with};
+use pd_run::{Verdict, run_with_stepper};
 use pd_settings::Settings;
 use pd_text::Lines;
 use std::alloc::Global;
@@ -46,7 +46,7 @@ fn put(script: &str, text: &mut OutputText) {
 
 fn run(alloc: Global, lines: &Lines, output: &mut OutputText) {
     let mut state_trace = StateTrace::new(alloc);
-    let verdict = run_with(alloc, lines, &Settings::new(), &mut state_trace);
+    let verdict = run_with_stepper(alloc, lines, &Settings::new(), &mut state_trace);
     output.push_str(state_trace.states.as_str());
     output.push_str(match verdict {
         Ok(Verdict::Pass(_)) => "",

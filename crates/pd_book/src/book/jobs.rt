@@ -1,25 +1,25 @@
 //! Jobs that a book hands out, and results that come back.
 ghost use Rattle.std.specs.Prelude.{◌≡◌, ◌≢◌, ◌+◌, ◌≤◌, is_some, length, IsSome, OnOk, OnErr, IfOk, IfErr, IfSome, None, Some, option_map, option_copied};
 ghost use Rattle.std.specs.Map.Iter.{deref_pair};
-ghost use Rattle.pd_book.specs.Acts.{present_text, has_script, next, now, started, jobs, job, is_unchanged, ruling};
+ghost use Rattle.pd_book.specs.Acts.{present_text, has_script, next, now, started, jobs, job, is_unchanged_since_start, ruling};
 ghost use Rattle.pd_book.specs.Report.{shown};
 ghost use Rattle.pd_book.specs.History.{after_act, after_start, handed_task};
 ghost use Rattle.pd_book.specs.Replies.{GivesStart, GivesFinish, GivesAbandon};
 ghost use Rattle.pd_book.specs.Replay.{IsReady};
 ghost use Rattle.pd_book.specs.TrackCache.{track_of, marked_used, should_cache, HandsOutTrack, CachesTrack};
-ghost use Rattle.pd_book.specs.Refusals.{full, start_refusal, next_job, fault_of, finish_fault};
+ghost use Rattle.pd_book.specs.Refusals.{room_refusal, start_refusal, next_job, fault_of, finish_fault};
 
 use super::Book;
 use crate::act::{Act, Ruling};
 use crate::faults::{BookFault, FinishFault};
-use crate::records::{PendingStart, task_of};
+use crate::records::{PendingStart, task_of_number};
 use pd_text::{Name, Text};
 use pd_track::{Done, Job, Task};
 use std::alloc::AllocError;
 
 impl Book {
     /// The first script that waits.
-    fn waiting(&self) -> Option<(&Name, &Text)>
+    fn first_waiting_script(&self) -> Option<(&Name, &Text)>
         ensures { option_map deref_pair result ≡ next self.now.history.past }
     {
         match self.records.scripts.first_pending() {
@@ -29,48 +29,48 @@ impl Book {
     }
 
     /// The name of the script that the next start is for, if one waits.
-    pub fn next_name(&self) -> Option<&Name>
+    pub fn next_start_name(&self) -> Option<&Name>
         ensures { option_copied result ≡ option_map (λ script. script.0) (next self.now.history.past) }
     {
-        match self.waiting() {
+        match self.first_waiting_script() {
             Some((name, _)) => Some(name),
             None => None,
         }
     }
 
     /// The number that the next job gets.
-    pub fn next_number(&self) -> u64
+    pub fn next_job_number(&self) -> u64
         ensures { result ≡ started self.now.history.past + 1 }
     {
         self.last_number + 1
     }
 
     /// The parts of a start: the job to hand out, the task to keep and the act to record.
-    fn prepare(&self) -> Result<Option<PendingStart>, BookFault>
+    fn prepare_start(&self) -> Result<Option<PendingStart>, BookFault>
         ensures none { IfOk result (λ p. p ≡ None → next self.now.history.past ≡ None) }
         ensures some { IfOk result (λ p. IfSome p (λ p. IsReady self.now.history.opening self.now.history.past p.job.task p.task p.act)) }
-        ensures room { IfOk result (λ p. IfSome p (λ _. full 2 self.now.history ≡ None)) }
+        ensures room { IfOk result (λ p. IfSome p (λ _. room_refusal 2 self.now.history ≡ None)) }
         ensures track { IfOk result (λ p. IfSome p (λ p. p.job.track ≡ track_of p.job.task.name self.now.tracks)) }
         ensures err { IfErr result (λ e. e ≡ fault_of (start_refusal self.now.history)) }
         ensures waits { OnErr result (IsSome (next self.now.history.past)) }
     {
-        let Some((name, text)) = self.waiting() else {
+        let Some((name, text)) = self.first_waiting_script() else {
             return Ok(None);
         };
-        match self.full(2) {
+        match self.room_refusal(2) {
             Some(fault) => Err(fault),
-            None => Ok(Some(self.prepare_for(name, text)?)),
+            None => Ok(Some(self.prepare_start_of_script(name, text)?)),
         }
     }
 
     /// The same for the script that waits.
-    fn prepare_for(&self, name: &Name, text: &Text) -> Result<PendingStart, AllocError>
+    fn prepare_start_of_script(&self, name: &Name, text: &Text) -> Result<PendingStart, AllocError>
         requires { next self.now.history.past ≡ Some (name.now, text.now) }
         ensures ready { IfOk result (λ p. IsReady self.now.history.opening self.now.history.past p.job.task p.task p.act) }
         ensures track { IfOk result (λ p. p.job.track ≡ track_of p.job.task.name self.now.tracks) }
     {
         let task = self.next_task(name, text)?;
-        let job = self.job_of(&task)?;
+        let job = self.job_with_cached_track(&task)?;
         let act = Act::Start(task.number, name.share()?);
         Ok(PendingStart { job, task, act })
     }
@@ -84,7 +84,7 @@ impl Book {
     {
         let name = name.share()?;
         Ok(Task {
-            number: self.next_number(),
+            number: self.next_job_number(),
             name,
             text: text.share()?,
             settings: self.settings,
@@ -92,7 +92,7 @@ impl Book {
     }
 
     /// The job that runs this, with the track that is kept under its name.
-    fn job_of(&self, task: &Task) -> Result<Job, AllocError>
+    fn job_with_cached_track(&self, task: &Task) -> Result<Job, AllocError>
         ensures task { IfOk result (λ job. job.task ≡ task.now) }
         ensures track { IfOk result (λ job. job.track ≡ track_of task.now.name self.now.tracks) }
     {
@@ -119,32 +119,32 @@ impl Book {
         ensures same { OnErr result (self.new ≡ self.old) }
         ensures tracks { IfOk result (λ job. HandsOutTrack job self.old.tracks self.new.tracks) }
     {
-        match self.prepare()? {
-            Some(pending) => Ok(Some(self.hand_out(pending)?)),
+        match self.prepare_start()? {
+            Some(pending) => Ok(Some(self.commit_start(pending)?)),
             None => Ok(None),
         }
     }
 
     /// Hands out a job that is prepared.
-    fn hand_out(&mut self, pending: PendingStart) -> Result<Job, AllocError>
+    fn commit_start(&mut self, pending: PendingStart) -> Result<Job, AllocError>
         requires ready { IsReady self.old.history.opening self.old.history.past pending.job.task pending.task pending.act }
-        requires room { full 2 self.old.history ≡ None }
+        requires room { room_refusal 2 self.old.history ≡ None }
         ensures job { IfOk result (λ job. job ≡ pending.job) }
         ensures ok { OnOk result (self.new.history ≡ after_act self.old.history pending.act) }
         ensures same { OnErr result (self.new ≡ self.old) }
         ensures tracks { OnOk result (self.new.tracks ≡ marked_used pending.job.task.name self.old.tracks) }
     {
-        self.records.make_room()?;
+        self.records.make_room_for_start()?;
         self.last_number = pending.job.number();
         self.tracks.mark_used(pending.job.name());
-        Ok(self.records.start(pending))
+        Ok(self.records.record_start(pending))
     }
 
     /// The outstanding job of this number.
-    fn outstanding(&self, number: u64) -> Option<&Task>
+    fn outstanding_task(&self, number: u64) -> Option<&Task>
         ensures { option_copied result ≡ job self.now.history.opening self.now.history.past number }
     {
-        task_of(self.records.tasks.as_slice(), number)
+        task_of_number(self.records.tasks.as_slice(), number)
     }
 
     /// How many jobs are outstanding.
@@ -159,15 +159,17 @@ impl Book {
     pub fn is_outstanding(&self, number: u64) -> bool
         ensures { result ≡ is_some (job self.now.history.opening self.now.history.past number) }
     {
-        self.outstanding(number).is_some()
+        self.outstanding_task(number).is_some()
     }
 
     /// Whether the script of an outstanding job is unchanged since the job's start.
-    fn is_unchanged(&self, done: &Done) -> bool
+    fn is_unchanged_since_start(&self, done: &Done) -> bool
         requires { job self.now.history.opening self.now.history.past done.now.number ≡ Some done.now }
-        ensures { result ≡ is_unchanged self.now.history.past done.now }
+        ensures { result ≡ is_unchanged_since_start self.now.history.past done.now }
     {
-        self.records.scripts.runs(done.name(), done.number())
+        self.records
+            .scripts
+            .is_running_job(done.name(), done.number())
     }
 
     /// The ruling on a finish of this job.
@@ -175,7 +177,7 @@ impl Book {
         requires { job self.now.history.opening self.now.history.past done.now.number ≡ Some done.now }
         ensures { result ≡ ruling self.now.history.past done.now }
     {
-        if self.is_unchanged(done) {
+        if self.is_unchanged_since_start(done) {
             Ruling::Taken
         } else {
             Ruling::Stale
@@ -212,7 +214,7 @@ impl Book {
         ensures same { OnErr result (self.new ≡ self.old) }
         ensures tracks { IfOk result (λ r. CachesTrack r (present_text self.old.history.past done.now.name) done.now self.old.tracks self.new.tracks) }
     {
-        let Some(task) = self.outstanding(done.number()) else {
+        let Some(task) = self.outstanding_task(done.number()) else {
             return Err(FinishFault::NoSuchJob);
         };
         if !task.is_same(done.task()) {
@@ -222,7 +224,7 @@ impl Book {
         let should_cache = self.should_cache(done, ruling);
         self.tracks
             .cache_track(*self.records.acts.allocator(), done, should_cache);
-        self.records.finish(done, ruling);
+        self.records.record_finish(done, ruling);
         Ok(ruling)
     }
 
@@ -239,10 +241,10 @@ impl Book {
         ensures same { OnErr result (self.new ≡ self.old) }
         ensures tracks { self.new.tracks ≡ self.old.tracks }
     {
-        let Some(_task) = self.outstanding(number) else {
+        let Some(_task) = self.outstanding_task(number) else {
             return Err(FinishFault::NoSuchJob);
         };
-        self.records.abandon(number);
+        self.records.record_abandon(number);
         Ok(())
     }
 }

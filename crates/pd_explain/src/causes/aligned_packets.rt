@@ -2,11 +2,11 @@
 ghost use Rattle.std.specs.Prelude.{◌≡◌, ◌++◌, IfOk, OnOk};
 ghost use Rattle.pd_print.specs.Sent.{packet_of};
 ghost use Rattle.pd_print.specs.Numbers.{time_text};
-ghost use Rattle.pd_explain.specs.AlignedPackets.{time_since, comment_of, sent_text, followed, lined_up};
-ghost use Rattle.pd_explain.specs.Inner.{laid};
+ghost use Rattle.pd_explain.specs.AlignedPackets.{relative_time_or_any, comment_of, sent_text, pad_part_before_rest, align_packet_to_other};
+ghost use Rattle.pd_explain.specs.Inner.{align_parts_to_other};
 
 use pd_print::{
-    PacketParts, sent_packet, write_fixed_seconds, write_parts, write_sent, write_time,
+    PacketParts, sent_packet, write_fixed_seconds, write_packet_parts, write_sent_event, write_time,
 };
 use pd_script::{Packet, Time};
 use pd_seg::Sent;
@@ -35,16 +35,16 @@ pub fn aligned_packets(
     sent: &Sent,
     base: u64,
 ) -> Result<AlignedPackets, AllocError>
-    ensures script { IfOk result (λ pair. pair.script.items ≡ lined_up time.now packet.now (time_text (time_since base sent.now.at)) (packet_of sent.now.segment)) }
-    ensures actual { IfOk result (λ pair. pair.actual.items ≡ lined_up (time_text (time_since base sent.now.at)) (packet_of sent.now.segment) time.now packet.now ++ comment_of sent.now.at) }
+    ensures script { IfOk result (λ pair. pair.script.items ≡ align_packet_to_other time.now packet.now (time_text (relative_time_or_any base sent.now.at)) (packet_of sent.now.segment)) }
+    ensures actual { IfOk result (λ pair. pair.actual.items ≡ align_packet_to_other (time_text (relative_time_or_any base sent.now.at)) (packet_of sent.now.segment) time.now packet.now ++ comment_of sent.now.at) }
 {
-    let since = write_time(alloc, time_since(base, sent.at))?;
+    let since = write_time(alloc, relative_time_or_any(base, sent.at))?;
     let segment = sent_packet(alloc, &sent.segment)?;
-    let script = lined_up(alloc, time, packet, &since, &segment)?;
-    let actual = lined_up(alloc, &since, &segment, time, packet)?;
+    let script = align_packet_to_other(alloc, time, packet, &since, &segment)?;
+    let actual = align_packet_to_other(alloc, &since, &segment, time, packet)?;
     Ok(AlignedPackets {
         script,
-        actual: with_comment(alloc, actual, sent.at)?,
+        actual: append_moment_comment(alloc, actual, sent.at)?,
     })
 }
 
@@ -52,26 +52,30 @@ pub fn aligned_packets(
 ///
 /// # Errors
 /// `AllocError` where a growth is refused.
-pub fn event_of(alloc: Global, time: &[u8], packet: &Packet) -> Result<Vec<u8>, AllocError>
-    ensures { IfOk result (λ line. line.items ≡ lined_up time.now packet.now time.now packet.now) }
+pub fn write_packet_event(
+    alloc: Global,
+    time: &[u8],
+    packet: &Packet,
+) -> Result<Vec<u8>, AllocError>
+    ensures { IfOk result (λ line. line.items ≡ align_packet_to_other time.now packet.now time.now packet.now) }
 {
-    lined_up(alloc, time, packet, time, packet)
+    align_packet_to_other(alloc, time, packet, time, packet)
 }
 
 /// A packet that was sent as an event that happened, with its moment in a comment.
 ///
 /// # Errors
 /// `AllocError` where a growth is refused.
-pub fn event_sent(alloc: Global, sent: &Sent, base: u64) -> Result<Vec<u8>, AllocError>
+pub fn write_sent_with_moment(alloc: Global, sent: &Sent, base: u64) -> Result<Vec<u8>, AllocError>
     ensures { IfOk result (λ line. line.items ≡ sent_text base sent.now) }
 {
-    let line = write_sent(alloc, time_since(base, sent.at), &sent.segment)?;
-    with_comment(alloc, line, sent.at)
+    let line = write_sent_event(alloc, relative_time_or_any(base, sent.at), &sent.segment)?;
+    append_moment_comment(alloc, line, sent.at)
 }
 
 /// The time of a moment from the base; `*` where it lies before that, which no written time can express.
-fn time_since(base: u64, at: u64) -> Time
-    ensures { result ≡ time_since base at }
+fn relative_time_or_any(base: u64, at: u64) -> Time
+    ensures { result ≡ relative_time_or_any base at }
 {
     if base <= at {
         Time::Relative(at - base)
@@ -81,7 +85,7 @@ fn time_since(base: u64, at: u64) -> Time
 }
 
 /// A line with a moment as a comment.
-fn with_comment(alloc: Global, line: Vec<u8>, at: u64) -> Result<Vec<u8>, AllocError>
+fn append_moment_comment(alloc: Global, line: Vec<u8>, at: u64) -> Result<Vec<u8>, AllocError>
     ensures { IfOk result (λ with. with.items ≡ line.items ++ comment_of at) }
 {
     let moment = write_fixed_seconds(alloc, at)?;
@@ -92,55 +96,60 @@ fn with_comment(alloc: Global, line: Vec<u8>, at: u64) -> Result<Vec<u8>, AllocE
 }
 
 /// The event of a packet that leaves, its parts as wide as those of another one where these are wider.
-fn lined_up(
+fn align_packet_to_other(
     alloc: Global,
     time: &[u8],
     packet: &Packet,
     other_time: &[u8],
     other: &Packet,
 ) -> Result<Vec<u8>, AllocError>
-    ensures { IfOk result (λ line. line.items ≡ lined_up time.now packet.now other_time.now other.now) }
+    ensures { IfOk result (λ line. line.items ≡ align_packet_to_other time.now packet.now other_time.now other.now) }
 {
-    let parts = write_parts(alloc, packet)?;
-    let others = write_parts(alloc, other)?;
-    laid(alloc, time, &parts, other_time, &others)
+    let parts = write_packet_parts(alloc, packet)?;
+    let others = write_packet_parts(alloc, other)?;
+    align_parts_to_other(alloc, time, &parts, other_time, &others)
 }
 
 /// The same of the parts: a part is laid after the one on its right.
-fn laid(
+fn align_parts_to_other(
     alloc: Global,
     time: &[u8],
     parts: &PacketParts,
     other_time: &[u8],
     others: &PacketParts,
 ) -> Result<Vec<u8>, AllocError>
-    ensures { IfOk result (λ line. line.items ≡ laid time.now parts.now other_time.now others.now) }
+    ensures { IfOk result (λ line. line.items ≡ align_parts_to_other time.now parts.now other_time.now others.now) }
 {
-    let line = followed(alloc, &parts.win, &others.win, &parts.options)?;
-    let line = followed_by(alloc, &parts.ack, &others.ack, line)?;
-    let line = followed_by(alloc, &parts.octets, &others.octets, line)?;
-    let line = followed_by(alloc, &parts.flags, &others.flags, line)?;
+    let line = pad_part_before_rest(alloc, &parts.win, &others.win, &parts.options)?;
+    let line = pad_part_before_owned_rest(alloc, &parts.ack, &others.ack, line)?;
+    let line = pad_part_before_owned_rest(alloc, &parts.octets, &others.octets, line)?;
+    let line = pad_part_before_owned_rest(alloc, &parts.flags, &others.flags, line)?;
     let mut rest = Vec::new(alloc);
     rest.extend_from_slice(b" > ")?;
     rest.extend_from_slice(&line)?;
-    followed(alloc, time, other_time, &rest)
+    pad_part_before_rest(alloc, time, other_time, &rest)
 }
 
 /// A part and a line that follows it.
-fn followed_by(
+fn pad_part_before_owned_rest(
     alloc: Global,
     part: &[u8],
     other: &[u8],
     rest: Vec<u8>,
 ) -> Result<Vec<u8>, AllocError>
-    ensures { IfOk result (λ line. line.items ≡ followed part.now other.now rest.items) }
+    ensures { IfOk result (λ line. line.items ≡ pad_part_before_rest part.now other.now rest.items) }
 {
-    followed(alloc, part, other, &rest)
+    pad_part_before_rest(alloc, part, other, &rest)
 }
 
 /// A part and what follows it: with blanks between them where another part is wider, and something follows.
-fn followed(alloc: Global, part: &[u8], other: &[u8], rest: &[u8]) -> Result<Vec<u8>, AllocError>
-    ensures { IfOk result (λ line. line.items ≡ followed part.now other.now rest.now) }
+fn pad_part_before_rest(
+    alloc: Global,
+    part: &[u8],
+    other: &[u8],
+    rest: &[u8],
+) -> Result<Vec<u8>, AllocError>
+    ensures { IfOk result (λ line. line.items ≡ pad_part_before_rest part.now other.now rest.now) }
 {
     let mut line = Vec::new(alloc);
     line.extend_from_slice(part)?;

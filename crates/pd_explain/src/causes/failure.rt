@@ -33,7 +33,7 @@ impl Failure {
     }
 
     /// The origins of the packets that are listed as unmatched.
-    pub(crate) fn listed_origins(&self) -> &[Origin] {
+    pub(crate) fn unmatched_origins(&self) -> &[Origin] {
         match (&self.failed, self.origins.as_slice()) {
             (Failed::Packet(_), [_, listed @ ..]) => listed,
             (_, origins) => origins,

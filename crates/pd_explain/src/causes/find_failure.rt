@@ -13,7 +13,9 @@ ghost use Rattle.pd_explain.specs.Unexpected.{CountsUnexpected};
 ghost use Rattle.pd_explain.specs.Inner.{expected_time_of};
 ghost use Rattle.pd_explain.specs.Escape.{escaped};
 
-use crate::causes::aligned_packets::{AlignedPackets, aligned_packets, event_of, event_sent};
+use crate::causes::aligned_packets::{
+    AlignedPackets, aligned_packets, write_packet_event, write_sent_with_moment,
+};
 use crate::causes::failure::{
     ExpectedTime, Failed, Failure, MissingPacket, SenderSnapshot, TimeBackwards, WrongPacket,
     WrongResult,
@@ -35,7 +37,7 @@ use std::alloc::{AllocError, Global};
 ///
 /// # Errors
 /// `AllocError` where a growth is refused.
-pub fn failure_of(
+pub fn failure_at_stop(
     alloc: Global,
     event: &Event,
     stop: &StopPoint,
@@ -44,14 +46,14 @@ pub fn failure_of(
     ensures rules { IfOk result (λ reported. is_some reported ≡ is_failure stop.now.stop_reason) }
     ensures reported { IfOk result (λ reported. IfSome reported (IsFailureOf source_text.time.items event.now stop.now)) }
 {
-    match failed_of(alloc, event, stop, source_text)? {
+    match failed_at_stop(alloc, event, stop, source_text)? {
         None => Ok(None),
-        Some(failed) => Ok(Some(failure(alloc, stop, failed)?)),
+        Some(failed) => Ok(Some(failure_with_sender(alloc, stop, failed)?)),
     }
 }
 
 /// The same without the sender at the stop.
-fn failed_of(
+fn failed_at_stop(
     alloc: Global,
     event: &Event,
     stop: &StopPoint,
@@ -70,7 +72,7 @@ fn failed_of(
             source_text,
         )),
         StopReason::Missing => {
-            let script = line_of(alloc, event, source_text)?;
+            let script = write_script_event(alloc, event, source_text)?;
             Failed::Missing(missing_packet(alloc, event, before, script)?)
         }
         StopReason::Differs(kind, sent, run) => {
@@ -86,7 +88,7 @@ fn failed_of(
 }
 
 /// The run at the stop, whose sender is shown.
-pub fn run_at(stop: &StopPoint) -> &RunState
+pub fn run_at_stop(stop: &StopPoint) -> &RunState
     ensures { result.now.host ≡ sender_at stop.now.before stop.now.stop_reason }
 {
     match &stop.stop_reason {
@@ -97,23 +99,27 @@ pub fn run_at(stop: &StopPoint) -> &RunState
 }
 
 /// The failure, with the sender at the stop and its packets that were put out and not taken, the one compared left out.
-fn failure(alloc: Global, stop: &StopPoint, failed: Failed) -> Result<Failure, AllocError>
-    ensures failed { IfOk result (λ failure. failure.failed ≡ failed) }
-    ensures sender { IfOk result (λ failure. failure.sender ≡ snapshot_of (sender_at stop.now.before stop.now.stop_reason)) }
+fn failure_with_sender(
+    alloc: Global,
+    stop: &StopPoint,
+    failed: Failed,
+) -> Result<Failure, AllocError>
+    ensures failed { IfOk result (λ failure_with_sender. failure_with_sender.failed ≡ failed) }
+    ensures sender { IfOk result (λ failure_with_sender. failure_with_sender.sender ≡ snapshot_of (sender_at stop.now.before stop.now.stop_reason)) }
 {
-    let run = run_at(stop);
+    let run = run_at_stop(stop);
     let compared = usize::from(matches!(stop.stop_reason, StopReason::Differs(_, _, _)));
     Ok(Failure {
         failed,
         unmatched: list_unmatched(alloc, run, compared)?,
         origins: Vec::new(alloc),
         dropped: Vec::new(alloc),
-        sender: sender(run),
+        sender: sender_snapshot_of(run),
     })
 }
 
 /// How the sender of a run stands.
-pub fn sender(run: &RunState) -> SenderSnapshot
+pub fn sender_snapshot_of(run: &RunState) -> SenderSnapshot
     ensures { result ≡ snapshot_of run.now.host }
 {
     let host = run.host();
@@ -129,13 +135,13 @@ fn time_backwards(event: &Event, before: &RunState, source_text: SourceText) -> 
 {
     TimeBackwards {
         event: source_text.event,
-        time: first_time(event.time),
+        time: absolute_start_or_zero(event.time),
         base: before.base(),
     }
 }
 
 /// The first moment of an absolute time.
-fn first_time(time: Time) -> u64 {
+fn absolute_start_or_zero(time: Time) -> u64 {
     match time {
         Time::Absolute(time) | Time::AbsoluteRange(time, _) => time,
         Time::Any | Time::Relative(_) | Time::RelativeRange(_, _) => 0,
@@ -160,20 +166,32 @@ fn missing_packet(
         expected_time: expected_time(event.time, before),
         expiry: host.deadline(),
         reason,
-        words: words_of(alloc, reason, host)?,
+        words: not_sent_reason_words(alloc, reason, host)?,
         outlook: outlook_of(alloc, host)?,
     })
 }
 
 /// A reason in words, with the numbers of a sender.
-fn words_of(alloc: Global, reason: NotSentReason, host: &Host) -> Result<Vec<u8>, AllocError> {
-    reason.in_words(alloc, host.connection_snapshot(), host.wanted_octet()?)
+fn not_sent_reason_words(
+    alloc: Global,
+    reason: NotSentReason,
+    host: &Host,
+) -> Result<Vec<u8>, AllocError> {
+    reason.in_words(
+        alloc,
+        host.connection_snapshot(),
+        host.octet_needed_in_windows()?,
+    )
 }
 
 /// The event by itself: its time as written, and of a packet what is written.
-fn line_of(alloc: Global, event: &Event, source_text: SourceText) -> Result<Vec<u8>, AllocError> {
-    match packet_of(event) {
-        Some(packet) => event_of(alloc, &escaped(alloc, &source_text.time)?, packet),
+fn write_script_event(
+    alloc: Global,
+    event: &Event,
+    source_text: SourceText,
+) -> Result<Vec<u8>, AllocError> {
+    match expected_packet_of(event) {
+        Some(packet) => write_packet_event(alloc, &escaped(alloc, &source_text.time)?, packet),
         None => Ok(source_text.event),
     }
 }
@@ -201,7 +219,7 @@ fn wrong_packet(
         )?,
         Action::Inbound(_) | Action::Call(_) | Action::Command | Action::Code => AlignedPackets {
             script: source_text.event,
-            actual: event_sent(alloc, sent, run.base())?,
+            actual: write_sent_with_moment(alloc, sent, run.base())?,
         },
     };
     Ok(WrongPacket {
@@ -233,7 +251,7 @@ fn wrong_result(
 }
 
 /// The packet that an event expects to leave.
-fn packet_of(event: &Event) -> Option<&Packet> {
+fn expected_packet_of(event: &Event) -> Option<&Packet> {
     match &event.action {
         Action::Outbound(packet) => Some(packet),
         Action::Inbound(_) | Action::Call(_) | Action::Command | Action::Code => None,

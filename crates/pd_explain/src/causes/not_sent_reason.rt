@@ -1,7 +1,7 @@
 //! Why no packet was sent.
 ghost use Rattle.std.specs.Prelude.{◌≡◌};
-ghost use Rattle.pd_explain.specs.Reasons.{hold_key, reason_key};
-ghost use Rattle.pd_explain.specs.SenderSnapshots.{is_answer, reason_of};
+ghost use Rattle.pd_explain.specs.Reasons.{send_blocker_key, reason_key};
+ghost use Rattle.pd_explain.specs.SenderSnapshots.{expects_no_octets, reason_of};
 
 use crate::causes::sentences::{Phrase, put_phrases};
 use pd_host::{ConnectionSnapshot, Recovery, SendBlocker};
@@ -49,7 +49,7 @@ impl NotSentReason {
     {
         match send_blocker {
             SendBlocker::Reset | SendBlocker::NotEstablished => NotSentReason::Held(send_blocker),
-            _ if is_answer(expected) => NotSentReason::NoOctets,
+            _ if expects_no_octets(expected) => NotSentReason::NoOctets,
             _ => NotSentReason::Held(send_blocker),
         }
     }
@@ -60,7 +60,7 @@ impl NotSentReason {
     {
         match self {
             NotSentReason::NoOctets => "no_octets",
-            NotSentReason::Held(send_blocker) => key_of(send_blocker),
+            NotSentReason::Held(send_blocker) => send_blocker_key(send_blocker),
         }
     }
 
@@ -76,7 +76,7 @@ impl NotSentReason {
         wanted: Option<u32>,
     ) -> Result<Vec<u8>, AllocError> {
         match self {
-            NotSentReason::NoOctets => sentence(
+            NotSentReason::NoOctets => join_phrases(
                 alloc,
                 &[Words(
                     "the awaited packet has no octets (no data, SYN or FIN), so it is an answer to something that didn't come",
@@ -87,15 +87,15 @@ impl NotSentReason {
                     wanted: wanted.unwrap_or(0),
                     ..SendNumbers::of(connection_snapshot)
                 };
-                held_in_words(alloc, send_blocker, numbers)
+                blocker_in_words(alloc, send_blocker, numbers)
             }
         }
     }
 }
 
 /// Whether a packet is expected that has no octets: no data, SYN or FIN.
-fn is_answer(expected: &Action) -> bool
-    ensures { result ≡ is_answer expected.now }
+fn expects_no_octets(expected: &Action) -> bool
+    ensures { result ≡ expects_no_octets expected.now }
 {
     match expected {
         Action::Outbound(packet) => packet.length == 0 && !packet.flags.syn && !packet.flags.fin,
@@ -103,8 +103,8 @@ fn is_answer(expected: &Action) -> bool
     }
 }
 
-fn key_of(send_blocker: SendBlocker) -> &'static str
-    ensures { result.now ≡ hold_key send_blocker }
+fn send_blocker_key(send_blocker: SendBlocker) -> &'static str
+    ensures { result.now ≡ send_blocker_key send_blocker }
 {
     match send_blocker {
         SendBlocker::Reset => "reset",
@@ -122,7 +122,7 @@ fn key_of(send_blocker: SendBlocker) -> &'static str
     }
 }
 
-fn held_in_words(
+fn blocker_in_words(
     alloc: Global,
     send_blocker: SendBlocker,
     numbers: SendNumbers,
@@ -134,111 +134,111 @@ fn held_in_words(
             "in recovery with SACK, NextSeg gives nothing (RFC 6675, section 4)",
         SendBlocker::Recovering => "in recovery with SACK, a call sends nothing by itself",
         SendBlocker::Open => "a segment could leave, and nothing has led to sending since",
-        _ => return with_windows_in_words(alloc, send_blocker, numbers),
+        _ => return numbered_blocker_in_words(alloc, send_blocker, numbers),
     };
-    sentence(alloc, &[Words(words)])
+    join_phrases(alloc, &[Words(words)])
 }
 
 /// A reason that names numbers, in words.
-fn with_windows_in_words(
+fn numbered_blocker_in_words(
     alloc: Global,
     send_blocker: SendBlocker,
     numbers: SendNumbers,
 ) -> Result<Vec<u8>, AllocError> {
     match send_blocker {
-        SendBlocker::Acknowledged => sentence(
+        SendBlocker::Acknowledged => join_phrases(
             alloc,
             &[
                 Words("all that was handed over is acknowledged: una is end, "),
-                number(numbers.end),
+                number_phrase(numbers.end),
             ],
         ),
-        SendBlocker::AllSent => sentence(
+        SendBlocker::AllSent => join_phrases(
             alloc,
             &[
                 Words("all that is queued was sent, up to "),
-                number(numbers.end),
+                number_phrase(numbers.end),
                 Words(", and only the timer sends the oldest again (RFC 6298, section 5.4)"),
             ],
         ),
-        SendBlocker::PeerWindow => sentence(
+        SendBlocker::PeerWindow => join_phrases(
             alloc,
             &[
                 Words("octet "),
-                number(numbers.wanted),
+                number_phrase(numbers.wanted),
                 Words(" lies beyond the peer's window, which ends before octet "),
-                number(numbers.peer_edge),
+                number_phrase(numbers.peer_edge),
                 Words(" (RFC 9293, section 3.8.6)"),
             ],
         ),
-        SendBlocker::CongestionWindow => sentence(
+        SendBlocker::CongestionWindow => join_phrases(
             alloc,
             &[
                 Words("octet "),
-                number(numbers.wanted),
+                number_phrase(numbers.wanted),
                 Words(" lies beyond the congestion window, which ends before octet "),
-                number(numbers.congestion_edge),
+                number_phrase(numbers.congestion_edge),
                 Words(" (RFC 5681, section 3.1)"),
             ],
         ),
-        _ => with_segment_in_words(alloc, send_blocker, numbers),
+        _ => segment_blocker_in_words(alloc, send_blocker, numbers),
     }
 }
 
 /// A reason that names a segment, in words.
-fn with_segment_in_words(
+fn segment_blocker_in_words(
     alloc: Global,
     send_blocker: SendBlocker,
     numbers: SendNumbers,
 ) -> Result<Vec<u8>, AllocError> {
     match send_blocker {
-        SendBlocker::PipeFull => sentence(
+        SendBlocker::PipeFull => join_phrases(
             alloc,
             &[
                 Words("in recovery with SACK, cwnd "),
-                number(numbers.cwnd),
+                number_phrase(numbers.cwnd),
                 Words(" less the pipe "),
-                number(numbers.pipe),
+                number_phrase(numbers.pipe),
                 Words(" is below SMSS "),
-                number(numbers.smss),
+                number_phrase(numbers.smss),
                 Words(" (RFC 6675, section 5, step C)"),
             ],
         ),
-        SendBlocker::PartOfSegment => sentence(
+        SendBlocker::PartOfSegment => join_phrases(
             alloc,
             &[
                 Words("the windows leave only "),
-                number(numbers.usable),
+                number_phrase(numbers.usable),
                 Words(" octets of a segment of "),
-                number(numbers.unsent.min(numbers.smss)),
+                number_phrase(numbers.unsent.min(numbers.smss)),
                 Words(" (RFC 9293, section 3.8.6.2.1)"),
             ],
         ),
-        _ => sentence(
+        _ => join_phrases(
             alloc,
             &[
                 Words("Nagle's algorithm holds "),
-                number(numbers.held()),
-                Words(if numbers.held() == 1 {
+                number_phrase(numbers.held_octets()),
+                Words(if numbers.held_octets() == 1 {
                     " octet, less than SMSS "
                 } else {
                     " octets, less than SMSS "
                 }),
-                number(numbers.smss),
+                number_phrase(numbers.smss),
                 Words(", while "),
-                number(numbers.flight),
+                number_phrase(numbers.flight),
                 Words(" are outstanding (RFC 9293, section 3.7.4)"),
             ],
         ),
     }
 }
 
-fn number(number: u32) -> Phrase {
-    Phrase::Number(u64::from(number))
+fn number_phrase(number_phrase: u32) -> Phrase {
+    Phrase::Number(u64::from(number_phrase))
 }
 
 /// The pieces one after the other.
-fn sentence(alloc: Global, pieces: &[Phrase]) -> Result<Vec<u8>, AllocError> {
+fn join_phrases(alloc: Global, pieces: &[Phrase]) -> Result<Vec<u8>, AllocError> {
     let mut words = Vec::new(alloc);
     put_phrases(&mut words, pieces)?;
     Ok(words)
@@ -247,7 +247,7 @@ fn sentence(alloc: Global, pieces: &[Phrase]) -> Result<Vec<u8>, AllocError> {
 impl SendNumbers {
     fn of(connection_snapshot: Option<ConnectionSnapshot>) -> SendNumbers {
         let Some(connection_snapshot) = connection_snapshot else {
-            return SendNumbers::none();
+            return SendNumbers::all_zero();
         };
         let mut numbers = SendNumbers {
             end: connection_snapshot.end,
@@ -258,7 +258,7 @@ impl SendNumbers {
             unsent: connection_snapshot
                 .end
                 .saturating_sub(connection_snapshot.top),
-            ..SendNumbers::none()
+            ..SendNumbers::all_zero()
         };
         if let Some(windows) = connection_snapshot.windows {
             numbers.cwnd = windows.cwnd;
@@ -276,11 +276,11 @@ impl SendNumbers {
     }
 
     /// How many octets may leave by the windows.
-    fn held(self) -> u32 {
+    fn held_octets(self) -> u32 {
         self.unsent.min(self.usable)
     }
 
-    fn none() -> SendNumbers {
+    fn all_zero() -> SendNumbers {
         SendNumbers {
             end: 0,
             wanted: 0,

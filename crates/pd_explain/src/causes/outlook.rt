@@ -4,7 +4,7 @@ ghost use Rattle.pd_explain.specs.Outlook.{sacked_limit, ListsSacked, IsOutlook}
 
 use crate::causes::sentences::{Phrase, put_phrases};
 use Phrase::{Moment, Number, Words};
-use pd_host::{DupAckStatus, Host, LossEvidence, SackEvidence};
+use pd_host::{DupAckEffect, Host, LossEvidence, SackEvidence};
 use pd_seg::Span;
 use pd_timer::Timeout;
 use std::alloc::{AllocError, Global};
@@ -16,7 +16,7 @@ const MAX_SACKED: usize = 4;
 #[derive(Drop)]
 pub struct Outlook {
     /// The effect of a duplicate; nothing where no octet is outstanding or recovery goes on.
-    pub dup_ack_status: Option<DupAckStatus>,
+    pub dup_ack_effect: Option<DupAckEffect>,
     /// The same in words; none where nothing has come that shows a loss.
     pub duplicates_words: Vec<u8>,
     /// How the timeout comes from what was measured; nothing before any measurement.
@@ -45,12 +45,12 @@ pub struct SackedRanges {
 pub fn outlook_of(alloc: Global, host: &Host) -> Result<Outlook, AllocError>
     ensures { IfOk result (IsOutlook host.now.state) }
 {
-    let dup_ack_status = host.dup_ack_status();
-    let timeout = host.timeout();
-    let sacked = sacked_of(alloc, host)?;
+    let dup_ack_effect = host.dup_ack_effect();
+    let timeout = host.rto_derivation();
+    let sacked = sacked_ranges_of(alloc, host)?;
     Ok(Outlook {
-        dup_ack_status,
-        duplicates_words: words_of_duplicates(alloc, dup_ack_status)?,
+        dup_ack_effect,
+        duplicates_words: words_of_dup_acks(alloc, dup_ack_effect)?,
         timeout,
         timeout_words: words_of_timeout(alloc, timeout, host)?,
         sacked_words: words_of_sacked(alloc, &sacked)?,
@@ -59,16 +59,16 @@ pub fn outlook_of(alloc: Global, host: &Host) -> Result<Outlook, AllocError>
 }
 
 /// The octets that are SACKed at a sender.
-fn sacked_of(alloc: Global, host: &Host) -> Result<SackedRanges, AllocError>
+fn sacked_ranges_of(alloc: Global, host: &Host) -> Result<SackedRanges, AllocError>
     ensures { IfOk result (ListsSacked host.now.state) }
 {
-    let sacked = sacked_among(alloc, host.sacked_runs())?;
+    let sacked = first_sacked_ranges(alloc, host.sacked_runs())?;
     Ok(sacked)
 }
 
 /// The lowest of some ranges, and how many more there are.
 #[tactic(auto, using(crate::proofs::OutlookLemmas::first_listed))]
-fn sacked_among(alloc: Global, ranges: &[Span]) -> Result<SackedRanges, AllocError>
+fn first_sacked_ranges(alloc: Global, ranges: &[Span]) -> Result<SackedRanges, AllocError>
     ensures listed { IfOk result (λ sacked. sacked.ranges.items ≡ take sacked_limit ranges.now) }
     ensures more { IfOk result (λ sacked. sacked.more ≡ length ranges.now - sacked_limit) }
 {
@@ -79,14 +79,14 @@ fn sacked_among(alloc: Global, ranges: &[Span]) -> Result<SackedRanges, AllocErr
     })
 }
 
-fn words_of_duplicates(
+fn words_of_dup_acks(
     alloc: Global,
-    dup_ack_status: Option<DupAckStatus>,
+    dup_ack_effect: Option<DupAckEffect>,
 ) -> Result<Vec<u8>, AllocError> {
     let mut words = Vec::new(alloc);
-    match dup_ack_status {
+    match dup_ack_effect {
         None => {}
-        Some(DupAckStatus::Below(number)) => put_phrases(
+        Some(DupAckEffect::Below(number)) => put_phrases(
             &mut words,
             &[
                 Words("no duplicate begins it before una is "),
@@ -94,13 +94,13 @@ fn words_of_duplicates(
                 Words(" (RFC 6675, section 5.1)"),
             ],
         )?,
-        Some(DupAckStatus::Counted(loss_evidence)) => put_evidence(&mut words, loss_evidence)?,
+        Some(DupAckEffect::Counted(loss_evidence)) => put_loss_evidence(&mut words, loss_evidence)?,
     }
     Ok(words)
 }
 
 /// Adds what has come of what shows a loss, where something has, and how much has to come.
-fn put_evidence(words: &mut Vec<u8>, loss_evidence: LossEvidence) -> Result<(), AllocError> {
+fn put_loss_evidence(words: &mut Vec<u8>, loss_evidence: LossEvidence) -> Result<(), AllocError> {
     let counted = [
         Number(u64::from(loss_evidence.dup_acks)),
         Words(" of "),
@@ -110,7 +110,7 @@ fn put_evidence(words: &mut Vec<u8>, loss_evidence: LossEvidence) -> Result<(), 
     match loss_evidence.sacked {
         Some(above) if loss_evidence.dup_acks > 0 || above.octets > 0 => {
             put_phrases(words, &counted)?;
-            put_above(words, above)
+            put_sack_evidence(words, above)
         }
         None if loss_evidence.dup_acks > 0 => {
             put_phrases(words, &counted)?;
@@ -120,7 +120,7 @@ fn put_evidence(words: &mut Vec<u8>, loss_evidence: LossEvidence) -> Result<(), 
     }
 }
 
-fn put_above(words: &mut Vec<u8>, above: SackEvidence) -> Result<(), AllocError> {
+fn put_sack_evidence(words: &mut Vec<u8>, above: SackEvidence) -> Result<(), AllocError> {
     put_phrases(
         words,
         &[
@@ -146,16 +146,16 @@ fn words_of_timeout(
     let mut words = Vec::new(alloc);
     match (timeout, host.connection_snapshot(), host.deadline()) {
         (Some(timeout), Some(connection_snapshot), Some(_)) => {
-            put_measured(&mut words, timeout)?;
-            put_bounded(&mut words, timeout)?;
-            put_doubled(&mut words, timeout, connection_snapshot.rto_us)?;
+            put_computed_rto(&mut words, timeout)?;
+            put_rto_bound(&mut words, timeout)?;
+            put_backed_off_rto(&mut words, timeout, connection_snapshot.rto_us)?;
         }
         _ => {}
     }
     Ok(words)
 }
 
-fn put_measured(words: &mut Vec<u8>, timeout: Timeout) -> Result<(), AllocError> {
+fn put_computed_rto(words: &mut Vec<u8>, timeout: Timeout) -> Result<(), AllocError> {
     let estimate = timeout.estimate;
     put_phrases(words, &[Words("SRTT "), Moment(estimate.srtt)])?;
     match timeout.granularity_us {
@@ -170,16 +170,19 @@ fn put_measured(words: &mut Vec<u8>, timeout: Timeout) -> Result<(), AllocError>
             ],
         )?,
     }
-    put_phrases(words, &[Words(" make "), Moment(computed_us(timeout))])
+    put_phrases(
+        words,
+        &[Words(" make "), Moment(capped_computed_us(timeout))],
+    )
 }
 
 /// RTO before its bounds, up to 2^64 - 1.
-pub fn computed_us(timeout: Timeout) -> u64 {
+pub fn capped_computed_us(timeout: Timeout) -> u64 {
     timeout.computed_us.min(u128::from(u64::MAX)) as u64
 }
 
 /// The setting that moves RTO into its bounds; none where it lies within them.
-pub fn bound_of(timeout: Timeout) -> Option<&'static str> {
+pub fn applied_rto_bound(timeout: Timeout) -> Option<&'static str> {
     let bounded = u128::from(timeout.bounded_us);
     if timeout.computed_us < bounded {
         Some("min_rto_us")
@@ -190,8 +193,8 @@ pub fn bound_of(timeout: Timeout) -> Option<&'static str> {
     }
 }
 
-fn put_bounded(words: &mut Vec<u8>, timeout: Timeout) -> Result<(), AllocError> {
-    if let Some(setting) = bound_of(timeout) {
+fn put_rto_bound(words: &mut Vec<u8>, timeout: Timeout) -> Result<(), AllocError> {
+    if let Some(setting) = applied_rto_bound(timeout) {
         let verb = if timeout.computed_us < u128::from(timeout.bounded_us) {
             " raises to "
         } else {
@@ -211,7 +214,11 @@ fn put_bounded(words: &mut Vec<u8>, timeout: Timeout) -> Result<(), AllocError> 
 }
 
 /// Adds what expiries have made of RTO.
-fn put_doubled(words: &mut Vec<u8>, timeout: Timeout, rto_us: u64) -> Result<(), AllocError> {
+fn put_backed_off_rto(
+    words: &mut Vec<u8>,
+    timeout: Timeout,
+    rto_us: u64,
+) -> Result<(), AllocError> {
     if rto_us == timeout.bounded_us {
         return Ok(());
     }

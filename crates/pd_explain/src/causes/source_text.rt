@@ -29,14 +29,18 @@ pub fn source_text_at(
         .read_event(alloc, until)?
         .parts;
     Ok(SourceText {
-        event: octets_of(alloc, lines, parts.event)?,
-        time: octets_of(alloc, lines, parts.time)?,
-        result: octets_of(alloc, lines, parts.result)?,
+        event: text_span_octets(alloc, lines, parts.event)?,
+        time: text_span_octets(alloc, lines, parts.time)?,
+        result: text_span_octets(alloc, lines, parts.result)?,
     })
 }
 
 /// The octets of an extent, lines parted by newlines.
-fn octets_of(alloc: Global, lines: &Lines, text_span: TextSpan) -> Result<Vec<u8>, AllocError> {
+fn text_span_octets(
+    alloc: Global,
+    lines: &Lines,
+    text_span: TextSpan,
+) -> Result<Vec<u8>, AllocError> {
     let mut out = Vec::new(alloc);
     put_text_span(&mut out, lines, text_span)?;
     Ok(out)

@@ -9,7 +9,7 @@ ghost use Rattle.pd_run.specs.Step.{tolerance_of};
 ghost use Rattle.pd_run.specs.Times.{time_range_of};
 ghost use Rattle.pd_explain.specs.Unexpected.{before_awaited, CountsUnexpected, IsEarly};
 
-use crate::causes::aligned_packets::event_sent;
+use crate::causes::aligned_packets::write_sent_with_moment;
 use crate::causes::failure::Unmatched;
 use pd_match::{Expect, check_packet};
 use pd_run::{RunState, time_range_of};
@@ -36,7 +36,7 @@ pub fn list_unmatched(
     let mut packets = Vec::new(alloc);
     for count in 0..MAX_LISTED {
         match outbox.get(skipped + count) {
-            Some(sent) => packets.push(event_sent(alloc, sent, run.base())?)?,
+            Some(sent) => packets.push(write_sent_with_moment(alloc, sent, run.base())?)?,
             None => return Ok(Unmatched { packets, more: 0 }),
         }
     }
@@ -50,7 +50,7 @@ pub fn count_unexpected(event: &Event, run: &RunState) -> usize
     ensures { CountsUnexpected event.now run.now result }
 {
     match &event.action {
-        Action::Outbound(packet) => count_before(packet, event.time, run).unwrap_or(0),
+        Action::Outbound(packet) => count_before_match(packet, event.time, run).unwrap_or(0),
         Action::Inbound(_) => 0,
         Action::Call(_) => 0,
         Action::Command => 0,
@@ -59,7 +59,7 @@ pub fn count_unexpected(event: &Event, run: &RunState) -> usize
 }
 
 /// How many come before the first that agrees with an expected packet; nothing where none does.
-fn count_before(packet: &Packet, time: Time, run: &RunState) -> Option<usize>
+fn count_before_match(packet: &Packet, time: Time, run: &RunState) -> Option<usize>
     ensures { IsEarly run.now → list_any is_long (written_times time) ≡ false → result ≡ before_awaited packet.now time (tolerance_of run.now) run.now.base (unmatched run.now) }
 {
     let outbox = run.host().outbox();
@@ -68,7 +68,7 @@ fn count_before(packet: &Packet, time: Time, run: &RunState) -> Option<usize>
         let Some(sent) = outbox.get(count) else {
             return None;
         };
-        if agrees(packet, time, base, sent, run.tolerance()) {
+        if is_expected_packet(packet, time, base, sent, run.tolerance()) {
             return Some(count);
         }
         base = base.max(sent.at);
@@ -77,7 +77,7 @@ fn count_before(packet: &Packet, time: Time, run: &RunState) -> Option<usize>
 }
 
 /// Whether a packet that was sent is an expected one with a time that counts from a base.
-fn agrees(packet: &Packet, time: Time, base: u64, sent: &Sent, tolerance: u64) -> bool
+fn is_expected_packet(packet: &Packet, time: Time, base: u64, sent: &Sent, tolerance: u64) -> bool
     ensures { base < 2 ^ 61 → list_any is_long (written_times time) ≡ false → result ≡ is_none (mismatch packet.now (time_range_of base time) sent.now tolerance) }
 {
     let expect = Expect {

@@ -1,7 +1,7 @@
 //! Where parts of a text stand, and how they are shown.
 ghost use Rattle.std.specs.Prelude.{◌≡◌, IfOk, take, drop};
 ghost use Rattle.pd_lex.specs.Lexing.{items};
-ghost use Rattle.pd_explain.specs.Parts.{event_place, at_first, found, place_of_part, line_in, IsShownAt};
+ghost use Rattle.pd_explain.specs.Parts.{event_place, before_first_token, found, place_of_part, line_or_empty, IsShownAt};
 
 use crate::escape::escaped;
 use crate::parts::nesting::Nesting;
@@ -50,19 +50,19 @@ pub fn place_of_part(lines: &Lines, from: Place, part: RulePart) -> Place
 
 /// Where the first token from a place on stands with which a part begins.
 fn find_part(lines: &Lines, from: Place, part: RulePart) -> Option<Place>
-    ensures { result ≡ found part at_first (items lines.now from) }
+    ensures { result ≡ found part before_first_token (items lines.now from) }
 {
     let mut place = from;
-    let mut before = Nesting::at_first();
+    let mut before = Nesting::before_first_token();
     'tokens: loop {
         let Lexed::Token(token) = next_token(lines, place) else {
             return None;
         };
         let role = TokenRole::of(&token);
-        if part.begins(before, role) {
+        if part.begins_with_token(before, role) {
             return Some(token.from);
         }
-        before = before.after(role);
+        before = before.after_token(role);
         place = token.to;
     }
 }
@@ -71,10 +71,10 @@ fn find_part(lines: &Lines, from: Place, part: RulePart) -> Option<Place>
 ///
 /// # Errors
 /// `AllocError` where a growth is refused.
-pub fn shown_at(alloc: Global, lines: &Lines, place: Place) -> Result<ShownPart, AllocError>
+pub fn shown_line_at(alloc: Global, lines: &Lines, place: Place) -> Result<ShownPart, AllocError>
     ensures { IfOk result (IsShownAt lines.now place) }
 {
-    let line = line_in(lines, place.line);
+    let line = line_or_empty(lines, place.line);
     let text = escaped(alloc, line)?;
     let front = escaped(alloc, first_octets(line, place.at))?;
     Ok(ShownPart {
@@ -85,16 +85,16 @@ pub fn shown_at(alloc: Global, lines: &Lines, place: Place) -> Result<ShownPart,
 }
 
 /// The rest of a line from a place on.
-pub fn rest_at(lines: &Lines, place: Place) -> &[u8]
-    ensures { result.now ≡ drop place.at (line_in lines.now place.line) }
+pub fn rest_of_line_at(lines: &Lines, place: Place) -> &[u8]
+    ensures { result.now ≡ drop place.at (line_or_empty lines.now place.line) }
 {
-    let line = line_in(lines, place.line);
+    let line = line_or_empty(lines, place.line);
     &line[place.at.min(line.len())..]
 }
 
 /// A line of a text, counted from 1; nothing outside of it.
-fn line_in(lines: &Lines, number: usize) -> &[u8]
-    ensures { result.now ≡ line_in lines.now number }
+fn line_or_empty(lines: &Lines, number: usize) -> &[u8]
+    ensures { result.now ≡ line_or_empty lines.now number }
 {
     match lines.line(number) {
         Some(line) => line,

@@ -1,6 +1,6 @@
 //! The brackets and commas before a token of an event.
 ghost use Rattle.std.specs.Prelude.{◌≡◌};
-ghost use Rattle.pd_explain.specs.Parts.{at_first, one_more, depth_after, commas_after, colons_after, after_role};
+ghost use Rattle.pd_explain.specs.Parts.{before_first_token, capped_increment, depth_after, commas_after, colons_after, after_role};
 
 use crate::parts::token_roles::TokenRole;
 
@@ -23,8 +23,8 @@ const MOST: usize = 32;
 
 impl Nesting {
     /// Before the first token.
-    pub fn at_first() -> Nesting
-        ensures { result ≡ at_first }
+    pub fn before_first_token() -> Nesting
+        ensures { result ≡ before_first_token }
     {
         Nesting {
             last: TokenRole::Other,
@@ -35,7 +35,7 @@ impl Nesting {
     }
 
     /// Before the token after this one.
-    pub fn after(self, role: TokenRole) -> Nesting
+    pub fn after_token(self, role: TokenRole) -> Nesting
         ensures { result ≡ after_role self role }
     {
         Nesting {
@@ -47,8 +47,8 @@ impl Nesting {
     }
 }
 
-fn one_more(count: usize) -> usize
-    ensures { result ≡ one_more count }
+fn capped_increment(count: usize) -> usize
+    ensures { result ≡ capped_increment count }
 {
     if count < MOST { count + 1 } else { count }
 }
@@ -57,7 +57,7 @@ fn depth_after(depth: usize, role: TokenRole) -> usize
     ensures { result ≡ depth_after depth role }
 {
     match role {
-        TokenRole::Parenthesis | TokenRole::Bracket => one_more(depth),
+        TokenRole::Parenthesis | TokenRole::Bracket => capped_increment(depth),
         TokenRole::Closing => depth.saturating_sub(1),
         _ => depth,
     }
@@ -67,7 +67,13 @@ fn commas_after(depth: usize, commas: usize, role: TokenRole) -> usize
     ensures { result ≡ commas_after depth commas role }
 {
     match role {
-        TokenRole::Comma => { if depth == 1 { one_more(commas) } else { commas } }
+        TokenRole::Comma => {
+            if depth == 1 {
+                capped_increment(commas)
+            } else {
+                commas
+            }
+        }
         _ => commas,
     }
 }
@@ -77,7 +83,7 @@ fn colons_after(colons: usize, role: TokenRole) -> usize
 {
     match role {
         TokenRole::Sack => 0,
-        TokenRole::Colon => one_more(colons),
+        TokenRole::Colon => capped_increment(colons),
         _ => colons,
     }
 }

@@ -1,6 +1,6 @@
 //! Which part of a text each rule is about.
 ghost use Rattle.std.specs.Prelude.{◌≡◌};
-ghost use Rattle.pd_explain.specs.Parts.{time_part, number_part, shape_part, input_part, part_of, header_part};
+ghost use Rattle.pd_explain.specs.Parts.{overlong_time_part, number_part, shape_part, input_part, part_of, header_part};
 
 use crate::parts::rule_part::RulePart;
 use crate::rules::{LimitedNumber, Rule, UnsupportedInput, UnsupportedShape, is_time_long};
@@ -33,7 +33,7 @@ fn number_part(number: LimitedNumber, event: &Event) -> RulePart
     ensures { result ≡ number_part number event.now }
 {
     match number {
-        LimitedNumber::Time => time_part(event),
+        LimitedNumber::Time => overlong_time_part(event),
         LimitedNumber::Start => RulePart::Start,
         LimitedNumber::End => RulePart::End,
         LimitedNumber::Ack => RulePart::AckNumber,
@@ -49,8 +49,8 @@ fn number_part(number: LimitedNumber, event: &Event) -> RulePart
 }
 
 /// A time over its limit, or else the end of a blocking call.
-fn time_part(event: &Event) -> RulePart
-    ensures { result ≡ time_part event.now }
+fn overlong_time_part(event: &Event) -> RulePart
+    ensures { result ≡ overlong_time_part event.now }
 {
     if is_time_long(event.time) {
         RulePart::First

@@ -1,6 +1,6 @@
 //! The parts of an event, and of a header, that rules are about.
 ghost use Rattle.std.specs.Prelude.{◌≡◌};
-ghost use Rattle.pd_explain.specs.Parts.{is_part, begins_inside};
+ghost use Rattle.pd_explain.specs.Parts.{is_part, begins_in_option_or_call};
 
 use crate::parts::nesting::Nesting;
 use crate::parts::token_roles::TokenRole;
@@ -54,7 +54,7 @@ const WHOLE_BLOCKS: usize = 4;
 
 impl RulePart {
     /// Whether this part begins with a token, where this stands before it.
-    pub fn begins(self, before: Nesting, role: TokenRole) -> bool
+    pub fn begins_with_token(self, before: Nesting, role: TokenRole) -> bool
         ensures { result ≡ is_part self before role }
     {
         match self {
@@ -65,27 +65,27 @@ impl RulePart {
             RulePart::HeaderOption => role.is_header_option(),
             RulePart::Word => role.is_word(),
             RulePart::Arrow => role.is_arrow(),
-            RulePart::Start => before.last.ends_flags() && role.is_whole_number(),
+            RulePart::Start => before.last.can_end_flags() && role.is_whole_number(),
             RulePart::End => before.last.is_colon(),
             RulePart::Length => before.last.is_parenthesis(),
             RulePart::AckNumber => before.last.is_ack(),
             RulePart::Window => before.last.is_win(),
             RulePart::Options => role.is_named_option(),
-            _ => self.begins_inside(before, role),
+            _ => self.begins_in_option_or_call(before, role),
         }
     }
 
     /// The same of the parts of an option and of a call.
-    fn begins_inside(self, before: Nesting, role: TokenRole) -> bool
-        ensures { result ≡ begins_inside self before role }
+    fn begins_in_option_or_call(self, before: Nesting, role: TokenRole) -> bool
+        ensures { result ≡ begins_in_option_or_call self before role }
     {
         match self {
             RulePart::OfferedMss => before.last.is_mss(),
             RulePart::LargeMss => {
-                before.last.is_mss() && role.is_above(LimitedNumber::Mss.limit())
+                before.last.is_mss() && role.is_number_above(LimitedNumber::Mss.limit())
             }
             RulePart::LargeShift => {
-                before.last.is_wscale() && role.is_above(LimitedNumber::Shift.limit())
+                before.last.is_wscale() && role.is_number_above(LimitedNumber::Shift.limit())
             }
             RulePart::FifthBlock => {
                 before.last.is_whole_number()
@@ -93,7 +93,7 @@ impl RulePart {
                     && before.colons == WHOLE_BLOCKS
             }
             RulePart::LargeEdge => {
-                before.last.is_before_edge() && role.is_above(LimitedNumber::Edge.limit())
+                before.last.can_precede_edge() && role.is_number_above(LimitedNumber::Edge.limit())
             }
             RulePart::ThirdArgument => {
                 before.last.is_comma() && before.depth == 1 && before.commas == 2

@@ -1,7 +1,7 @@
 //! The role of a token in the search for the part that a rule is about.
 ghost use Rattle.std.specs.Prelude.{◌≡◌};
 ghost use Rattle.std.specs.Str.{bytes_eq};
-ghost use Rattle.pd_explain.specs.Parts.{role_of, word_role, octet_role, option_role, is_above, is_whole_number, is_word, is_named_option, ends_flags, is_before_edge, is_dots, is_command, is_code, is_header_option, is_arrow, is_colon, is_comma, is_parenthesis, is_ack, is_win, is_mss, is_wscale};
+ghost use Rattle.pd_explain.specs.Parts.{role_of, word_role, octet_role, header_option_role, is_number_above, is_whole_number, is_word, is_named_option, can_end_flags, can_precede_edge, is_dots, is_command, is_code, is_header_option, is_arrow, is_colon, is_comma, is_parenthesis, is_ack, is_win, is_mss, is_wscale};
 
 use pd_lex::{Token, TokenKind};
 use pd_script::HeaderKind;
@@ -65,7 +65,7 @@ impl TokenRole {
             TokenKind::Dots => TokenRole::Dots,
             TokenKind::Cmd => TokenRole::Command,
             TokenKind::Code => TokenRole::Code,
-            TokenKind::Opt => option_role(HeaderKind::of_option(token.text)),
+            TokenKind::Opt => header_option_role(HeaderKind::of_option(token.text)),
             TokenKind::Hex => TokenRole::Other,
             TokenKind::Decimal => TokenRole::Other,
             TokenKind::Str => TokenRole::Other,
@@ -73,8 +73,8 @@ impl TokenRole {
     }
 
     /// A whole number above a limit.
-    pub fn is_above(self, limit: u64) -> bool
-        ensures { result ≡ is_above limit self }
+    pub fn is_number_above(self, limit: u64) -> bool
+        ensures { result ≡ is_number_above limit self }
     {
         match self {
             TokenRole::Whole(number) => number > limit,
@@ -110,15 +110,15 @@ impl TokenRole {
     }
 
     /// The tokens with which flags may end.
-    pub fn ends_flags(self) -> bool
-        ensures { result ≡ ends_flags self }
+    pub fn can_end_flags(self) -> bool
+        ensures { result ≡ can_end_flags self }
     {
         matches!(self, TokenRole::Word | TokenRole::Point)
     }
 
     /// The tokens that the number of a SACK block may follow.
-    pub fn is_before_edge(self) -> bool
-        ensures { result ≡ is_before_edge self }
+    pub fn can_precede_edge(self) -> bool
+        ensures { result ≡ can_precede_edge self }
     {
         matches!(
             self,
@@ -211,7 +211,7 @@ impl TokenRole {
     }
 }
 
-fn is_name(text: &[u8], name: &[u8]) -> bool
+fn octets_equal(text: &[u8], name: &[u8]) -> bool
     ensures { result ≡ bytes_eq text.now name.now }
 {
     text == name
@@ -220,20 +220,20 @@ fn is_name(text: &[u8], name: &[u8]) -> bool
 fn word_role(text: &[u8]) -> TokenRole
     ensures { result ≡ word_role text.now }
 {
-    if is_name(text, b"ack") {
+    if octets_equal(text, b"ack") {
         TokenRole::Ack
-    } else if is_name(text, b"win") {
+    } else if octets_equal(text, b"win") {
         TokenRole::Win
-    } else if is_name(text, b"mss") {
+    } else if octets_equal(text, b"mss") {
         TokenRole::Mss
-    } else if is_name(text, b"wscale") {
+    } else if octets_equal(text, b"wscale") {
         TokenRole::Wscale
-    } else if is_name(text, b"sack") {
+    } else if octets_equal(text, b"sack") {
         TokenRole::Sack
-    } else if is_name(text, b"sackOK")
-        || is_name(text, b"nop")
-        || is_name(text, b"eol")
-        || is_name(text, b"TS")
+    } else if octets_equal(text, b"sackOK")
+        || octets_equal(text, b"nop")
+        || octets_equal(text, b"eol")
+        || octets_equal(text, b"TS")
     {
         TokenRole::OtherOption
     } else {
@@ -263,8 +263,8 @@ fn octet_role(octet: u8) -> TokenRole
     }
 }
 
-fn option_role(kind: HeaderKind) -> TokenRole
-    ensures { result ≡ option_role kind }
+fn header_option_role(kind: HeaderKind) -> TokenRole
+    ensures { result ≡ header_option_role kind }
 {
     match kind {
         HeaderKind::Tolerance(_) => TokenRole::Tolerance,

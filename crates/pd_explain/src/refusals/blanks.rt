@@ -12,7 +12,7 @@ struct BlankScan {
 }
 
 /// In which column of a line something begins no token, where blanks and comments alone are between a place and it.
-pub fn bad_column(lines: &Lines, place: Place, line: usize) -> usize {
+pub fn column_of_bad_token(lines: &Lines, place: Place, line: usize) -> usize {
     let mut gap = BlankScan {
         is_open: false,
         column: 0,

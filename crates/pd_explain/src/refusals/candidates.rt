@@ -2,7 +2,7 @@
 ghost use Rattle.std.specs.Prelude.{◌≡◌, ◌++◌, codes, IfOk};
 ghost use Rattle.std.specs.Fmt.{decimal};
 
-use crate::refusals::probe::{goes_on, is_script};
+use crate::refusals::probe::{is_script, script_goes_on_with};
 use itoa::Buffer;
 use std::alloc::{AllocError, Global};
 
@@ -79,27 +79,27 @@ struct Candidates<'a> {
 ///
 /// # Errors
 /// `AllocError` where a growth is refused.
-pub fn expected(
+pub fn list_expected(
     alloc: Global,
     before: &[u8],
-    difference: Option<u64>,
+    expected_packet_length: Option<u64>,
 ) -> Result<Vec<Vec<u8>>, AllocError> {
     let mut candidates = Candidates {
         alloc,
         before,
         expected: Vec::new(alloc),
     };
-    if candidates.goes_on(ONLY_INSIDE)? {
-        candidates.try_all(&INSIDE)?;
+    if candidates.script_goes_on_with(ONLY_INSIDE)? {
+        candidates.try_candidates(&INSIDE)?;
     } else {
-        candidates.try_outside(difference)?;
+        candidates.try_outside_arguments(expected_packet_length)?;
     }
     Ok(candidates.expected)
 }
 
 impl Candidates<'_> {
-    fn goes_on(&self, candidate: &[u8]) -> Result<bool, AllocError> {
-        goes_on(self.alloc, self.before, candidate)
+    fn script_goes_on_with(&self, candidate: &[u8]) -> Result<bool, AllocError> {
+        script_goes_on_with(self.alloc, self.before, candidate)
     }
 
     fn put_expected(&mut self, words: &str) -> Result<(), AllocError> {
@@ -108,9 +108,12 @@ impl Candidates<'_> {
         Ok(())
     }
 
-    fn try_all(&mut self, candidates: &[(&'static str, &'static str)]) -> Result<(), AllocError> {
+    fn try_candidates(
+        &mut self,
+        candidates: &[(&'static str, &'static str)],
+    ) -> Result<(), AllocError> {
         for (candidate, words) in candidates {
-            if self.goes_on(candidate.as_bytes())? {
+            if self.script_goes_on_with(candidate.as_bytes())? {
                 self.put_expected(words)?;
             }
         }
@@ -118,37 +121,40 @@ impl Candidates<'_> {
     }
 
     /// Outside arguments and notes. Where an event may begin, a time stands for its parts.
-    fn try_outside(&mut self, difference: Option<u64>) -> Result<(), AllocError> {
-        let begins_event = self.goes_on(SOME_TIME)?;
-        let is_word = self.goes_on(SOME_WORD)?;
+    fn try_outside_arguments(
+        &mut self,
+        expected_packet_length: Option<u64>,
+    ) -> Result<(), AllocError> {
+        let begins_event = self.script_goes_on_with(SOME_TIME)?;
+        let is_word = self.script_goes_on_with(SOME_WORD)?;
         self.try_before_numbers(is_word)?;
         if !begins_event {
-            self.try_number(difference)?;
+            self.try_number(expected_packet_length)?;
         }
         self.try_after_numbers(is_word)?;
-        self.try_end(begins_event)
+        self.try_next_time_and_end(begins_event)
     }
 
     fn try_before_numbers(&mut self, is_word: bool) -> Result<(), AllocError> {
-        self.try_all(&FIRST)?;
+        self.try_candidates(&FIRST)?;
         if is_word {
-            self.try_any_word()?;
+            self.try_call_or_error_name()?;
         } else {
             self.try_flags()?;
         }
-        self.try_all(&BEFORE_NUMBERS)
+        self.try_candidates(&BEFORE_NUMBERS)
     }
 
     fn try_after_numbers(&mut self, is_word: bool) -> Result<(), AllocError> {
-        self.try_all(&AFTER_NUMBERS)?;
+        self.try_candidates(&AFTER_NUMBERS)?;
         if !is_word {
-            self.try_all(&NAMES)?;
+            self.try_candidates(&NAMES)?;
         }
-        self.try_all(&LAST)
+        self.try_candidates(&LAST)
     }
 
     /// The candidates after a whole event: the time of the next one, and the end of the text.
-    fn try_end(&mut self, begins_event: bool) -> Result<(), AllocError> {
+    fn try_next_time_and_end(&mut self, begins_event: bool) -> Result<(), AllocError> {
         if begins_event {
             self.put_expected("a time")?;
         }
@@ -158,8 +164,8 @@ impl Candidates<'_> {
         Ok(())
     }
 
-    fn try_any_word(&mut self) -> Result<(), AllocError> {
-        if self.goes_on(SOME_CALL)? {
+    fn try_call_or_error_name(&mut self) -> Result<(), AllocError> {
+        if self.script_goes_on_with(SOME_CALL)? {
             self.put_expected("the name of a call")
         } else {
             self.put_expected("the name of an error")
@@ -167,35 +173,35 @@ impl Candidates<'_> {
     }
 
     fn try_flags(&mut self) -> Result<(), AllocError> {
-        if self.goes_on(b"S")? {
+        if self.script_goes_on_with(b"S")? {
             self.put_expected("letters of flags")?;
         }
         Ok(())
     }
 
     /// A number is tried by the least and the greatest that are written in 32 bits.
-    fn try_number(&mut self, difference: Option<u64>) -> Result<(), AllocError> {
-        if self.goes_on(b"+")? {
+    fn try_number(&mut self, expected_packet_length: Option<u64>) -> Result<(), AllocError> {
+        if self.script_goes_on_with(b"+")? {
             self.put_expected("`+`")?;
         }
-        if self.goes_on(b"4294967295.999999")? {
-            if self.goes_on(b"0.0")? {
+        if self.script_goes_on_with(b"4294967295.999999")? {
+            if self.script_goes_on_with(b"0.0")? {
                 self.put_expected("seconds below 4,294,967,296")
             } else {
                 self.put_expected("seconds from the first number on, below 4,294,967,296")
             }
         } else {
-            self.try_length(difference)
+            self.try_packet_length(expected_packet_length)
         }
     }
 
     /// Where a packet's length comes, it is the only number.
-    fn try_length(&mut self, difference: Option<u64>) -> Result<(), AllocError> {
-        let Some(octets) = difference else {
+    fn try_packet_length(&mut self, expected_packet_length: Option<u64>) -> Result<(), AllocError> {
+        let Some(octets) = expected_packet_length else {
             return self.try_whole_number();
         };
         let mut buffer = Buffer::new();
-        if !self.goes_on(buffer.format(octets).as_bytes())? {
+        if !self.script_goes_on_with(buffer.format(octets).as_bytes())? {
             return self.try_whole_number();
         }
         let words = quoted_number(self.alloc, octets)?;
@@ -204,10 +210,10 @@ impl Candidates<'_> {
     }
 
     fn try_whole_number(&mut self) -> Result<(), AllocError> {
-        if !self.goes_on(b"4294967295")? {
+        if !self.script_goes_on_with(b"4294967295")? {
             return Ok(());
         }
-        if self.goes_on(b"0")? {
+        if self.script_goes_on_with(b"0")? {
             self.put_expected("a whole number up to 4,294,967,295")
         } else {
             self.put_expected("a whole number from the start up to 4,294,967,295")

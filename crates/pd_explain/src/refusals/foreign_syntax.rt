@@ -19,7 +19,7 @@ pub enum ForeignSyntax {
 
 impl ForeignSyntax {
     /// The foreign syntax with which some octets begin, which follow a token with this octet, if that is a symbol.
-    pub fn at(octets: &[u8], after: u8) -> Option<ForeignSyntax>
+    pub fn at_start_of(octets: &[u8], after: u8) -> Option<ForeignSyntax>
         ensures { result ≡ foreign_syntax_at after octets.now }
     {
         match octets {

@@ -2,9 +2,9 @@
 ghost use Rattle.std.specs.Prelude.{◌≡◌};
 ghost use Rattle.pd_explain.specs.MarkedPlace.{place_marked};
 
-use crate::escape::part;
-use crate::refusals::blanks::bad_column;
-use crate::refusals::probe::{is_refused, is_script};
+use crate::escape::clamped_part;
+use crate::refusals::blanks::column_of_bad_token;
+use crate::refusals::probe::{begins_no_script, is_script};
 use pd_lex::{Lexed, Place, Token, TokenKind, next_token};
 use pd_script::{MAX_EVENTS, NextEvent, next_event, read_header};
 use pd_text::{Lines, MAX_OCTETS};
@@ -14,7 +14,7 @@ use std::alloc::{AllocError, Global};
 ///
 /// # Errors
 /// `AllocError` where a growth is refused.
-fn end_of_event(
+fn event_end_and_has_next(
     alloc: Global,
     lines: &Lines,
     place: Place,
@@ -38,7 +38,7 @@ struct LastEventToken {
     /// Where it ends among the remnant's octets.
     end: usize,
     /// Whether an event may begin with it.
-    begins_event: bool,
+    can_begin_event: bool,
     /// Its octet, if it is a symbol, else 0.
     symbol: u8,
     /// The number, if it is a whole one.
@@ -61,10 +61,10 @@ pub struct LastEvent {
 
 /// How many events of a text are followed by another one, and where the next event begins; the last that a script may have
 /// isn't counted.
-fn events_before(alloc: Global, lines: &Lines) -> Result<(usize, Place), AllocError> {
+fn count_events_before_last(alloc: Global, lines: &Lines) -> Result<(usize, Place), AllocError> {
     let mut place = read_header(alloc, lines)?.end();
     for events in 0..MAX_EVENTS - 1 {
-        match end_of_event(alloc, lines, place)? {
+        match event_end_and_has_next(alloc, lines, place)? {
             Some((after, true)) => place = after,
             _ => return Ok((events, place)),
         }
@@ -73,7 +73,7 @@ fn events_before(alloc: Global, lines: &Lines) -> Result<(usize, Place), AllocEr
 }
 
 /// How many events make the same difference as these: whether there is one, and whether only one more may follow.
-fn enough_events(events: usize) -> usize {
+fn equivalent_event_count(events: usize) -> usize {
     if events == MAX_EVENTS - 1 {
         events
     } else {
@@ -82,7 +82,7 @@ fn enough_events(events: usize) -> usize {
 }
 
 /// A token's octets; a string, a command and code are empty.
-fn octets_of<'a>(token: &Token<'a>) -> &'a [u8] {
+fn placeholder_token_octets<'a>(token: &Token<'a>) -> &'a [u8] {
     match token.kind {
         TokenKind::Str => b"\"\"",
         TokenKind::Cmd => b"``",
@@ -92,7 +92,7 @@ fn octets_of<'a>(token: &Token<'a>) -> &'a [u8] {
 }
 
 /// Whether an event may begin with a token.
-fn begins_event(token: &Token<'_>) -> bool {
+fn can_begin_event(token: &Token<'_>) -> bool {
     match token.kind {
         TokenKind::Int | TokenKind::Decimal => true,
         TokenKind::Symbol => token.symbol == b'+' || token.symbol == b'*',
@@ -102,10 +102,10 @@ fn begins_event(token: &Token<'_>) -> bool {
 
 /// Where a refused token is marked, by where the token before it ends: there, where the next event begins in a later line and
 /// what is before it is no whole script; else at itself.
-fn place_marked(refused: Place, before: Place, begins_event: bool, is_whole: bool) -> Place
-    ensures { result ≡ place_marked refused before begins_event is_whole }
+fn place_marked(refused: Place, before: Place, can_begin_event: bool, is_whole: bool) -> Place
+    ensures { result ≡ place_marked refused before can_begin_event is_whole }
 {
-    if begins_event && !is_whole && before.line < refused.line {
+    if can_begin_event && !is_whole && before.line < refused.line {
         before
     } else {
         refused
@@ -118,31 +118,32 @@ impl LastEvent {
     /// # Errors
     /// `AllocError` where a growth is refused.
     pub fn read(alloc: Global, lines: &Lines, line: usize) -> Result<LastEvent, AllocError> {
-        let (events, place) = events_before(alloc, lines)?;
+        let (events, place) = count_events_before_last(alloc, lines)?;
         let mut last_event = LastEvent {
             octets: Vec::new(alloc),
             opening: 0,
             tokens: Vec::new(alloc),
             after: place,
         };
-        for _ in 0..enough_events(events) {
+        for _ in 0..equivalent_event_count(events) {
             last_event.octets.extend_from_slice(SOME_EVENT)?;
         }
         last_event.opening = last_event.octets.len();
         for _ in 0..MAX_OCTETS {
             match next_token(lines, last_event.after) {
-                Lexed::Token(token) if token.from.line <= line => last_event.put(&token)?,
+                Lexed::Token(token) if token.from.line <= line => last_event.push_token(&token)?,
                 _ => break,
             }
         }
         Ok(last_event)
     }
 
-    fn put(&mut self, token: &Token) -> Result<(), AllocError> {
+    fn push_token(&mut self, token: &Token) -> Result<(), AllocError> {
         if token.from.line != self.after.line || token.from.at != self.after.at {
             self.octets.push(b' ')?;
         }
-        self.octets.extend_from_slice(octets_of(token))?;
+        self.octets
+            .extend_from_slice(placeholder_token_octets(token))?;
         let number = match token.kind {
             TokenKind::Int => Some(token.number),
             _ => None,
@@ -151,7 +152,7 @@ impl LastEvent {
             from: token.from,
             to: token.to,
             end: self.octets.len(),
-            begins_event: begins_event(token),
+            can_begin_event: can_begin_event(token),
             symbol: token.symbol,
             number,
         };
@@ -161,7 +162,7 @@ impl LastEvent {
     }
 
     /// The octets of its first tokens, so many, with the events before them.
-    pub fn first(&self, count: usize) -> &[u8] {
+    pub fn octets_of_first_tokens(&self, count: usize) -> &[u8] {
         let end = match count.checked_sub(1) {
             Some(last) => match self.tokens.get(last) {
                 Some(piece) => piece.end,
@@ -169,19 +170,19 @@ impl LastEvent {
             },
             None => self.opening,
         };
-        part(self.octets.as_slice(), 0, end)
+        clamped_part(self.octets.as_slice(), 0, end)
     }
 
     /// How many of its tokens a script goes on with, found by halving.
     ///
     /// # Errors
     /// `AllocError` where a growth is refused.
-    pub fn count_accepted(&self, alloc: Global) -> Result<usize, AllocError> {
+    pub fn count_accepted_tokens(&self, alloc: Global) -> Result<usize, AllocError> {
         let mut low = 0;
         let mut high = self.tokens.len();
         'halves: while low < high {
             let middle = low + (high - low) / 2;
-            if is_refused(alloc, self.first(middle + 1))? {
+            if begins_no_script(alloc, self.octets_of_first_tokens(middle + 1))? {
                 high = middle;
             } else {
                 low = middle + 1;
@@ -191,14 +192,14 @@ impl LastEvent {
     }
 
     /// Where on the refused line stands what is refused: a token, or what begins none; nothing at the end of the text.
-    pub fn refused_at(&self, lines: &Lines, line: usize, accepted: usize) -> Option<Place> {
+    pub fn place_of_refused(&self, lines: &Lines, line: usize, accepted: usize) -> Option<Place> {
         if let Some(piece) = self.tokens.get(accepted) {
             return Some(piece.from);
         }
         match next_token(lines, self.after) {
             Lexed::Bad(_) => Some(Place {
                 line,
-                at: bad_column(lines, self.after, line),
+                at: column_of_bad_token(lines, self.after, line),
             }),
             Lexed::Token(_) | Lexed::End => None,
         }
@@ -208,7 +209,7 @@ impl LastEvent {
     ///
     /// # Errors
     /// `AllocError` where a growth is refused.
-    pub fn marked_at(
+    pub fn place_to_mark(
         &self,
         alloc: Global,
         refused: Option<Place>,
@@ -220,8 +221,8 @@ impl LastEvent {
         let Some(piece) = self.tokens.get(accepted) else {
             return Ok(refused);
         };
-        let is_whole = is_script(alloc, self.first(accepted))?;
-        Ok(Some(place_marked(piece.from, before.to, piece.begins_event, is_whole)))
+        let is_whole = is_script(alloc, self.octets_of_first_tokens(accepted))?;
+        Ok(Some(place_marked(piece.from, before.to, piece.can_begin_event, is_whole)))
     }
 
     /// The token before the one that is refused.
@@ -238,7 +239,7 @@ impl LastEvent {
     }
 
     /// The end less the start, where the last of its first tokens are a packet's up to its length.
-    pub fn difference(&self, accepted: usize) -> Option<u64> {
+    pub fn expected_packet_length(&self, accepted: usize) -> Option<u64> {
         let first = accepted.checked_sub(4)?;
         let start = self.tokens.get(first)?;
         let colon = self.tokens.get(accepted - 3)?;

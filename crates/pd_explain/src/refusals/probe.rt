@@ -10,8 +10,12 @@ const TRIED: usize = 2;
 ///
 /// # Errors
 /// `AllocError` where a growth is refused.
-pub fn goes_on(alloc: Global, before: &[u8], candidate: &[u8]) -> Result<bool, AllocError> {
-    match fault_of(alloc, before, candidate)? {
+pub fn script_goes_on_with(
+    alloc: Global,
+    before: &[u8],
+    candidate: &[u8],
+) -> Result<bool, AllocError> {
+    match fault_line_of_trial(alloc, before, candidate)? {
         Some(line) => Ok(line > TRIED),
         None => Ok(true),
     }
@@ -22,15 +26,15 @@ pub fn goes_on(alloc: Global, before: &[u8], candidate: &[u8]) -> Result<bool, A
 /// # Errors
 /// `AllocError` where a growth is refused.
 pub fn is_script(alloc: Global, octets: &[u8]) -> Result<bool, AllocError> {
-    Ok(fault_of(alloc, octets, b"")?.is_none())
+    Ok(fault_line_of_trial(alloc, octets, b"")?.is_none())
 }
 
 /// Whether no script begins with these octets.
 ///
 /// # Errors
 /// `AllocError` where a growth is refused.
-pub fn is_refused(alloc: Global, octets: &[u8]) -> Result<bool, AllocError> {
-    match fault_of(alloc, octets, b"")? {
+pub fn begins_no_script(alloc: Global, octets: &[u8]) -> Result<bool, AllocError> {
+    match fault_line_of_trial(alloc, octets, b"")? {
         Some(line) => Ok(line < TRIED),
         None => Ok(false),
     }
@@ -38,7 +42,11 @@ pub fn is_refused(alloc: Global, octets: &[u8]) -> Result<bool, AllocError> {
 
 /// The fault of a text of three lines: these octets, a candidate, and nothing, so that the end of the text is on a line of
 /// its own. A text that has no room for them is refused at the candidate. None of those that are tried has a newline.
-fn fault_of(alloc: Global, before: &[u8], candidate: &[u8]) -> Result<Option<usize>, AllocError> {
+fn fault_line_of_trial(
+    alloc: Global,
+    before: &[u8],
+    candidate: &[u8],
+) -> Result<Option<usize>, AllocError> {
     let mut list = LineList::new(alloc);
     list.push_if_line(before)?;
     list.push_if_line(candidate)?;

@@ -4,12 +4,12 @@ ghost use Rattle.pd_explain.specs.States.{state_word};
 
 use crate::causes::{
     Cause, ExpectedTime, Failed, Failure, MissingPacket, Outlook, SenderSnapshot, TimeBackwards,
-    WrongPacket, WrongResult, bound_of, computed_us,
+    WrongPacket, WrongResult, applied_rto_bound, capped_computed_us,
 };
 use crate::origins::Origin;
 use crate::rules::Rule;
 use pd_host::{
-    ConnState, ConnectionSnapshot, DupAckStatus, LossEvidence, Recovery, WindowSnapshot,
+    ConnState, ConnectionSnapshot, DupAckEffect, LossEvidence, Recovery, WindowSnapshot,
 };
 use pd_timer::Timeout;
 use std::alloc::{AllocError, Global};
@@ -61,19 +61,19 @@ fn number_fact<'a>(label: &'static str, key: &'static str, number: u32) -> Fact<
 ///
 /// # Errors
 /// `AllocError` where a growth is refused.
-pub fn facts_of<'a>(alloc: Global, cause: &'a Cause) -> Result<Facts<'a>, AllocError> {
+pub fn facts_of_cause<'a>(alloc: Global, cause: &'a Cause) -> Result<Facts<'a>, AllocError> {
     let mut facts = Vec::new(alloc);
     match cause {
         Cause::Syntax(_) => {}
         Cause::Rule(violation) => put_rule(&mut facts, violation.rule)?,
-        Cause::Failed(failure) => put_failed(&mut facts, failure)?,
+        Cause::Failed(failure) => put_failed_facts(&mut facts, failure)?,
     }
     Ok(facts)
 }
 
-fn put_failed<'a>(facts: &mut Facts<'a>, failure: &'a Failure) -> Result<(), AllocError> {
+fn put_failed_facts<'a>(facts: &mut Facts<'a>, failure: &'a Failure) -> Result<(), AllocError> {
     match &failure.failed {
-        Failed::Packet(packets) => put_packets(facts, packets, failure.compared_origin()),
+        Failed::Packet(packets) => put_wrong_packet(facts, packets, failure.compared_origin()),
         Failed::Missing(missing_packet) => put_missing_packet(facts, missing_packet),
         Failed::Result(wrong_result) => put_wrong_result(facts, wrong_result),
         Failed::Backwards(time_backwards) => put_time_backwards(facts, time_backwards),
@@ -91,7 +91,7 @@ fn put_rule<'a>(facts: &mut Facts<'a>, rule: Rule) -> Result<(), AllocError> {
     }
 }
 
-fn put_packets<'a>(
+fn put_wrong_packet<'a>(
     facts: &mut Facts<'a>,
     packets: &'a WrongPacket,
     origin: Option<Origin>,
@@ -163,19 +163,19 @@ fn put_missing_packet<'a>(
     facts.extend_from_slice(&[named_fact(
         "timer expires",
         "timer_us",
-        at_or(missing_packet.expiry, "never, it doesn't run"),
+        moment_or_nothing(missing_packet.expiry, "never, it doesn't run"),
     )])?;
-    put_timeout(facts, &missing_packet.outlook)?;
+    put_rto_estimate(facts, &missing_packet.outlook)?;
     facts.extend_from_slice(&[
         named_fact("reason", "reason_words", Octets(&missing_packet.words)),
         named_fact("", "reason", Words(missing_packet.reason.key())),
     ])?;
-    put_duplicates(facts, &missing_packet.outlook)?;
+    put_dup_ack_status(facts, &missing_packet.outlook)?;
     put_sacked(facts, &missing_packet.outlook)
 }
 
 /// Adds how RTO comes about, where the timer runs and a round trip was measured.
-fn put_timeout<'a>(facts: &mut Facts<'a>, outlook: &'a Outlook) -> Result<(), AllocError> {
+fn put_rto_estimate<'a>(facts: &mut Facts<'a>, outlook: &'a Outlook) -> Result<(), AllocError> {
     let words = &outlook.timeout_words;
     match outlook.timeout {
         Some(timeout) if !words.is_empty() => {
@@ -183,7 +183,7 @@ fn put_timeout<'a>(facts: &mut Facts<'a>, outlook: &'a Outlook) -> Result<(), Al
                 named_fact("RTO", "rto_words", Octets(words)),
                 named_fact("", "srtt_us", Moment(timeout.estimate.srtt)),
                 named_fact("", "rttvar_us", Moment(timeout.estimate.rttvar)),
-                named_fact("", "computed_rto_us", Moment(computed_us(timeout))),
+                named_fact("", "computed_rto_us", Moment(capped_computed_us(timeout))),
                 named_fact("", "bounded_rto_us", Moment(timeout.bounded_us)),
             ])?;
             put_rto_settings(facts, timeout)
@@ -197,23 +197,23 @@ fn put_rto_settings<'a>(facts: &mut Facts<'a>, timeout: Timeout) -> Result<(), A
     if let Some(granularity_us) = timeout.granularity_us {
         facts.extend_from_slice(&[named_fact("", "granularity_us", Moment(granularity_us))])?;
     }
-    match bound_of(timeout) {
+    match applied_rto_bound(timeout) {
         Some(setting) => facts.extend_from_slice(&[named_fact("", "rto_bound", Words(setting))]),
         None => Ok(()),
     }
 }
 
 /// Adds the effect of a duplicate, where that is reported.
-fn put_duplicates<'a>(facts: &mut Facts<'a>, outlook: &'a Outlook) -> Result<(), AllocError> {
+fn put_dup_ack_status<'a>(facts: &mut Facts<'a>, outlook: &'a Outlook) -> Result<(), AllocError> {
     let words = &outlook.duplicates_words;
-    match outlook.dup_ack_status {
-        Some(dup_ack_status) if !words.is_empty() => {
+    match outlook.dup_ack_effect {
+        Some(dup_ack_effect) if !words.is_empty() => {
             facts.extend_from_slice(&[named_fact("recovery", "recovery_words", Octets(words))])?;
-            match dup_ack_status {
-                DupAckStatus::Below(number) => {
+            match dup_ack_effect {
+                DupAckEffect::Below(number) => {
                     facts.extend_from_slice(&[number_fact("", "counts_from", number)])
                 }
-                DupAckStatus::Counted(loss_evidence) => put_evidence(facts, loss_evidence),
+                DupAckEffect::Counted(loss_evidence) => put_loss_evidence(facts, loss_evidence),
             }
         }
         _ => Ok(()),
@@ -221,7 +221,10 @@ fn put_duplicates<'a>(facts: &mut Facts<'a>, outlook: &'a Outlook) -> Result<(),
 }
 
 /// Adds what has come of what shows a loss, and how much has to come.
-fn put_evidence<'a>(facts: &mut Facts<'a>, loss_evidence: LossEvidence) -> Result<(), AllocError> {
+fn put_loss_evidence<'a>(
+    facts: &mut Facts<'a>,
+    loss_evidence: LossEvidence,
+) -> Result<(), AllocError> {
     facts.extend_from_slice(&[
         number_fact("", "duplicates", loss_evidence.dup_acks),
         number_fact("", "duplicates_needed", loss_evidence.needed),
@@ -281,7 +284,7 @@ fn put_time_backwards<'a>(
 }
 
 /// A moment, or nothing in these words.
-fn at_or<'a>(time: Option<u64>, nothing: &'static str) -> FactValue<'a> {
+fn moment_or_nothing<'a>(time: Option<u64>, nothing: &'static str) -> FactValue<'a> {
     match time {
         Some(time) => Moment(time),
         None => Nothing(nothing),
@@ -308,12 +311,12 @@ fn put_sender<'a>(facts: &mut Facts<'a>, sender: &SenderSnapshot) -> Result<(), 
     if connection_snapshot.is_reset {
         facts.extend_from_slice(&[named_fact("connection", "connection", Words("reset"))])?;
     }
-    put_octets(facts, connection_snapshot)?;
+    put_sequence_and_windows(facts, connection_snapshot)?;
     match connection_snapshot.windows {
-        None => put_timer(facts, connection_snapshot, sender.expiry),
+        None => put_rto_and_expiry(facts, connection_snapshot, sender.expiry),
         Some(windows) => {
-            put_acks(facts, windows)?;
-            put_timer(facts, connection_snapshot, sender.expiry)?;
+            put_recovery_counts(facts, windows)?;
+            put_rto_and_expiry(facts, connection_snapshot, sender.expiry)?;
             let recovery = Words(recovery_name(windows.recovery));
             facts.extend_from_slice(&[named_fact("recovery", "recovery", recovery)])
         }
@@ -321,7 +324,7 @@ fn put_sender<'a>(facts: &mut Facts<'a>, sender: &SenderSnapshot) -> Result<(), 
 }
 
 /// Adds the numbers of octets, the windows among them where there are any.
-fn put_octets<'a>(
+fn put_sequence_and_windows<'a>(
     facts: &mut Facts<'a>,
     connection_snapshot: ConnectionSnapshot,
 ) -> Result<(), AllocError> {
@@ -345,7 +348,10 @@ fn put_octets<'a>(
 }
 
 /// Adds what recovery counts.
-fn put_acks<'a>(facts: &mut Facts<'a>, windows: WindowSnapshot) -> Result<(), AllocError> {
+fn put_recovery_counts<'a>(
+    facts: &mut Facts<'a>,
+    windows: WindowSnapshot,
+) -> Result<(), AllocError> {
     if let Recovery::WithSack(pipe) = windows.recovery {
         facts.extend_from_slice(&[number_fact("pipe", "pipe", pipe)])?;
     }
@@ -358,14 +364,14 @@ fn put_acks<'a>(facts: &mut Facts<'a>, windows: WindowSnapshot) -> Result<(), Al
     facts.extend_from_slice(&[number_fact("DupAcks", "dup_acks", windows.dup_acks)])
 }
 
-fn put_timer<'a>(
+fn put_rto_and_expiry<'a>(
     facts: &mut Facts<'a>,
     connection_snapshot: ConnectionSnapshot,
     expiry: Option<u64>,
 ) -> Result<(), AllocError> {
     facts.extend_from_slice(&[
         named_fact("RTO", "rto_us", Moment(connection_snapshot.rto_us)),
-        named_fact("expiry", "expiry_us", at_or(expiry, "none")),
+        named_fact("expiry", "expiry_us", moment_or_nothing(expiry, "none")),
     ])
 }
 

@@ -7,8 +7,10 @@ use crate::leftovers::Leftovers;
 use crate::origins::Origin;
 use crate::refusals::Refusal;
 use crate::render::dropped_text::{failed_check_key, failed_check_words};
-use crate::render::facts::{Fact, FactValue, facts_of, facts_of_sender, named_fact, state_name};
-use crate::render::headings::{first_words, leftovers_words, verdict_name};
+use crate::render::facts::{
+    Fact, FactValue, facts_of_cause, facts_of_sender, named_fact, state_name,
+};
+use crate::render::headings::{heading_words, leftovers_words, verdict_name};
 use crate::rule_violation::RuleViolation;
 use pd_run::Verdict;
 use pd_text::Name;
@@ -30,7 +32,7 @@ pub fn explanation_json(
     let mut object = Map::new(alloc);
     put_heading(alloc, &mut object, name, explanation)?;
     put_cause(alloc, &mut object, &explanation.cause)?;
-    line_of(alloc, object)
+    object_to_line(alloc, object)
 }
 
 /// The packets that a script that passes leaves at its end, as one JSON object, ended by a newline.
@@ -44,7 +46,7 @@ pub fn leftovers_json(
 ) -> Result<Vec<u8>, AllocError> {
     let mut object = Map::new(alloc);
     put_leftovers(alloc, &mut object, name, leftovers)?;
-    line_of(alloc, object)
+    object_to_line(alloc, object)
 }
 
 /// Adds what a script that passes leaves.
@@ -63,7 +65,7 @@ fn put_leftovers(
             named_fact("", "verdict", FactValue::Words("pass")),
         ],
     )?;
-    put_what(alloc, object, &leftovers_words(alloc, leftovers)?)?;
+    put_heading_words(alloc, object, &leftovers_words(alloc, leftovers)?)?;
     put(
         object,
         alloc,
@@ -80,12 +82,12 @@ fn put_leftovers(
 }
 
 /// Adds the first words.
-fn put_what(alloc: Global, object: &mut Members, words: &[u8]) -> Result<(), AllocError> {
-    put(object, alloc, "what", letters(alloc, words)?)
+fn put_heading_words(alloc: Global, object: &mut Members, words: &[u8]) -> Result<(), AllocError> {
+    put(object, alloc, "what", string_value(alloc, words)?)
 }
 
 /// The line of an object.
-fn line_of(alloc: Global, object: Members) -> Result<Vec<u8>, AllocError> {
+fn object_to_line(alloc: Global, object: Members) -> Result<Vec<u8>, AllocError> {
     let mut out = Value::Object(object).to_vec(alloc)?;
     out.push(b'\n')?;
     Ok(out)
@@ -108,7 +110,7 @@ fn put_heading(
             named_fact("", "verdict", FactValue::Words(verdict_name(verdict))),
         ],
     )?;
-    put_what(alloc, object, &first_words(alloc, explanation)?)?;
+    put_heading_words(alloc, object, &heading_words(alloc, explanation)?)?;
     match verdict {
         Verdict::Fail(_, kind) => put_facts(
             alloc,
@@ -121,7 +123,7 @@ fn put_heading(
 
 /// Adds what is reported of a cause.
 fn put_cause(alloc: Global, object: &mut Members, cause: &Cause) -> Result<(), AllocError> {
-    put_facts(alloc, object, &facts_of(alloc, cause)?)?;
+    put_facts(alloc, object, &facts_of_cause(alloc, cause)?)?;
     match cause {
         Cause::Syntax(refusal) => put_refusal(alloc, object, refusal),
         Cause::Rule(violation) => put_violation(alloc, object, violation),
@@ -135,7 +137,7 @@ fn put_cause(alloc: Global, object: &mut Members, cause: &Cause) -> Result<(), A
                 alloc,
                 object,
                 &failure.unmatched,
-                failure.listed_origins(),
+                failure.unmatched_origins(),
                 &failure.sender,
             )
         }
@@ -153,7 +155,7 @@ fn put_sacked(alloc: Global, object: &mut Members, failed: &Failed) -> Result<()
     }
     let mut list = Vec::new(alloc);
     for run in ranges {
-        list.push(letters(alloc, &span_text(alloc, *run)?)?)?;
+        list.push(string_value(alloc, &span_text(alloc, *run)?)?)?;
     }
     put(object, alloc, "sacked", Value::Array(list))
 }
@@ -194,12 +196,17 @@ fn put_dropped(
 
 fn put_facts(alloc: Global, object: &mut Members, facts: &[Fact<'_>]) -> Result<(), AllocError> {
     for fact in facts {
-        put(object, alloc, fact.key, value_of(alloc, fact.value)?)?;
+        put(
+            object,
+            alloc,
+            fact.key,
+            fact_value_to_json(alloc, fact.value)?,
+        )?;
     }
     Ok(())
 }
 
-fn value_of(alloc: Global, value: FactValue<'_>) -> Result<Value, AllocError> {
+fn fact_value_to_json(alloc: Global, value: FactValue<'_>) -> Result<Value, AllocError> {
     match value {
         FactValue::Octets(octets) | FactValue::Packet(octets, _) => escaped_value(alloc, octets),
         FactValue::Words(text) => Value::try_from_str(alloc, text),
@@ -210,11 +217,11 @@ fn value_of(alloc: Global, value: FactValue<'_>) -> Result<Value, AllocError> {
 
 /// Octets as shown, as a string.
 fn escaped_value(alloc: Global, octets: &[u8]) -> Result<Value, AllocError> {
-    letters(alloc, &escaped(alloc, octets)?)
+    string_value(alloc, &escaped(alloc, octets)?)
 }
 
 /// Octets that are shown already, as a string.
-fn letters(alloc: Global, text: &[u8]) -> Result<Value, AllocError> {
+fn string_value(alloc: Global, text: &[u8]) -> Result<Value, AllocError> {
     let mut string = String::new(alloc);
     for octet in text {
         string.push(char::from(*octet))?;
@@ -250,7 +257,7 @@ fn put_unmatched_and_sender(
     origins: &[Origin],
     sender: &SenderSnapshot,
 ) -> Result<(), AllocError> {
-    let packets = texts_of(alloc, &unmatched.packets)?;
+    let packets = escaped_list_value(alloc, &unmatched.packets)?;
     put(object, alloc, "untaken_packets", packets)?;
     let triggers = origin_values(alloc, origins, unmatched.packets.len())?;
     put(object, alloc, "untaken_sent_by", triggers)?;
@@ -260,11 +267,11 @@ fn put_unmatched_and_sender(
         object,
         &[named_fact("", "more_untaken_packets", more)],
     )?;
-    put(object, alloc, "state", state_of(alloc, sender)?)
+    put(object, alloc, "state", sender_value(alloc, sender)?)
 }
 
 /// Texts as a list.
-fn texts_of(alloc: Global, texts: &[Vec<u8>]) -> Result<Value, AllocError> {
+fn escaped_list_value(alloc: Global, texts: &[Vec<u8>]) -> Result<Value, AllocError> {
     let mut list = Vec::new(alloc);
     for text in texts {
         list.push(escaped_value(alloc, text)?)?;
@@ -273,7 +280,7 @@ fn texts_of(alloc: Global, texts: &[Vec<u8>]) -> Result<Value, AllocError> {
 }
 
 /// How a sender stands as an object.
-fn state_of(alloc: Global, sender: &SenderSnapshot) -> Result<Value, AllocError> {
+fn sender_value(alloc: Global, sender: &SenderSnapshot) -> Result<Value, AllocError> {
     let mut state = Map::new(alloc);
     let name = FactValue::Words(state_name(sender.state));
     put_facts(alloc, &mut state, &[named_fact("", "name", name)])?;
@@ -288,7 +295,7 @@ fn put_violation(
     violation: &RuleViolation,
 ) -> Result<(), AllocError> {
     let part = &violation.part;
-    put(object, alloc, "text", letters(alloc, &part.text)?)?;
+    put(object, alloc, "text", string_value(alloc, &part.text)?)?;
     put_facts(
         alloc,
         object,
@@ -302,15 +309,15 @@ fn put_violation(
             object,
             alloc,
             "runs",
-            texts_of(alloc, &violation.alternatives)?,
+            escaped_list_value(alloc, &violation.alternatives)?,
         )?;
     }
-    put_some(alloc, object, "found", violation.rule.found())?;
-    put_some(alloc, object, "mend", violation.rule.mend())
+    put_words_if_some(alloc, object, "found", violation.rule.found_in_words())?;
+    put_words_if_some(alloc, object, "mend", violation.rule.mend_in_words())
 }
 
 /// Adds words under a key, where there are any.
-fn put_some(
+fn put_words_if_some(
     alloc: Global,
     object: &mut Members,
     key: &'static str,
@@ -328,7 +335,7 @@ fn put_some(
 
 /// Adds the line at which no script goes on, the column of its token, and what could be there.
 fn put_refusal(alloc: Global, object: &mut Members, refusal: &Refusal) -> Result<(), AllocError> {
-    put(object, alloc, "text", letters(alloc, &refusal.text)?)?;
+    put(object, alloc, "text", string_value(alloc, &refusal.text)?)?;
     let column = match refusal.mark {
         Some(column) => FactValue::Number(column as u64),
         None => FactValue::Nothing(""),
@@ -342,11 +349,11 @@ fn put_refusal(alloc: Global, object: &mut Members, refusal: &Refusal) -> Result
             named_fact("", "column", column),
         ],
     )?;
-    put_some(alloc, object, "found", refusal.found())?;
+    put_words_if_some(alloc, object, "found", refusal.found_in_words())?;
     put(
         object,
         alloc,
         "expected",
-        texts_of(alloc, &refusal.expected)?,
+        escaped_list_value(alloc, &refusal.expected)?,
     )
 }

@@ -13,8 +13,8 @@ use crate::leftovers::Leftovers;
 use crate::origins::Origin;
 use crate::refusals::Refusal;
 use crate::render::dropped_text::dropped_text;
-use crate::render::facts::{Fact, FactValue, facts_of, facts_of_sender, state_name};
-use crate::render::headings::{first_words, leftovers_words, verdict_name};
+use crate::render::facts::{Fact, FactValue, facts_of_cause, facts_of_sender, state_name};
+use crate::render::headings::{heading_words, leftovers_words, verdict_name};
 use crate::rule_violation::RuleViolation;
 use pd_print::write_fixed_seconds;
 use pd_run::Verdict;
@@ -33,7 +33,7 @@ pub fn explanation_text(
 ) -> Result<Vec<u8>, AllocError>
     ensures { IfOk result (λ block. IsBlock block.items) }
 {
-    let mut block = heading(alloc, name, explanation)?;
+    let mut block = explanation_heading(alloc, name, explanation)?;
     block.extend_from_slice(b"\n")?;
     block.extend_from_slice(&cause_text(alloc, &explanation.cause)?)?;
     Ok(block)
@@ -87,13 +87,17 @@ pub fn cause_text(alloc: Global, cause: &Cause) -> Result<Vec<u8>, AllocError>
 }
 
 /// The first line.
-fn heading(alloc: Global, name: &Name, explanation: &Explanation) -> Result<Vec<u8>, AllocError>
+fn explanation_heading(
+    alloc: Global,
+    name: &Name,
+    explanation: &Explanation,
+) -> Result<Vec<u8>, AllocError>
     ensures { IfOk result (λ line. are_printable line.items ≡ true) }
 {
     law_escaped_is_printable();
     let mut line = Vec::from_slice(alloc, name.as_slice())?;
     put_verdict(alloc, &mut line, explanation)?;
-    line.extend_from_slice(&first_words(alloc, explanation)?)?;
+    line.extend_from_slice(&heading_words(alloc, explanation)?)?;
     escaped(alloc, &line)
 }
 
@@ -136,8 +140,8 @@ fn leftovers_heading(
 fn put_cause(alloc: Global, out: &mut Vec<u8>, cause: &Cause) -> Result<(), AllocError>
     ensures { OnOk result (AddsLines out.old.items out.new.items) }
 {
-    put_inserts(alloc, out, cause)?;
-    put_facts(alloc, out, &facts_of(alloc, cause)?)?;
+    put_insert_suggestions(alloc, out, cause)?;
+    put_facts(alloc, out, &facts_of_cause(alloc, cause)?)?;
     match cause {
         Cause::Syntax(refusal) => put_refusal(alloc, out, refusal),
         Cause::Rule(violation) => put_violation(alloc, out, violation),
@@ -147,7 +151,7 @@ fn put_cause(alloc: Global, out: &mut Vec<u8>, cause: &Cause) -> Result<(), Allo
                 alloc,
                 out,
                 &failure.unmatched,
-                failure.listed_origins(),
+                failure.unmatched_origins(),
                 &failure.sender,
             )
         }
@@ -172,7 +176,7 @@ fn put_dropped(
 
 /// Adds the packets that no line asks for, as lines to insert.
 #[tactic(auto, using(crate::proofs::BlockLemmas::no_lines))]
-fn put_inserts(alloc: Global, out: &mut Vec<u8>, cause: &Cause) -> Result<(), AllocError>
+fn put_insert_suggestions(alloc: Global, out: &mut Vec<u8>, cause: &Cause) -> Result<(), AllocError>
     ensures { OnOk result (AddsLines out.old.items out.new.items) }
 {
     match cause {
@@ -225,12 +229,12 @@ fn put_number(alloc: Global, out: &mut Vec<u8>, number: u64) -> Result<(), Alloc
 }
 
 /// Adds a line as it is shown, indented and cut.
-fn put_line(alloc: Global, out: &mut Vec<u8>, line: &[u8]) -> Result<(), AllocError>
+fn put_truncated_line(alloc: Global, out: &mut Vec<u8>, line: &[u8]) -> Result<(), AllocError>
     ensures { OnOk result (AddsLines out.old.items out.new.items) }
 {
     law_escaped_is_printable();
     let line = truncated(alloc, &escaped(alloc, line)?)?;
-    add_line(out, &line)
+    put_indented_line(out, &line)
 }
 
 /// Adds a line as it is shown, indented and not cut.
@@ -239,12 +243,12 @@ fn put_whole_line(alloc: Global, out: &mut Vec<u8>, line: &[u8]) -> Result<(), A
 {
     law_escaped_is_printable();
     let line = escaped(alloc, line)?;
-    add_line(out, &line)
+    put_indented_line(out, &line)
 }
 
 /// Adds a line that is shown and cut already, indented.
 #[tactic(auto, using(crate::proofs::BlockLemmas::one_line))]
-fn add_line(out: &mut Vec<u8>, line: &[u8]) -> Result<(), AllocError>
+fn put_indented_line(out: &mut Vec<u8>, line: &[u8]) -> Result<(), AllocError>
     requires { are_printable line.now ≡ true }
     ensures { OnOk result (AddsLines out.old.items out.new.items) }
 {
@@ -279,7 +283,7 @@ fn put_fact(
     put_words(&mut line, label)?;
     put_words(&mut line, ": ")?;
     put_value(alloc, &mut line, value)?;
-    put_line(alloc, out, &line)
+    put_truncated_line(alloc, out, &line)
 }
 
 /// Adds what is reported; octets as they are.
@@ -321,7 +325,7 @@ fn put_unmatched_and_sender(
     ensures { OnOk result (AddsLines out.old.items out.new.items) }
 {
     put_unmatched(alloc, out, unmatched, origins)?;
-    put_sender_lines(alloc, out, sender)
+    put_sender_line(alloc, out, sender)
 }
 
 /// Adds the packets that were put out and not taken, each with what let it go.
@@ -346,7 +350,7 @@ fn put_unmatched(
 }
 
 /// Whether PRR's counts are among the facts of a sender.
-fn has_reduction(sender: &SenderSnapshot) -> bool {
+fn has_prr_counts(sender: &SenderSnapshot) -> bool {
     match sender.connection_snapshot {
         Some(connection_snapshot) => match connection_snapshot.windows {
             Some(windows) => windows.prr.is_some(),
@@ -357,7 +361,7 @@ fn has_reduction(sender: &SenderSnapshot) -> bool {
 }
 
 /// Adds how the sender stands, in one line, which isn't cut where it has PRR's counts too.
-fn put_sender_lines(
+fn put_sender_line(
     alloc: Global,
     out: &mut Vec<u8>,
     sender: &SenderSnapshot,
@@ -366,11 +370,11 @@ fn put_sender_lines(
 {
     let mut line = Vec::new(alloc);
     put_words(&mut line, "state: ")?;
-    put_state(alloc, &mut line, sender)?;
-    if has_reduction(sender) {
+    put_sender_state(alloc, &mut line, sender)?;
+    if has_prr_counts(sender) {
         return put_whole_line(alloc, out, &line);
     }
-    put_line(alloc, out, &line)
+    put_truncated_line(alloc, out, &line)
 }
 
 /// How a sender stands: the name of its state, and its numbers, each after its name and a colon, with a blank before each.
@@ -379,19 +383,23 @@ fn put_sender_lines(
 /// `AllocError` where a growth is refused.
 pub fn write_sender(alloc: Global, sender: &SenderSnapshot) -> Result<Vec<u8>, AllocError> {
     let mut out = Vec::new(alloc);
-    put_state(alloc, &mut out, sender)?;
+    put_sender_state(alloc, &mut out, sender)?;
     Ok(out)
 }
 
-fn put_state(alloc: Global, out: &mut Vec<u8>, sender: &SenderSnapshot) -> Result<(), AllocError> {
+fn put_sender_state(
+    alloc: Global,
+    out: &mut Vec<u8>,
+    sender: &SenderSnapshot,
+) -> Result<(), AllocError> {
     put_words(out, state_name(sender.state))?;
     for fact in &facts_of_sender(alloc, sender)? {
-        put_number_fact(alloc, out, fact)?;
+        put_inline_fact(alloc, out, fact)?;
     }
     Ok(())
 }
 
-fn put_number_fact(alloc: Global, out: &mut Vec<u8>, fact: &Fact<'_>) -> Result<(), AllocError> {
+fn put_inline_fact(alloc: Global, out: &mut Vec<u8>, fact: &Fact<'_>) -> Result<(), AllocError> {
     put_words(out, " ")?;
     put_words(out, fact.label)?;
     put_words(out, ":")?;
@@ -407,10 +415,10 @@ fn put_violation(
 ) -> Result<(), AllocError>
     ensures { OnOk result (AddsLines out.old.items out.new.items) }
 {
-    put_marked(alloc, out, &violation.part.text, violation.part.column)?;
-    put_some(alloc, out, "found", violation.rule.found())?;
+    put_line_with_mark(alloc, out, &violation.part.text, violation.part.column)?;
+    put_words_if_some(alloc, out, "found", violation.rule.found_in_words())?;
     put_alternatives(alloc, out, &violation.alternatives)?;
-    put_some(alloc, out, "mend", violation.rule.mend())
+    put_words_if_some(alloc, out, "mend", violation.rule.mend_in_words())
 }
 
 /// Adds the calls or flags that are run, where they are reported.
@@ -425,12 +433,12 @@ fn put_alternatives(
     if alternatives.is_empty() {
         return Ok(());
     }
-    put_list(alloc, out, "runs:", alternatives)
+    put_labeled_list(alloc, out, "runs:", alternatives)
 }
 
 /// Adds words after a label, where there are any.
 #[tactic(auto, using(crate::proofs::BlockLemmas::no_lines))]
-fn put_some(
+fn put_words_if_some(
     alloc: Global,
     out: &mut Vec<u8>,
     label: &str,
@@ -450,25 +458,25 @@ fn put_refusal(alloc: Global, out: &mut Vec<u8>, refusal: &Refusal) -> Result<()
     ensures { OnOk result (AddsLines out.old.items out.new.items) }
 {
     match refusal.mark {
-        Some(mark) => put_marked(alloc, out, &refusal.text, mark)?,
-        None => put_end(alloc, out, &refusal.text)?,
+        Some(mark) => put_line_with_mark(alloc, out, &refusal.text, mark)?,
+        None => put_refused_end_of_text(alloc, out, &refusal.text)?,
     }
-    put_some(alloc, out, "found", refusal.found())?;
-    put_list(alloc, out, "expected:", &refusal.expected)
+    put_words_if_some(alloc, out, "found", refusal.found_in_words())?;
+    put_labeled_list(alloc, out, "expected:", &refusal.expected)
 }
 
 /// Adds a line, and that it is the end of the text that is refused.
 #[tactic(auto, using(crate::proofs::BlockLemmas::then_lines))]
-fn put_end(alloc: Global, out: &mut Vec<u8>, text: &[u8]) -> Result<(), AllocError>
+fn put_refused_end_of_text(alloc: Global, out: &mut Vec<u8>, text: &[u8]) -> Result<(), AllocError>
     ensures { OnOk result (AddsLines out.old.items out.new.items) }
 {
-    put_line(alloc, out, text)?;
-    put_line(alloc, out, b"at the end of the text")
+    put_truncated_line(alloc, out, text)?;
+    put_truncated_line(alloc, out, b"at the end of the text")
 }
 
 /// Adds a line, and one that marks a column of it.
 #[tactic(auto, using(crate::proofs::BlockLemmas::then_lines))]
-fn put_marked(
+fn put_line_with_mark(
     alloc: Global,
     out: &mut Vec<u8>,
     text: &[u8],
@@ -477,22 +485,22 @@ fn put_marked(
     ensures { OnOk result (AddsLines out.old.items out.new.items) }
 {
     let (line, column) = truncated_around(alloc, text, column)?;
-    put_line(alloc, out, &line)?;
-    put_mark(alloc, out, column)
+    put_truncated_line(alloc, out, &line)?;
+    put_mark_line(alloc, out, column)
 }
 
 /// Adds a line that marks a column.
-fn put_mark(alloc: Global, out: &mut Vec<u8>, column: usize) -> Result<(), AllocError>
+fn put_mark_line(alloc: Global, out: &mut Vec<u8>, column: usize) -> Result<(), AllocError>
     ensures { OnOk result (AddsLines out.old.items out.new.items) }
 {
     let mut line = Vec::new(alloc);
     line.resize(column, b' ')?;
     line.push(b'^')?;
-    put_line(alloc, out, &line)
+    put_truncated_line(alloc, out, &line)
 }
 
 /// Adds words after a label, as a list in a sentence.
-fn put_list(
+fn put_labeled_list(
     alloc: Global,
     out: &mut Vec<u8>,
     label: &str,
@@ -503,14 +511,14 @@ fn put_list(
     let mut line = Vec::new(alloc);
     put_words(&mut line, label)?;
     for (place, words) in items.iter().enumerate() {
-        put_words(&mut line, before_item(place, items.len()))?;
+        put_words(&mut line, list_separator(place, items.len()))?;
         line.extend_from_slice(words)?;
     }
-    put_line(alloc, out, &line)
+    put_truncated_line(alloc, out, &line)
 }
 
 /// The text before an item of a list of so many.
-fn before_item(place: usize, count: usize) -> &'static str {
+fn list_separator(place: usize, count: usize) -> &'static str {
     if place == 0 {
         " "
     } else if place.saturating_add(1) == count {

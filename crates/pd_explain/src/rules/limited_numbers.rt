@@ -2,7 +2,7 @@
 ghost use Rattle.std.specs.Prelude.{◌≡◌};
 ghost use Rattle.std.specs.List.{list_any};
 ghost use Rattle.pd_run.specs.Limits.{is_long, written_times, written_blocking_end, is_action_over, is_block_over};
-ghost use Rattle.pd_explain.specs.Rules.{limit_of, where_so, above, some_above, option_over, first_option_over, options_over, packet_over, action_over, number_over};
+ghost use Rattle.pd_explain.specs.Rules.{limit_of, where_so, if_exceeded_by, if_exceeded_by_some, number_over_in_option, first_option_over, number_over_in_options, number_over_in_packet, number_over_in_action, first_number_over_limit};
 ghost use Rattle.pd_explain.specs.declared.rules.limited_numbers.LimitedNumber.TheVariants.{Edge};
 
 use pd_script::{
@@ -96,8 +96,8 @@ impl LimitedNumber {
     }
 
     /// The number, where it is above its limit.
-    fn above(self, value: u64) -> Option<LimitedNumber>
-        ensures { result ≡ above self value }
+    fn if_exceeded_by(self, value: u64) -> Option<LimitedNumber>
+        ensures { result ≡ if_exceeded_by self value }
     {
         if value > self.limit() {
             Some(self)
@@ -107,24 +107,24 @@ impl LimitedNumber {
     }
 
     /// The same, where it is written.
-    fn some_above(self, value: Option<u32>) -> Option<LimitedNumber>
-        ensures { result ≡ some_above self value }
+    fn if_exceeded_by_some(self, value: Option<u32>) -> Option<LimitedNumber>
+        ensures { result ≡ if_exceeded_by_some self value }
     {
         match value {
             None => None,
-            Some(value) => self.above(u64::from(value)),
+            Some(value) => self.if_exceeded_by(u64::from(value)),
         }
     }
 }
 
 /// The first number of an event that is over its limit.
-pub fn number_over(event: &Event) -> Option<LimitedNumber>
-    ensures { result ≡ number_over event.now }
+pub fn first_number_over_limit(event: &Event) -> Option<LimitedNumber>
+    ensures { result ≡ first_number_over_limit event.now }
 {
     if is_time_long(event.time) || is_blocking_end_long(event.blocking_end) {
         return Some(LimitedNumber::Time);
     }
-    action_over(&event.action)
+    number_over_in_action(&event.action)
 }
 
 /// Whether a written time is over the limit.
@@ -150,14 +150,14 @@ fn is_blocking_end_long(blocking_end: Option<BlockingEnd>) -> bool
     }
 }
 
-fn action_over(action: &Action) -> Option<LimitedNumber>
-    ensures { result ≡ action_over action.now }
+fn number_over_in_action(action: &Action) -> Option<LimitedNumber>
+    ensures { result ≡ number_over_in_action action.now }
 {
     match action {
-        Action::Inbound(packet) => packet_over(packet),
-        Action::Outbound(packet) => packet_over(packet),
+        Action::Inbound(packet) => number_over_in_packet(packet),
+        Action::Outbound(packet) => number_over_in_packet(packet),
         Action::Call(call) => {
-            if is_write_over(call) {
+            if is_write_count_over(call) {
                 Some(LimitedNumber::Write)
             } else {
                 None
@@ -168,7 +168,7 @@ fn action_over(action: &Action) -> Option<LimitedNumber>
     }
 }
 
-fn is_write_over(call: &Call) -> bool
+fn is_write_count_over(call: &Call) -> bool
     ensures { result ≡ is_action_over (Action.Call call.now) }
 {
     match (call.function, call.arguments.as_slice().get(2)) {
@@ -177,23 +177,23 @@ fn is_write_over(call: &Call) -> bool
     }
 }
 
-fn packet_over(packet: &Packet) -> Option<LimitedNumber>
-    ensures { result ≡ packet_over packet.now }
+fn number_over_in_packet(packet: &Packet) -> Option<LimitedNumber>
+    ensures { result ≡ number_over_in_packet packet.now }
 {
     LimitedNumber::Start
-        .above(u64::from(packet.start))
-        .or(LimitedNumber::End.above(u64::from(packet.end)))
-        .or(LimitedNumber::Ack.some_above(packet.ack))
-        .or(LimitedNumber::Window.some_above(packet.win))
-        .or(list_over(&packet.options))
+        .if_exceeded_by(u64::from(packet.start))
+        .or(LimitedNumber::End.if_exceeded_by(u64::from(packet.end)))
+        .or(LimitedNumber::Ack.if_exceeded_by_some(packet.ack))
+        .or(LimitedNumber::Window.if_exceeded_by_some(packet.win))
+        .or(number_over_in_options(&packet.options))
 }
 
-fn list_over(options: &Options) -> Option<LimitedNumber>
-    ensures { result ≡ options_over options.now }
+fn number_over_in_options(options: &Options) -> Option<LimitedNumber>
+    ensures { result ≡ number_over_in_options options.now }
 {
     match options {
         Options::Listed(list) => {
-            if let Some(number) = LimitedNumber::Options.above(list.len() as u64) {
+            if let Some(number) = LimitedNumber::Options.if_exceeded_by(list.len() as u64) {
                 return Some(number);
             }
             first_option_over(list.as_slice())
@@ -207,39 +207,39 @@ fn first_option_over(options: &[PacketOption]) -> Option<LimitedNumber>
     ensures { result ≡ first_option_over options.now }
 {
     for option in options {
-        if let Some(number) = option_over(option) {
+        if let Some(number) = number_over_in_option(option) {
             return Some(number);
         }
     }
     None
 }
 
-fn option_over(option: &PacketOption) -> Option<LimitedNumber>
-    ensures { result ≡ option_over option.now }
+fn number_over_in_option(option: &PacketOption) -> Option<LimitedNumber>
+    ensures { result ≡ number_over_in_option option.now }
 {
     match option {
-        PacketOption::Mss(octets) => LimitedNumber::Mss.above(*octets),
-        PacketOption::Wscale(count) => LimitedNumber::Shift.above(*count),
+        PacketOption::Mss(octets) => LimitedNumber::Mss.if_exceeded_by(*octets),
+        PacketOption::Wscale(count) => LimitedNumber::Shift.if_exceeded_by(*count),
         PacketOption::Sack(blocks) => {
             LimitedNumber::Blocks
-                .above(blocks.len() as u64)
-                .or(edge_over(blocks.as_slice()))
+                .if_exceeded_by(blocks.len() as u64)
+                .or(number_over_in_blocks(blocks.as_slice()))
         }
         _ => None,
     }
 }
 
-fn edge_over(blocks: &[SackBlock]) -> Option<LimitedNumber>
+fn number_over_in_blocks(blocks: &[SackBlock]) -> Option<LimitedNumber>
     ensures { result ≡ where_so (list_any is_block_over blocks.now) Edge }
 {
-    if is_edge_high(blocks) {
+    if has_edge_over_limit(blocks) {
         Some(LimitedNumber::Edge)
     } else {
         None
     }
 }
 
-fn is_edge_high(blocks: &[SackBlock]) -> bool
+fn has_edge_over_limit(blocks: &[SackBlock]) -> bool
     ensures { result ≡ list_any is_block_over blocks.now }
 {
     let highest = LimitedNumber::Edge.limit();

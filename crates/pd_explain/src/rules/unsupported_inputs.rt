@@ -5,7 +5,7 @@ ghost use Rattle.pd_host.specs.Connection.{ConnectionView};
 ghost use Rattle.pd_host.specs.ConnectionSnapshot.{connection_snapshot_in};
 ghost use Rattle.pd_host.specs.Handshake.{is_listening, is_syn_alone};
 ghost use Rattle.pd_run.specs.InboundSegment.{segment_in};
-ghost use Rattle.pd_explain.specs.Rules.{opening_rule, is_closed_by, contents_rule, arrival_rule, refused_call, input_rule};
+ghost use Rattle.pd_explain.specs.Rules.{first_segment_rule, is_closed_by, connection_segment_rule, arrival_rule, unsupported_call_rule, input_rule};
 
 use pd_host::{ConnState, Host};
 use pd_script::{Action, Function, Packet, PacketFlags};
@@ -80,15 +80,15 @@ pub fn input_rule(action: &Action, host: &Host) -> Option<UnsupportedInput>
 {
     match action {
         Action::Inbound(packet) => Some(arrival_rule(packet, host)),
-        Action::Call(call) => Some(refused_call(call.function)),
+        Action::Call(call) => Some(unsupported_call_rule(call.function)),
         Action::Outbound(_) => None,
         Action::Command => None,
         Action::Code => None,
     }
 }
 
-fn refused_call(function: Function) -> UnsupportedInput
-    ensures { result ≡ refused_call function }
+fn unsupported_call_rule(function: Function) -> UnsupportedInput
+    ensures { result ≡ unsupported_call_rule function }
 {
     match function {
         Function::Socket => UnsupportedInput::SecondSocket,
@@ -100,8 +100,8 @@ fn arrival_rule(packet: &Packet, host: &Host) -> UnsupportedInput
     ensures { result ≡ arrival_rule host.now.state (segment_in packet.now) }
 {
     match host.connection_snapshot() {
-        None => opening_rule(packet, host),
-        Some(connection_snapshot) => contents_rule(
+        None => first_segment_rule(packet, host),
+        Some(connection_snapshot) => connection_segment_rule(
             packet,
             host.state().is_closed(),
             connection_snapshot.is_reset,
@@ -110,9 +110,9 @@ fn arrival_rule(packet: &Packet, host: &Host) -> UnsupportedInput
 }
 
 /// Of a first segment.
-fn opening_rule(packet: &Packet, host: &Host) -> UnsupportedInput
+fn first_segment_rule(packet: &Packet, host: &Host) -> UnsupportedInput
     requires { connection_snapshot_in host.now.state ≡ None }
-    ensures { result ≡ opening_rule host.now.state.endpoint.listener (segment_in packet.now) }
+    ensures { result ≡ first_segment_rule host.now.state.endpoint.listener (segment_in packet.now) }
 {
     if !is_listening(host) {
         UnsupportedInput::NotListening
@@ -137,8 +137,8 @@ fn is_syn_alone(flags: PacketFlags) -> bool
 }
 
 /// Of a segment on a connection, by whether it is closed, and by an RST.
-fn contents_rule(packet: &Packet, is_closed: bool, is_reset: bool) -> UnsupportedInput
-    ensures { (c : ConnectionView) → is_closed ≡ is_closed_by c → is_reset ≡ c.is_reset → result ≡ contents_rule c (segment_in packet.now) }
+fn connection_segment_rule(packet: &Packet, is_closed: bool, is_reset: bool) -> UnsupportedInput
+    ensures { (c : ConnectionView) → is_closed ≡ is_closed_by c → is_reset ≡ c.is_reset → result ≡ connection_segment_rule c (segment_in packet.now) }
 {
     if packet.end > packet.start {
         UnsupportedInput::Payload

@@ -1,9 +1,9 @@
 //! Shapes of events and header items that aren't run, wherever they are written.
 ghost use Rattle.std.specs.Prelude.{◌≡◌};
-ghost use Rattle.pd_run.specs.Times.{is_single};
+ghost use Rattle.pd_run.specs.Times.{is_single_moment};
 ghost use Rattle.pd_explain.specs.Rules.{call_shape, packet_shape, action_shape, shape_rule};
 
-use pd_host::is_run;
+use pd_host::is_shape_supported;
 use pd_script::{Action, Call, Event, Function, Packet, Time};
 
 /// Shapes of events and header items that aren't run, wherever they are written.
@@ -76,8 +76,8 @@ pub fn shape_rule(event: &Event) -> Option<UnsupportedShape>
     action_shape(event.time, &event.action)
 }
 
-fn is_single(time: Time) -> bool
-    ensures { result ≡ is_single time }
+fn is_single_moment(time: Time) -> bool
+    ensures { result ≡ is_single_moment time }
 {
     matches!(time, Time::Absolute(_) | Time::Relative(_))
 }
@@ -87,7 +87,7 @@ fn action_shape(time: Time, action: &Action) -> Option<UnsupportedShape>
 {
     match action {
         Action::Inbound(packet) => {
-            if is_single(time) {
+            if is_single_moment(time) {
                 packet_shape(packet)
             } else {
                 Some(UnsupportedShape::InboundTime)
@@ -95,7 +95,7 @@ fn action_shape(time: Time, action: &Action) -> Option<UnsupportedShape>
         }
         Action::Outbound(packet) => packet_shape(packet),
         Action::Call(call) => {
-            if is_single(time) {
+            if is_single_moment(time) {
                 call_shape(call)
             } else {
                 Some(UnsupportedShape::CallTime)
@@ -119,7 +119,7 @@ fn packet_shape(packet: &Packet) -> Option<UnsupportedShape>
 fn call_shape(call: &Call) -> Option<UnsupportedShape>
     ensures { result ≡ call_shape call.now }
 {
-    if is_run(call) {
+    if is_shape_supported(call) {
         return None;
     }
     match call.function {

@@ -1,7 +1,7 @@
 //! The changes of a connection by an acceptable ACK.
 ghost use Rattle.std.specs.Prelude.{◌≡◌, ◌+◌, ◌-◌, ◌≤◌, ◌<◌, ◌^◌, ◌&&◌, nat_lt, nat_le, false, Some, IfOk, OnOk, IfSome};
 ghost use Rattle.pd_board.specs.Retransmit.{run_at};
-ghost use Rattle.pd_board.specs.Loss.{sacked_octets, undelivered, lost_edge};
+ghost use Rattle.pd_board.specs.Loss.{sacked_octets, undelivered_octets, lost_edge};
 ghost use Rattle.pd_recover.specs.NextSeg.{IsSendable, segment_of};
 ghost use Rattle.pd_host.specs.AckEffects.{with_block_marked, with_blocks_marked, blocks_in, blocks_of, with_blocks, blocks_marked, with_timing, with_new_window, sack_news_of, with_prr_cwnd_on, cwnd_after, with_ack, ack_of_segment, congestion_updated, taking, next_fill, sent_as, fill_noted_by, fill_noted_on, octets_of, pipe_of, entered_on};
 ghost use Rattle.pd_host.specs.Handshake.{before_eol};
@@ -29,18 +29,18 @@ struct BoardBeforeAck {
     /// How many octets are SACKed.
     sacked: u32,
     /// How many octets are outstanding and not SACKed.
-    undelivered: u32,
+    undelivered_octets: u32,
     /// The number after the highest octet that is lost.
     lost_edge: u32,
 }
 
 impl BoardBeforeAck {
     fn of(board: &Board) -> BoardBeforeAck
-        ensures { result ≡ record { sacked = sacked_octets board.now; undelivered = undelivered board.now; lost_edge = lost_edge board.now } }
+        ensures { result ≡ record { sacked = sacked_octets board.now; undelivered_octets = undelivered_octets board.now; lost_edge = lost_edge board.now } }
     {
         BoardBeforeAck {
             sacked: board.sacked_octets(),
-            undelivered: board.undelivered(),
+            undelivered_octets: board.undelivered_octets(),
             lost_edge: board.lost_edge(),
         }
     }
@@ -48,11 +48,11 @@ impl BoardBeforeAck {
     /// The octets that the ACK delivers, by the scoreboard after it and how many octets it acknowledges.
     fn delivery(self, acked: u32, board: &Board) -> Delivery
         requires { acked < 2 ^ 31 }
-        ensures { result ≡ record { delivered_data = acked + sacked_octets board.now - self.sacked; recover_fs = self.undelivered; safe_ack = nat_lt 0 acked && nat_le (lost_edge board.now) self.lost_edge } }
+        ensures { result ≡ record { delivered_data = acked + sacked_octets board.now - self.sacked; recover_fs = self.undelivered_octets; safe_ack = nat_lt 0 acked && nat_le (lost_edge board.now) self.lost_edge } }
     {
         Delivery {
             delivered_data: (acked + board.sacked_octets()).saturating_sub(self.sacked),
-            recover_fs: self.undelivered,
+            recover_fs: self.undelivered_octets,
             safe_ack: acked > 0 && board.lost_edge() <= self.lost_edge,
         }
     }
@@ -82,7 +82,11 @@ fn mark_blocks(board: &mut Board, blocks: &[Span], so_far: bool) -> Result<bool,
     Ok(fresh)
 }
 
-fn mark_option(board: &mut Board, option: &SegOption, so_far: bool) -> Result<bool, AllocError>
+fn mark_blocks_of_option(
+    board: &mut Board,
+    option: &SegOption,
+    so_far: bool,
+) -> Result<bool, AllocError>
     ensures ok { IfOk result (λ fresh. (board.new, fresh) ≡ with_blocks_marked (blocks_in option.now) (board.old, so_far)) }
     ensures una { board.new.una ≡ board.old.una }
 {
@@ -93,7 +97,7 @@ fn mark_option(board: &mut Board, option: &SegOption, so_far: bool) -> Result<bo
 }
 
 /// Marks the blocks before the end of the options. The answer says whether they reported a new octet.
-fn mark_options(board: &mut Board, options: &[SegOption]) -> Result<bool, AllocError>
+fn mark_blocks_of_options(board: &mut Board, options: &[SegOption]) -> Result<bool, AllocError>
     ensures ok { IfOk result (λ fresh. (board.new, fresh) ≡ with_blocks_marked (blocks_of (before_eol options.now)) (board.old, false)) }
     ensures una { board.new.una ≡ board.old.una }
 {
@@ -102,13 +106,13 @@ fn mark_options(board: &mut Board, options: &[SegOption]) -> Result<bool, AllocE
         if let SegOption::Eol = option {
             return Ok(fresh);
         }
-        fresh = mark_option(board, option, fresh)?;
+        fresh = mark_blocks_of_option(board, option, fresh)?;
     }
     Ok(fresh)
 }
 
 /// Congestion control notes a segment that filled the room of its window.
-fn note_by(congestion: &mut Cong, filling: WindowFill, sent: &NextSegment)
+fn note_fill_in_congestion(congestion: &mut Cong, filling: WindowFill, sent: &NextSegment)
     requires some { (segment_of sent.now).start ≤ (segment_of sent.now).end }
     requires short { octets_of (segment_of sent.now) ≤ 65495 }
     ensures { congestion.new ≡ fill_noted_by filling sent.now congestion.old }
@@ -117,7 +121,7 @@ fn note_by(congestion: &mut Cong, filling: WindowFill, sent: &NextSegment)
         WindowFill::NextSeg => congestion.note_sent(sent),
         WindowFill::NewData => {
             let segment = sent.segment();
-            congestion.count_limited(segment.end - segment.start);
+            congestion.count_limited_transmit_octets(segment.end - segment.start);
         }
     }
 }
@@ -128,7 +132,11 @@ impl Connection {
     ///
     /// # Errors
     /// `AllocError` where the scoreboard finds no memory for a block, or has found none before.
-    pub fn take(&mut self, segment: &Segment, now: u64) -> Result<AckAction, AllocError>
+    pub fn process_acceptable_segment(
+        &mut self,
+        segment: &Segment,
+        now: u64,
+    ) -> Result<AckAction, AllocError>
         requires early { now < 2 ^ 62 }
         requires known { self.old.board.una ≤ segment.now.ack }
         requires sent { segment.now.ack ≤ self.old.board.top }
@@ -178,7 +186,7 @@ impl Connection {
         if !self.sack {
             return Ok(false);
         }
-        let fresh = mark_options(&mut self.board, segment.options.as_slice())?;
+        let fresh = mark_blocks_of_options(&mut self.board, segment.options.as_slice())?;
         Ok(fresh)
     }
 
@@ -199,8 +207,8 @@ impl Connection {
     fn update_window(&mut self, segment: &Segment, established: &mut Established)
         ensures { (self.new, established.new) ≡ with_new_window segment.now established.old self.old }
     {
-        if established.is_current(segment) {
-            let window = self.window_in(segment);
+        if established.can_update_window(segment) {
+            let window = self.scaled_window_in(segment);
             established.take_window(segment, window);
             self.max_window = self.max_window.max(window);
         }
@@ -239,18 +247,18 @@ impl Connection {
             rwnd: after.rwnd,
             acked,
             delivery,
-            same_window: self.window_in(segment) == rwnd,
+            same_window: self.scaled_window_in(segment) == rwnd,
             fin: segment.flags.fin,
             sack: self.sack_news(fresh),
         };
         let next = after.congestion.on_ack(ack);
-        self.set_prr_cwnd_before(next, &mut after.congestion);
+        self.set_prr_cwnd_before_sending(next, &mut after.congestion);
         self.established = Some(after);
         next
     }
 
     /// The window of what follows: by PRR it is set before anything is sent.
-    fn set_prr_cwnd_before(&self, next: AckAction, congestion: &mut Cong)
+    fn set_prr_cwnd_before_sending(&self, next: AckAction, congestion: &mut Cong)
         ensures { congestion.new ≡ record congestion.old { cwnd = cwnd_after next self.now congestion.old } }
     {
         match next {
@@ -280,20 +288,20 @@ impl Connection {
     }
 
     /// The segment that recovery begins with.
-    pub fn first(&self) -> Span
+    pub fn first_recovery_segment(&self) -> Span
         ensures { result ≡ run_at self.now.board.una self.now.board }
     {
         self.board.run_at(self.board.una())
     }
 
     /// Recovery has begun with this segment: HighRxt and RescueRxt, and by PRR what was sent.
-    pub fn enter_recovery(&mut self, segment: Span)
+    pub fn note_entry_retransmit(&mut self, segment: Span)
         ensures { self.new ≡ entered_on segment self.old self.old.established }
     {
         let Some(mut established) = self.established else {
             return;
         };
-        established.congestion.enter_recovery(segment);
+        established.congestion.note_entry_retransmit(segment);
         self.established = Some(established);
     }
 
@@ -309,9 +317,9 @@ impl Connection {
         established.congestion.law_invariant();
         let congestion = &established.congestion;
         match filling {
-            WindowFill::NextSeg => congestion.step_c(&self.board, established.rwnd, pipe),
+            WindowFill::NextSeg => congestion.step_c_segment(&self.board, established.rwnd, pipe),
             WindowFill::NewData => congestion
-                .limited_segment(&self.board, established.rwnd, pipe)
+                .limited_transmit_segment(&self.board, established.rwnd, pipe)
                 .map(NextSegment::New),
         }
     }
@@ -331,13 +339,13 @@ impl Connection {
         ensures { OnOk result (self.new ≡ fill_noted_on filling sent.now (sent_as now sent.now self.old) self.old.established) }
     {
         self.board.law_invariant();
-        self.note_sent_as(sent, now)?;
-        self.note_sent(filling, sent);
+        self.note_sent_new_or_again(sent, now)?;
+        self.note_sent_in_congestion(filling, sent);
         Ok(())
     }
 
     /// New octets move the sending place; octets sent again leave it.
-    fn note_sent_as(&mut self, sent: &NextSegment, now: u64) -> Result<(), AllocError>
+    fn note_sent_new_or_again(&mut self, sent: &NextSegment, now: u64) -> Result<(), AllocError>
         requires early { now < 2 ^ 62 }
         requires sendable { IsSendable self.old.board (segment_of sent.now) }
         ensures { OnOk result (self.new ≡ sent_as now sent.now self.old) }
@@ -347,19 +355,19 @@ impl Connection {
             NextSegment::Lost(segment)
             | NextSegment::Hole(segment)
             | NextSegment::Rescue(segment) => {
-                self.start_timing(segment, now);
+                self.start_rtt_and_timer(segment, now);
                 Ok(())
             }
         }
     }
 
-    fn note_sent(&mut self, filling: WindowFill, sent: &NextSegment)
+    fn note_sent_in_congestion(&mut self, filling: WindowFill, sent: &NextSegment)
         requires some { (segment_of sent.now).start ≤ (segment_of sent.now).end }
         requires short { octets_of (segment_of sent.now) ≤ 65495 }
         ensures { self.new ≡ fill_noted_on filling sent.now self.old self.old.established }
     {
         if let Some(established) = &mut self.established {
-            note_by(&mut established.congestion, filling, sent);
+            note_fill_in_congestion(&mut established.congestion, filling, sent);
         }
     }
 }

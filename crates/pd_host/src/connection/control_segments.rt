@@ -1,7 +1,7 @@
 //! The segments that the handshake and its checks put out.
 ghost use Rattle.std.specs.Prelude.{◌≡◌, ◌≤◌, [], IfOk, OnOk};
 ghost use Rattle.pd_host.specs.Inner.{IsScalable};
-ghost use Rattle.pd_host.specs.Packets.{own_count, shifted_window, ack_of, syn_ack_of, refusal_of};
+ghost use Rattle.pd_host.specs.Packets.{own_window_shift, own_window_field, ack_of, syn_ack_of, refusal_of};
 
 use super::Connection;
 use crate::connection::Scaling;
@@ -21,9 +21,9 @@ pub(super) const NO_FLAGS: Flags = Flags {
 };
 
 /// By how much the windows that we send are shifted.
-fn own_count(scaling: Option<Scaling>) -> u8
+fn own_window_shift(scaling: Option<Scaling>) -> u8
     requires { IsScalable scaling }
-    ensures count { result ≡ own_count scaling }
+    ensures count { result ≡ own_window_shift scaling }
     ensures small { result ≤ 14 }
 {
     match scaling {
@@ -33,7 +33,7 @@ fn own_count(scaling: Option<Scaling>) -> u8
 }
 
 /// The RST that refuses an ack number.
-pub fn refusal(ack: u32, alloc: Global) -> Segment
+pub fn refusing_rst(ack: u32, alloc: Global) -> Segment
     ensures { result ≡ refusal_of ack }
 {
     Segment {
@@ -58,7 +58,7 @@ impl Connection {
         ensures { IfOk result (λ segment. segment ≡ syn_ack_of self.now) }
     {
         let mut options = SegOptions::new(alloc);
-        self.put_options(&mut options)?;
+        self.push_syn_ack_options(&mut options)?;
         Ok(Segment {
             flags: Flags {
                 syn: true,
@@ -74,7 +74,7 @@ impl Connection {
     }
 
     /// Puts down the options of the SYN/ACK.
-    fn put_options(&self, options: &mut SegOptions) -> Result<(), AllocError>
+    fn push_syn_ack_options(&self, options: &mut SegOptions) -> Result<(), AllocError>
         requires { options.old ≡ [] }
         ensures { OnOk result (options.new ≡ (syn_ack_of self.now).options) }
     {
@@ -92,10 +92,10 @@ impl Connection {
     }
 
     /// The window field of a segment that is no SYN.
-    pub(super) fn shifted_window(&self) -> u16
-        ensures { result ≡ shifted_window self.now }
+    pub(super) fn own_window_field(&self) -> u16
+        ensures { result ≡ own_window_field self.now }
     {
-        let shifted = self.rcv_wnd >> own_count(self.scaling);
+        let shifted = self.rcv_wnd >> own_window_shift(self.scaling);
         shifted.min(MAX_WINDOW_FIELD) as u16
     }
 
@@ -111,7 +111,7 @@ impl Connection {
             start: self.board.top(),
             end: self.board.top(),
             ack: self.rcv_nxt(),
-            win: self.shifted_window(),
+            win: self.own_window_field(),
             options: SegOptions::new(alloc),
         }
     }

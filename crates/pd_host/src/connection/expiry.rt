@@ -15,7 +15,7 @@ impl Connection {
     }
 
     /// The same, where it lies at or before a moment.
-    pub fn due(&self, until: u64) -> Option<u64>
+    pub fn deadline_up_to(&self, until: u64) -> Option<u64>
         ensures value { result ≡ due_by until self.now.timer.deadline }
         ensures early { IfSome result (λ at. at ≤ until) }
     {
@@ -47,7 +47,7 @@ impl Connection {
         self.established = Some(established);
         self.board.clear_marks();
         let segment = self.board.run_at(una);
-        let packet = self.data(segment, alloc);
+        let packet = self.data_segment(segment, alloc);
         self.board.sent(segment.end)?;
         Ok(packet)
     }

@@ -1,8 +1,8 @@
 //! The view of those who observe a connection: its numbers, and why it sends nothing by itself.
 ghost use Rattle.std.specs.Prelude.{◌≡◌, ◌+◌, nat_le, IfOk};
 ghost use Rattle.pd_host.specs.ConnectionSnapshot.{recovery_of, reduction_of, windows_of, connection_snapshot_of};
-ghost use Rattle.pd_host.specs.SendBlockers.{wanted, is_worth_sending, blocker_of_new, blocker_at, blocker_in_recovery, blocker_since, blocker_of};
-ghost use Rattle.pd_host.specs.Sending.{past_sacked};
+ghost use Rattle.pd_host.specs.SendBlockers.{last_octet_needed_in_windows, is_worth_sending, new_segment_send_blocker, ordinary_send_blocker, blocker_in_recovery, established_send_blocker, blocker_of};
+ghost use Rattle.pd_host.specs.Sending.{with_next_past_sacked};
 
 use super::Connection;
 use crate::connection_snapshot::{ConnectionSnapshot, Recovery, WindowSnapshot};
@@ -40,7 +40,7 @@ pub enum SendBlocker {
 }
 
 /// The state of PRR, where recovery goes by it.
-fn prr(congestion: &Cong) -> Option<PrrState>
+fn prr_if_used(congestion: &Cong) -> Option<PrrState>
     ensures { result ≡ reduction_of congestion.now }
 {
     if congestion.uses_prr() {
@@ -62,12 +62,12 @@ impl Connection {
             top: self.board.top(),
             end: self.board.end(),
             rto_us: self.timer.rto(),
-            windows: self.windows(),
+            windows: self.window_snapshot(),
             is_reset: self.is_reset,
         }
     }
 
-    fn windows(&self) -> Option<WindowSnapshot>
+    fn window_snapshot(&self) -> Option<WindowSnapshot>
         ensures { result ≡ windows_of self.now }
     {
         match &self.established {
@@ -78,7 +78,7 @@ impl Connection {
                 rwnd: established.rwnd,
                 dup_acks: established.congestion.dup_acks(),
                 recovery: self.recovery(established),
-                prr: prr(&established.congestion),
+                prr: prr_if_used(&established.congestion),
             }),
         }
     }
@@ -100,9 +100,9 @@ impl Connection {
     /// # Errors
     /// `AllocError` where a growth is refused, or the scoreboard has found no memory before.
     pub fn send_blocker(&self) -> Result<SendBlocker, AllocError>
-        ensures { IfOk result (λ send_blocker. send_blocker ≡ blocker_of (past_sacked self.now)) }
+        ensures { IfOk result (λ send_blocker. send_blocker ≡ blocker_of (with_next_past_sacked self.now)) }
     {
-        Ok(self.past_sacked()?.blocker_from_here())
+        Ok(self.with_next_past_sacked()?.send_blocker_from_next())
     }
 
     /// The octet that has to lie within the windows for the next segment to leave, once its sending place has moved past
@@ -110,15 +110,15 @@ impl Connection {
     ///
     /// # Errors
     /// `AllocError` where a growth is refused, or the scoreboard has found no memory before.
-    pub fn wanted_octet(&self) -> Result<u32, AllocError>
-        ensures { IfOk result (λ octet. octet ≡ wanted (past_sacked self.now)) }
+    pub fn octet_needed_in_windows(&self) -> Result<u32, AllocError>
+        ensures { IfOk result (λ octet. octet ≡ last_octet_needed_in_windows (with_next_past_sacked self.now)) }
     {
-        Ok(self.past_sacked()?.wanted())
+        Ok(self.with_next_past_sacked()?.last_octet_needed_in_windows())
     }
 
     /// The same connection with its sending place past SACKed octets.
-    fn past_sacked(&self) -> Result<Connection, AllocError>
-        ensures { IfOk result (λ ready. ready ≡ past_sacked self.now) }
+    fn with_next_past_sacked(&self) -> Result<Connection, AllocError>
+        ensures { IfOk result (λ ready. ready ≡ with_next_past_sacked self.now) }
     {
         let mut ready = self.with_board(self.board.copy()?);
         ready.skip_sacked();
@@ -126,7 +126,7 @@ impl Connection {
     }
 
     /// Why it sends nothing by itself from the sending place on.
-    fn blocker_from_here(&self) -> SendBlocker
+    fn send_blocker_from_next(&self) -> SendBlocker
         ensures { result ≡ blocker_of self.now }
     {
         if self.is_reset {
@@ -134,19 +134,19 @@ impl Connection {
         }
         match &self.established {
             None => SendBlocker::NotEstablished,
-            Some(established) => self.blocker_since(established),
+            Some(established) => self.established_send_blocker(established),
         }
     }
 
-    fn blocker_since(&self, established: &Established) -> SendBlocker
-        ensures { result ≡ blocker_since self.now established.now }
+    fn established_send_blocker(&self, established: &Established) -> SendBlocker
+        ensures { result ≡ established_send_blocker self.now established.now }
     {
         if self.board.una() == self.board.end() {
             SendBlocker::Acknowledged
         } else if self.sack && established.congestion.is_recovering() {
             self.blocker_in_recovery(established)
         } else {
-            self.blocker_at(established)
+            self.ordinary_send_blocker(established)
         }
     }
 
@@ -155,7 +155,7 @@ impl Connection {
     {
         let congestion = &established.congestion;
         let pipe = self.board.pipe(congestion.high_rxt());
-        if !congestion.has_room(&self.board, pipe) {
+        if !congestion.has_room_for_segment(&self.board, pipe) {
             return SendBlocker::PipeFull;
         }
         match congestion.next_send(&self.board, established.rwnd) {
@@ -164,33 +164,36 @@ impl Connection {
         }
     }
 
-    fn blocker_at(&self, established: &Established) -> SendBlocker
-        ensures { result ≡ blocker_at self.now established.now }
+    fn ordinary_send_blocker(&self, established: &Established) -> SendBlocker
+        ensures { result ≡ ordinary_send_blocker self.now established.now }
     {
-        let wanted = self.wanted();
+        let last_octet_needed_in_windows = self.last_octet_needed_in_windows();
         if self.board.end() <= self.board.next() {
             SendBlocker::AllSent
-        } else if self.is_beyond(established.rwnd, wanted) {
+        } else if self.is_beyond_window(established.rwnd, last_octet_needed_in_windows) {
             SendBlocker::PeerWindow
-        } else if self.is_beyond(established.congestion.cwnd(), wanted) {
+        } else if self.is_beyond_window(
+            established.congestion.cwnd(),
+            last_octet_needed_in_windows,
+        ) {
             SendBlocker::CongestionWindow
         } else if self.board.next() < self.board.top() {
             SendBlocker::Open
         } else {
-            self.blocker_of_new(established)
+            self.new_segment_send_blocker(established)
         }
     }
 
     /// Whether an octet lies beyond a window of so many octets.
-    fn is_beyond(&self, window: u32, octet: u32) -> bool
+    fn is_beyond_window(&self, window: u32, octet: u32) -> bool
         ensures { result ≡ nat_le (self.now.board.una + window) octet }
     {
         u64::from(self.board.una()) + u64::from(window) <= u64::from(octet)
     }
 
     /// The last octet that has to lie within the windows for the next segment to leave.
-    fn wanted(&self) -> u32
-        ensures { result ≡ wanted self.now }
+    fn last_octet_needed_in_windows(&self) -> u32
+        ensures { result ≡ last_octet_needed_in_windows self.now }
     {
         if self.board.next() < self.board.top() {
             self.board.run_at(self.board.next()).end.saturating_sub(1)
@@ -199,12 +202,12 @@ impl Connection {
         }
     }
 
-    fn blocker_of_new(&self, established: &Established) -> SendBlocker
-        ensures { result ≡ blocker_of_new self.now established.now }
+    fn new_segment_send_blocker(&self, established: &Established) -> SendBlocker
+        ensures { result ≡ new_segment_send_blocker self.now established.now }
     {
         if !self.is_worth_sending(established) {
             SendBlocker::PartOfSegment
-        } else if self.leaves_now(established) {
+        } else if self.can_new_segment_leave(established) {
             SendBlocker::Open
         } else {
             SendBlocker::Nagle

@@ -1,7 +1,7 @@
 //! Evidence that may lead to sending next: duplicates, and the measurements of the timer.
 ghost use Rattle.std.specs.Prelude.{◌≡◌};
 ghost use Rattle.pd_board.specs.Runs.{AreRuns};
-ghost use Rattle.pd_host.specs.LossEvidence.{sack_evidence_of, loss_evidence_of, dup_ack_status_since, dup_ack_status_of, timeout_of};
+ghost use Rattle.pd_host.specs.LossEvidence.{sack_evidence_of, loss_evidence_of, established_dup_ack_effect, dup_ack_status_of, timeout_of};
 
 use super::Connection;
 use crate::established::Established;
@@ -12,7 +12,7 @@ use pd_timer::Timeout;
 
 /// The effect of a duplicate, where octets are outstanding and no loss recovery goes on.
 #[derive(Clone, Copy)]
-pub enum DupAckStatus {
+pub enum DupAckEffect {
     /// To no recovery while SND.UNA is below this number, the one after RecoveryPoint (RFC 6675, sections 5 and 5.1).
     Below(u32),
     /// To recovery, where enough has come with it.
@@ -45,25 +45,25 @@ pub struct SackEvidence {
 
 impl Connection {
     /// The effect of a duplicate; nothing where no octet is outstanding, recovery goes on, or none is looked at.
-    pub fn dup_ack_status(&self) -> Option<DupAckStatus>
+    pub fn dup_ack_effect(&self) -> Option<DupAckEffect>
         ensures { result ≡ dup_ack_status_of self.now }
     {
         match &self.established {
             None => None,
-            Some(established) => self.dup_ack_status_since(established),
+            Some(established) => self.established_dup_ack_effect(established),
         }
     }
 
-    fn dup_ack_status_since(&self, established: &Established) -> Option<DupAckStatus>
-        ensures { result ≡ dup_ack_status_since self.now established.now }
+    fn established_dup_ack_effect(&self, established: &Established) -> Option<DupAckEffect>
+        ensures { result ≡ established_dup_ack_effect self.now established.now }
     {
         let congestion = &established.congestion;
         if self.is_reset || congestion.is_recovering() || self.board.una() == self.board.top() {
             None
         } else if self.board.una() < congestion.recovery_point() {
-            Some(DupAckStatus::Below(congestion.recovery_point()))
+            Some(DupAckEffect::Below(congestion.recovery_point()))
         } else {
-            Some(DupAckStatus::Counted(self.loss_evidence(congestion)))
+            Some(DupAckEffect::Counted(self.loss_evidence(congestion)))
         }
     }
 
@@ -74,33 +74,33 @@ impl Connection {
             dup_acks: congestion.dup_acks(),
             needed: DUP_THRESH,
             sacked: if self.sack {
-                Some(self.sacked_above())
+                Some(self.sack_evidence())
             } else {
                 None
             },
         }
     }
 
-    fn sacked_above(&self) -> SackEvidence
+    fn sack_evidence(&self) -> SackEvidence
         ensures { result ≡ sack_evidence_of self.now.board }
     {
         self.board.law_invariant();
-        let above = self.board.above(self.board.una());
+        let sacked_counts_above = self.board.sacked_counts_above(self.board.una());
         SackEvidence {
-            octets: above.octets,
+            octets: sacked_counts_above.octets,
             most: (DUP_THRESH - 1) * u32::from(self.board.smss()),
-            runs: above.runs,
+            runs: sacked_counts_above.runs,
             needed: DUP_THRESH as usize,
         }
     }
 
     /// How the timeout comes from what was measured; nothing before any measurement.
-    pub fn timeout(&self) -> Option<Timeout>
+    pub fn rto_derivation(&self) -> Option<Timeout>
         ensures { result ≡ timeout_of self.now }
     {
         match &self.established {
             None => None,
-            Some(established) => self.timer.timeout(established.granularity_us),
+            Some(established) => self.timer.rto_derivation(established.granularity_us),
         }
     }
 

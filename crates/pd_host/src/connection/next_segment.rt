@@ -1,9 +1,9 @@
 //! Which segment a connection sends next, and what a segment has.
 ghost use Rattle.std.specs.Prelude.{◌≡◌, ◌<◌, ◌^◌, Some, IfSome, IfOk};
 ghost use Rattle.pd_host.specs.Connection.{data_end};
-ghost use Rattle.pd_host.specs.Packets.{covers_fin, ends_data, data_of};
+ghost use Rattle.pd_host.specs.Packets.{covers_fin, has_last_data_octet, data_of};
 ghost use Rattle.pd_host.specs.SendBlockers.{is_worth_sending};
-ghost use Rattle.pd_host.specs.Sending.{window_edge, usable, unsent, sendable, unsent_segment, is_full, is_all_unsent, is_half_max_window, leaves_now, is_nagle_delayed, next_new, next_retransmitted, found, is_idle, restarted_if_idle, past_sacked, sent_on};
+ghost use Rattle.pd_host.specs.Sending.{window_edge, usable_window, unsent_octets, sendable_octets, unsent_segment, can_send_full_segment, can_send_all_queued, can_send_half_max_window, can_new_segment_leave, is_nagle_delayed, next_new_segment, next_retransmit_segment, found, is_idle, restarted_if_idle, with_next_past_sacked, sent_on};
 ghost use Rattle.pd_host.specs.Steps.{IsQueued};
 
 use super::Connection;
@@ -30,27 +30,27 @@ impl Connection {
         self.fin && segment.start < self.board.end() && self.board.end() <= segment.end
     }
 
-    fn ends_data(&self, segment: Span) -> bool
-        ensures { result ≡ ends_data self.now segment }
+    fn has_last_data_octet(&self, segment: Span) -> bool
+        ensures { result ≡ has_last_data_octet self.now segment }
     {
         segment.start < self.data_end() && self.data_end() <= segment.end
     }
 
     /// A segment with these octets of data.
-    pub fn data(&self, segment: Span, alloc: Global) -> Segment
+    pub fn data_segment(&self, segment: Span, alloc: Global) -> Segment
         ensures { result ≡ data_of self.now segment }
     {
         Segment {
             flags: Flags {
                 fin: self.covers_fin(segment),
-                psh: self.ends_data(segment),
+                psh: self.has_last_data_octet(segment),
                 ack: true,
                 ..NO_FLAGS
             },
             start: segment.start,
             end: segment.end.min(self.data_end()),
             ack: self.rcv_nxt(),
-            win: self.shifted_window(),
+            win: self.own_window_field(),
             options: SegOptions::new(alloc),
         }
     }
@@ -62,31 +62,33 @@ impl Connection {
     }
 
     /// U: how many octets from the sending place on the windows let leave.
-    fn usable(&self, established: &Established) -> u32
-        ensures { result ≡ usable self.now established.now }
+    fn usable_window(&self, established: &Established) -> u32
+        ensures { result ≡ usable_window self.now established.now }
     {
         self.window_edge(established)
             .saturating_sub(self.board.next())
     }
 
     /// D: how many octets are queued from there on.
-    fn unsent(&self) -> u32
-        ensures { result ≡ unsent self.now }
+    fn unsent_octets(&self) -> u32
+        ensures { result ≡ unsent_octets self.now }
     {
         self.board.end().saturating_sub(self.board.next())
     }
 
-    fn sendable(&self, established: &Established) -> u32
-        ensures { result ≡ sendable self.now established.now }
+    fn sendable_octets(&self, established: &Established) -> u32
+        ensures { result ≡ sendable_octets self.now established.now }
     {
-        self.unsent().min(self.usable(established))
+        self.unsent_octets().min(self.usable_window(established))
     }
 
     fn unsent_segment(&self, established: &Established) -> Span
         ensures value { result ≡ unsent_segment self.now established.now }
         ensures queued { IsQueued result self.now }
     {
-        let octets = self.sendable(established).min(u32::from(self.board.smss()));
+        let octets = self
+            .sendable_octets(established)
+            .min(u32::from(self.board.smss()));
         Span {
             start: self.board.next(),
             end: self.board.next() + octets,
@@ -103,32 +105,33 @@ impl Connection {
     }
 
     /// Whether a full segment can leave.
-    fn is_full(&self, established: &Established) -> bool
-        ensures { result ≡ is_full self.now established.now }
+    fn can_send_full_segment(&self, established: &Established) -> bool
+        ensures { result ≡ can_send_full_segment self.now established.now }
     {
-        self.sendable(established) >= u32::from(self.board.smss())
+        self.sendable_octets(established) >= u32::from(self.board.smss())
     }
 
     /// Whether all that is queued can leave.
-    fn is_all_unsent(&self, established: &Established) -> bool
-        ensures { result ≡ is_all_unsent self.now established.now }
+    fn can_send_all_queued(&self, established: &Established) -> bool
+        ensures { result ≡ can_send_all_queued self.now established.now }
     {
-        self.unsent() <= self.usable(established)
+        self.unsent_octets() <= self.usable_window(established)
     }
 
     /// Whether at least half of the largest window seen can leave.
-    fn is_half_max_window(&self, established: &Established) -> bool
-        ensures { result ≡ is_half_max_window self.now established.now }
+    fn can_send_half_max_window(&self, established: &Established) -> bool
+        ensures { result ≡ can_send_half_max_window self.now established.now }
     {
-        u64::from(self.sendable(established)) * 2 >= u64::from(self.max_window)
+        u64::from(self.sendable_octets(established)) * 2 >= u64::from(self.max_window)
     }
 
     /// Whether a segment of new octets leaves.
-    pub fn leaves_now(&self, established: &Established) -> bool
-        ensures { result ≡ leaves_now self.now established.now }
+    pub fn can_new_segment_leave(&self, established: &Established) -> bool
+        ensures { result ≡ can_new_segment_leave self.now established.now }
     {
-        self.is_full(established)
-            || ((self.is_all_unsent(established) || self.is_half_max_window(established))
+        self.can_send_full_segment(established)
+            || ((self.can_send_all_queued(established)
+                || self.can_send_half_max_window(established))
                 && !self.is_nagle_delayed(established))
     }
 
@@ -136,24 +139,24 @@ impl Connection {
     pub fn is_worth_sending(&self, established: &Established) -> bool
         ensures { result ≡ is_worth_sending self.now established.now }
     {
-        self.is_full(established)
-            || self.is_all_unsent(established)
-            || self.is_half_max_window(established)
+        self.can_send_full_segment(established)
+            || self.can_send_all_queued(established)
+            || self.can_send_half_max_window(established)
     }
 
-    fn next_new(&self, established: &Established) -> Option<Span>
-        ensures value { result ≡ next_new self.now established.now }
+    fn next_new_segment(&self, established: &Established) -> Option<Span>
+        ensures value { result ≡ next_new_segment self.now established.now }
         ensures queued { IfSome result (λ segment. IsQueued segment self.now) }
     {
-        if self.sendable(established) > 0 && self.leaves_now(established) {
+        if self.sendable_octets(established) > 0 && self.can_new_segment_leave(established) {
             Some(self.unsent_segment(established))
         } else {
             None
         }
     }
 
-    fn next_retransmitted(&self, established: &Established) -> Option<Span>
-        ensures value { result ≡ next_retransmitted self.now established.now }
+    fn next_retransmit_segment(&self, established: &Established) -> Option<Span>
+        ensures value { result ≡ next_retransmit_segment self.now established.now }
         ensures queued { IfSome result (λ segment. IsQueued segment self.now) }
     {
         let segment = self.board.run_at(self.board.next());
@@ -173,9 +176,9 @@ impl Connection {
             return None;
         };
         if self.board.next() < self.board.top() {
-            self.next_retransmitted(established)
+            self.next_retransmit_segment(established)
         } else {
-            self.next_new(established)
+            self.next_new_segment(established)
         }
     }
 
@@ -189,19 +192,19 @@ impl Connection {
 
     /// Sending begins at a moment: after an idle time the congestion window restarts, where the setting was on (RFC 5681,
     /// section 4.1).
-    pub fn restart_if_idle(&mut self, now: u64)
+    pub fn restart_cwnd_if_idle(&mut self, now: u64)
         ensures { self.new ≡ restarted_if_idle now self.old }
     {
         let idle = self.is_idle(now);
         let smss = self.board.smss();
         if let Some(established) = &mut self.established {
-            established.congestion.restart(smss, idle);
+            established.congestion.restart_cwnd_if_idle(smss, idle);
         }
     }
 
     /// The sending place moves past SACKed octets.
     pub fn skip_sacked(&mut self)
-        ensures { self.new ≡ past_sacked self.old }
+        ensures { self.new ≡ with_next_past_sacked self.old }
     {
         self.board.skip_sacked();
     }
@@ -215,7 +218,7 @@ impl Connection {
         requires queued { IsQueued segment self.old }
         ensures { IfOk result (λ done. self.new ≡ sent_on now segment self.old) }
     {
-        self.start_timing(segment, now);
+        self.start_rtt_and_timer(segment, now);
         self.board.sent(segment.end)
     }
 }

@@ -42,7 +42,7 @@ fn rtt_segment_after(
 
 impl Connection {
     /// A segment was sent at a moment.
-    pub fn start_timing(&mut self, segment: Span, now: u64)
+    pub fn start_rtt_and_timer(&mut self, segment: Span, now: u64)
         requires early { now < 2 ^ 62 }
         ensures { self.new ≡ timing_started now segment self.old }
     {
@@ -82,7 +82,7 @@ impl Connection {
         ensures { self.new ≡ with_handshake_timer_ended self.old }
     {
         if self.syn_ack_resent {
-            self.timer.reinitialize();
+            self.timer.set_timeout_after_handshake_expiry();
         }
         self.timer.stop();
     }

@@ -51,7 +51,7 @@ impl Connection {
     fn check_contents(&self, segment: &Segment) -> Option<SegmentCheck>
         ensures { result ≡ check_contents self.now segment.now }
     {
-        if segment.len() > 0
+        if segment.data_len() > 0
             || segment.flags.syn
             || self.is_stray_fin(segment)
             || self.state().is_closed()

@@ -2,21 +2,21 @@
 ghost use Rattle.std.specs.Prelude.{◌≡◌, ◌+◌, ◌≤◌, IfSome};
 ghost use Rattle.std.specs.Bool.{OnTrue};
 ghost use Rattle.pd_board.specs.Board.{IsBoardView};
-ghost use Rattle.pd_recover.specs.NextSeg.{IsSendable, segment_of, first_by_rules, next_send, step_c_segment, limited_segment, new_data, has_room, with_sent_noted};
+ghost use Rattle.pd_recover.specs.NextSeg.{IsSendable, segment_of, first_by_next_seg_rules, next_send, step_c_segment, limited_transmit_segment, new_segment_on_board, has_room_for_segment, with_sent_noted};
 
 use super::Cong;
-use super::on_ack::new_segment;
+use super::on_ack::new_segment_within_rwnd;
 use crate::next_segment::NextSegment;
 use pd_board::Board;
 use pd_seg::Span;
 
 /// The new segment at `top`, where data is queued and the peer's window in octets takes it.
-fn new_data(board: &Board, rwnd: u32) -> Option<Span>
-    ensures value { result ≡ new_data rwnd board.now }
+fn new_segment_on_board(board: &Board, rwnd: u32) -> Option<Span>
+    ensures value { result ≡ new_segment_on_board rwnd board.now }
     ensures sendable { IfSome result (IsSendable board.now) }
     ensures known { IsBoardView board.now }
 {
-    new_segment(board.smss(), board.una(), board.top(), board.end(), rwnd)
+    new_segment_within_rwnd(board.smss(), board.una(), board.top(), board.end(), rwnd)
 }
 
 impl Cong {
@@ -26,13 +26,13 @@ impl Cong {
         ensures value { result ≡ next_send rwnd board.now self.now }
         ensures sendable { IfSome result (λ sent. IsSendable board.now (segment_of sent)) }
     {
-        let unsent = new_data(board, rwnd);
-        self.first_by_rules(board, unsent)
+        let unsent = new_segment_on_board(board, rwnd);
+        self.first_by_next_seg_rules(board, unsent)
     }
 
     /// The first rule that gives a segment, by what the second one gives.
-    fn first_by_rules(&self, board: &Board, unsent: Option<Span>) -> Option<NextSegment>
-        ensures { result ≡ first_by_rules unsent board.now self.now }
+    fn first_by_next_seg_rules(&self, board: &Board, unsent: Option<Span>) -> Option<NextSegment>
+        ensures { result ≡ first_by_next_seg_rules unsent board.now self.now }
     {
         if let Some(start) = board.next_lost(self.high_rxt) {
             return Some(NextSegment::Lost(board.run_at(start)));
@@ -50,12 +50,12 @@ impl Cong {
     }
 
     /// The segment to send next in loss recovery, where cwnd - pipe holds a full one (RFC 6675, section 5, step C).
-    pub fn step_c(&self, board: &Board, rwnd: u32, pipe: u32) -> Option<NextSegment>
+    pub fn step_c_segment(&self, board: &Board, rwnd: u32, pipe: u32) -> Option<NextSegment>
         ensures value { result ≡ step_c_segment rwnd pipe board.now self.now }
         ensures sendable { IfSome result (λ sent. IsSendable board.now (segment_of sent)) }
         ensures fits { IfSome result (λ _. pipe + board.now.smss ≤ self.now.cwnd) }
     {
-        if self.has_room(board, pipe) {
+        if self.has_room_for_segment(board, pipe) {
             return self.next_send(board, rwnd);
         }
         None
@@ -63,20 +63,20 @@ impl Cong {
 
     /// The segment that limited transmit sends next with SACK, where cwnd - pipe holds a full one (RFC 6675, section 5,
     /// step 3).
-    pub fn limited_segment(&self, board: &Board, rwnd: u32, pipe: u32) -> Option<Span>
-        ensures value { result ≡ limited_segment rwnd pipe board.now self.now }
+    pub fn limited_transmit_segment(&self, board: &Board, rwnd: u32, pipe: u32) -> Option<Span>
+        ensures value { result ≡ limited_transmit_segment rwnd pipe board.now self.now }
         ensures sendable { IfSome result (IsSendable board.now) }
         ensures fits { IfSome result (λ _. pipe + board.now.smss ≤ self.now.cwnd) }
     {
-        if self.has_room(board, pipe) {
-            return new_data(board, rwnd);
+        if self.has_room_for_segment(board, pipe) {
+            return new_segment_on_board(board, rwnd);
         }
         None
     }
 
     /// Whether cwnd - pipe holds a full segment (RFC 6675, section 5, step C). The pipe is in octets.
-    pub fn has_room(&self, board: &Board, pipe: u32) -> bool
-        ensures value { result ≡ has_room pipe board.now self.now }
+    pub fn has_room_for_segment(&self, board: &Board, pipe: u32) -> bool
+        ensures value { result ≡ has_room_for_segment pipe board.now self.now }
         ensures fits { OnTrue result (pipe + board.now.smss ≤ self.now.cwnd) }
     {
         self.cwnd.saturating_sub(pipe) >= u32::from(board.smss())

@@ -1,8 +1,8 @@
 //! The effect of an ACK on the congestion window and on loss recovery, and the sending that it leads to.
 ghost use Rattle.std.specs.Prelude.{◌≡◌, false, ◌+◌, ◌<◌, ◌≤◌, ◌^◌, IfSome};
 ghost use Rattle.std.specs.Bool.{OnTrue};
-ghost use Rattle.pd_recover.specs.Acks.{IsAck, IsNamed, acked, is_duplicate, grown_by, half_of, dup_ack_counted, recovery_ended, prr_begun, with_delivered, recovery_continued, new_segment, first_outstanding, acked_with_sack, acked_without_sack, selective_duplicate, plain_duplicate, limited_transmit, new_octets_acked};
-ghost use Rattle.pd_recover.specs.Cong.{growth, limit_of, widened};
+ghost use Rattle.pd_recover.specs.Acks.{IsAck, IsNamed, acked, is_duplicate, grown_by, half_of, dup_ack_counted, recovery_ended, prr_begun, with_delivered, recovery_continued, new_segment_within_rwnd, first_outstanding_segment, acked_with_sack, acked_without_sack, selective_duplicate, plain_duplicate, limited_transmit, new_octets_acked};
+ghost use Rattle.pd_recover.specs.Cong.{cwnd_growth, limit_of, widened};
 ghost use Rattle.pd_recover.specs.Prr.{IsPrrState};
 
 use super::{Cong, MAX_WINDOW};
@@ -13,10 +13,10 @@ use pd_board::DUP_THRESH;
 use pd_seg::Span;
 
 /// The new segment at `top`, where data is queued and the peer's window takes it.
-pub fn new_segment(smss: u16, una: u32, top: u32, end: u32, rwnd: u32) -> Option<Span>
+pub fn new_segment_within_rwnd(smss: u16, una: u32, top: u32, end: u32, rwnd: u32) -> Option<Span>
     requires queued { top ≤ end }
     requires small { end < 2 ^ 31 }
-    ensures value { result ≡ new_segment smss una top end rwnd }
+    ensures value { result ≡ new_segment_within_rwnd smss una top end rwnd }
     ensures within { IfSome result (λ s. (s.start ≡ top) × (s.start < s.end) × (s.end ≤ top + smss) × (s.end ≤ end)) }
 {
     let to = top + u32::from(smss).min(end - top);
@@ -31,9 +31,9 @@ pub fn new_segment(smss: u16, una: u32, top: u32, end: u32, rwnd: u32) -> Option
 
 impl Ack {
     /// The segment at SND.UNA, SMSS octets at most.
-    fn first_outstanding(self) -> Span
+    fn first_outstanding_segment(self) -> Span
         requires { IsAck self }
-        ensures value { result ≡ first_outstanding self }
+        ensures value { result ≡ first_outstanding_segment self }
         ensures within { self.una < self.top → (result.start < result.end) × (result.end ≤ self.top) }
     {
         Span {
@@ -67,35 +67,35 @@ impl Cong {
             self.expired = false;
         }
         match ack.sack {
-            Some(sack_news) => self.on_sack_ack(ack, sack_news),
-            None => self.on_plain_ack(ack),
+            Some(sack_news) => self.on_ack_with_sack(ack, sack_news),
+            None => self.on_ack_without_sack(ack),
         }
     }
 
     /// An ACK where SACK was agreed (RFC 6675, section 5).
-    fn on_sack_ack(&mut self, ack: Ack, sack_news: SackNews) -> AckAction
+    fn on_ack_with_sack(&mut self, ack: Ack, sack_news: SackNews) -> AckAction
         requires { IsAck ack }
         ensures state { self.new ≡ (acked_with_sack ack sack_news self.old).0 }
         ensures then { result ≡ (acked_with_sack ack sack_news self.old).1 }
         ensures named { IsNamed ack result }
     {
         if self.recovering && self.recovery_point <= ack.una {
-            self.end_recovery();
+            self.end_sack_recovery();
             return AckAction::Ordinary;
         }
         if self.recovering {
-            return self.continue_recovery(ack);
+            return self.continue_sack_recovery(ack);
         }
-        self.grow(ack);
+        self.grow_cwnd_by_ack(ack);
         if !sack_news.fresh {
             return AckAction::Ordinary;
         }
         self.count_dup_ack();
-        self.take_selective_duplicate(ack, sack_news.lost)
+        self.on_duplicate_with_sack(ack, sack_news.lost)
     }
 
     /// Recovery with SACK ends.
-    fn end_recovery(&mut self)
+    fn end_sack_recovery(&mut self)
         ensures { self.new ≡ recovery_ended self.old }
     {
         if self.uses_prr() {
@@ -108,7 +108,7 @@ impl Cong {
     }
 
     /// An ACK in recovery with SACK that doesn't end it. By PRR one that delivers nothing changes nothing.
-    fn continue_recovery(&mut self, ack: Ack) -> AckAction
+    fn continue_sack_recovery(&mut self, ack: Ack) -> AckAction
         ensures state { self.new ≡ (recovery_continued ack self.old).0 }
         ensures then { result ≡ (recovery_continued ack self.old).1 }
         ensures named { IsNamed ack result }
@@ -116,12 +116,12 @@ impl Cong {
         if self.uses_prr() && ack.delivery.delivered_data == 0 {
             return AckAction::Nothing;
         }
-        self.count_delivered(ack);
+        self.count_prr_delivered(ack);
         AckAction::StepC
     }
 
     /// An ACK in recovery with SACK has reported the octets that reached the peer.
-    fn count_delivered(&mut self, ack: Ack)
+    fn count_prr_delivered(&mut self, ack: Ack)
         ensures { self.new ≡ with_delivered ack self.old }
     {
         if self.uses_prr() {
@@ -130,7 +130,7 @@ impl Cong {
     }
 
     /// The state of PRR where recovery with SACK begins.
-    fn begun_prr(&self, ack: Ack) -> PrrState
+    fn prr_at_recovery_start(&self, ack: Ack) -> PrrState
         ensures value { result ≡ prr_begun ack self.now }
         ensures known { IsPrrState result }
     {
@@ -142,7 +142,7 @@ impl Cong {
     }
 
     /// A duplicate with SACK, which is counted already (RFC 6675, section 5, steps 1 to 4).
-    fn take_selective_duplicate(&mut self, ack: Ack, lost: bool) -> AckAction
+    fn on_duplicate_with_sack(&mut self, ack: Ack, lost: bool) -> AckAction
         requires { IsAck ack }
         ensures state { self.new ≡ (selective_duplicate ack lost self.old).0 }
         ensures then { result ≡ (selective_duplicate ack lost self.old).1 }
@@ -159,10 +159,10 @@ impl Cong {
             self.high_rxt = ack.una;
             return AckAction::LimitedTransmit;
         }
-        let half_flight = self.half_flight(ack);
-        self.prr = self.begun_prr(ack);
-        self.cwnd = half_flight;
-        self.ssthresh = half_flight;
+        let ssthresh_after_loss = self.ssthresh_after_loss(ack);
+        self.prr = self.prr_at_recovery_start(ack);
+        self.cwnd = ssthresh_after_loss;
+        self.ssthresh = ssthresh_after_loss;
         self.recovering = true;
         self.recovery_point = ack.top;
         self.high_rxt = ack.una;
@@ -170,25 +170,25 @@ impl Cong {
     }
 
     /// An ACK where SACK wasn't agreed (RFC 5681, section 3.2).
-    fn on_plain_ack(&mut self, ack: Ack) -> AckAction
+    fn on_ack_without_sack(&mut self, ack: Ack) -> AckAction
         requires { IsAck ack }
         ensures state { self.new ≡ (acked_without_sack ack self.old).0 }
         ensures then { result ≡ (acked_without_sack ack self.old).1 }
         ensures named { IsNamed ack result }
     {
         if ack.acked > 0 {
-            self.on_new_octets(ack);
+            self.on_new_ack_without_sack(ack);
             return AckAction::Ordinary;
         }
         if ack.is_duplicate() && self.recovery_point <= ack.una {
             self.count_dup_ack();
-            return self.take_plain_duplicate(ack);
+            return self.on_duplicate_without_sack(ack);
         }
         AckAction::Ordinary
     }
 
     /// New octets end recovery without SACK, and outside it widen the window.
-    fn on_new_octets(&mut self, ack: Ack)
+    fn on_new_ack_without_sack(&mut self, ack: Ack)
         requires { IsAck ack }
         ensures { self.new ≡ new_octets_acked ack self.old }
     {
@@ -196,12 +196,12 @@ impl Cong {
             self.cwnd = self.ssthresh;
             self.recovering = false;
         } else {
-            self.grow(ack);
+            self.grow_cwnd_by_ack(ack);
         }
     }
 
     /// A duplicate without SACK, which is counted already (RFC 5681, section 3.2, steps 1 to 4).
-    fn take_plain_duplicate(&mut self, ack: Ack) -> AckAction
+    fn on_duplicate_without_sack(&mut self, ack: Ack) -> AckAction
         requires ack { IsAck ack }
         requires outstanding { ack.una < ack.top }
         ensures state { self.new ≡ (plain_duplicate ack self.old).0 }
@@ -209,21 +209,21 @@ impl Cong {
         ensures named { IsNamed ack result }
     {
         if self.dup_acks < DUP_THRESH {
-            return self.transmit_limited(ack);
+            return self.limited_transmit_without_sack(ack);
         }
         if self.dup_acks == DUP_THRESH {
-            let half_flight = self.half_flight(ack);
-            self.cwnd = half_flight + DUP_THRESH * u32::from(ack.smss);
-            self.ssthresh = half_flight;
+            let ssthresh_after_loss = self.ssthresh_after_loss(ack);
+            self.cwnd = ssthresh_after_loss + DUP_THRESH * u32::from(ack.smss);
+            self.ssthresh = ssthresh_after_loss;
             self.recovering = true;
-            return AckAction::FastRetransmit(ack.first_outstanding());
+            return AckAction::FastRetransmit(ack.first_outstanding_segment());
         }
-        self.widen(u32::from(ack.smss));
+        self.add_to_cwnd(u32::from(ack.smss));
         AckAction::Ordinary
     }
 
     /// Limited transmit without SACK (RFC 3042).
-    fn transmit_limited(&mut self, ack: Ack) -> AckAction
+    fn limited_transmit_without_sack(&mut self, ack: Ack) -> AckAction
         requires { IsAck ack }
         ensures state { self.new ≡ (limited_transmit ack self.old).0 }
         ensures then { result ≡ (limited_transmit ack self.old).1 }
@@ -232,30 +232,31 @@ impl Cong {
         if !self.limited_transmit {
             return AckAction::Nothing;
         }
-        let Some(segment) = new_segment(ack.smss, ack.una, ack.top, ack.end, ack.rwnd) else {
+        let Some(segment) = new_segment_within_rwnd(ack.smss, ack.una, ack.top, ack.end, ack.rwnd)
+        else {
             return AckAction::Nothing;
         };
         if segment.end - ack.una > self.cwnd + 2 * u32::from(ack.smss) {
             return AckAction::Nothing;
         }
-        self.count_limited(segment.end - segment.start);
+        self.count_limited_transmit_octets(segment.end - segment.start);
         AckAction::NewSegment(segment)
     }
 
     /// Outside recovery new octets widen the window (RFC 5681, section 3.1, equations 2 and 3; RFC 3465, section 2.2).
-    fn grow(&mut self, ack: Ack)
+    fn grow_cwnd_by_ack(&mut self, ack: Ack)
         requires ack { IsAck ack }
         requires outside { self.old.recovering ≡ false }
         ensures { self.new ≡ grown_by ack self.old }
     {
         if ack.acked > 0 {
-            let more = self.growth(ack.smss, ack.acked);
-            self.widen(more);
+            let more = self.cwnd_growth(ack.smss, ack.acked);
+            self.add_to_cwnd(more);
         }
     }
 
     /// L, in segments: 1 in the slow start after an expiry (RFC 3465, sections 2.2 and 2.3).
-    fn limit(&self) -> u32
+    fn effective_abc_limit(&self) -> u32
         ensures value { result ≡ limit_of self.now }
         ensures small { result < 2 ^ 8 }
     {
@@ -266,21 +267,21 @@ impl Cong {
         }
     }
 
-    fn growth(&self, smss: u16, acked: u32) -> u32
+    fn cwnd_growth(&self, smss: u16, acked: u32) -> u32
         requires to { smss ≤ 65495 }
         requires outside { self.now.recovering ≡ false }
-        ensures { result ≡ growth smss acked self.now }
+        ensures { result ≡ cwnd_growth smss acked self.now }
     {
         let smss = u32::from(smss);
         if self.cwnd < self.ssthresh {
-            acked.min(self.limit() * smss)
+            acked.min(self.effective_abc_limit() * smss)
         } else {
             (smss * smss / self.cwnd).max(1)
         }
     }
 
     /// The window grows by this many octets.
-    fn widen(&mut self, octets: u32)
+    fn add_to_cwnd(&mut self, octets: u32)
         ensures { self.new ≡ widened octets self.old }
     {
         self.cwnd = self.cwnd.saturating_add(octets).min(MAX_WINDOW);
@@ -294,7 +295,7 @@ impl Cong {
     }
 
     /// Half of what is outstanding, without what limited transmit has sent (RFC 5681, section 3.1, equation 4).
-    fn half_flight(&self, ack: Ack) -> u32
+    fn ssthresh_after_loss(&self, ack: Ack) -> u32
         requires { IsAck ack }
         ensures value { result ≡ half_of ack self.now }
         ensures small { result ≤ 2 ^ 30 }

@@ -40,7 +40,7 @@ impl<T: Drop> SharedBlock<T> {
     }
 
     /// The first items, shared. Fails only where the count of owners is full.
-    pub(crate) fn first(&self, count: usize) -> Result<SharedBlock<T>, AllocError>
+    pub(crate) fn share_first(&self, count: usize) -> Result<SharedBlock<T>, AllocError>
         requires { count ≤ length self.now }
         ensures { IfOk result (λ block. block ≡ take count self.now) }
     {

@@ -6,10 +6,10 @@ ghost use Rattle.pd_host.specs.Host.{IsShort};
 ghost use Rattle.pd_host.specs.declared.halts.HostEnd.TheVariants.{OutOfMemory};
 ghost use Rattle.pd_run.specs.Inner.{Ends};
 ghost use Rattle.pd_run.specs.Limits.{is_long, written_times, is_packet_over};
-ghost use Rattle.pd_run.specs.Step.{arrives, on_arrival, answers, on_answer, on_expiry, awaited, packet_taken, leaves, outcome, stop_reason, Steps};
+ghost use Rattle.pd_run.specs.Step.{arrives, on_arrival, answers, on_answer, on_expiry, awaited, packet_taken, leaves, event_outcome, stop_reason, Steps};
 
 use super::RunState;
-use crate::host_input::{answer, arrive};
+use crate::host_input::{arrive, call_answer};
 use crate::laws::law_sender;
 use crate::prechecks::{Precheck, failed_precheck};
 use crate::stepper::StepEnd;
@@ -30,12 +30,12 @@ impl RunState {
         requires base { self.old.base < 2 ^ 61 }
         requires short { IsShort self.old.host.state }
         ensures ends { IfOk result (λ end. Steps self.old event.now end self.new) }
-        ensures memory { OnErr result (self.new.host.ended ≡ Some OutOfMemory) }
+        ensures memory { OnErr result (self.new.host.end_reason ≡ Some OutOfMemory) }
     {
-        if let Some(ending) = self.host.ended() {
-            return Ok(StepEnd::Stop(StopKind::by(ending)?.verdict(event.line)));
+        if let Some(ending) = self.host.end_reason() {
+            return Ok(StepEnd::Stop(StopKind::from_host_end(ending)?.verdict(event.line)));
         }
-        match self.outcome(event)? {
+        match self.event_outcome(event)? {
             None => Ok(StepEnd::Go),
             Some(stop) => Ok(StepEnd::Stop(stop.verdict(event.line))),
         }
@@ -46,14 +46,14 @@ impl RunState {
     /// # Errors
     /// `AllocError` where a growth is refused.
     pub fn stop_reason(&self, event: &Event) -> Result<Option<StopReason>, AllocError>
-        requires live { self.now.host.ended ≡ None }
+        requires live { self.now.host.end_reason ≡ None }
         requires clock { self.now.clock < 2 ^ 61 }
         requires base { self.now.base < 2 ^ 61 }
         requires short { IsShort self.now.host.state }
         ensures { IfOk result (λ reason. reason ≡ stop_reason self.now event.now) }
     {
         let mut run = self.copy()?;
-        match run.outcome(event)? {
+        match run.event_outcome(event)? {
             None => Ok(None),
             Some(stop) => Ok(Some(stop.into_reason(run)?)),
         }
@@ -61,13 +61,13 @@ impl RunState {
 
     /// How an event ends: its checks in order, then the event itself. Nothing where the run goes on.
     #[inline(always)]
-    fn outcome(&mut self, event: &Event) -> Result<Option<StopKind>, AllocError>
-        requires live { self.old.host.ended ≡ None }
+    fn event_outcome(&mut self, event: &Event) -> Result<Option<StopKind>, AllocError>
+        requires live { self.old.host.end_reason ≡ None }
         requires clock { self.old.clock < 2 ^ 61 }
         requires base { self.old.base < 2 ^ 61 }
         requires short { IsShort self.old.host.state }
-        ensures ends { IfOk result (λ end. Ends (outcome self.old event.now) end self.new) }
-        ensures memory { OnErr result (self.new.host.ended ≡ Some OutOfMemory) }
+        ensures ends { IfOk result (λ end. Ends (event_outcome self.old event.now) end self.new) }
+        ensures memory { OnErr result (self.new.host.end_reason ≡ Some OutOfMemory) }
     {
         if let Some(bar) = failed_precheck(self.base, event) {
             return Ok(Some(StopKind::FailedPrecheck(bar)));
@@ -75,7 +75,7 @@ impl RunState {
         match &event.action {
             Action::Inbound(packet) => self.arrive(event, packet),
             Action::Outbound(packet) => {
-                self.note_comparison();
+                self.note_tolerance_use();
                 self.expect(event, packet)
             }
             Action::Call(call) => self.call(event, call),
@@ -85,73 +85,73 @@ impl RunState {
 
     #[inline(always)]
     fn arrive(&mut self, event: &Event, packet: &Packet) -> Result<Option<StopKind>, AllocError>
-        requires live { self.old.host.ended ≡ None }
+        requires live { self.old.host.end_reason ≡ None }
         requires clock { self.old.clock < 2 ^ 61 }
         requires base { self.old.base < 2 ^ 61 }
         requires short { list_any is_long (written_times event.now.time) ≡ false }
         requires fits { is_packet_over packet.now ≡ false }
         ensures ends { IfOk result (λ end. Ends (on_arrival self.old event.now (arrives self.old event.now packet.now)) end self.new) }
-        ensures memory { OnErr result (self.new.host.ended ≡ Some OutOfMemory) }
+        ensures memory { OnErr result (self.new.host.end_reason ≡ Some OutOfMemory) }
     {
         law_sender();
         let moment = self.action_time(event);
         match arrive(&mut self.host, packet, moment) {
             Ok(()) => {}
-            Err(ending) => return Ok(Some(StopKind::by(ending)?)),
+            Err(ending) => return Ok(Some(StopKind::from_host_end(ending)?)),
         }
         self.clock = moment;
-        self.set_base(event);
+        self.set_base_to_event_time(event);
         Ok(None)
     }
 
     #[inline(always)]
     fn call(&mut self, event: &Event, call: &Call) -> Result<Option<StopKind>, AllocError>
-        requires live { self.old.host.ended ≡ None }
+        requires live { self.old.host.end_reason ≡ None }
         requires clock { self.old.clock < 2 ^ 61 }
         requires base { self.old.base < 2 ^ 61 }
         requires short { list_any is_long (written_times event.now.time) ≡ false }
         requires room { IsShort self.old.host.state }
         ensures ends { IfOk result (λ end. Ends (on_answer self.old event.now call.now (answers self.old event.now call.now)) end self.new) }
-        ensures memory { OnErr result (self.new.host.ended ≡ Some OutOfMemory) }
+        ensures memory { OnErr result (self.new.host.end_reason ≡ Some OutOfMemory) }
     {
         law_sender();
         let moment = self.action_time(event);
-        let answer = match answer(&mut self.host, call, moment) {
-            Ok(answer) => answer,
-            Err(ending) => return Ok(Some(StopKind::by(ending)?)),
+        let call_answer = match call_answer(&mut self.host, call, moment) {
+            Ok(call_answer) => call_answer,
+            Err(ending) => return Ok(Some(StopKind::from_host_end(ending)?)),
         };
         self.clock = moment;
-        self.set_base(event);
-        match check_call(call, &answer) {
+        self.set_base_to_event_time(event);
+        match check_call(call, &call_answer) {
             None => Ok(None),
-            Some(_) => Ok(Some(StopKind::Answered(answer))),
+            Some(_) => Ok(Some(StopKind::Answered(call_answer))),
         }
     }
 
     #[inline(always)]
     fn expect(&mut self, event: &Event, packet: &Packet) -> Result<Option<StopKind>, AllocError>
-        requires live { self.old.host.ended ≡ None }
+        requires live { self.old.host.end_reason ≡ None }
         requires clock { self.old.clock < 2 ^ 61 }
         requires base { self.old.base < 2 ^ 61 }
         requires short { list_any is_long (written_times event.now.time) ≡ false }
         ensures ends { IfOk result (λ end. Ends (leaves self.old event.now packet.now) end self.new) }
-        ensures memory { OnErr result (self.new.host.ended ≡ Some OutOfMemory) }
+        ensures memory { OnErr result (self.new.host.end_reason ≡ Some OutOfMemory) }
     {
-        match self.wait(event)? {
-            None => Ok(self.take(event, packet)),
+        match self.await_packet(event)? {
+            None => Ok(self.compare_and_take(event, packet)),
             end => Ok(end),
         }
     }
 
     /// Where no packet is untaken, performs the next expiry that may send the expected one.
     #[inline(always)]
-    fn wait(&mut self, event: &Event) -> Result<Option<StopKind>, AllocError>
-        requires live { self.old.host.ended ≡ None }
+    fn await_packet(&mut self, event: &Event) -> Result<Option<StopKind>, AllocError>
+        requires live { self.old.host.end_reason ≡ None }
         requires clock { self.old.clock < 2 ^ 61 }
         requires base { self.old.base < 2 ^ 61 }
         requires short { list_any is_long (written_times event.now.time) ≡ false }
         ensures ends { IfOk result (λ end. Ends (awaited self.old event.now) end self.new) }
-        ensures memory { OnErr result (self.new.host.ended ≡ Some OutOfMemory) }
+        ensures memory { OnErr result (self.new.host.end_reason ≡ Some OutOfMemory) }
         ensures base { self.new.base ≡ self.old.base }
     {
         if !self.host.outbox().is_empty() {
@@ -160,24 +160,24 @@ impl RunState {
         let time_range = time_range_of(self.base, event.time);
         match self.host.deadline() {
             // One expiry is enough: each puts a packet out.
-            Some(at) if may_be_in_time(time_range, self.tolerance(), at) => self.expire(at),
+            Some(at) if may_be_in_time(time_range, self.tolerance(), at) => self.perform_expiry(at),
             _ => Ok(Some(StopKind::Missing)),
         }
     }
 
     /// Performs the next expiry, whose moment the clock becomes.
-    fn expire(&mut self, at: u64) -> Result<Option<StopKind>, AllocError>
-        requires live { self.old.host.ended ≡ None }
+    fn perform_expiry(&mut self, at: u64) -> Result<Option<StopKind>, AllocError>
+        requires live { self.old.host.end_reason ≡ None }
         requires clock { self.old.clock < 2 ^ 61 }
         requires due { deadline_of self.old.host.state ≡ Some at }
         ensures ends { IfOk result (λ end. Ends (on_expiry self.old at (advanced at self.old.host.state)) end self.new) }
-        ensures memory { OnErr result (self.new.host.ended ≡ Some OutOfMemory) }
+        ensures memory { OnErr result (self.new.host.end_reason ≡ Some OutOfMemory) }
         ensures base { self.new.base ≡ self.old.base }
     {
         law_sender();
         match self.host.advance(at) {
             Ok(()) => {}
-            Err(ending) => return Ok(Some(StopKind::by(ending)?)),
+            Err(ending) => return Ok(Some(StopKind::from_host_end(ending)?)),
         }
         self.clock = at;
         Ok(None)
@@ -185,7 +185,7 @@ impl RunState {
 
     /// Compares the oldest packet, and takes it where it agrees.
     #[inline(always)]
-    fn take(&mut self, event: &Event, packet: &Packet) -> Option<StopKind>
+    fn compare_and_take(&mut self, event: &Event, packet: &Packet) -> Option<StopKind>
         requires base { self.old.base < 2 ^ 61 }
         requires short { list_any is_long (written_times event.now.time) ≡ false }
         ensures { Ends (packet_taken event.now packet.now self.old (slice_get self.old.host.state.endpoint.outbox 0)) result self.new }

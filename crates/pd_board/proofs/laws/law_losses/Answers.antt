@@ -4,4 +4,4 @@ use Rattle.pd_board.proofs.Lost.{lost_below, pipe_at_most}
 use Rattle.pd_board.proofs.laws.law_losses.Goals as goal
 
 pub returns : goal.returns
-returns c = record { lost = lost_below; pipe = pipe_at_most; edge = edge_tells_losses; undelivered = counts_undelivered }
+returns c = record { lost = lost_below; pipe = pipe_at_most; edge = edge_tells_losses; undelivered_octets = counts_undelivered }

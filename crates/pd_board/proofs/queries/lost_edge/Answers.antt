@@ -22,7 +22,7 @@ loop-range-preserved c =
       octets = omega (arith, n.octets);
       within = n.high;
       apart = Between-lower _ _ _ _ (omega arith) n.apart;
-      edge = ap (λ v. edge_over c.args.smss v r.end d) c.after_gap-edge.ensures ∙ next_lost _ _ _ _ _ _ _ _ _ n (sym c.shows_loss.ensures ∙ c.if-not-shows_loss.false);
+      edge = ap (λ v. edge_over c.args.smss v r.end d) c.gap_end_or_previous-edge.ensures ∙ next_lost _ _ _ _ _ _ _ _ _ n (sym c.shows_loss.ensures ∙ c.if-not-shows_loss.false);
     }
 
 pub returns : goal.returns

@@ -38,16 +38,16 @@ returns-in_err-serve_command-in-Some-clause-answered g c =
 
 pub returns-in-None-clause-serves : goal.returns-in-None-clause-serves
 returns-in-None-clause-serves g c =
-    let d = c.serve_end.ensures in
+    let d = c.settle_at_end_of_input.ensures in
     let u = to_come c.loop-line_reader.line_reader (g.R.Read.remaining c.loop-line_reader.reader) in
     let v = to_come c.next_command.new.line_reader (g.R.Read.remaining c.next_command.new.reader) in
     let none = rw c.in-None.is at c.in_ok-command.ensures.command in
-    end_serves g.A.CommandHandler.prints g.A.CommandHandler.fails g.A.CommandHandler.passes c.serve_end.result c.args.handler.now c.loop-line_reader.handler c.serve_end.new.handler d.0 (g.W.Write.contents c.args.writer.now) (g.W.Write.contents c.loop-line_reader.writer) (g.W.Write.contents c.serve_end.new.writer) (g.R.Read.remaining c.args.reader.now) u c.loop-line_reader.invariant.so_far (next_none u v none) d.1 d.2
+    end_serves g.A.CommandHandler.prints g.A.CommandHandler.fails g.A.CommandHandler.passes c.settle_at_end_of_input.result c.args.handler.now c.loop-line_reader.handler c.settle_at_end_of_input.new.handler d.0 (g.W.Write.contents c.args.writer.now) (g.W.Write.contents c.loop-line_reader.writer) (g.W.Write.contents c.settle_at_end_of_input.new.writer) (g.R.Read.remaining c.args.reader.now) u c.loop-line_reader.invariant.so_far (next_none u v none) d.1 d.2
 
 pub returns-in-None-clause-answered : goal.returns-in-None-clause-answered
 returns-in-None-clause-answered g c =
-    let d = c.serve_end.ensures in
-    end_answered g.A.CommandHandler.prints g.A.CommandHandler.fails g.A.CommandHandler.passes c.serve_end.result c.args.handler.now c.loop-line_reader.handler c.serve_end.new.handler d.0 (g.W.Write.contents c.args.writer.now) (g.W.Write.contents c.loop-line_reader.writer) (g.R.Read.remaining c.args.reader.now) (to_come c.loop-line_reader.line_reader (g.R.Read.remaining c.loop-line_reader.reader))
+    let d = c.settle_at_end_of_input.ensures in
+    end_answered g.A.CommandHandler.prints g.A.CommandHandler.fails g.A.CommandHandler.passes c.settle_at_end_of_input.result c.args.handler.now c.loop-line_reader.handler c.settle_at_end_of_input.new.handler d.0 (g.W.Write.contents c.args.writer.now) (g.W.Write.contents c.loop-line_reader.writer) (g.R.Read.remaining c.args.reader.now) (to_come c.loop-line_reader.line_reader (g.R.Read.remaining c.loop-line_reader.reader))
     c.loop-line_reader.invariant.so_far d.2
 
 pub loop-line_reader-preserved : goal.loop-line_reader-preserved
@@ -75,5 +75,5 @@ returns-in_err-serve_command-in-Some-clause-cause g c =
 
 pub returns-in-None-clause-cause : goal.returns-in-None-clause-cause
 returns-in-None-clause-cause g c =
-    let d = c.serve_end.ensures in
-    end_reads g.A.CommandHandler.fails g.A.CommandHandler.prints g.A.CommandHandler.passes c.serve_end.result (g.R.InputStream.has_failed c.next_command.new.reader) (g.R.Read.remaining c.args.reader.now) c.loop-line_reader.handler c.serve_end.new.handler d.0 d.2
+    let d = c.settle_at_end_of_input.ensures in
+    end_reads g.A.CommandHandler.fails g.A.CommandHandler.prints g.A.CommandHandler.passes c.settle_at_end_of_input.result (g.R.InputStream.has_failed c.next_command.new.reader) (g.R.Read.remaining c.args.reader.now) c.loop-line_reader.handler c.settle_at_end_of_input.new.handler d.0 d.2

@@ -5,7 +5,7 @@ use Rattle.pd_explain.proofs.origins.note_compared_triggers.Goals as goal
 
 pub returns : goal.returns
 returns c = λ bar stood.
-    subst (λ triggers. OnOk c.put_event.result (c.put_event.new.triggers.items ≡ c.args.triggers.now.items ++ triggers))
+    subst (λ triggers. OnOk c.put_event_triggers.result (c.put_event_triggers.new.triggers.items ≡ c.args.triggers.now.items ++ triggers))
     (counts c.args.before.now c.args.event.now c.count_unmatched-stood.result c.count_unmatched-after.result c.in_ok-expired.expired bar
     c.count_unmatched-stood.ensures (c.count_unmatched-after.ensures ∙ stood) c.in_ok-expired.ensures)
-    c.put_event.ensures
+    c.put_event_triggers.ensures

@@ -7,13 +7,13 @@ use Rattle.pd_run.proofs.Steps.{tells}
 use Rattle.pd_explain.proofs.TriggerLemmas.{counts, passes, step_unbarred}
 use Rattle.pd_explain.proofs.origins.step_with_triggers.Goals as goal
 
-pub returns-in_ok-put_event-clause-noted : goal.returns-in_ok-put_event-clause-noted
-returns-in_ok-put_event-clause-noted c = λ go.
+pub returns-in_ok-put_event_triggers-clause-noted : goal.returns-in_ok-put_event_triggers-clause-noted
+returns-in_ok-put_event_triggers-clause-noted c = λ go.
     let run : RunStateView = c.args.run.now in
     let event : Event = c.args.event.now in
     let next : RunStateView = c.step.new.state in
     let reported : step run event ≡ Ok next = tells run next event Go c.requires.live (subst (λ end. Steps run event end next) go c.in_ok-end.ensures.ends) in
-    c.in_ok-put_event.ensures
+    c.in_ok-put_event_triggers.ensures
     ∙ ap (λ triggers. c.args.triggers.now.items ++ triggers)
     (counts run event c.count_unmatched-before.result c.in_ok-after.after c.in_ok-expired.expired (step_unbarred run next event reported)
     c.count_unmatched-before.ensures (c.in_ok-after.ensures ∙ passes c.law_packets_append.ensures.taken run next event reported) c.in_ok-expired.ensures)

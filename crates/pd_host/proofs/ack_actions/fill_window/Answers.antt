@@ -7,9 +7,9 @@ use Rattle.pd_host.proofs.ack_actions.fill_window.Goals as goal
 pub loop-sent-preserved : goal.loop-sent-preserved
 loop-sent-preserved c = λ s.
     let segment = c.segment-segment.result in
-    filling_goes c.args.now c.args.filling s c.loop-sent.connection c.note_fill_sent.new.self c.loop-sent.outbox c.put_segment.new.outbox
+    filling_goes c.args.now c.args.filling s c.loop-sent.connection c.note_fill_sent.new.self c.loop-sent.outbox c.put_out_data_segment.new.outbox
     c.loop-sent.pipe (c.loop-sent.pipe + (segment.end - segment.start)) c.in-Some.sent segment
-    (sym c.in-Some.ensures.value) c.segment-segment.ensures c.in_ok-put_segment.ensures c.in_ok-note_fill_sent.ensures refl
+    (sym c.in-Some.ensures.value) c.segment-segment.ensures c.in_ok-put_out_data_segment.ensures c.in_ok-note_fill_sent.ensures refl
     ∙ c.loop-sent.invariant s
 
 pub returns : goal.returns

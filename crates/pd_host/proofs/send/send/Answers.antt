@@ -1,14 +1,14 @@
 -- One segment further, or the end.
 use Rattle.std.proofs.Common.{ap, sym, ◌∙◌}
-use Rattle.pd_host.specs.Sending.{past_sacked}
+use Rattle.pd_host.specs.Sending.{with_next_past_sacked}
 use Rattle.pd_host.specs.Steps.{with_connection_and_packets}
 use Rattle.pd_host.proofs.Sends.{sending_done, sending_goes}
 use Rattle.pd_host.proofs.send.send.Goals as goal
 
 pub loop-segment-preserved : goal.loop-segment-preserved
 loop-segment-preserved c = λ s.
-    sending_goes c.args.now s c.loop-segment.connection c.skip_sacked-in-Some.new.self c.loop-segment.outbox c.put_segment.new.outbox c.in-Some.segment
-    (sym c.in-Some.ensures.value) c.in_ok-put_segment.ensures (c.skip_sacked-in-Some.ensures ∙ ap past_sacked c.in_ok-note_segment_sent.ensures)
+    sending_goes c.args.now s c.loop-segment.connection c.skip_sacked-in-Some.new.self c.loop-segment.outbox c.put_out_data_segment.new.outbox c.in-Some.segment
+    (sym c.in-Some.ensures.value) c.in_ok-put_out_data_segment.ensures (c.skip_sacked-in-Some.ensures ∙ ap with_next_past_sacked c.in_ok-note_segment_sent.ensures)
     ∙ c.loop-segment.invariant s
 
 pub returns : goal.returns

@@ -8,13 +8,13 @@ use Rattle.pd_print.proofs.sent_packets.sent_packet.Goals as goal
 
 pub returns-clause-fits : goal.returns-clause-fits
 returns-clause-fits c = λ fits. record {
-  flags = ap (λ (f : PacketFlags). f.other) c.written_flags.ensures;
-  order = rw c.writable.ensures.same fits.0;
-  small = c.writable.ensures.small;
-  len = c.len.ensures ∙ ap (λ (n : ℕ). n - c.args.segment.now.start) (sym c.writable.ensures.same);
-  ack = c.writable-2.ensures.small;
+  flags = ap (λ (f : PacketFlags). f.other) c.script_flags_of.ensures;
+  order = rw c.same_number_in_range.ensures.same fits.0;
+  small = c.same_number_in_range.ensures.small;
+  len = c.data_len.ensures ∙ ap (λ (n : ℕ). n - c.args.segment.now.start) (sym c.same_number_in_range.ensures.same);
+  ack = c.same_number_in_range-2.ensures.small;
   win = search rules;
-  numbers = c.in_ok-written_options.ensures.small;
-  blocks = subst (λ (o : Options). HaveBlocks o) (sym c.in_ok-written_options.ensures.options) (have_blocks c.args.segment.now.options fits.1);
+  numbers = c.in_ok-script_options_of.ensures.small;
+  blocks = subst (λ (o : Options). HaveBlocks o) (sym c.in_ok-script_options_of.ensures.options) (have_blocks c.args.segment.now.options fits.1);
   way = tt;
 }

@@ -7,6 +7,6 @@ use Rattle.pd_print.proofs.times.write_fixed_seconds.Goals as goal
 
 pub returns-clause-back : goal.returns-clause-back
 returns-clause-back c =
-    let text : c.put_digits.new.out.items ≡ fixed_seconds_text c.args.time_us = search rules in
+    let text : c.put_last_digits.new.out.items ≡ fixed_seconds_text c.args.time_us = search rules in
     let small : c.args.time_us < 2 ^ 64 = omega (arith, c.ranges.time_us.fits) in
     ap microseconds text ∙ fixed_seconds_back c.args.time_us small

@@ -12,9 +12,9 @@ pub returns-in_ok-lines-in-Some-Add-clause-command : goal.returns-in_ok-lines-in
 returns-in_ok-lines-in-Some-Add-clause-command g c =
     let t = c.in_ok-lines-in-Some-Add.lines in
     let asked = c.in-Some-Add in
-    known_then (HasCommandLine (Some (asks.Add asked.name asked.count))) (TakesLines asked.count t) (Gives (Some (Add asked.name c.text_of.result)))
+    known_then (HasCommandLine (Some (asks.Add asked.name asked.count))) (TakesLines asked.count t) (Gives (Some (Add asked.name c.text_within_limits.result)))
     (to_come c.args.line_reader.now (g.R.Read.remaining c.args.reader.now)) (to_come c.next_command_line.new.line_reader (g.R.Read.remaining c.next_command_line.new.reader)) (to_come c.take_lines.new.line_reader (g.R.Read.remaining c.take_lines.new.reader))
-    (λ x y z. gives_add asked.name asked.count t c.text_of.result x y z c.text_of.ensures) (rw (c.in-Some-Add.is, c.in-Some-Add.field-0-is) at c.in_ok-name.ensures.command_line) c.in_ok-lines-in-Some-Add.ensures.lines
+    (λ x y z. gives_add asked.name asked.count t c.text_within_limits.result x y z c.text_within_limits.ensures) (rw (c.in-Some-Add.is, c.in-Some-Add.field-0-is) at c.in_ok-name.ensures.command_line) c.in_ok-lines-in-Some-Add.ensures.lines
 
 pub returns-in_ok-lines-in-Some-Edit-clause-command : goal.returns-in_ok-lines-in-Some-Edit-clause-command
 returns-in_ok-lines-in-Some-Edit-clause-command g c =

@@ -8,7 +8,7 @@ use Rattle.pd_protocol.specs.declared.faults.ServeFault.TheVariants.{Truncated}
 use Rattle.pd_protocol.proofs.Known.{known_then, known_map, known_same, fact_then}
 use Rattle.pd_protocol.proofs.Spending.{spends_same, spends_then, spends_at_hand}
 use Rattle.pd_protocol.proofs.BuildText.{SoFar, Added, known_added, so_added, so_first, so_whole, so_long, so_done, so_short}
-use Rattle.pd_protocol.proofs.command.take_lines.Goals.{in-Whole+in_ok-add-in-Whole, in-Long}
+use Rattle.pd_protocol.proofs.command.take_lines.Goals.{in-Whole+in_ok-add_line-in-Whole, in-Long}
 use Rattle.pd_protocol.proofs.command.take_lines.Goals as goal
 
 pub returns-in-End-clause-err : goal.returns-in-End-clause-err
@@ -47,19 +47,19 @@ loop-turn-preserved g c =
     let next = SoFar (c.loop-turn._turn + 1) c.match-branch-4.text_builder in
     let back : c.match-branch-4.line_reader ≡ c.next_line.new.self =
     elim c.match-branch-4.branch [
-      | in-Whole+in_ok-add-in-Whole w ↦ w.line_reader-is ∙ w.recycle.ensures
+      | in-Whole+in_ok-add_line-in-Whole w ↦ w.line_reader-is ∙ w.recycle.ensures
       | in-Long w ↦ w.line_reader-is
     ] in
     let so_far : IfKnown next old new =
     elim c.match-branch-4.branch [
-      | in-Whole+in_ok-add-in-Whole w ↦ known_then far (TakesLine 65536 (Whole w.in-Whole.line)) next old mid new
-          (λ x y z s t. so_whole c.loop-turn._turn c.add_buffered_line.new.text_builder c.match-branch-4.text_builder w.in-Whole.line.items x y z (◌∙◌ {c = option_and_then (λ (texts : List (List ℕ)). fitted (texts ++ w.in-Whole.line.items ∷ [])) c.add_buffered_line.new.text_builder} w.text_builder-is (rw w.as_slice.ensures.value at w.in_ok-add-in-Whole.ensures)) s t) far_now (rw w.in-Whole.is at c.in_ok-line.ensures.line)
+      | in-Whole+in_ok-add_line-in-Whole w ↦ known_then far (TakesLine 65536 (Whole w.in-Whole.line)) next old mid new
+          (λ x y z s t. so_whole c.loop-turn._turn c.add_buffered_line.new.text_builder c.match-branch-4.text_builder w.in-Whole.line.items x y z (◌∙◌ {c = option_and_then (λ (texts : List (List ℕ)). fitted (texts ++ w.in-Whole.line.items ∷ [])) c.add_buffered_line.new.text_builder} w.text_builder-is (rw w.as_slice.ensures.value at w.in_ok-add_line-in-Whole.ensures)) s t) far_now (rw w.in-Whole.is at c.in_ok-line.ensures.line)
       | in-Long w ↦ known_then far (TakesLine 65536 Long) next old mid new
-          (λ x y z s t. so_long c.loop-turn._turn c.add_buffered_line.new.text_builder c.match-branch-4.text_builder x y z (w.text_builder-is ∙ w.add_long.ensures) s t) far_now (rw w.in-Long.is at c.in_ok-line.ensures.line)
+          (λ x y z s t. so_long c.loop-turn._turn c.add_buffered_line.new.text_builder c.match-branch-4.text_builder x y z (w.text_builder-is ∙ w.add_oversized_line.ensures) s t) far_now (rw w.in-Long.is at c.in_ok-line.ensures.line)
     ] in
     let spent : IfKnown (Spends c.add_buffered_line.new.line_reader c.next_line.new.self) (g.R.Read.remaining c.loop-turn.reader) (g.R.Read.remaining c.next_line.new.reader) =
     elim c.match-branch-4.branch [
-      | in-Whole+in_ok-add-in-Whole w ↦ (rw w.in-Whole.is at c.in_ok-line.ensures.reads) tt
+      | in-Whole+in_ok-add_line-in-Whole w ↦ (rw w.in-Whole.is at c.in_ok-line.ensures.reads) tt
       | in-Long w ↦ (rw w.in-Long.is at c.in_ok-line.ensures.reads) tt
     ] in
     record {

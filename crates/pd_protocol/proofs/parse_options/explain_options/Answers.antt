@@ -6,5 +6,5 @@ use Rattle.pd_protocol.proofs.parse_options.explain_options.Goals as goal
 pub returns-clause-only : goal.returns-clause-only
 returns-clause-only c = λ words matched.
     let asks : asks_explain words ≡ true = sym (c.has_flag.ensures words matched) ∙ c.if-not-has_flag.false in
-    let names = c.in_ok-names_in.ensures ∙ chosen_values pdregress (codes "only") c.args.matches.now words simple_pdregress matched in
+    let names = c.in_ok-only_names.ensures ∙ chosen_values pdregress (codes "only") c.args.matches.now words simple_pdregress matched in
     rw asks (ap (λ (l : List (List ℕ)). Some l) names)

@@ -12,7 +12,7 @@ returns-in_err-command g c =
     let words = map g.S.AsStr.text c.args.words.now in
     let r = c.from_residual.result in
     let i = c.from_residual.ensures.1 in record {
-      chosen = none_of _ r _ i;
+      chosen_options = none_of _ r _ i;
       few = none_of _ r _ i;
       some = none_of _ r _ i;
       most = none_of _ r _ i;
@@ -29,7 +29,7 @@ returns-in_err-matches g c =
     let free = subst (λ (a : App). is_simple_and_free a ≡ true) (sym c.in_ok-command.ensures.words) free_pdregress in
     let refused = has_kind (word_faults (app_of c.in_ok-command.command) words) error (c.in_err-matches.ensures.kinds free) in
     let alone = subst (λ (a : App). (kind_of error ≡ OutOfMemory) ⊎ (word_faults a words ≢ [])) c.in_ok-command.ensures.words refused in record {
-      chosen = none_of _ r _ i;
+      chosen_options = none_of _ r _ i;
       few = none_of _ r _ i;
       some = none_of _ r _ i;
       most = none_of _ r _ i;
@@ -37,12 +37,12 @@ returns-in_err-matches g c =
       refused = passed_on (λ (e : Error). (kind_of e ≡ OutOfMemory) ⊎ (refusals words ≢ [])) r error i (alone_too pdregress (are_in_conflict words) (lack_explain words) words (kind_of error ≡ OutOfMemory) alone);
     }
 
-pub returns-then-are_refused_together : goal.returns-then-are_refused_together
-returns-then-are_refused_together g c =
+pub returns-then-are_options_conflicting : goal.returns-then-are_options_conflicting
+returns-then-are_options_conflicting g c =
     let words = map g.S.AsStr.text c.args.words.now in
     let matched = subst (λ (a : App). HasMatchesOf a words c.in_ok-matches.matches) c.in_ok-command.ensures.words c.in_ok-matches.ensures.matches in
-    let together : (are_in_conflict words || lack_explain words) ≡ true = sym (c.are_refused_together.ensures words matched) ∙ c.if-are_refused_together.true in record {
-      chosen = tt;
+    let together : (are_in_conflict words || lack_explain words) ≡ true = sym (c.are_options_conflicting.ensures words matched) ∙ c.if-are_options_conflicting.true in record {
+      chosen_options = tt;
       few = tt;
       some = tt;
       most = tt;
@@ -55,11 +55,11 @@ returns g c =
     let words = map g.S.AsStr.text c.args.words.now in
     let free = subst (λ (a : App). is_simple_and_free a ≡ true) (sym c.in_ok-command.ensures.words) free_pdregress in
     let matched = subst (λ (a : App). HasMatchesOf a words c.in_ok-matches.matches) c.in_ok-command.ensures.words c.in_ok-matches.ensures.matches in
-    let apart : (are_in_conflict words || lack_explain words) ≡ false = sym (c.are_refused_together.ensures words matched) ∙ c.if-are_refused_together.false in record {
-      chosen = c.in_ok-chosen.ensures.chosen words matched;
-      few = c.in_ok-chosen.ensures.few;
-      some = c.in_ok-chosen.ensures.some;
-      most = c.in_ok-chosen.ensures.most;
+    let apart : (are_in_conflict words || lack_explain words) ≡ false = sym (c.are_options_conflicting.ensures words matched) ∙ c.if-are_options_conflicting.false in record {
+      chosen_options = c.in_ok-chosen_options.ensures.chosen_options words matched;
+      few = c.in_ok-chosen_options.ensures.few;
+      some = c.in_ok-chosen_options.ensures.some;
+      most = c.in_ok-chosen_options.ensures.most;
       taken = not_refused pdregress (are_in_conflict words) (lack_explain words) words (subst (λ (a : App). word_faults a words ≡ []) c.in_ok-command.ensures.words (c.in_ok-matches.ensures.kinds free)) apart;
       refused = tt;
     }

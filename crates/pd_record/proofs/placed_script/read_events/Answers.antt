@@ -47,8 +47,8 @@ events-preserved c =
     let last : m ≡ 0 → is_some c.in-After.lookahead_line ≡ false = λ (z : m ≡ 0). ends (omega (arith, z, c.events-test.true)) in
     let step = found_got n m c.events.reader c.read_event.new.event c.in-After.after c.in-After.lookahead_line c.read_event.new.self more next left last in
     record {
-      found = goes_further c.events.events.items c.append.new.events.items c.read_event.new.event _ _ _ c.in_ok-append-in-After.ensures c.events.invariant.found step;
-      few = one_longer c.events.events.items c.append.new.events.items c.read_event.new.event c.events.i c.in_ok-append-in-After.ensures c.events.invariant.few;
+      found = goes_further c.events.events.items c.append_event.new.events.items c.read_event.new.event _ _ _ c.in_ok-append_event-in-After.ensures c.events.invariant.found step;
+      few = one_longer c.events.events.items c.append_event.new.events.items c.read_event.new.event c.events.i c.in_ok-append_event-in-After.ensures c.events.invariant.few;
       last = λ e. got_ends c.events.reader c.read_event.new.event c.in-After.after c.in-After.lookahead_line c.read_event.new.self next left (ends e);
     }
 

@@ -13,32 +13,32 @@ returns-then-branch-clause-recorded c =
     let laws : Bases = record { after = c.law_advances.ensures.packets; one_by_one = c.law_sending_one_by_one.ensures; starts = c.law_runs_are_bounded.ensures.start; steps = c.law_runs_are_bounded.ensures.step; reasons = c.law_verdicts_have_reasons.ensures.reasons } in
     let read : IsRead (script_of c.args.lines.now) (Some c.in-Some.script) = subst (IsRead (script_of c.args.lines.now)) c.in-Some.is c.in_ok-script.ensures.read in
     let recorded_script : recorded_script_of c.in-Some.script.header.items c.in-Some.script.events.items c.args.settings.now ≡ Ok c.in_ok-recorded_script.recorded_script = subst (λ (es : List Event). recorded_script_of c.in-Some.script.header.items es c.args.settings.now ≡ Ok c.in_ok-recorded_script.recorded_script) c.as_slice.ensures.value c.in_ok-recorded_script.ensures in
-    on_ok c.unchanged_recording.result (kept_recording laws c.args.lines.now c.args.settings.now c.in_ok-recorded_script.recorded_script c.in-Some.script c.unchanged_recording.result read recorded_script (c.in_ok-is_unchanged.ensures.0 c.if-branch.true).1 c.unchanged_recording.ensures.same) (λ x both. both.once)
+    on_ok c.unchanged_recording.result (kept_recording laws c.args.lines.now c.args.settings.now c.in_ok-recorded_script.recorded_script c.in-Some.script c.unchanged_recording.result read recorded_script (c.in_ok-is_own_recording.ensures.0 c.if-branch.true).1 c.unchanged_recording.ensures.same) (λ x both. both.once)
 
 pub returns-then-branch-clause-again : goal.returns-then-branch-clause-again
 returns-then-branch-clause-again c =
     let laws : Bases = record { after = c.law_advances.ensures.packets; one_by_one = c.law_sending_one_by_one.ensures; starts = c.law_runs_are_bounded.ensures.start; steps = c.law_runs_are_bounded.ensures.step; reasons = c.law_verdicts_have_reasons.ensures.reasons } in
     let read : IsRead (script_of c.args.lines.now) (Some c.in-Some.script) = subst (IsRead (script_of c.args.lines.now)) c.in-Some.is c.in_ok-script.ensures.read in
     let recorded_script : recorded_script_of c.in-Some.script.header.items c.in-Some.script.events.items c.args.settings.now ≡ Ok c.in_ok-recorded_script.recorded_script = subst (λ (es : List Event). recorded_script_of c.in-Some.script.header.items es c.args.settings.now ≡ Ok c.in_ok-recorded_script.recorded_script) c.as_slice.ensures.value c.in_ok-recorded_script.ensures in
-    on_ok c.unchanged_recording.result (kept_recording laws c.args.lines.now c.args.settings.now c.in_ok-recorded_script.recorded_script c.in-Some.script c.unchanged_recording.result read recorded_script (c.in_ok-is_unchanged.ensures.0 c.if-branch.true).1 c.unchanged_recording.ensures.same) (λ x both. both.twice)
+    on_ok c.unchanged_recording.result (kept_recording laws c.args.lines.now c.args.settings.now c.in_ok-recorded_script.recorded_script c.in-Some.script c.unchanged_recording.result read recorded_script (c.in_ok-is_own_recording.ensures.0 c.if-branch.true).1 c.unchanged_recording.ensures.same) (λ x both. both.twice)
 
 pub returns-clause-recorded : goal.returns-clause-recorded
 returns-clause-recorded c =
     let laws : Bases = record { after = c.law_advances.ensures.packets; one_by_one = c.law_sending_one_by_one.ensures; starts = c.law_runs_are_bounded.ensures.start; steps = c.law_runs_are_bounded.ensures.step; reasons = c.law_verdicts_have_reasons.ensures.reasons } in
     let read : IsRead (script_of c.args.lines.now) (Some c.in-Some.script) = subst (IsRead (script_of c.args.lines.now)) c.in-Some.is c.in_ok-script.ensures.read in
     let recorded_script : recorded_script_of c.in-Some.script.header.items c.in-Some.script.events.items c.args.settings.now ≡ Ok c.in_ok-recorded_script.recorded_script = subst (λ (es : List Event). recorded_script_of c.in-Some.script.header.items es c.args.settings.now ≡ Ok c.in_ok-recorded_script.recorded_script) c.as_slice.ensures.value c.in_ok-recorded_script.ensures in
-    on_ok c.write.result (written_recording laws c.args.lines.now c.args.settings.now c.in_ok-recorded_script.recorded_script c.in-Some.script c.write.result read recorded_script c.write.ensures.written) (λ x both. both.once)
+    on_ok c.compose_and_reread.result (written_recording laws c.args.lines.now c.args.settings.now c.in_ok-recorded_script.recorded_script c.in-Some.script c.compose_and_reread.result read recorded_script c.compose_and_reread.ensures.written) (λ x both. both.once)
 
 pub returns-clause-again : goal.returns-clause-again
 returns-clause-again c =
     let laws : Bases = record { after = c.law_advances.ensures.packets; one_by_one = c.law_sending_one_by_one.ensures; starts = c.law_runs_are_bounded.ensures.start; steps = c.law_runs_are_bounded.ensures.step; reasons = c.law_verdicts_have_reasons.ensures.reasons } in
     let read : IsRead (script_of c.args.lines.now) (Some c.in-Some.script) = subst (IsRead (script_of c.args.lines.now)) c.in-Some.is c.in_ok-script.ensures.read in
     let recorded_script : recorded_script_of c.in-Some.script.header.items c.in-Some.script.events.items c.args.settings.now ≡ Ok c.in_ok-recorded_script.recorded_script = subst (λ (es : List Event). recorded_script_of c.in-Some.script.header.items es c.args.settings.now ≡ Ok c.in_ok-recorded_script.recorded_script) c.as_slice.ensures.value c.in_ok-recorded_script.ensures in
-    on_ok c.write.result (written_recording laws c.args.lines.now c.args.settings.now c.in_ok-recorded_script.recorded_script c.in-Some.script c.write.result read recorded_script c.write.ensures.written) (λ x both. both.twice)
+    on_ok c.compose_and_reread.result (written_recording laws c.args.lines.now c.args.settings.now c.in_ok-recorded_script.recorded_script c.in-Some.script c.compose_and_reread.result read recorded_script c.compose_and_reread.ensures.written) (λ x both. both.twice)
 
 pub returns-clause-settled : goal.returns-clause-settled
 returns-clause-settled c =
     let laws : Bases = record { after = c.law_advances.ensures.packets; one_by_one = c.law_sending_one_by_one.ensures; starts = c.law_runs_are_bounded.ensures.start; steps = c.law_runs_are_bounded.ensures.step; reasons = c.law_verdicts_have_reasons.ensures.reasons } in
     let read : IsRead (script_of c.args.lines.now) (Some c.in-Some.script) = subst (IsRead (script_of c.args.lines.now)) c.in-Some.is c.in_ok-script.ensures.read in
     let recorded_script : recorded_script_of c.in-Some.script.header.items c.in-Some.script.events.items c.args.settings.now ≡ Ok c.in_ok-recorded_script.recorded_script = subst (λ (es : List Event). recorded_script_of c.in-Some.script.header.items es c.args.settings.now ≡ Ok c.in_ok-recorded_script.recorded_script) c.as_slice.ensures.value c.in_ok-recorded_script.ensures in
-    settled_recording c.args.lines.now c.args.settings.now c.in-Some.script.header.items (events_of c.in_ok-recorded_script.recorded_script) c.write.result c.write.ensures.written (written_recording laws c.args.lines.now c.args.settings.now c.in_ok-recorded_script.recorded_script c.in-Some.script c.write.result read recorded_script c.write.ensures.written)
+    settled_recording c.args.lines.now c.args.settings.now c.in-Some.script.header.items (events_of c.in_ok-recorded_script.recorded_script) c.compose_and_reread.result c.compose_and_reread.ensures.written (written_recording laws c.args.lines.now c.args.settings.now c.in_ok-recorded_script.recorded_script c.in-Some.script c.compose_and_reread.result read recorded_script c.compose_and_reread.ensures.written)

@@ -13,11 +13,11 @@ count_kept-kept-requires c = subst (λ (r : ReadingView). ReachesRise r.events) 
 pub first_events-requires : goal.first_events-requires
 first_events-requires c = let w = kept_within c.args.same c.args.old.now in omega (arith, w, c.count_kept-kept.ensures)
 
-pub place_after-place-requires-clause-within : goal.place_after-place-requires-clause-within
-place_after-place-requires-clause-within c = let w = kept_within c.args.same c.args.old.now in omega (arith, w, c.count_kept-kept.ensures)
+pub place_after_events-place-requires-clause-within : goal.place_after_events-place-requires-clause-within
+place_after_events-place-requires-clause-within c = let w = kept_within c.args.same c.args.old.now in omega (arith, w, c.count_kept-kept.ensures)
 
-pub read_rest-requires : goal.read_rest-requires
-read_rest-requires c =
+pub read_remaining_events-requires : goal.read_remaining_events-requires
+read_remaining_events-requires c =
     let w = kept_within c.args.same c.args.old.now in
     let few = kept_below c.args.same c.args.lines.now c.args.old.now c.requires in
     let n = length-take-le c.count_kept-kept.result c.args.old.now.events (omega (arith, w, c.count_kept-kept.ensures)) in
@@ -32,5 +32,5 @@ returns-clause-reading c =
     let header : c.in_ok-header.header ≡ old.header = c.in_ok-header.ensures ∙ c.header.ensures in
     let events : c.in_ok-events.events ≡ take (kept_of same old) old.events = c.in_ok-events.ensures ∙ ap (λ (n : ℕ). take n old.events) count in
     let some : kept_of same old ≡ 0 → ⊥ = λ z. omega (arith, z, c.if-kept-eq0.false, count) in
-    let after : (start : Place) → last_place start (take (kept_of same old) old.events) ≡ c.place_after-place.result = λ start. ap (λ (n : ℕ). last_place start (take n old.events)) (sym count) ∙ c.place_after-place.ensures start in
-    read_again c.law_first_lines.ensures.order c.law_first_lines.ensures.same c.law_items_stand_there.ensures c.args.lines.now same old c.in_ok-reading-2.reading c.place_after-place.result c.law_invariant.ensures c.requires c.in_ok-header.header c.in_ok-events.events header events some after c.in_ok-reading-2.ensures
+    let after : (start : Place) → last_place start (take (kept_of same old) old.events) ≡ c.place_after_events-place.result = λ start. ap (λ (n : ℕ). last_place start (take n old.events)) (sym count) ∙ c.place_after_events-place.ensures start in
+    read_again c.law_first_lines.ensures.order c.law_first_lines.ensures.same c.law_items_stand_there.ensures c.args.lines.now same old c.in_ok-reading-2.reading c.place_after_events-place.result c.law_invariant.ensures c.requires c.in_ok-header.header c.in_ok-events.events header events some after c.in_ok-reading-2.ensures

@@ -4,7 +4,7 @@ use Rattle.pd_script.proofs.Capped.{microseconds_is, whole_is}
 use Rattle.pd_script.proofs.numbers.microseconds.Goals as goal
 
 pub returns-then-len-text : goal.returns-then-len-text
-returns-then-len-text c = rw (c.saturating_mul-whole.ensures, c.number.ensures, c.whole_len-len.ensures.len) (whole_is c.args.text.now (sym c.whole_len-len.ensures.len ∙ c.if-len-text.true))
+returns-then-len-text c = rw (c.saturating_mul-whole.ensures, c.decimal_value.ensures, c.len_before_point-len.ensures.len) (whole_is c.args.text.now (sym c.len_before_point-len.ensures.len ∙ c.if-len-text.true))
 
 pub returns : goal.returns
-returns c = rw (c.saturating_add.ensures, c.saturating_mul-whole.ensures, c.six_decimals.ensures, c.number.ensures, c.decimals.ensures, c.whole_len-len.ensures.len) (microseconds_is c.args.text.now)
+returns c = rw (c.saturating_add.ensures, c.saturating_mul-whole.ensures, c.microseconds_of_decimals.ensures, c.decimal_value.ensures, c.digits_after_point.ensures, c.len_before_point-len.ensures.len) (microseconds_is c.args.text.now)

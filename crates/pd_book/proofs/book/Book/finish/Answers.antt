@@ -7,7 +7,7 @@ use Rattle.pd_book.proofs.book.Book.finish.Goals as goal
 
 pub invariant_of-self : goal.invariant_of-self
 invariant_of-self c =
-    let k = c.finish.ensures in
+    let k = c.record_finish.ensures in
     let h = c.args.done.now in
     finish_kept c.self.inside.opening (reverse c.self.inside.records.acts.items) _ c.self.inside.settings c.self.inside.records.scripts _ c.self.inside.records.tasks.items _ c.self.inside.last_number _ _ h _
     c.self.invariant

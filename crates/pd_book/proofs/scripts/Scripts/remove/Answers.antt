@@ -7,5 +7,5 @@ use Rattle.pd_book.proofs.scripts.Scripts.remove.Goals as goal
 
 pub returns : goal.returns
 returns c =
-    let gone : lookup (bytes_eq c.args.name.now) (remove_entry (bytes_eq c.args.name.now) c.args.self.now) ≡ None = rw c.take_out.ensures.taken at c.take_out.ensures.gone in
-    c.take_out.ensures.taken ∙ remove_named c.args.name.now c.args.self.now gone
+    let gone : lookup (bytes_eq c.args.name.now) (remove_entry (bytes_eq c.args.name.now) c.args.self.now) ≡ None = rw c.remove_by_name.ensures.taken at c.remove_by_name.ensures.gone in
+    c.remove_by_name.ensures.taken ∙ remove_named c.args.name.now c.args.self.now gone

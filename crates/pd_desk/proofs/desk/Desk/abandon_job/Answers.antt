@@ -4,10 +4,10 @@ use Rattle.pd_desk.proofs.desk.Desk.abandon_job.Goals as goal
 
 pub returns-then-not-agrees : goal.returns-then-not-agrees
 returns-then-not-agrees g c =
-    let reply = c.abandon_compared-agrees.result in
-    leaves_job reply.0 reply.1 _ c.args.seat.now c.abandon_compared-agrees.new.seat c.abandon_compared-agrees.ensures.compared c.abandon_compared-agrees.ensures.refuses c.if-not-agrees.true
+    let reply = c.abandon_and_check_seat-agrees.result in
+    leaves_job reply.0 reply.1 _ c.args.seat.now c.abandon_and_check_seat-agrees.new.seat c.abandon_and_check_seat-agrees.ensures.compared c.abandon_and_check_seat-agrees.ensures.refuses c.if-not-agrees.true
 
 pub returns : goal.returns
 returns g c =
-    let reply = c.abandon_compared-agrees.result in
-    abandon_ends reply.0 reply.1 c.args.number c.args.seat.now c.abandon_compared-agrees.new.seat c.abandon_compared-agrees.ensures.compared c.abandon_compared-agrees.ensures.records c.abandon_compared-agrees.ensures.room c.requires.started c.abandon_compared-agrees.ensures.refuses c.if-not-agrees.false
+    let reply = c.abandon_and_check_seat-agrees.result in
+    abandon_ends reply.0 reply.1 c.args.number c.args.seat.now c.abandon_and_check_seat-agrees.new.seat c.abandon_and_check_seat-agrees.ensures.compared c.abandon_and_check_seat-agrees.ensures.records c.abandon_and_check_seat-agrees.ensures.room c.requires.started c.abandon_and_check_seat-agrees.ensures.refuses c.if-not-agrees.false

@@ -5,10 +5,10 @@ use Rattle.pd_desk.proofs.desk.Desk.finish_job.Goals as goal
 
 pub returns-then-not-agrees-clause-left : goal.returns-then-not-agrees-clause-left
 returns-then-not-agrees-clause-left g c =
-    let reply = c.finish_compared-agrees.result in
-    (refl, leaves_job reply.0 reply.1 _ c.args.seat.now c.finish_compared-agrees.new.seat c.finish_compared-agrees.ensures.compared c.finish_compared-agrees.ensures.refuses c.if-not-agrees.true)
+    let reply = c.finish_and_check_seat-agrees.result in
+    (refl, leaves_job reply.0 reply.1 _ c.args.seat.now c.finish_and_check_seat-agrees.new.seat c.finish_and_check_seat-agrees.ensures.compared c.finish_and_check_seat-agrees.ensures.refuses c.if-not-agrees.true)
 
 pub returns-clause-finished : goal.returns-clause-finished
 returns-clause-finished g c =
-    let reply = c.finish_compared-agrees.result in
-    finish_ends reply.0 reply.1 c.args.done.now c.args.seat.now c.finish_compared-agrees.new.seat c.finish_compared-agrees.ensures.compared c.finish_compared-agrees.ensures.records c.finish_compared-agrees.ensures.room c.requires.started c.finish_compared-agrees.ensures.refuses c.if-not-agrees.false
+    let reply = c.finish_and_check_seat-agrees.result in
+    finish_ends reply.0 reply.1 c.args.done.now c.args.seat.now c.finish_and_check_seat-agrees.new.seat c.finish_and_check_seat-agrees.ensures.compared c.finish_and_check_seat-agrees.ensures.records c.finish_and_check_seat-agrees.ensures.room c.requires.started c.finish_and_check_seat-agrees.ensures.refuses c.if-not-agrees.false

@@ -14,29 +14,29 @@ pub returns-in_err-job-clause-works : goal.returns-in_err-job-clause-works
 returns-in_err-job-clause-works g c =
     let fault = c.in_err-job.field-0.0 in
     let failed : c.from_residual.result ≡ Err fault = search rules in
-    let before = worked_on c.args.seat.now c.loop.seat c.next_job.new.seat c.loop.invariant.jobs c.in_err-job.ensures.refuses in
-    subst (λ r. Works c.args.seat.now r c.next_job.new.seat) (sym failed) (works_want c.args.seat.now c.next_job.new.seat fault c.in_err-job.ensures.fault before)
+    let before = worked_on c.args.seat.now c.loop.seat c.wait_and_start_job.new.seat c.loop.invariant.jobs c.in_err-job.ensures.refuses in
+    subst (λ r. Works c.args.seat.now r c.wait_and_start_job.new.seat) (sym failed) (works_want c.args.seat.now c.wait_and_start_job.new.seat fault c.in_err-job.ensures.fault before)
 
-pub returns-in_err-run_and_finish-clause-works : goal.returns-in_err-run_and_finish-clause-works
-returns-in_err-run_and_finish-clause-works g c =
-    let fault = c.in_err-run_and_finish.field-0.0 in
-    let failed : c.from_residual-in_err-run_and_finish.result ≡ Err fault = search rules in
+pub returns-in_err-run_and_end_job-clause-works : goal.returns-in_err-run_and_end_job-clause-works
+returns-in_err-run_and_end_job-clause-works g c =
+    let fault = c.in_err-run_and_end_job.field-0.0 in
+    let failed : c.from_residual-in_err-run_and_end_job.result ≡ Err fault = search rules in
     let task = c.in-Some.job.task in
-    let begun = of_given (λ (job : JobView). c.next_job.new.seat ≡ with_act c.loop.seat (Start job.task.number job.task.name)) c.in_ok-job.field-0 c.in-Some.job c.in-Some.is c.in_ok-job.ensures.records in
-    let left = works_given_up c.args.seat.now c.loop.seat c.next_job.new.seat c.run_and_finish.new.seat task.number task.name fault c.loop.invariant.jobs begun c.in_err-run_and_finish.ensures.given_up in
-    subst (λ r. Works c.args.seat.now r c.run_and_finish.new.seat) (sym failed) left
+    let begun = of_given (λ (job : JobView). c.wait_and_start_job.new.seat ≡ with_act c.loop.seat (Start job.task.number job.task.name)) c.in_ok-job.field-0 c.in-Some.job c.in-Some.is c.in_ok-job.ensures.records in
+    let left = works_given_up c.args.seat.now c.loop.seat c.wait_and_start_job.new.seat c.run_and_end_job.new.seat task.number task.name fault c.loop.invariant.jobs begun c.in_err-run_and_end_job.ensures.given_up in
+    subst (λ r. Works c.args.seat.now r c.run_and_end_job.new.seat) (sym failed) left
 
-pub run_and_finish-requires-clause-started : goal.run_and_finish-requires-clause-started
-run_and_finish-requires-clause-started g c =
+pub run_and_end_job-requires-clause-started : goal.run_and_end_job-requires-clause-started
+run_and_end_job-requires-clause-started g c =
     let task = c.in-Some.job.task in
-    let begun = of_given (λ (job : JobView). c.next_job.new.seat ≡ with_act c.loop.seat (Start job.task.number job.task.name)) c.in_ok-job.field-0 c.in-Some.job c.in-Some.is c.in_ok-job.ensures.records in
-    is_started c.loop.seat c.next_job.new.seat task.number task.name begun
+    let begun = of_given (λ (job : JobView). c.wait_and_start_job.new.seat ≡ with_act c.loop.seat (Start job.task.number job.task.name)) c.in_ok-job.field-0 c.in-Some.job c.in-Some.is c.in_ok-job.ensures.records in
+    is_started c.loop.seat c.wait_and_start_job.new.seat task.number task.name begun
 
 pub loop-preserved : goal.loop-preserved
 loop-preserved g c =
     let task = c.in-Some.job.task in
-    let begun = of_given (λ (job : JobView). c.next_job.new.seat ≡ with_act c.loop.seat (Start job.task.number job.task.name)) c.in_ok-job.field-0 c.in-Some.job c.in-Some.is c.in_ok-job.ensures.records in
+    let begun = of_given (λ (job : JobView). c.wait_and_start_job.new.seat ≡ with_act c.loop.seat (Start job.task.number job.task.name)) c.in_ok-job.field-0 c.in-Some.job c.in-Some.is c.in_ok-job.ensures.records in
     record {
-      jobs = worked_more c.args.seat.now c.loop.seat c.next_job.new.seat c.run_and_finish.new.seat task c.loop.invariant.jobs begun c.in_ok-run_and_finish.ensures.finished;
-      few = omega (arith, c.in_ok-run_and_finish.ensures.few, c.loop.invariant.few);
+      jobs = worked_more c.args.seat.now c.loop.seat c.wait_and_start_job.new.seat c.run_and_end_job.new.seat task c.loop.invariant.jobs begun c.in_ok-run_and_end_job.ensures.finished;
+      few = omega (arith, c.in_ok-run_and_end_job.ensures.few, c.loop.invariant.few);
     }

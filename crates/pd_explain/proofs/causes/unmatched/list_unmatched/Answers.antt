@@ -13,10 +13,10 @@ loop-count-preserved c =
     let outbox : c.outbox-outbox.result.now ≡ unmatched c.args.run.now = c.outbox-outbox.ensures ∙ ap (λ (h : HostView). h.state.endpoint.outbox) c.host.ensures in
     let got : slice_get (unmatched c.args.run.now) (c.args.skipped + c.loop-count.count) ≡ Some sent =
     subst (λ (l : List Sent). slice_get l (c.args.skipped + c.loop-count.count) ≡ Some sent) outbox (sym c.get.ensures ∙ ap option_copied c.in-Some.is) in
-    let text : c.in_ok-event_sent-in-Some.field-0.items ≡ sent_text c.args.run.now.base sent =
-    c.in_ok-event_sent-in-Some.ensures ∙ ap (λ (b : ℕ). sent_text b sent) c.base.ensures in
+    let text : c.in_ok-write_sent_with_moment-in-Some.field-0.items ≡ sent_text c.args.run.now.base sent =
+    c.in_ok-write_sent_with_moment-in-Some.ensures ∙ ap (λ (b : ℕ). sent_text b sent) c.base.ensures in
     record {
-      listed = one_more c.args.run.now.base c.args.skipped c.loop-count.count (unmatched c.args.run.now) sent c.loop-count.packets.items c.push.new.self.items c.in_ok-event_sent-in-Some.field-0 got c.loop-count.invariant.listed text c.in_ok-push-in-Some.ensures.items;
+      listed = one_more c.args.run.now.base c.args.skipped c.loop-count.count (unmatched c.args.run.now) sent c.loop-count.packets.items c.push.new.self.items c.in_ok-write_sent_with_moment-in-Some.field-0 got c.loop-count.invariant.listed text c.in_ok-push-in-Some.ensures.items;
     }
 
 pub returns : goal.returns

@@ -18,7 +18,7 @@ returns-in_default-clause-packets c =
 pub returns-in_err-recorded-clause-packets : goal.returns-in_err-recorded-clause-packets
 returns-in_err-recorded-clause-packets c =
     let next : leaves_next (λ due. nat_le due c.args.until) c.packets.self.run ≡ Some c.in-Some.sent = sym c.in_ok-sent.ensures ∙ c.in-Some.is in
-    gives_refused _ (left_by c.args.line c.args.until c.args.self.now) c.from_residual-in_err-recorded.result c.in_err-recorded.field-0.0 c.record_packet.new.self c.from_residual-in_err-recorded.ensures.1
+    gives_refused _ (left_by c.args.line c.args.until c.args.self.now) c.from_residual-in_err-recorded.result c.in_err-recorded.field-0.0 c.record_sent_packet.new.self c.from_residual-in_err-recorded.ensures.1
     (λ (other : c.in_err-recorded.field-0.0 ≢ OutOfMemory).
     sym c.packets.invariant.left
     ∙ comes_refused (4096 - c.packets.counter) (4096 - (c.packets.counter + 1)) c.args.line c.args.until c.packets.before.items c.packets.self c.in-Some.sent c.in_err-recorded.field-0.0 (omega (arith, c.packets-test.true)) next (c.in_err-recorded.ensures.packet other))
@@ -26,11 +26,11 @@ returns-in_err-recorded-clause-packets c =
 pub packets-preserved : goal.packets-preserved
 packets-preserved c =
     let next : leaves_next (λ due. nat_le due c.args.until) c.packets.self.run ≡ Some c.in-Some.sent = sym c.in_ok-sent.ensures ∙ c.in-Some.is in
-    let step = comes_got (4096 - c.packets.counter) (4096 - (c.packets.counter + 1)) c.args.line c.args.until c.packets.before.items c.packets.self c.record_packet.new.self c.in-Some.sent c.in_ok-recorded.recorded (omega (arith, c.packets-test.true)) next c.in_ok-recorded.ensures.packet in
+    let step = comes_got (4096 - c.packets.counter) (4096 - (c.packets.counter + 1)) c.args.line c.args.until c.packets.before.items c.packets.self c.record_sent_packet.new.self c.in-Some.sent c.in_ok-recorded.recorded (omega (arith, c.packets-test.true)) next c.in_ok-recorded.ensures.packet in
     record {
-      sound = subst Sound (sym c.in_ok-add_unmet.ensures) (unmet_sound c.record_packet.new.self c.in-Some.sent.at c.in_ok-recorded.ensures.sound c.in_ok-recorded.ensures.reached);
-      base = ap (λ (t : RecorderView). t.base) c.in_ok-add_unmet.ensures ∙ (c.in_ok-recorded.ensures.base ∙ c.packets.invariant.base);
-      left = rw (c.in_ok-append.ensures, c.in_ok-add_unmet.ensures) (sym step ∙ c.packets.invariant.left);
+      sound = subst Sound (sym c.in_ok-add_unmet_packet.ensures) (unmet_sound c.record_sent_packet.new.self c.in-Some.sent.at c.in_ok-recorded.ensures.sound c.in_ok-recorded.ensures.reached);
+      base = ap (λ (t : RecorderView). t.base) c.in_ok-add_unmet_packet.ensures ∙ (c.in_ok-recorded.ensures.base ∙ c.packets.invariant.base);
+      left = rw (c.in_ok-append_recorded_event.ensures, c.in_ok-add_unmet_packet.ensures) (sym step ∙ c.packets.invariant.left);
     }
 
 pub returns-clause-packets : goal.returns-clause-packets

@@ -2,7 +2,7 @@
 use Rattle.std.proofs.Common.{◌≡◌, Option, sym, subst, ap, ◌∙◌}
 use Rattle.std.specs.Prelude.{IfSome}
 use Rattle.pd_recover.specs.declared.next_segment.NextSegment.{NextSegment}
-use Rattle.pd_recover.specs.NextSeg.{IsSendable, segment_of, first_by_rules, next_send}
+use Rattle.pd_recover.specs.NextSeg.{IsSendable, segment_of, first_by_next_seg_rules, next_send}
 use Rattle.pd_recover.proofs.Chosen.{if_some}
 use Rattle.pd_recover.proofs.Sendable.{next_sendable}
 use Rattle.pd_recover.proofs.congestion.Cong.next_send.Goals as goal
@@ -11,6 +11,6 @@ pub returns-clause-sendable : goal.returns-clause-sendable
 returns-clause-sendable c =
     let P : NextSegment → Type 0 = λ sent. IsSendable c.args.board.now (segment_of sent) in
     let Q : Option NextSegment → Type 0 = λ o. IfSome o P in
-    let e : c.first_by_rules.result ≡ next_send c.args.rwnd c.args.board.now c.args.self.now =
-    c.first_by_rules.ensures ∙ ap (λ o. first_by_rules o c.args.board.now c.args.self.now) c.new_data-unsent.ensures.value in
-    subst Q (sym e) (if_some P (next_send c.args.rwnd c.args.board.now c.args.self.now) (next_sendable c.args.rwnd c.args.board.now c.args.self.now c.new_data-unsent.ensures.known))
+    let e : c.first_by_next_seg_rules.result ≡ next_send c.args.rwnd c.args.board.now c.args.self.now =
+    c.first_by_next_seg_rules.ensures ∙ ap (λ o. first_by_next_seg_rules o c.args.board.now c.args.self.now) c.new_segment_on_board-unsent.ensures.value in
+    subst Q (sym e) (if_some P (next_send c.args.rwnd c.args.board.now c.args.self.now) (next_sendable c.args.rwnd c.args.board.now c.args.self.now c.new_segment_on_board-unsent.ensures.known))

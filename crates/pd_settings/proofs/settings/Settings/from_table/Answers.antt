@@ -5,4 +5,4 @@ use Rattle.pd_settings.proofs.Overlays.{overlaid_answers}
 use Rattle.pd_settings.proofs.settings.Settings.from_table.Goals as goal
 
 pub returns-clause-overlay : goal.returns-clause-overlay
-returns-clause-overlay c = rw (c.overlay.ensures, c.new.ensures) (overlaid_answers defaults (table_view c.args.table.now))
+returns-clause-overlay c = rw (c.with_table_values.ensures, c.new.ensures) (overlaid_answers defaults (table_view c.args.table.now))

@@ -1,0 +1,21 @@
+use Rattle.pd_protocol.specs.SettingsText.{settings_in}
+use Rattle.pd_cli.specs.Program.{end_of}
+use Rattle.pd_cli.proofs.Ending.{ran_beside}
+use Rattle.pd_cli.proofs.Reported.{quiet_end, settings_end}
+use Rattle.pd_cli.proofs.program.run_beside_workers.Goals as goal
+
+pub returns-in-Ok : goal.returns-in-Ok
+returns-in-Ok g c = λ report_options.
+    let input = g.R.Read.remaining c.args.reader.now in
+    let before = g.W.Write.contents c.args.out.now in
+    let after = g.W.Write.contents c.serve-end.new.writer in
+    let text = c.args.options.now.settings.now in
+    let end = c.serve-end.result in
+    let failed = g.R.InputStream.has_failed c.serve-end.new.reader in
+    quiet_end failed c.exit_after_serving.result (end_of end) c.args.options.now.workers report_options text input before after (g.E.Write.contents c.args.err.now) (g.E.Write.contents c.exit_after_serving.new.err)
+    c.exit_after_serving.ensures.status c.exit_after_serving.ensures.stderr (ran_beside failed c.args.options.now.workers c.in-Ok.settings (settings_in text) end input before after c.requires.some c.in-Ok.ensures.ok c.serve-end.ensures.serves c.serve-end.ensures.cause)
+
+pub returns-in-Err : goal.returns-in-Err
+returns-in-Err g c = λ report_options.
+    settings_end (g.R.InputStream.has_failed c.args.reader.now) c.exit_with_fault.result c.in-Err.fault c.args.options.now.workers report_options c.args.options.now.settings.now (g.R.Read.remaining c.args.reader.now) (g.W.Write.contents c.args.out.now) (g.E.Write.contents c.args.err.now) (g.E.Write.contents c.exit_with_fault.new.err)
+    c.exit_with_fault.ensures.status c.exit_with_fault.ensures.stderr c.in-Err.ensures.err

@@ -1,0 +1,5 @@
+-- One place less.
+use Rattle.pd_print.proofs.digits.+put_last_digits.Given as goal
+
+abbrev pub decreases-put_last_digits : goal.decreases-put_last_digits
+decreases-put_last_digits l = l.places
