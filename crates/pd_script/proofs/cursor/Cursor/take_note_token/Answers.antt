@@ -7,15 +7,15 @@ use Rattle.pd_script.specs.ArgumentReading.{note_part_at}
 use Rattle.pd_script.proofs.Taking.{leaves_err, note_ok, note_err}
 use Rattle.pd_script.proofs.cursor.Cursor.take_note_token.Goals as goal
 
-pub returns-in_err-update : goal.returns-in_err-update
-returns-in_err-update c =
+pub returns-in_err-update_by_token : goal.returns-in_err-update_by_token
+returns-in_err-update_by_token c =
     let p = err_from_is_err_and c.from_residual.result c.from_residual.ensures.1 in
     let is : c.self.inside.lookahead.next ≡ lexed.Token c.in-Token.token = cc c.in-Token.is in
     let old : c.args.self.now ≡ left c.self.inside.lines.now c.self.inside.lookahead.next = cc c.self.view_is in
-    rw (p.1, p.2) (leaves_err c.in_err-update.field-0.0 c.args.self.now (note_part_at c.args.pairs c.args.self.now) (note_err c.self.inside.lines.now c.self.inside.lookahead.next c.in-Token.token c.args.self.now is c.self.invariant.0 old c.args.pairs c.in_err-update.ensures.err))
+    rw (p.1, p.2) (leaves_err c.in_err-update_by_token.field-0.0 c.args.self.now (note_part_at c.args.pairs c.args.self.now) (note_err c.self.inside.lines.now c.self.inside.lookahead.next c.in-Token.token c.args.self.now is c.self.invariant.0 old c.args.pairs c.in_err-update_by_token.ensures.err))
 
 pub returns : goal.returns
 returns c =
     let is : c.self.inside.lookahead.next ≡ lexed.Token c.in-Token.token = cc c.in-Token.is in
     let old : c.args.self.now ≡ left c.self.inside.lines.now c.self.inside.lookahead.next = cc c.self.view_is in
-    note_ok c.self.inside.lines.now c.self.inside.lookahead.next c.in-Token.token c.args.self.now is c.self.invariant.0 old c.advance.new.self c.args.pairs c.update.new.self c.advance.ensures c.in_ok-update.ensures.ok
+    note_ok c.self.inside.lines.now c.self.inside.lookahead.next c.in-Token.token c.args.self.now is c.self.invariant.0 old c.advance.new.self c.args.pairs c.update_by_token.new.self c.advance.ensures c.in_ok-update_by_token.ensures.ok
