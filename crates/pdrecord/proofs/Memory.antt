@@ -1,4 +1,4 @@
--- Want of memory before anything is read.
+-- Out of memory, before anything is read.
 use Rattle.std.proofs.Common.{◌≡◌, ℕ, List, Option, Some, None, Result, Ok, Err, IfSome, ◌⊎◌, inl, inr, refl, codes}
 use Rattle.pd_settings.specs.declared.settings.Settings.{Settings}
 use Rattle.pd_protocol.specs.declared.faults.ServeFault.TheVariants.{OutOfMemory}

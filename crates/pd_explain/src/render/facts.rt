@@ -32,7 +32,7 @@ pub enum FactValue<'a> {
     Octets(&'a [u8]),
     /// A packet that was sent, as a script has it, with what let it go, where that is known; in JSON the packet alone.
     Packet(&'a [u8], Option<Origin>),
-    /// Words of this program.
+    /// A text of this program.
     Words(&'static str),
     /// Microseconds; in text they are seconds.
     Moment(u64),
