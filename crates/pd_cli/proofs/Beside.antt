@@ -1,4 +1,4 @@
--- The octets written so far beside workers, and those still to come.
+-- The octets written so far with workers, and those still to come.
 use Rattle.std.proofs.Common.{◌≡◌, ◌⊎◌, inl, inr, ℕ, Bool, true, List, [], ◌∷◌, ◌++◌, map, Option, Some, None, option_map, Result, Ok, Err, refl, sym, ap, subst, ◌∙◌, append_assoc, append-nil, IfSome, IfErr, IfOk, IsOk, IsErrAnd, OnOk, OnErr, take, drop}
 use Rattle.std.specs.List.{All}
 use Rattle.std.specs.Prelude.{IsSome, IsSomeAnd, is_some}
@@ -47,7 +47,7 @@ pub set_declined : (history : History) (o : Option Key) (value : Value) (octets 
 set_declined history None value octets h = (h, refl)
 set_declined history (Some k) value octets h = act_declined history (value_refusal (now history.opening history.past) (Some k) value) (act.Set k value) octets h
 
--- a setting that is accepted beside workers, or isn't
+-- a setting that is accepted with workers, or isn't
 pub set_printed : {V : Type 0} (reply : Result V ServeFault) (octets : V → List ℕ) (r : Result (Unit {0}) BookFault) (history next : History) (o : Option Key) (value : Value) (refusal room : Option BookFault) → IfOk reply (λ v. octets v ≡ []) → IfOk reply (λ v. IsOk r)
     → OnOk r (IsSomeAnd o (λ k. next ≡ after_act history (act.Set k value))) → OnOk r (or_else refusal room ≡ None) → IfOk reply (λ v. MayAct history refusal (option_map (λ k. act.Set k value) o) (octets v) next)
 set_printed (Err x) octets r history next o value refusal room n k t a = tt
@@ -180,7 +180,7 @@ ends_beside prints fails passes fails_so (Err Read) octets a last items h = tt
 ends_beside prints fails passes fails_so (Err Write) octets a last items h = tt
 ends_beside prints fails passes fails_so (Err OutOfMemory) octets a last items h = tt
 
--- whoever answers as a seat at a new desk does writes what may be written beside workers
+-- whoever answers as a seat at a new desk does writes what may be written with workers
 pub serves_beside : ((scripts : List NamedText) → (settings : Settings) → ScratchIsOne scripts settings) → {S : Type 0} (prints : S → Command → List ℕ → S → Type 0) (fails : ServeFault → S → Command → S → Type 0) (passes : S → Bool) (r : Result Bool ServeFault) (a last : S) (input before after : Option (List ℕ)) → ServesBy prints fails passes r input before after a last
     → (history : S → History) → MayBe prints history → FailsBesideSo fails → PassesBeside passes history → (settings : Settings) → history a ≡ record { opening = settings; past = [] } → ServesBeside r settings input before after
 serves_beside one prints fails passes r a last input before after h history may fails_so passed settings e = (

@@ -34,7 +34,7 @@ pub memory_runs : (failed : Type 0) (workers : ℕ) (s : Result Settings Program
 memory_runs failed workers s None = tt
 memory_runs failed workers s (Some input) = settings_runs failed workers (Serving OutOfMemory) (Serving OutOfMemory) s input refl (inr refl)
 
--- serving with good settings, beside workers or alone
+-- serving with good settings, with workers or alone
 served_runs : (failed : Type 0) (workers : ℕ) (settings : Settings) (s : Result Settings ProgramFault) (end : Result Bool ServeFault) (octets input : List ℕ) → s ≡ Ok settings → Served failed workers settings end octets input → Runs failed workers s (end_of end) octets input
 served_runs failed workers settings s (Ok passed) octets input e h = rw e h
 served_runs failed workers settings s (Err fault) octets input e h = rw e h

@@ -84,12 +84,12 @@ MayAnswer (Err Read) octets history items = StopsBefore (λ rest. Unit {0}) hist
 MayAnswer (Err OutOfMemory) octets history items = StopsBefore (λ rest. Unit {0}) history items octets
 MayAnswer (Err Write) octets history items = (more : List ℕ) × StopsBefore (λ rest. Unit {0}) history items (octets ++ more)
 
--- beside workers no settle ends for a full history
+-- with workers no settle ends for a full history
 abbrev pub EndsBeside : Result Bool ServeFault → Type 0
 EndsBeside (Err HistoryFull) = ⊥
 EndsBeside result = Unit {0}
 
--- a writer got what may be written for an input beside workers, and this is how it ends
+-- a writer got what may be written for an input with workers, and this is how it ends
 abbrev pub ServesBeside : Result Bool ServeFault → Settings → Option (List ℕ) → Option (List ℕ) → Option (List ℕ) → Type 0
 ServesBeside result settings input before after =
     (octets : List ℕ) × Appends before after octets

@@ -1,4 +1,4 @@
--- The steps of serving beside workers; cited by private contracts alone.
+-- The steps of serving with workers; cited by private contracts alone.
 use Rattle.std.specs.Prelude.{◌≡◌, ℕ, List, map, Option, unwrap_or}
 use Rattle.pd_book.specs.declared.faults.BookFault.{BookFault}
 use Rattle.pd_book.specs.declared.faults.BookFault.TheVariants as book
@@ -23,7 +23,7 @@ scripts_of rows = map (λ (row : Row). (row.name, row.text)) rows
 abbrev pub IsOfSame : ReportView → ReportView → Type 0
 IsOfSame report other = (report.settings ≡ other.settings) × (scripts_of report.rows ≡ scripts_of other.rows)
 
--- why a command beside workers has no reply
+-- why a command with workers has no reply
 abbrev pub FailsBeside : ServeFault → Command → Type 0
 FailsBeside NoWorkers command = command ≡ Settle
 FailsBeside Differs command = Unit {0}

@@ -7,7 +7,7 @@ use pd_book::{law_accepting, law_headline, law_settling};
 
 /// Each history that serving comes to is legal. A settle leaves nothing pending and the same scripts and settings, and
 /// prints their report from scratch; in a report that a show prints each row is pending or that from scratch. The octets
-/// that commands print they may print beside workers too. The octets that are written by the grammar are just the output.
+/// that commands print they may print with workers too. The octets that are written by the grammar are just the output.
 pub fn law_reports()
     ensures output { OutputGoesOn }
     ensures legal { StoriesAreLegal }

@@ -1,7 +1,7 @@
 //! The report, serving and the whole program `pdregress`, over any reader and writers.
 //!
 //! `run` is the whole of `pdregress` but for its streams. `run_alone` serves its input without
-//! workers, `serve` beside workers, and `serve_seat` at a seat of a desk. `render` gives the octets
+//! workers, `serve` with workers, and `serve_seat` at a seat of a desk. `render` gives the octets
 //! of a report. One loop serves: it takes a command, asks an `CommandHandler` for the reply, and writes
 //! the reply.
 //!

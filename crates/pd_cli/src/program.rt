@@ -117,7 +117,7 @@ fn serve_and_report<'a, R: InputStream, W: Write, E: Write>(
     (err, stderr_ok, end)
 }
 
-/// Runs the program beside workers: it serves the input, and says at the end why it doesn't go on.
+/// Runs the program with workers: it serves the input, and says at the end why it doesn't go on.
 fn run_beside_workers<H: Threads + Wait + Sync, R: InputStream, W: Write, E: Write>(
     rt: &H,
     alloc: Global,

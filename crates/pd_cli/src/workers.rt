@@ -1,4 +1,4 @@
-//! Serving beside workers in threads of their own.
+//! Serving with workers in threads of their own.
 ghost use Rattle.std.specs.Prelude.{◌≡◌, ◌≤◌};
 ghost use Rattle.pd_cli.specs.Beside.{ServesBeside};
 ghost use Rattle.pd_protocol.specs.Input.{HasCause};
@@ -59,7 +59,7 @@ fn law_returned<R, W>(reader: &mut R, writer: &mut W)
     ensures { (reader.new ≡ reader.old) × (writer.new ≡ writer.old) }
 {}
 
-/// A task that is done beside workers. A scope says nothing of the values that a closure wrote into its captures, but it
+/// A task that is done with workers. A scope says nothing of the values that a closure wrote into its captures, but it
 /// says what is returned, and so what this gives.
 trait ScopedTask {
     type Output;

@@ -68,7 +68,7 @@ impl Host {
     ///
     /// # Errors
     /// The earlier end of the host; else `Halted` for a call that isn't run, and where more than 1,024 packets would stand
-    /// untaken, and `OutOfMemory`.
+    /// unmatched, and `OutOfMemory`.
     #[inline(always)]
     pub fn call(&mut self, call: &Call, now: u64) -> Result<Answer, HostEnd>
         requires early { now < 2 ^ 62 }
@@ -91,7 +91,7 @@ impl Host {
     ///
     /// # Errors
     /// The earlier end of the host; else `Halted` for a segment that isn't run, and where more than 1,024 packets would stand
-    /// untaken, and `OutOfMemory`.
+    /// unmatched, and `OutOfMemory`.
     #[inline(always)]
     pub fn arrive(&mut self, segment: &Segment, now: u64) -> Result<(), HostEnd>
         requires early { now < 2 ^ 62 }
@@ -120,7 +120,7 @@ impl Host {
     /// Performs all expiries up to a moment, in order.
     ///
     /// # Errors
-    /// The earlier end of the host; else `Halted` where more than 1,024 packets would be untaken, and `OutOfMemory`.
+    /// The earlier end of the host; else `Halted` where more than 1,024 packets would be unmatched, and `OutOfMemory`.
     #[inline(always)]
     pub fn advance(&mut self, until: u64) -> Result<(), HostEnd>
         requires early { until < 2 ^ 62 }

@@ -10,7 +10,7 @@ use std::alloc::{AllocError, Global};
 use std::collections::VecDeque;
 use std::marker::Model;
 
-/// The most packets that are untaken.
+/// The most packets that are unmatched.
 const MAX_PACKETS: usize = 1_024;
 
 /// The packets that were put out and not yet taken, the oldest first: at most 1,024.
@@ -60,14 +60,14 @@ impl Outbox {
         }
     }
 
-    /// How many packets are untaken, at most 1,024.
+    /// How many packets are unmatched, at most 1,024.
     pub fn len(&self) -> usize
         ensures { result ≡ length self.now }
     {
         self.packets.len()
     }
 
-    /// Whether no packet is untaken.
+    /// Whether no packet is unmatched.
     pub fn is_empty(&self) -> bool
         ensures { result ≡ (length self.now == 0) }
     {

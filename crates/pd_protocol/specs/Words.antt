@@ -1,4 +1,4 @@
--- The words of a command line, and the numbers and values that they write.
+-- The words that a command line is cut into, and the numbers and values that they write.
 use Rattle.std.specs.Prelude.{ℕ, ◌+◌, ◌-◌, ◌*◌, ◌^◌, ◌==◌, Bool, true, false, ◌&&◌, nat_lt, nat_le, List, length, filter, fold, if◌then◌else◌, codes}
 use Rattle.std.specs.Char.{is_ascii_digit}
 use Rattle.std.specs.List.{slice_split, list_all}

@@ -92,7 +92,7 @@ expires r e None = Err Missing
 expires r e (Some at) =
     if may_be_in_time (time_range_of r.base e.time) (tolerance_of r) at then on_expiry r at (advanced at r.host.state) else Err Missing
 
--- where no packet is untaken, the next expiry is awaited
+-- where no packet is unmatched, the next expiry is awaited
 abbrev pub awaited : RunStateView → Event → Result RunStateView StopReason
 awaited r e = if length r.host.state.endpoint.outbox == 0 then expires r e (deadline_of r.host.state) else Ok r
 

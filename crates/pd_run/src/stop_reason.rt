@@ -31,7 +31,7 @@ pub(crate) enum StopKind {
     FailedPrecheck(Precheck),
     Halted(Halt),
     Missing,
-    /// The first thing of the oldest untaken packet that differs.
+    /// The first thing of the oldest unmatched packet that differs.
     Differs(Kind),
     Answered(Answer),
 }

@@ -13,6 +13,6 @@ pub enum Verdict {
     Syntax(usize),
     /// The event or header item at this line isn't run.
     Unsupported(usize),
-    /// A number of the event at this line is over its limit, or too many packets were untaken there.
+    /// A number of the event at this line is over its limit, or too many packets were unmatched there.
     Limit(usize),
 }

@@ -72,7 +72,7 @@ pub fn parse(alloc: Global, lines: &Lines) -> Result<Parsed, AllocError>
     // The header ends after the last of its items.
     ensures end { IfOk result (λ parsed. HasEnd (items lines.now first_place) parsed.header) }
 {
-    // The laws of tokens do no work: what is said of the items and their lines rests on them.
+    // The laws of tokens do no work: the contracts on items and their lines rest on them.
     law_longest_pieces();
     law_first_lines();
     let parsed = read_header_and_events(alloc, lines)?;

@@ -6,14 +6,14 @@
 //!
 //! A transcript is a list of rows, each a call of a desk with its answer, some beside threads that wait
 //! (`transcripts`). `two_workers` holds one worker at its job until another has begun. `schedules` serves
-//! random commands beside workers that are delayed at random. `interleavings` lets one thread at a time go
+//! random commands with workers that are delayed at random. `interleavings` lets one thread at a time go
 //! on, and goes through all orders of turns. `streams` runs the whole program on streams that give
 //! or take little, or fail.
 //!
 //! Why it is so:
 //! - No contract says in which order threads run, who is woken, or that a call that waits ends.
 //!   Only tests show it, most of them here.
-//! - What is written beside workers is compared with what one thread writes (`reference`, and serving
+//! - What is written with workers is compared with what one thread writes (`reference`, and serving
 //!   without workers): a settled report depends on the accepted commands alone.
 //! - Random schedules seldom meet a rare order, so a few short lists of calls are made in all of
 //!   them.

@@ -31,7 +31,7 @@ const ROUNDS: u64 = 30;
 
 const COMMANDS: u64 = 24;
 
-/// Serves each input beside workers, and prints how many differ; whether none does.
+/// Serves each input with workers, and prints how many differ; whether none does.
 pub fn run_schedules(rt: &(impl Print + AllocGlobal + Threads + Wait + Sync)) -> io::Result<bool> {
     let mut random = Random::new(20_261_123);
     let mut schedule_run = ScheduleRun::new(rt.alloc())?;
@@ -44,7 +44,7 @@ pub fn run_schedules(rt: &(impl Print + AllocGlobal + Threads + Wait + Sync)) ->
     schedule_run.summary.print(rt, " schedules, ")
 }
 
-/// An input, what is served of it without threads and beside workers, and what differs.
+/// An input, what is served of it without threads and with workers, and what differs.
 #[derive(Drop)]
 struct ScheduleRun {
     alloc: Global,

@@ -1,4 +1,4 @@
-//! Serving: without threads, beside workers, and at a seat of a desk that can be closed.
+//! Serving: without threads, with workers, and at a seat of a desk that can be closed.
 use crate::callers::CACHE;
 use pd_cli::InputStream;
 use pd_desk::{Desk, Gate};

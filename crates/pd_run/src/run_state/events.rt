@@ -143,7 +143,7 @@ impl RunState {
         }
     }
 
-    /// Where no packet is untaken, performs the next expiry that may send the expected one.
+    /// Where no packet is unmatched, performs the next expiry that may send the expected one.
     #[inline(always)]
     fn await_packet(&mut self, event: &Event) -> Result<Option<StopKind>, AllocError>
         requires live { self.old.host.end_reason ≡ None }

@@ -1,7 +1,7 @@
-//! The output of serving beside workers, compared with that of serving without.
+//! The output of serving with workers, compared with that of serving without.
 use crate::serving::ServedOutput;
 
-/// Whether what was served beside workers is what was served without, where each report was settled: each line of a
+/// Whether what was served with workers is what was served without, where each report was settled: each line of a
 /// settled report is the same, and a line of another one the same or pending.
 pub fn is_served(served: &ServedOutput, alone: &ServedOutput, are_settled: &[bool]) -> bool {
     let is_same_end = match (served.passes, alone.passes) {

@@ -3,7 +3,7 @@ use crate::schedules::random::Random;
 use std::alloc::{AllocError, Global};
 use test_support::{AnswerForm, AnswerText};
 
-/// Commands, as they are served beside workers and without.
+/// Commands, as they are served with workers and without.
 #[derive(Drop)]
 pub struct RandomInput {
     pub written: AnswerText,
