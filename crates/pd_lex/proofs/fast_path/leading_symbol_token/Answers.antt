@@ -3,4 +3,4 @@ use Rattle.pd_lex.proofs.FastTokens.{symbol_front}
 use Rattle.pd_lex.proofs.fast_path.leading_symbol_token.Goals as goal
 
 pub returns-clause-piece : goal.returns-clause-piece
-returns-clause-piece c = rw c.symbol.ensures (symbol_front c.args.s.now c.requires.some c.requires.class)
+returns-clause-piece c = rw c.symbol_token_of.ensures (symbol_front c.args.s.now c.requires.some c.requires.class)
