@@ -1,7 +1,7 @@
 //! Recordings: a script's inputs with the sender's answers and packets, as a script that passes.
 //!
 //! `record` gives the `Recording` of a text: its lines, how many events it has and, for a trace, a
-//! `TraceEntry` of each event that has the sender's state (`SenderSnapshot`). `RecordError` gives
+//! `TraceEntry` of each event that has the sender's state (`TraceSnapshot`). `RecordError` gives
 //! the reason why there is none, and `find_recording_stop` where on a line recording stops.
 //!
 //! ```text
@@ -44,6 +44,6 @@ mod writer;
 
 pub use find_stop::{RecordingStop, find_recording_stop};
 pub use record_error::RecordError;
-pub use recorded::SenderSnapshot;
+pub use recorded::TraceSnapshot;
 pub use recording::record;
-pub use recording_text::{Origin, Recording, TraceEntry};
+pub use recording_text::{Recording, TraceEntry, TraceOrigin};

@@ -8,7 +8,7 @@ use std::marker::Model;
 
 /// How a sender stands.
 #[derive(Clone, Copy)]
-pub struct SenderSnapshot {
+pub struct TraceSnapshot {
     /// The state of its connection.
     pub state: ConnState,
     /// The numbers of its connection, if it has one.
@@ -19,14 +19,14 @@ pub struct SenderSnapshot {
     pub unmatched: usize,
 }
 
-impl SenderSnapshot {
+impl TraceSnapshot {
     ghost use Rattle.pd_record.specs.SenderSnapshots.{snapshot_of};
 
     /// How the sender of a host stands.
-    pub fn of_host(host: &Host) -> SenderSnapshot
+    pub fn of_host(host: &Host) -> TraceSnapshot
         ensures { result ≡ snapshot_of host.now }
     {
-        SenderSnapshot {
+        TraceSnapshot {
             state: host.state(),
             connection_snapshot: host.connection_snapshot(),
             expiry: host.deadline(),

@@ -4,7 +4,7 @@ ghost use Rattle.pd_record.specs.Recording.{event_in, events_in, events_of, even
 ghost use Rattle.pd_record.specs.Inner.{Finds, Gives, Sound};
 
 use crate::record_error::RecordError;
-use crate::recorded::{EventRecording, OwnEvent, RecordedEvent, SenderSnapshot};
+use crate::recorded::{EventRecording, OwnEvent, RecordedEvent, TraceSnapshot};
 use crate::recorder::Recorder;
 use pd_script::{Event, Header};
 use pd_settings::Settings;
@@ -21,7 +21,7 @@ pub struct RecordedScript {
     /// How many events are recorded in all.
     pub count: usize,
     /// The sender's state after each of them, in order, where a trace has it.
-    pub senders: Option<Vec<SenderSnapshot>>,
+    pub senders: Option<Vec<TraceSnapshot>>,
 }
 
 impl Model for RecordedScript {

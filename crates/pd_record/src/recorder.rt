@@ -9,7 +9,7 @@ ghost use Rattle.pd_record.specs.Inner.{Finds, Gives, Goes, IsReached, Sound};
 
 use crate::preview::{answer_to_call, next_packet};
 use crate::record_error::RecordError;
-use crate::recorded::{EventRecording, OwnEvent, RecordedAnswer, RecordedEvent, SenderSnapshot};
+use crate::recorded::{EventRecording, OwnEvent, RecordedAnswer, RecordedEvent, TraceSnapshot};
 use crate::results::expected_result_of;
 use pd_match::check_call;
 use pd_print::sent_packet;
@@ -42,7 +42,7 @@ pub struct Recorder {
     /// The moments of the packets that were recorded and that no expected packet has met, the oldest first.
     unmet: VecDeque<u64>,
     /// The sender's state after each recorded event, where a trace has it.
-    senders: Option<Vec<SenderSnapshot>>,
+    senders: Option<Vec<TraceSnapshot>>,
 }
 
 impl Model for Recorder {
@@ -91,7 +91,7 @@ impl Recorder {
     }
 
     /// How the sender stood after each recorded event, in order; nothing where no trace was asked for.
-    pub fn into_sender_snapshots(self) -> Option<Vec<SenderSnapshot>> {
+    pub fn into_sender_snapshots(self) -> Option<Vec<TraceSnapshot>> {
         let Recorder { senders, .. } = self;
         senders
     }
@@ -391,7 +391,7 @@ impl Recorder {
         ensures { self.new ≡ self.old }
     {
         if let Some(senders) = &mut self.senders {
-            senders.push(SenderSnapshot::of_host(self.run.host()))?;
+            senders.push(TraceSnapshot::of_host(self.run.host()))?;
         }
         Ok(())
     }

@@ -1,5 +1,5 @@
 //! Recordings as texts.
-use crate::recorded::SenderSnapshot;
+use crate::recorded::TraceSnapshot;
 use pd_text::Lines;
 
 /// A recording: the text of a script that passes.
@@ -21,14 +21,14 @@ pub struct TraceEntry {
     /// The event's moment, in microseconds since the start of the run.
     pub at: u64,
     /// The sender after the input or expiry that the event belongs to.
-    pub sender: SenderSnapshot,
+    pub sender: TraceSnapshot,
     /// Of a packet that left what let it go; nothing of an input.
-    pub origin: Option<Origin>,
+    pub origin: Option<TraceOrigin>,
 }
 
 /// The input or timer that let a packet go.
 #[derive(Clone, Copy)]
-pub enum Origin {
+pub enum TraceOrigin {
     /// The input that begins at a line of the trace.
     Line(usize),
     /// The timer.

@@ -1,7 +1,7 @@
 //! Puts a recording into lines.
 use crate::record_error::RecordError;
-use crate::recorded::{OwnEvent, RecordedAnswer, RecordedEvent, SenderSnapshot};
-use crate::recording_text::{Origin, Recording, TraceEntry};
+use crate::recorded::{OwnEvent, RecordedAnswer, RecordedEvent, TraceSnapshot};
+use crate::recording_text::{Recording, TraceEntry, TraceOrigin};
 use pd_layout::{Layout, TextSpan, TriviaPart, is_trace, put_text_span};
 use pd_print::{Direction, put_answer, put_event, put_time};
 use pd_script::{Action, Time};
@@ -19,7 +19,7 @@ pub struct Writer<'a> {
     /// The octets of the line or lines that are being written.
     line: Vec<u8>,
     /// The sender's state after each event, where a trace has it.
-    senders: &'a [SenderSnapshot],
+    senders: &'a [TraceSnapshot],
     /// The trace of each event so far.
     trace_entries: Vec<TraceEntry>,
     /// At which line of the trace the last input begins.
@@ -30,7 +30,7 @@ pub struct Writer<'a> {
 
 impl<'a> Writer<'a> {
     /// Before the first line of the recording of a text; for a trace with how the sender stood after each event.
-    pub fn new(alloc: Global, source: &'a Lines, senders: &'a [SenderSnapshot]) -> Writer<'a> {
+    pub fn new(alloc: Global, source: &'a Lines, senders: &'a [TraceSnapshot]) -> Writer<'a> {
         Writer {
             alloc,
             source,
@@ -221,12 +221,12 @@ impl<'a> Writer<'a> {
         action: &Action,
         traced: usize,
         unmatched: usize,
-    ) -> Option<Origin> {
+    ) -> Option<TraceOrigin> {
         match action {
-            Action::Outbound(_) if self.left_of_input == 0 => Some(Origin::Timer),
+            Action::Outbound(_) if self.left_of_input == 0 => Some(TraceOrigin::Timer),
             Action::Outbound(_) => {
                 self.left_of_input -= 1;
-                Some(Origin::Line(self.input))
+                Some(TraceOrigin::Line(self.input))
             }
             Action::Inbound(_) | Action::Call(_) | Action::Command | Action::Code => {
                 self.input = traced.saturating_add(1);

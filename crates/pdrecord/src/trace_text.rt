@@ -9,7 +9,7 @@ use crate::script_input::is_trace_line;
 use pd_explain::write_sender;
 use pd_print::write_fixed_seconds;
 use pd_protocol::ServeFault;
-use pd_record::{Origin, Recording, TraceEntry};
+use pd_record::{Recording, TraceEntry, TraceOrigin};
 use std::alloc::{AllocError, Global};
 
 /// The octets of a recording, each line ended by a newline; with a trace each event has a line of its own after it.
@@ -108,11 +108,11 @@ fn trace_line(alloc: Global, trace_entry: &TraceEntry) -> Result<Vec<u8>, AllocE
     line.extend_from_slice(b" ")?;
     line.extend_from_slice(write_sender(alloc, &sender)?.as_slice())?;
     match trace_entry.origin {
-        Some(Origin::Line(number)) => {
+        Some(TraceOrigin::Line(number)) => {
             line.extend_from_slice(b" sent_by:line")?;
             line.extend_from_slice(number.to_string(alloc)?.as_bytes())?;
         }
-        Some(Origin::Timer) => line.extend_from_slice(b" sent_by:timer")?,
+        Some(TraceOrigin::Timer) => line.extend_from_slice(b" sent_by:timer")?,
         None => {}
     }
     Ok(line)
