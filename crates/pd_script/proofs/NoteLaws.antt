@@ -44,9 +44,6 @@ full_within pairs = record { more = closing pairs; value = []; spelled = plain_c
 
 -- ---- what is read is spelled so
 
-abbrev no_parting : List Bracket → Item → Bool
-no_parting pairs t = false
-
 record Run (pairs : List Bracket) (v : List ℕ) (ts rest : List Item) : Type 0 where
   inside : List Item
   closing_item : Item

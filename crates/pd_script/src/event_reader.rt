@@ -77,17 +77,6 @@ impl<'a> EventReader<'a> {
     {
         self.cursor.read_event(alloc, event)
     }
-
-    /// Reads the next event.
-    ///
-    /// # Errors
-    /// `AllocError` where a growth is refused.
-    pub fn next_event(&mut self, alloc: Global) -> Result<NextEvent, AllocError>
-        ensures next { IfOk result (λ next. next ≡ next_in self.old) }
-        ensures left { IfOk result (λ next. LeavesNext next self.new self.old) }
-    {
-        self.cursor.next_event(alloc)
-    }
 }
 
 impl<'a> Cursor<'a> {

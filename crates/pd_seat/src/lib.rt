@@ -29,7 +29,6 @@
 //! - History and seat share the name, the text and the edit of an act, so that each is held once.
 #![tactic(auto)]
 
-mod act_equality;
 mod close;
 mod faults;
 mod seat;

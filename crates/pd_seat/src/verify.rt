@@ -2,9 +2,9 @@
 ghost use Rattle.std.specs.Prelude.{◌≡◌, ◌↔◌, ◌<◌, ◌==◌, IsTrue, All, count_by, length, reverse};
 ghost use Rattle.pd_seat.specs.Seats.{made_by, EachOnce};
 
-use crate::act_equality::is_same;
 use crate::seat::Seat;
 use pd_book::Act;
+use pd_settings::{Key, Value};
 
 /// Whether the acts noted with this number are these.
 fn are_acts_noted_with_number(number: usize, notes: &[usize], acts: &[Act], own: &[Act]) -> bool
@@ -35,6 +35,43 @@ fn are_acts_noted_with_number(number: usize, notes: &[usize], acts: &[Act], own:
         }
     }
     rest.is_empty()
+}
+
+/// Whether both are the same act. Sets to a truth value, of which there may be many in a row, are compared in place.
+#[inline(always)]
+fn is_same(one: &Act, other: &Act) -> bool
+    ensures { IsTrue result ↔ (one.now ≡ other.now) }
+{
+    is_same_boolean_set(one, other) || is_same_act_of_any_kind(one, other)
+}
+
+/// Whether both set one setting to one truth value.
+#[inline(always)]
+fn is_same_boolean_set(one: &Act, other: &Act) -> bool
+    ensures { IsTrue result → one.now ≡ other.now }
+{
+    match (one, other) {
+        (Act::Set(key, Value::Boolean(truth)), Act::Set(field, Value::Boolean(chosen))) => {
+            is_same_key(*key, *field) && truth == chosen
+        }
+        _ => false,
+    }
+}
+
+/// Whether both are the same act, whatever they do.
+#[inline(never)]
+fn is_same_act_of_any_kind(one: &Act, other: &Act) -> bool
+    ensures { IsTrue result ↔ (one.now ≡ other.now) }
+{
+    one.is_same(other)
+}
+
+/// Whether both are the same setting.
+#[inline(always)]
+fn is_same_key(one: Key, other: Key) -> bool
+    ensures { IsTrue result ↔ (one ≡ other) }
+{
+    one == other
 }
 
 /// Whether the acts noted with a seat's number are its own.
