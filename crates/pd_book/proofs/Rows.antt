@@ -9,7 +9,7 @@ use Rattle.pd_settings.specs.declared.settings.Settings.{Settings}
 use Rattle.pd_run.specs.declared.verdict.Verdict.{Verdict}
 use Rattle.pd_run.specs.Run.{verdict_of}
 use Rattle.pd_book.specs.declared.act.Act.{Act}
-use Rattle.pd_book.specs.declared.row.Row.{Row}
+use Rattle.pd_book.specs.declared.report.Row.{Row}
 use Rattle.pd_book.specs.declared.stored_script.StoredScript.{StoredScript}
 use Rattle.pd_book.specs.declared.stored_script.ScriptState.{ScriptState}
 use Rattle.pd_book.specs.declared.stored_script.ScriptState.TheVariants.{Pending, Running, Answered}

@@ -16,7 +16,7 @@ use Rattle.pd_book.specs.declared.act.Act.{Act}
 use Rattle.pd_book.specs.declared.act.Act.TheVariants.{Add, Edit, Remove, Set, Start, Finish, Abandon}
 use Rattle.pd_book.specs.declared.act.Ruling.{Ruling}
 use Rattle.pd_book.specs.declared.act.Ruling.TheVariants.{Taken, Stale}
-use Rattle.pd_book.specs.declared.row.Row.{Row}
+use Rattle.pd_book.specs.declared.report.Row.{Row}
 use Rattle.pd_book.specs.Acts.{NamedText, texts, text_of, has_script, now, changes, since, starts, finishes, finished, ended, answered, is_unchanged_since_start, waits, ruling}
 use Rattle.pd_book.specs.Report.{ReportView, IsGrammarsRun, IsFromScratch, row, shown, scratch_row, scratch}
 use Rattle.pd_book.specs.Legal.{Legal}

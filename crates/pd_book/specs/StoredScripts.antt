@@ -6,7 +6,7 @@ use Rattle.std.specs.Str.{bytes_eq}
 use Rattle.pd_text.specs.Edit.{edited}
 use Rattle.pd_text.specs.declared.line_edit.LineEdit.{LineEdit}
 use Rattle.pd_run.specs.declared.verdict.Verdict.{Verdict}
-use Rattle.pd_book.specs.declared.row.Row.{Row}
+use Rattle.pd_book.specs.declared.report.Row.{Row}
 use Rattle.pd_book.specs.declared.stored_script.StoredScript.{StoredScript}
 use Rattle.pd_book.specs.declared.stored_script.ScriptState.{ScriptState}
 use Rattle.pd_book.specs.declared.stored_script.ScriptState.TheVariants.{Pending, Running, Answered}

@@ -2,9 +2,21 @@
 ghost use Rattle.std.specs.Prelude.{◌≡◌, All};
 ghost use Rattle.pd_book.specs.Report.{IsRunUnder};
 
-use crate::row::Row;
+use pd_run::Verdict;
 use pd_settings::Settings;
+use pd_text::{Name, Text};
 use std::marker::Model;
+
+/// A script in a report; `None` means that its verdict is pending.
+#[derive(Drop)]
+pub struct Row {
+    /// The name of the script.
+    pub name: Name,
+    /// Its text, as it was at the report.
+    pub text: Text,
+    /// The verdict of that text, unless it is pending.
+    pub verdict: Option<Verdict>,
+}
 
 /// The settings and a row for each script, in order of adding. Each verdict in it is the run of its row's
 /// text under these settings.

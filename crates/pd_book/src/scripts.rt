@@ -8,7 +8,7 @@ ghost use Rattle.std.specs.Str.{bytes_eq};
 ghost use Rattle.pd_book.specs.StoredScripts.{in_state, is_pending, verdict_in, is_running_job, written_at, with_state, without_name, all_pending, kept_row};
 ghost use Rattle.pd_book.specs.Replay.{make_abandoned_pending};
 
-use crate::row::Row;
+use crate::report::Row;
 use crate::stored_script::{ScriptState, StoredScript};
 use indexmap::IndexMap;
 use pd_text::{Name, Text};

@@ -11,7 +11,7 @@ use Rattle.pd_run.specs.Run.{verdict_of}
 use Rattle.pd_book.specs.declared.act.Act.{Act}
 use Rattle.pd_book.specs.declared.act.Act.TheVariants as act
 use Rattle.pd_book.specs.declared.faults.BookFault.{BookFault}
-use Rattle.pd_book.specs.declared.row.Row.{Row}
+use Rattle.pd_book.specs.declared.report.Row.{Row}
 use Rattle.pd_book.specs.Acts.{NamedText, texts, now}
 use Rattle.pd_book.specs.Headline.{AreOrPending, ScratchIsOne, pending}
 use Rattle.pd_book.specs.Refusals.{or_else, value_refusal}

@@ -3,7 +3,7 @@ use Rattle.std.proofs.Common.{◌≡◌, ℕ, ◌+◌, ◌<◌, List, length, ta
 use Rattle.std.proofs.lemmas.List.{length-take}
 use Rattle.std.proofs.lemmas.List.Sums.{count_by_more_yes, count_by_more_no, count_by-le-length}
 use Rattle.pd_run.specs.declared.verdict.Verdict.{Verdict}
-use Rattle.pd_book.specs.declared.row.Row.{Row}
+use Rattle.pd_book.specs.declared.report.Row.{Row}
 use Rattle.pd_cli.specs.Report.{is_of, number}
 use Rattle.pd_cli.specs.declared.report_text.RowKind.{RowKind}
 use Rattle.pd_cli.specs.declared.report_text.RowKind.TheVariants as row_kind

@@ -9,7 +9,7 @@ use Rattle.pd_run.specs.Run.{verdict_of}
 use Rattle.pd_track.specs.declared.task.Task.{Task}
 use Rattle.pd_book.specs.declared.act.Act.{Act}
 use Rattle.pd_book.specs.declared.faults.BookFault.{BookFault}
-use Rattle.pd_book.specs.declared.row.Row.{Row}
+use Rattle.pd_book.specs.declared.report.Row.{Row}
 use Rattle.pd_book.specs.Acts.{NamedText, texts, now, next, answered, jobs}
 use Rattle.pd_book.specs.Legal.{Legal}
 use Rattle.pd_book.specs.Headline.{AreOrPending, RowsAreOfWhole, ScratchIsOne, pending}

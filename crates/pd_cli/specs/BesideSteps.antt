@@ -2,7 +2,7 @@
 use Rattle.std.specs.Prelude.{◌≡◌, ℕ, List, map, Option, unwrap_or}
 use Rattle.pd_book.specs.declared.faults.BookFault.{BookFault}
 use Rattle.pd_book.specs.declared.faults.BookFault.TheVariants as book
-use Rattle.pd_book.specs.declared.row.Row.{Row}
+use Rattle.pd_book.specs.declared.report.Row.{Row}
 use Rattle.pd_book.specs.Acts.{NamedText}
 use Rattle.pd_book.specs.Report.{ReportView}
 use Rattle.pd_protocol.specs.declared.command.Command.{Command}

@@ -3,7 +3,7 @@ use Rattle.std.specs.Prelude.{◌≡◌, ◌⊎◌, ℕ, Bool, List, [], ◌∷�
 use Rattle.std.specs.Io.KnownBytes.{Appends}
 use Rattle.pd_settings.specs.declared.settings.Settings.{Settings}
 use Rattle.pd_book.specs.declared.faults.BookFault.{BookFault}
-use Rattle.pd_book.specs.declared.row.Row.{Row}
+use Rattle.pd_book.specs.declared.report.Row.{Row}
 use Rattle.pd_book.specs.Acts.{answered}
 use Rattle.pd_book.specs.Refusals.{next_job}
 use Rattle.pd_book.specs.Report.{ReportView}

@@ -3,7 +3,7 @@ use Rattle.std.specs.Prelude.{ℕ, Bool, true, false, List, ◌++◌, length, fl
 use Rattle.std.specs.Fmt.{decimal}
 use Rattle.pd_run.specs.declared.verdict.Verdict.{Verdict}
 use Rattle.pd_run.specs.declared.verdict.Verdict.TheVariants.{Pass, Fail, Syntax, Unsupported, Limit}
-use Rattle.pd_book.specs.declared.row.Row.{Row}
+use Rattle.pd_book.specs.declared.report.Row.{Row}
 use Rattle.pd_book.specs.Report.{ReportView}
 use Rattle.pd_protocol.specs.Verdicts.{verdict_text}
 use Rattle.pd_cli.specs.declared.report_text.RowKind.{RowKind}

@@ -1,6 +1,6 @@
 -- The replies of a desk to those at its seats.
 use Rattle.std.specs.Prelude.{◌≡◌, List, length, Some, All, IsSome}
-use Rattle.pd_book.specs.declared.row.Row.{Row}
+use Rattle.pd_book.specs.declared.report.Row.{Row}
 use Rattle.pd_track.specs.declared.task.Task.{Task}
 use Rattle.pd_book.specs.Legal.{Legal}
 use Rattle.pd_book.specs.Refusals.{next_job}

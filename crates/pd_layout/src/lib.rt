@@ -21,17 +21,15 @@
 //!   written anew.
 #![tactic(auto)]
 
-mod call_equality;
 mod canonical;
 mod canonical_calls;
 mod comments;
-mod event_equality;
+mod equality;
 mod event_parts;
 mod laws;
 mod layouts;
 mod line_cursor;
 mod outside_brackets;
-mod packet_equality;
 mod script_check;
 mod single_line;
 mod spans;
@@ -39,7 +37,7 @@ mod traces;
 mod trivia;
 
 pub use canonical::is_canonical;
-pub use event_equality::is_same_event;
+pub use equality::is_same_event;
 pub use event_parts::EventParts;
 pub use laws::law_answers_stand_outside;
 pub use layouts::{Layout, LayoutReader};

@@ -4,7 +4,7 @@ ghost use Rattle.pd_layout.specs.ReadAs.{AreSameEvents, IsReadAs, IsScript, kind
 ghost use Rattle.pd_layout.specs.Canonical.{IsCanonical};
 
 use crate::canonical::is_canonical;
-use crate::event_equality::is_same_event;
+use crate::equality::is_same_event;
 use pd_script::{Event, Header, HeaderItem, HeaderKind, Parsed, parse};
 use pd_text::Lines;
 use std::alloc::{AllocError, Global};

@@ -1,4 +1,16 @@
-//! How a run of the program ends.
+//! How a run of the program ends, at a fault and at arguments that are refused too.
+ghost use Rattle.std.specs.Prelude.{◌≡◌};
+ghost use Rattle.clap.specs.Words.{kind_of};
+ghost use Rattle.pd_protocol.specs.ProgramFaults.{fault_line, line_of};
+ghost use Rattle.pd_protocol.specs.WriterOutput.{WritesTo};
+
+use crate::faults::ServeFault;
+use crate::output_stream::try_write;
+use crate::program_faults::ProgramFault;
+use clap::Error;
+use clap::error::ErrorKind;
+use std::alloc::Global;
+use std::io::Write;
 
 /// How a run of the program ended.
 #[derive(Clone, Copy, PartialEq, Eq)]
@@ -7,4 +19,58 @@ pub struct Exit {
     pub status: u8,
     /// Whether all that was to be written is on standard error; false is the writer's fault.
     pub stderr_ok: bool,
+}
+
+/// The status at a fault.
+pub const FAULT_STATUS: u8 = 2;
+
+/// Writes `clap`'s message on arguments that it refuses to the program of this name.
+pub fn exit_with_clap_error<E: Write>(
+    alloc: Global,
+    program: &str,
+    error: &Error,
+    err: &mut E,
+) -> Exit
+    ensures status { result.status ≡ 2 }
+    ensures memory { let line = fault_line program.now (ProgramFault.Serving ServeFault.OutOfMemory) in
+        kind_of error.now ≡ ErrorKind.OutOfMemory → WritesTo result.stderr_ok (E.contents err.old) (E.contents err.new) line }
+{
+    if error.kind() != ErrorKind::OutOfMemory {
+        if let Ok(text) = format!(in alloc; "{error}") {
+            let stderr_ok = try_write(err, text.as_bytes());
+            return Exit {
+                status: FAULT_STATUS,
+                stderr_ok,
+            };
+        }
+    }
+    exit_with_fault(program, err, ProgramFault::Serving(ServeFault::OutOfMemory))
+}
+
+/// Ends a run of the program of this name at a fault: writes its line.
+pub fn exit_with_fault<E: Write>(program: &str, err: &mut E, fault: ProgramFault) -> Exit
+    ensures status { result.status ≡ 2 }
+    ensures stderr { WritesTo result.stderr_ok (E.contents err.old) (E.contents err.new) (fault_line program.now fault) }
+{
+    let stderr_ok = try_write_program_line(program, err, fault.text());
+    Exit {
+        status: FAULT_STATUS,
+        stderr_ok,
+    }
+}
+
+/// Writes a text after the name of a program, as a line.
+pub(crate) fn try_write_program_line<E: Write>(program: &str, err: &mut E, text: &str) -> bool
+    ensures { WritesTo result (E.contents err.old) (E.contents err.new) (line_of program.now text.now) }
+{
+    if !try_write(err, program.as_bytes()) {
+        return false;
+    }
+    if !try_write(err, b": ") {
+        return false;
+    }
+    if !try_write(err, text.as_bytes()) {
+        return false;
+    }
+    try_write(err, b"\n")
 }

@@ -25,7 +25,6 @@
 mod command;
 mod command_line;
 mod exit;
-mod exit_messages;
 mod faults;
 mod input_stream;
 mod line_reader;
@@ -41,8 +40,7 @@ mod text_builder;
 mod verdicts;
 
 pub use command::{Command, next_command, text_within_limits};
-pub use exit::Exit;
-pub use exit_messages::{FAULT_STATUS, exit_with_clap_error, exit_with_fault};
+pub use exit::{Exit, FAULT_STATUS, exit_with_clap_error, exit_with_fault};
 pub use faults::ServeFault;
 pub use input_stream::InputStream;
 pub use line_reader::{LineReader, NextLine, without_carriage_return};

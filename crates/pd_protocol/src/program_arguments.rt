@@ -4,8 +4,7 @@ ghost use Rattle.std.specs.IoError.{error_kind};
 ghost use Rattle.pd_protocol.specs.ProgramFaults.{fault_line, line_of};
 ghost use Rattle.pd_protocol.specs.WriterOutput.{WritesTo};
 
-use crate::exit::Exit;
-use crate::exit_messages::{FAULT_STATUS, exit_with_fault, try_write_program_line};
+use crate::exit::{Exit, FAULT_STATUS, exit_with_fault, try_write_program_line};
 use crate::faults::ServeFault;
 use crate::program_faults::ProgramFault;
 use std::env::Env;

@@ -12,7 +12,7 @@ use Rattle.pd_script.proofs.Apart.{or-right}
 use Rattle.pd_script.proofs.Laws.{rest_is, ok}
 use Rattle.pd_script.specs.declared.event_reader.NextEvent.TheVariants.{Got, End, Fault}
 use Rattle.pd_reparse.specs.declared.parsed_event.ParsedEvent.{ParsedEvent}
-use Rattle.pd_reparse.specs.declared.read_step.ReadStep.TheVariants.{Goes}
+use Rattle.pd_reparse.specs.declared.reparse.ReadStep.TheVariants.{Goes}
 use Rattle.pd_reparse.specs.Steps.{IsStep, in_front}
 use Rattle.pd_script.specs.Next.{next_place, lookahead_line_of, got, next_in}
 use Rattle.pd_reparse.specs.Reading.{with_parsed_event, no_parsed_event, parsed_events_in}

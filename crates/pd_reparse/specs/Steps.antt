@@ -2,8 +2,8 @@
 use Rattle.std.specs.Prelude.{◌≡◌, ℕ, suc, true, List, [], ◌∷◌, ◌++◌, drop}
 use Rattle.pd_lex.specs.Tokens.{Item}
 use Rattle.pd_script.specs.Items.{is_end, next_is}
-use Rattle.pd_reparse.specs.declared.read_step.ReadStep.{ReadStep}
-use Rattle.pd_reparse.specs.declared.read_step.ReadStep.TheVariants.{Goes, Stops}
+use Rattle.pd_reparse.specs.declared.reparse.ReadStep.{ReadStep}
+use Rattle.pd_reparse.specs.declared.reparse.ReadStep.TheVariants.{Goes, Stops}
 use Rattle.pd_reparse.specs.Reading.{parsed_events_in, ReadingView, ParsedEventsAndFault, events_of}
 use Rattle.pd_script.specs.Header.{HeaderView}
 use Rattle.pd_script.specs.declared.script_events.Event.{Event}

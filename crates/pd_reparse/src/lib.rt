@@ -31,7 +31,6 @@
 
 mod laws;
 mod parsed_event;
-mod read_step;
 mod reading;
 mod reparse;
 mod reread_result;

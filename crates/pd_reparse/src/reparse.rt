@@ -5,7 +5,6 @@ ghost use Rattle.pd_reparse.specs.Reading.{IsReadingOfFirst, ReachesRise, readin
 ghost use Rattle.pd_reparse.specs.Steps.{IsReadOn, IsStep};
 
 use crate::parsed_event::{ParsedEvent, count_decided_within};
-use crate::read_step::ReadStep;
 use crate::reading::Reading;
 use crate::reread_result::Reread;
 use crate::shared_list::SharedList;
@@ -15,6 +14,15 @@ use pd_script::{
 };
 use pd_text::Lines;
 use std::alloc::{AllocError, Global};
+
+/// The next item among the events of a text.
+#[derive(Clone, Copy)]
+pub enum ReadStep {
+    /// An event that is kept, in a place of its own.
+    Goes,
+    /// The end of the text, or the line of the fault.
+    Stops(Option<usize>),
+}
 
 /// Reads a text.
 ///

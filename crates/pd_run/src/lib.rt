@@ -46,7 +46,6 @@ mod run_state;
 mod stepper;
 mod stop_point;
 mod stop_reason;
-mod supported;
 mod times;
 mod verdict;
 mod whole_run;

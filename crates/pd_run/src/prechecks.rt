@@ -1,14 +1,14 @@
 //! Reasons for which an event isn't run, whatever the sender does.
 ghost use Rattle.std.specs.Prelude.{◌≡◌};
 ghost use Rattle.pd_run.specs.Prechecks.{failed_precheck};
+ghost use Rattle.pd_run.specs.Supported.{is_action_supported, is_shape_supported};
 ghost use Rattle.pd_run.specs.Verdicts.{precheck_verdict};
 
 use crate::limits::is_over_limit;
-use crate::supported::is_shape_supported;
-use crate::times::is_before_base;
+use crate::times::{is_before_base, is_single_moment};
 use crate::verdict::Verdict;
 use pd_match::Kind;
-use pd_script::Event;
+use pd_script::{Action, Event, Time};
 
 /// A check that an event doesn't pass.
 #[derive(Clone, Copy, PartialEq, Eq)]
@@ -48,5 +48,23 @@ pub fn failed_precheck(base: u64, event: &Event) -> Option<Precheck>
         Some(Precheck::Backwards)
     } else {
         None
+    }
+}
+
+/// Whether the shape of an event is run. The sender's state isn't looked at.
+pub fn is_shape_supported(event: &Event) -> bool
+    ensures { result ≡ is_shape_supported event.now }
+{
+    event.blocking_end.is_none() && is_action_supported(event.time, &event.action)
+}
+
+fn is_action_supported(time: Time, action: &Action) -> bool
+    ensures { result ≡ is_action_supported time action.now }
+{
+    match action {
+        Action::Inbound(packet) => is_single_moment(time) && !packet.flags.other,
+        Action::Outbound(packet) => !packet.flags.other,
+        Action::Call(call) => is_single_moment(time) && pd_host::is_shape_supported(call),
+        Action::Command | Action::Code => false,
     }
 }

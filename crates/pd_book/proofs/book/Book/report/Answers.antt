@@ -2,7 +2,7 @@
 use Rattle.std.proofs.Common.{◌≡◌, ◌∙◌, List, map, subst, ap, sym, reverse}
 use Rattle.std.specs.List.{All}
 use Rattle.pd_settings.specs.declared.settings.Settings.{Settings}
-use Rattle.pd_book.specs.declared.row.Row.{Row}
+use Rattle.pd_book.specs.declared.report.Row.{Row}
 use Rattle.pd_book.specs.Acts.{now}
 use Rattle.pd_book.specs.Report.{ReportView, IsRunUnder, shown}
 use Rattle.pd_book.specs.StoredScripts.{ScriptEntry, kept_row}

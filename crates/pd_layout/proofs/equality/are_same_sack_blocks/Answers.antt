@@ -1,7 +1,7 @@
 -- Lists as long are equal where all pairs are.
 use Rattle.std.proofs.Common.{rules, tests}
 use Rattle.std.proofs.lemmas.Iterator.{YieldsList-from_slice, YieldsList-from_zip, same_from_all}
-use Rattle.pd_layout.proofs.packet_equality.are_same_sack_blocks.Goals as goal
+use Rattle.pd_layout.proofs.equality.are_same_sack_blocks.Goals as goal
 
 pub returns-then-one-other : goal.returns-then-one-other
 returns-then-one-other c =

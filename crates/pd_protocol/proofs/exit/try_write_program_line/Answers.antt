@@ -1,6 +1,6 @@
 use Rattle.std.proofs.Common.{codes, false, ◌++◌}
 use Rattle.pd_protocol.proofs.Writing.{says_front, says_then}
-use Rattle.pd_protocol.proofs.exit_messages.try_write_program_line.Goals as goal
+use Rattle.pd_protocol.proofs.exit.try_write_program_line.Goals as goal
 
 pub returns-then-not-try_write : goal.returns-then-not-try_write
 returns-then-not-try_write g c =

@@ -1,7 +1,7 @@
 use Rattle.std.proofs.Common.{List, ℕ, subst}
 use Rattle.pd_protocol.specs.WriterOutput.{WritesTo}
 use Rattle.pd_protocol.specs.ProgramFaults.{line_of}
-use Rattle.pd_protocol.proofs.exit_messages.exit_with_fault.Goals as goal
+use Rattle.pd_protocol.proofs.exit.exit_with_fault.Goals as goal
 
 pub returns-clause-stderr : goal.returns-clause-stderr
 returns-clause-stderr g c =
