@@ -29,7 +29,7 @@ sys.path.insert(0, str(TOP / "client"))
 from pdsuite.compare.affected import changed_names  # noqa: E402
 from pdsuite.compare.senders import Sender  # noqa: E402
 from pdsuite.programs.verdict import Verdict  # noqa: E402
-from pdsuite.search.candidates import Candidates  # noqa: E402
+from pdsuite.search.candidates import CandidateLists  # noqa: E402
 from pdsuite.search.find import DiffersTest, FailsTest  # noqa: E402
 from pdsuite.search.finished_script import least_script_of_find  # noqa: E402
 from pdsuite.search.initial_inputs import record_initial_inputs, suite_scripts_of_tree  # noqa: E402
@@ -71,7 +71,7 @@ class SearchBench:
         tree = copy_tree_with_mutant(folder / "tree", mutant)
         emphasis = emphasis_of_changes(changed_names(self.base, tree), frozenset())
         begun = record_initial_inputs(list(self.scripts), before, frozenset())
-        drawing = Candidates(self.options.seed, query_sizes(), emphasis, begun)
+        drawing = CandidateLists(self.options.seed, query_sizes(), emphasis, begun)
         seconds = 0.0 if self.options.as_found else SECONDS
         search = Search(before, FailsTest(after), DiffersTest(after), drawing, seconds, self.options.inputs)
         searched = search.run(lambda inputs: None)

@@ -5,7 +5,7 @@ class Fault(Exception):
     """Something without which a command can't go on; its text is one line for people."""
 
 
-class FileFault(Fault):
+class PlacedFault(Fault):
     """A fault of what a file says: its text begins with the file's place, which editors read there."""
 
 

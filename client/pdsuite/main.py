@@ -23,7 +23,7 @@ from pdsuite.commands.renamed import with_new_option_name
 from pdsuite.commands.report_files import FileParam, FormatOption, ReportCommand
 from pdsuite.commands.run import RunOptions, run_scripts
 from pdsuite.commands.version import version_lines
-from pdsuite.faults import Fault, FileFault, error_reason
+from pdsuite.faults import Fault, PlacedFault, error_reason
 from pdsuite.output.octets import printable_octets, printable_text
 from pdsuite.output.screen import OutputError, Screen, is_color_allowed, print_error
 from pdsuite.output.styled_text import unstyled_text
@@ -370,7 +370,7 @@ def main() -> int:
         error.show()
     except StoppedError as stopped:
         return stopped.status
-    except FileFault as fault:
+    except PlacedFault as fault:
         print_error(str(fault))
     except Fault as fault:
         print_error(f"pdsuite: {fault}")

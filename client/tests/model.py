@@ -6,7 +6,7 @@ from dataclasses import replace
 
 from pdsuite.programs.program import ProgramEndedError
 from pdsuite.programs.verdict import Row, Verdict
-from pdsuite.run.outcomes import Outcome
+from pdsuite.run.outcomes import ScriptOutcome
 from pdsuite.scripts.defaults import DEFAULTS
 from pdsuite.scripts.settings import Settings, set_command_words
 from pdsuite.watch.plan_changes import WantedScript
@@ -34,7 +34,7 @@ def meaning_of(text: bytes, settings: Settings) -> str:
 class FakeExplainer:
     """A fake of who knows the explanations of scripts."""
 
-    def explain(self, outcome: Outcome, wanted: WantedScript) -> Outcome:
+    def explain(self, outcome: ScriptOutcome, wanted: WantedScript) -> ScriptOutcome:
         """Explains a script."""
         return replace(outcome, why=meaning_of(wanted.text.octets, wanted.settings))
 

@@ -16,8 +16,8 @@ from pdsuite.programs.protocol import (
 )
 from pdsuite.programs.protocol import set_and_show_commands
 from pdsuite.programs.verdict import Row, Verdict
-from pdsuite.run.batches import BATCH_SIZE, Script, group_into_batches, split_by_size
-from pdsuite.run.outcomes import Outcome, PassWarning, Totals
+from pdsuite.run.batches import BATCH_SIZE, SuiteScript, group_into_batches, split_by_size
+from pdsuite.run.outcomes import ScriptOutcome, PassWarning, OutcomeTotals
 from pdsuite.run.run_batches import SettledPiece, run_batch
 from pdsuite.scripts.settings import Settings
 from pdsuite.scripts.text import make_text
@@ -25,9 +25,9 @@ from pdsuite.scripts.text import make_text
 FASTER: Settings = (("mss", 1000),)
 
 
-def scripts(count: int, settings: Settings = (), first: int = 0) -> list[Script]:
+def scripts(count: int, settings: Settings = (), first: int = 0) -> list[SuiteScript]:
     """So many scripts with these settings."""
-    return [Script(index, f"{index}.pkt", settings) for index in range(first, first + count)]
+    return [SuiteScript(index, f"{index}.pkt", settings) for index in range(first, first + count)]
 
 
 def test_parts_are_full_but_for_the_last() -> None:
@@ -181,15 +181,15 @@ def test_refusals_are_named_by_their_word() -> None:
     ],
 )
 def test_the_status_tells_whether_all_passed(verdicts: list[Verdict], status: int) -> None:
-    assert Totals.of_outcomes(outcome(it) for it in verdicts).exit_status() == status
+    assert OutcomeTotals.of_outcomes(outcome(it) for it in verdicts).exit_status() == status
 
 
-def outcome(verdict: Verdict, number: int = 1, is_strict: bool = False) -> Outcome:
-    return Outcome("a.pkt", (), Row(verdict, number), is_strict=is_strict)
+def outcome(verdict: Verdict, number: int = 1, is_strict: bool = False) -> ScriptOutcome:
+    return ScriptOutcome("a.pkt", (), Row(verdict, number), is_strict=is_strict)
 
 
 def test_totals_are_printed_in_the_words_of_the_program() -> None:
-    assert str(Totals.of_outcomes(outcome(it) for it in (Verdict.PASS, Verdict.FAIL, Verdict.PASS))) == (
+    assert str(OutcomeTotals.of_outcomes(outcome(it) for it in (Verdict.PASS, Verdict.FAIL, Verdict.PASS))) == (
         "total 3 pass 2 fail 1 syntax 0 unsupported 0 limit 0 error 0 not run 0"
     )
 
@@ -206,9 +206,11 @@ def test_a_script_without_an_event_is_a_warning_that_counts_where_it_is_strict()
         False,
         True,
     )
-    counted = Totals.of_outcomes([empty, strict, outcome(Verdict.PASS)])
+    counted = OutcomeTotals.of_outcomes([empty, strict, outcome(Verdict.PASS)])
     assert str(counted).endswith("total 3 pass 3 fail 0 syntax 0 unsupported 0 limit 0 error 0 not run 0 warnings 2")
-    assert [Totals.of_outcomes(it).exit_status() for it in ([empty], [strict], [strict, outcome(Verdict.ERROR)])] == [
+    assert [
+        OutcomeTotals.of_outcomes(it).exit_status() for it in ([empty], [strict], [strict, outcome(Verdict.ERROR)])
+    ] == [
         0,
         1,
         2,

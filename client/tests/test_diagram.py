@@ -16,7 +16,7 @@ from pdsuite.diagram.timeline_parts import Timeline
 from pdsuite.page.diagram_choice import DiagramChoice, Plot, choose_plots
 from pdsuite.programs.trace import traced_events_in
 from pdsuite.programs.verdict import Row, Verdict
-from pdsuite.run.outcomes import Outcome
+from pdsuite.run.outcomes import ScriptOutcome
 
 RECORDINGS = Path(__file__).with_name("recordings")
 
@@ -297,7 +297,7 @@ def test_the_same_strokes_give_the_same_octets_with_classes_and_variables() -> N
 
 def test_which_scripts_are_drawn() -> None:
     verdicts = [Verdict.FAIL, Verdict.PASS, Verdict.FAIL, Verdict.SYNTAX, Verdict.FAIL]
-    outcomes = [Outcome(f"a/{number}.pkt", (), Row(it, 1)) for number, it in enumerate(verdicts)]
+    outcomes = [ScriptOutcome(f"a/{number}.pkt", (), Row(it, 1)) for number, it in enumerate(verdicts)]
     assert list(choose_plots(outcomes, DiagramChoice(None, 2))) == [
         Plot.PAGE,
         Plot.NONE,

@@ -10,11 +10,11 @@ from pdsuite.compare.comparison import (
     counts_by_folder_and_total,
 )
 from pdsuite.compare.divergence import PlayedEvent, first_divergence, played_events
-from pdsuite.programs.batch_protocol import Answer
+from pdsuite.programs.batch_protocol import ProgramAnswer
 from pdsuite.programs.recorder import Recording, recording_cases, recording_from_answer
 from pdsuite.programs.verdict import Row, Verdict
 from pdsuite.reports.comparison import compared_script_lines
-from pdsuite.run.outcomes import Outcome
+from pdsuite.run.outcomes import ScriptOutcome
 
 HEAD = "// what it shows\n+0 write(4, ..., 3000) = 3000\n//= at 0.200000 ESTABLISHED cwnd:4000 DupAcks:2\n"
 FIRST = "+0 > . 1:1001(1000) ack 1\n//= at 0.200000 ESTABLISHED cwnd:4000 DupAcks:2\n"
@@ -61,10 +61,10 @@ def test_the_states_before_may_differ_and_a_state_alone_parts_nothing() -> None:
     assert first_divergence(HEAD.replace("what it shows", "x") + FIRST, HEAD + FIRST) is None
 
 
-def outcome(path: str, row: Row) -> Outcome:
+def outcome(path: str, row: Row) -> ScriptOutcome:
     """What came of a script."""
     reported = () if row is PASS else ("state: x",)
-    return Outcome(path, (), row, None, "" if row is PASS else "other octets", reported)
+    return ScriptOutcome(path, (), row, None, "" if row is PASS else "other octets", reported)
 
 
 def compared_by(before: Row, after: Row, one: Recording, other: Recording) -> ComparedScript:
@@ -132,6 +132,8 @@ def test_each_script_is_recorded_under_its_settings_by_one_build() -> None:
 
 
 def test_a_start_of_pdrecord_is_a_recording_or_says_why_not() -> None:
-    assert recording_from_answer(Answer(b"+0 a\n", b"")) == Recording("+0 a\n")
-    assert recording_from_answer(Answer(b"", b"pdrecord: 3 X\n  more\n")) == Recording("", "pdrecord: 3 X")
-    assert recording_from_answer(Answer(b"", b"", "TooSlow: it took long")) == Recording("", "TooSlow: it took long")
+    assert recording_from_answer(ProgramAnswer(b"+0 a\n", b"")) == Recording("+0 a\n")
+    assert recording_from_answer(ProgramAnswer(b"", b"pdrecord: 3 X\n  more\n")) == Recording("", "pdrecord: 3 X")
+    assert recording_from_answer(ProgramAnswer(b"", b"", "TooSlow: it took long")) == Recording(
+        "", "TooSlow: it took long"
+    )

@@ -11,7 +11,7 @@ from junitparser import Error, Failure, JUnitXml, Skipped
 
 from pdsuite.faults import Fault
 from pdsuite.programs.verdict import Row, Verdict
-from pdsuite.run.outcomes import CountedAs, Outcome, Totals
+from pdsuite.run.outcomes import CountedAs, ScriptOutcome, OutcomeTotals
 from pdsuite.scripts.config import parse_layer
 from pdsuite.scripts.expectation import Expectation, can_begin_failing_row
 from tests.helpers import BLOCK_LINES, FAILS, PACKET, PASSES, Call, write
@@ -86,8 +86,8 @@ def test_an_expectation_is_no_setting() -> None:
     assert layer.tables == {"a.pkt": {"mss": 1}, "b.pkt": {"mss": 2}}
 
 
-def outcome(row: Row, words: str | None = None) -> Outcome:
-    return Outcome("a.pkt", (), row, expected=None if words is None else Expectation(words, "so"))
+def outcome(row: Row, words: str | None = None) -> ScriptOutcome:
+    return ScriptOutcome("a.pkt", (), row, expected=None if words is None else Expectation(words, "so"))
 
 
 TALLIES = [
@@ -113,16 +113,20 @@ def test_known_rows_are_counted_apart_and_make_no_run_fail() -> None:
     known, passing = outcome(SEQ, "fail"), outcome(Row(Verdict.PASS, 1))
     other, mended = outcome(SEQ, "syntax"), outcome(Row(Verdict.PASS, 1), "fail")
     zeros = "syntax 0 unsupported 0 limit 0 error 0 not run 0"
-    totals = Totals.of_outcomes([known, known, passing, outcome(SEQ)])
+    totals = OutcomeTotals.of_outcomes([known, known, passing, outcome(SEQ)])
     assert (str(totals), totals.exit_status()) == (f"total 4 pass 1 fail 1 {zeros} known 2", 1)
-    assert [Totals.of_outcomes(it).exit_status() for it in ([known, passing], [known, other], [known, mended])] == [
+    assert [
+        OutcomeTotals.of_outcomes(it).exit_status() for it in ([known, passing], [known, other], [known, mended])
+    ] == [
         0,
         1,
         1,
     ]
-    assert str(Totals.of_outcomes([known, other, mended])) == f"total 3 pass 0 fail 0 {zeros} known 1 unexpected 2"
-    assert Totals.of_outcomes([known, other]).nonzero_counts_text() == "total 2 known 1 unexpected 1"
-    assert str(Totals.of_outcomes([passing])) == f"total 1 pass 1 fail 0 {zeros}"
+    assert (
+        str(OutcomeTotals.of_outcomes([known, other, mended])) == f"total 3 pass 0 fail 0 {zeros} known 1 unexpected 2"
+    )
+    assert OutcomeTotals.of_outcomes([known, other]).nonzero_counts() == "total 2 known 1 unexpected 1"
+    assert str(OutcomeTotals.of_outcomes([passing])) == f"total 1 pass 1 fail 0 {zeros}"
 
 
 # A script's first line, the row that is expected, and what is printed of it with -v.

@@ -18,7 +18,7 @@ from pdsuite.programs.verdict import Row, Verdict
 from pdsuite.reports.comparison import ComparisonReport, comparison_json, plain_comparison
 from pdsuite.reports.comparison_markdown import as_markdown
 from pdsuite.reports.quantities import quantity_lines
-from pdsuite.run.outcomes import Outcome
+from pdsuite.run.outcomes import ScriptOutcome
 from tests.schemas import held
 
 SYN = "+0.1 < S 0:0(0) win 9\n//= at 0.100000 SYN-RECEIVED una:0 RTO:1.000000\n"
@@ -57,7 +57,7 @@ def test_the_first_field_or_fact_that_differs_is_found_with_its_event(
 
 def script(path: str, before: str, after: str, comment: str = "") -> ComparedScript:
     rows = Row(Verdict.PASS, 3), Row(Verdict.FAIL, 7, "seq")
-    one, other = (Outcome(path, (), row) for row in rows)
+    one, other = (ScriptOutcome(path, (), row) for row in rows)
     return ComparedScript(0, ComparisonKind.TURNED, one, other, None, ("", ""), (before, after), comment)
 
 

@@ -14,7 +14,7 @@ from pdsuite.programs.build import BuildError
 from pdsuite.programs.recorder import Recording
 from pdsuite.programs.verdict import Row, Verdict
 from pdsuite.scripts.defaults import DEFAULTS
-from pdsuite.search.candidates import Candidates
+from pdsuite.search.candidates import CandidateLists
 from pdsuite.search.coverage import SHARES, Coverage, parse_state_pattern
 from pdsuite.search.find import DiffersTest, FailsTest, ReachesTest, script_without_trace
 from pdsuite.search.generate import KEYS, scenario_lists
@@ -63,7 +63,7 @@ class Toy:
 def searched(change: str, lists: int = 1, seed: int = 1) -> SearchResult:
     """Searches so many lists of inputs for what tells both fake programs apart, however long it takes."""
     after = Toy(change)
-    return Search(Toy(), FailsTest(after), DiffersTest(after), Candidates(seed, repeat(48, lists)), 300).run(
+    return Search(Toy(), FailsTest(after), DiffersTest(after), CandidateLists(seed, repeat(48, lists)), 300).run(
         lambda inputs: None
     )
 
@@ -74,7 +74,7 @@ def test_a_sender_that_is_the_same_gives_no_find() -> None:
 
 
 def test_a_count_of_inputs_bounds_a_search_in_place_of_time() -> None:
-    lists = Candidates(1, repeat(8))
+    lists = CandidateLists(1, repeat(8))
     came = Search(Toy(), FailsTest(Toy()), DiffersTest(Toy()), lists, 0.0, 30).run(lambda inputs: None)
     assert came.find is None and 30 <= came.coverage.inputs < 38
 

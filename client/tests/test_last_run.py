@@ -15,7 +15,7 @@ from pdsuite.output.octets import absolute_path_function
 from pdsuite.programs.verdict import Row, Verdict
 from pdsuite.reports import report_cache
 from pdsuite.reports.report_cache import LastReport, cache_folder, newest_report_covering
-from pdsuite.run.outcomes import Outcome
+from pdsuite.run.outcomes import ScriptOutcome
 from tests.helpers import TOP, Call, Called, wait_for, write
 
 FAILS = b"row fail 1 seq\n"
@@ -334,7 +334,7 @@ def test_who_holds_the_cache_for_long_is_not_waited_for(
     notes: list[str] = []
     with (kept / "pdsuite/lock").open("a") as lock:
         fcntl.flock(lock, fcntl.LOCK_EX)
-        leave_report([tmp_path], [Outcome("a.pkt", (), Row(Verdict.PASS, 1))], False, notes.append)
+        leave_report([tmp_path], [ScriptOutcome("a.pkt", (), Row(Verdict.PASS, 1))], False, notes.append)
     assert notes == [f"pdsuite: {kept}/pdsuite: another run is writing there: the report isn't kept"]
 
 
@@ -367,9 +367,9 @@ def test_a_file_of_other_paths_is_no_report_of_these(
     monkeypatch.setenv("XDG_CACHE_HOME", str(kept))
     monkeypatch.setattr(report_cache, "_cache_file_name", lambda of: "alike.json")
     one, two = LastReport([tmp_path / "one"]), LastReport([tmp_path / "two"])
-    one.save_run([Outcome("a.pkt", (), Row(Verdict.PASS, 1))], False)
+    one.save_run([ScriptOutcome("a.pkt", (), Row(Verdict.PASS, 1))], False)
     assert (two.load(), one.load() is None) == (None, False)
-    two.save_run([Outcome("b.pkt", (), Row(Verdict.PASS, 1))], True)
+    two.save_run([ScriptOutcome("b.pkt", (), Row(Verdict.PASS, 1))], True)
     (report,) = reports(kept)
     assert (report["of"], len(report["scripts"])) == ([f"{tmp_path}/two"], 1)
 
@@ -377,7 +377,7 @@ def test_a_file_of_other_paths_is_no_report_of_these(
 def test_only_so_many_reports_are_kept(kept: Path, tmp_path: Path, monkeypatch: pytest.MonkeyPatch) -> None:
     monkeypatch.setenv("XDG_CACHE_HOME", str(kept))
     monkeypatch.setattr(report_cache, "MOST", 3)
-    outcome = Outcome("a.pkt", (), Row(Verdict.PASS, 1))
+    outcome = ScriptOutcome("a.pkt", (), Row(Verdict.PASS, 1))
     for number in range(6):
         LastReport([tmp_path / str(number)]).save_run([outcome], False)
         for age, file in enumerate(sorted((kept / "pdsuite").glob("*.json"), key=lambda it: it.name)):
@@ -391,7 +391,7 @@ def test_the_last_report_is_one_of_all_these_scripts(
 ) -> None:
     monkeypatch.setenv("XDG_CACHE_HOME", str(kept))
     one, two = tmp_path / "suite/a.pkt", tmp_path / "suite2/a.pkt"
-    LastReport([tmp_path / "suite"]).save_run([Outcome(str(one), (), Row(Verdict.PASS, 1))], False)
+    LastReport([tmp_path / "suite"]).save_run([ScriptOutcome(str(one), (), Row(Verdict.PASS, 1))], False)
     found = newest_report_covering([str(one)])
     assert found is not None and list(found.rows) == [str(one)]
     # Another folder may have a longer name that begins so.

@@ -8,7 +8,7 @@ import pytest
 from pdsuite.lsp.features import code_lenses
 from pdsuite.lsp.workspace import Result
 from pdsuite.programs.verdict import Row, Verdict
-from pdsuite.run.outcomes import Outcome
+from pdsuite.run.outcomes import ScriptOutcome
 from pdsuite.scripts.discover import ScriptFile
 from pdsuite.watch.change_report import BEFORE
 from tests.helpers import HANGS
@@ -125,7 +125,7 @@ def test_where_the_first_sender_does_not_compile_that_is_told_once_and_the_next_
 
 
 def test_whose_a_row_is_stands_before_how_much_ran_for_it() -> None:
-    outcome = Outcome("a.pkt", (), Row(Verdict.FAIL, 2, "seq"), None)
+    outcome = ScriptOutcome("a.pkt", (), Row(Verdict.FAIL, 2, "seq"), None)
     result = Result(ScriptFile("a.pkt", "/", "a.pkt"), outcome, None, None, 1, 3)
     title = code_lenses("file:///a.pkt", result, BEFORE)[0]["command"]["title"]
     assert title == "fail 2 seq (by the sender before); the last change ran 3 steps"

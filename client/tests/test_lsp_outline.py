@@ -3,7 +3,7 @@
 from pdsuite.lsp import doc_lookup
 from pdsuite.lsp.comments import comment_blocks_of, comment_foldings_of, section_symbols_of
 from pdsuite.lsp.completion import completion_items, proposals_for_expected, setting_key_proposals, typed_word_start
-from pdsuite.lsp.positions import Lines
+from pdsuite.lsp.positions import DocumentLines
 from pdsuite.lsp.toml_positions import diagnostic_of_fault, key_at_line
 from pdsuite.scripts.defaults import KEYS
 
@@ -23,24 +23,28 @@ SCRIPT = """// Sets up,
 
 
 def test_blocks_are_comments_of_lines_of_their_own() -> None:
-    assert [(it.first, it.last) for it in comment_blocks_of(Lines(SCRIPT))] == [(0, 1), (4, 5), (10, 11)]
+    assert [(it.first, it.last) for it in comment_blocks_of(DocumentLines(SCRIPT))] == [(0, 1), (4, 5), (10, 11)]
 
 
 def test_a_section_goes_to_the_next_one() -> None:
-    found = section_symbols_of(Lines(SCRIPT))
+    found = section_symbols_of(DocumentLines(SCRIPT))
     assert [it["name"] for it in found] == ["Sets up,", "The", "last"]
     assert [(it["range"]["start"]["line"], it["range"]["end"]["line"]) for it in found] == [(0, 3), (4, 9), (10, 12)]
-    assert section_symbols_of(Lines("0 a() = 1\n")) == [] and section_symbols_of(Lines("")) == []
+    assert section_symbols_of(DocumentLines("0 a() = 1\n")) == [] and section_symbols_of(DocumentLines("")) == []
 
 
 def test_only_several_lines_are_folded() -> None:
-    assert [(it["startLine"], it["endLine"]) for it in comment_foldings_of(Lines(SCRIPT))] == [(0, 1), (4, 5), (10, 11)]
-    assert comment_foldings_of(Lines("// one\n0 a() = 1\n// two\n")) == []
+    assert [(it["startLine"], it["endLine"]) for it in comment_foldings_of(DocumentLines(SCRIPT))] == [
+        (0, 1),
+        (4, 5),
+        (10, 11),
+    ]
+    assert comment_foldings_of(DocumentLines("// one\n0 a() = 1\n// two\n")) == []
 
 
 def test_comments_stand_up_to_where_no_token_begins() -> None:
-    assert [(it.first, it.last) for it in comment_blocks_of(Lines("// a\n\x01\n// b\n"))] == [(0, 0)]
-    assert comment_blocks_of(Lines("/* never closed\n// x\n")) == []
+    assert [(it.first, it.last) for it in comment_blocks_of(DocumentLines("// a\n\x01\n// b\n"))] == [(0, 0)]
+    assert comment_blocks_of(DocumentLines("/* never closed\n// x\n")) == []
 
 
 def test_the_documents_have_each_key_call_and_field() -> None:
@@ -64,7 +68,7 @@ def test_what_is_expected_becomes_proposals() -> None:
 
 
 def test_proposals_take_the_place_of_the_word_that_is_typed() -> None:
-    lines = Lines("// \U0001f980 \n+0 wri")
+    lines = DocumentLines("// \U0001f980 \n+0 wri")
     assert typed_word_start(lines.text, len(lines.text)) == len(lines.text) - 3
     (item,) = [
         it
@@ -77,14 +81,16 @@ def test_proposals_take_the_place_of_the_word_that_is_typed() -> None:
 
 def test_a_number_is_proposed_by_nothing() -> None:
     assert (
-        completion_items(list(proposals_for_expected(["a whole number up to 4,294,967,295"])), Lines("x"), 1, True)
+        completion_items(
+            list(proposals_for_expected(["a whole number up to 4,294,967,295"])), DocumentLines("x"), 1, True
+        )
         == []
     )
 
 
 def test_snippets_are_plain_where_the_client_has_none() -> None:
     each = list(proposals_for_expected(["a time"]))
-    with_stops, without = (completion_items(each, Lines(""), 0, it, "\r\n") for it in (True, False))
+    with_stops, without = (completion_items(each, DocumentLines(""), 0, it, "\r\n") for it in (True, False))
     assert "${1:32792}" in with_stops[0]["textEdit"]["newText"]
     assert all("$" not in it["textEdit"]["newText"] for it in without)
     assert without[0]["textEdit"]["newText"].startswith("0 socket(..., SOCK_STREAM, IPPROTO_TCP) = 3\r\n+0 bind")
@@ -95,7 +101,7 @@ def test_keys_are_proposed_with_their_defaults() -> None:
 
 
 def test_the_place_of_a_fault_of_settings() -> None:
-    lines = Lines('root = true\nmss = 10\n\n["a.pkt"]\n  sack = 7\n["b.pkt"]\nmss = \n')
+    lines = DocumentLines('root = true\nmss = 10\n\n["a.pkt"]\n  sack = 7\n["b.pkt"]\nmss = \n')
     places = {
         "mss: BadValue: it takes 64 to 65,495 octets": "mss = 10",
         'sack: BadValue (["a.pkt"]): it takes true or false': "sack = 7",

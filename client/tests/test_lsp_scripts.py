@@ -4,7 +4,7 @@ from typing import Any
 
 import pytest
 
-from pdsuite.lsp.actions import Action, FailingScript, edits_to_text, leads_past_failing_line
+from pdsuite.lsp.actions import CodeAction, FailingScript, edits_to_text, leads_past_failing_line
 from pdsuite.lsp.actions import (
     actual_taking_actions,
     commenting_out_actions,
@@ -15,7 +15,7 @@ from pdsuite.lsp.diagnostics import Diagnostic, diagnostics_of, with_unmatched_p
 from pdsuite.lsp.documents import Document
 from pdsuite.lsp.hover import hover_of_event, strip_markdown
 from pdsuite.lsp.packets_sent import event_lines_for_packets, parse_sent_packet, parse_sent_packets
-from pdsuite.lsp.positions import Lines
+from pdsuite.lsp.positions import DocumentLines
 from pdsuite.packetdrill.layout import layout_of
 from pdsuite.packetdrill.recorded import (
     last_input_before,
@@ -26,7 +26,7 @@ from pdsuite.packetdrill.recorded import (
 )
 from pdsuite.programs.verdict import Row, Verdict
 from pdsuite.run.locate_row import character_at_shown_column
-from pdsuite.run.outcomes import Outcome
+from pdsuite.run.outcomes import ScriptOutcome
 from pdsuite.scripts.expectation import Expectation
 
 SCRIPT = """0 write(4, ..., 1500) = 1500 // two
@@ -54,7 +54,7 @@ SENT = "+0   > P. 1:1001(1000) ack 1 win 511 // 0.200000"
 
 def failing(text: str, row: Row, **cause: Any) -> FailingScript:
     """A script that doesn't pass."""
-    return FailingScript(Lines(text), layout_of(text), row, cause)
+    return FailingScript(DocumentLines(text), layout_of(text), row, cause)
 
 
 def test_packets_are_read_as_they_are_shown() -> None:
@@ -155,7 +155,7 @@ def test_a_line_is_switched_off(text: str, line: int, after: str) -> None:
 
 
 def test_an_action_leads_past_its_line() -> None:
-    action, before = Action("", "", "", 2), Row(Verdict.FAIL, 5, "seq")
+    action, before = CodeAction("", "", "", 2), Row(Verdict.FAIL, 5, "seq")
     assert leads_past_failing_line(action, before, Row(Verdict.PASS, 9)) and leads_past_failing_line(
         action, before, Row(Verdict.LIMIT, 8)
     )
@@ -205,7 +205,7 @@ def test_an_untaken_packet_left_after_the_input_that_sent_it_or_the_last_one_bef
     sent = [{"line": 3}, {"timer_us": 150_000}, {"timer_us": 200_000}, {"timer_us": 200_001}, {"timer_us": 0}, None]
     cause = {"untaken_packets": [*"abcdef"], "untaken_sent_by": sent}
     found = with_unmatched_packets(Diagnostic(layout.events[0].extent, 1, "", ""), layout, cause).related
-    lines = Lines(SCRIPT)
+    lines = DocumentLines(SCRIPT)
     places = [(lines.line_of(it.extent.start) + 1, it.message) for it in found]
     assert places == [
         (3, "untaken packet: a"),
@@ -290,7 +290,7 @@ def test_nothing_is_recorded_from_the_first_event_on() -> None:
     ],
 )
 def test_an_edit_makes_the_other_text(old: str, new: str) -> None:
-    (edit,) = edits_to_text(Lines(old), new)
+    (edit,) = edits_to_text(DocumentLines(old), new)
     assert Document("", 1, old).with_changes(2, [{"range": edit["range"], "text": edit["newText"]}]).text == new
     assert edit["range"]["start"]["character"] == 0
 
@@ -302,12 +302,12 @@ def test_a_shown_column_is_a_character() -> None:
 
 def test_a_diagnostic_says_what_sent_a_packet_and_what_was_dropped() -> None:
     text = "0 a() = 1\n"
-    seq = Outcome("a", (), Row(Verdict.FAIL, 1, "seq"))
-    (found,) = diagnostics_of(seq, {"actual_packet": "x", "sent_by": {"line": 8}}, layout_of(text), Lines(text))
+    seq = ScriptOutcome("a", (), Row(Verdict.FAIL, 1, "seq"))
+    (found,) = diagnostics_of(seq, {"actual_packet": "x", "sent_by": {"line": 8}}, layout_of(text), DocumentLines(text))
     assert found.message == "fail seq\nactual packet: x, sent by line 8"
     dropped = [{"line": 5, "rule": "old_ack", "rule_words": "its ACK lies below una"}]
-    missing = Outcome("a", (), Row(Verdict.FAIL, 1, "missing"))
-    (found,) = diagnostics_of(missing, {"dropped_segments": dropped}, layout_of(text), Lines(text))
+    missing = ScriptOutcome("a", (), Row(Verdict.FAIL, 1, "missing"))
+    (found,) = diagnostics_of(missing, {"dropped_segments": dropped}, layout_of(text), DocumentLines(text))
     assert found.message == "fail missing\ndropped: line 5: its ACK lies below una"
 
 
@@ -323,21 +323,23 @@ def test_a_text_that_is_no_script_says_what_it_lacks_as_run_does(
     expected: list[str], column: int | None, message: str
 ) -> None:
     text = "0 a()\n"
-    outcome = Outcome("a", (), Row(Verdict.SYNTAX, 1))
+    outcome = ScriptOutcome("a", (), Row(Verdict.SYNTAX, 1))
     cause = {"what": "the text is no script", "expected": expected, "column": column, "text_line": 1, "found": "x"}
-    (found,) = diagnostics_of(outcome, cause, layout_of(text), Lines(text))
+    (found,) = diagnostics_of(outcome, cause, layout_of(text), DocumentLines(text))
     assert found.message == f"syntax: {message}\nfound: x"
 
 
 def test_a_known_failure_is_a_hint_and_an_unexpected_pass_an_error() -> None:
     text = "0 a() = 1\n"
-    known = Outcome("a", (), Row(Verdict.FAIL, 1, "result"), expected=Expectation("fail", "why"))
-    (hint,) = diagnostics_of(known, None, layout_of(text), Lines(text))
+    known = ScriptOutcome("a", (), Row(Verdict.FAIL, 1, "result"), expected=Expectation("fail", "why"))
+    (hint,) = diagnostics_of(known, None, layout_of(text), DocumentLines(text))
     assert (hint.severity, hint.message) == (4, "known: fail result (why)")
-    passes = Outcome("a", (), Row(Verdict.PASS, 1), expected=Expectation("fail", "why"))
-    (error,) = diagnostics_of(passes, None, layout_of(text), Lines(text))
+    passes = ScriptOutcome("a", (), Row(Verdict.PASS, 1), expected=Expectation("fail", "why"))
+    (error,) = diagnostics_of(passes, None, layout_of(text), DocumentLines(text))
     assert (error.severity, error.code) == (1, "pass")
-    empty = Outcome("a", (), Row(Verdict.PASS, 0), is_strict=True)
-    (warned,) = diagnostics_of(empty, None, layout_of(""), Lines(""))
+    empty = ScriptOutcome("a", (), Row(Verdict.PASS, 0), is_strict=True)
+    (warned,) = diagnostics_of(empty, None, layout_of(""), DocumentLines(""))
     assert (warned.severity, warned.code) == (1, "warning")
-    assert list(diagnostics_of(Outcome("a", (), Row(Verdict.NOT_RUN)), None, layout_of(""), Lines(""))) == []
+    assert (
+        list(diagnostics_of(ScriptOutcome("a", (), Row(Verdict.NOT_RUN)), None, layout_of(""), DocumentLines(""))) == []
+    )

@@ -4,7 +4,7 @@ import pytest
 
 from pdsuite.lsp.documents import Document, document_from_item, path_of_uri, uri_of_path
 from pdsuite.lsp.json_values import MalformedMessageError
-from pdsuite.lsp.positions import Lines, Position
+from pdsuite.lsp.positions import DocumentLines, Position
 from pdsuite.packetdrill.layout import layout_of
 
 CRAB = "\U0001f980"
@@ -38,13 +38,13 @@ def changed(text: str, *changes: dict[str, object]) -> str:
     ],
 )
 def test_a_place_and_its_position(text: str, offset: int, position: tuple[int, int]) -> None:
-    lines = Lines(text)
+    lines = DocumentLines(text)
     assert lines.position_of(offset) == Position(*position)
     assert lines.offset_of(Position(*position)) == offset
 
 
 def test_a_position_that_is_nowhere_is_the_nearest_one_before() -> None:
-    lines = Lines(f"a{CRAB}b\r\ncd\n")
+    lines = DocumentLines(f"a{CRAB}b\r\ncd\n")
     assert lines.offset_of(Position(0, 2)) == 1  # inside the crab
     assert lines.offset_of(Position(0, 99)) == 3  # before the carriage return
     assert lines.offset_of(Position(1, 99)) == 7
@@ -52,7 +52,7 @@ def test_a_position_that_is_nowhere_is_the_nearest_one_before() -> None:
 
 
 def test_every_place_is_found_again() -> None:
-    lines = Lines(f"0 a() = 1 // {CRAB}\u00fc\u2028\n\n{CRAB}{CRAB}\r\n+0 b() = 2")
+    lines = DocumentLines(f"0 a() = 1 // {CRAB}\u00fc\u2028\n\n{CRAB}{CRAB}\r\n+0 b() = 2")
     for offset in range(len(lines.text) + 1):
         is_inside = lines.text[offset - 1 : offset + 1] == "\r\n"  # which is no position
         assert lines.offset_of(lines.position_of(offset)) == offset - is_inside

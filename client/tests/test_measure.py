@@ -17,7 +17,7 @@ from pdsuite.measure.measurement import settings_for_path
 from pdsuite.measure.paths import NetworkPath, load_paths
 from pdsuite.measure.report import MeasureReport, cells_of_row, plain_report
 from pdsuite.measure.statistics import FIGURES, ChangeVerdict, FigureRow, FigureTable, _shown_by_holm, figure_tables_of
-from pdsuite.measure.transfer import Delivery
+from pdsuite.measure.transfer import TransferResult
 from pdsuite.output.screen import Screen
 from pdsuite.signals import Stop
 from tests.helpers import Call
@@ -42,8 +42,8 @@ sizes = [29_200]
 """
 
 
-def delivery(time: float, again: int = 0) -> Delivery:
-    return Delivery(1_000, int(time), 1, again, 1_000 * again, 0, 0.0, 0, 0, (), ())
+def delivery(time: float, again: int = 0) -> TransferResult:
+    return TransferResult(1_000, int(time), 1, again, 1_000 * again, 0, 0.0, 0, 0, (), ())
 
 
 def table(before: Sequence[float], after: Sequence[float], path: NetworkPath = PATH) -> FigureTable:

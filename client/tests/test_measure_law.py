@@ -13,7 +13,7 @@ import pytest
 
 from pdsuite.measure.link import LossModel
 from pdsuite.measure.paths import NetworkPath
-from pdsuite.measure.transfer import Delivery, play_transfer
+from pdsuite.measure.transfer import TransferResult, play_transfer
 from pdsuite.measure.transfer_batch import play_transfers
 from pdsuite.signals import Stop
 
@@ -27,7 +27,7 @@ SIZE = 700 * MSS
 PIECE = 16
 
 
-def since_first_loss(path: NetworkPath, seed: str, it: Delivery) -> tuple[int, int]:
+def since_first_loss(path: NetworkPath, seed: str, it: TransferResult) -> tuple[int, int]:
     """How many octets are delivered in how many microseconds, from the moment at which the first packet was lost."""
     losses = LossModel(path, f"{seed} loss")
     first = next(number for number in count() if losses.is_next_lost(0))
@@ -53,7 +53,7 @@ def test_goodput_follows_the_square_root_law(programs: Path, share: float) -> No
                 [play_transfer(path, SIZE, it, 1_048_576) for it in seeds], programs / "pdregress", settings, stop
             )
         for seed, it in zip(seeds, found):
-            assert isinstance(it, Delivery), it
+            assert isinstance(it, TransferResult), it
             more = since_first_loss(path, seed, it)
             octets, microseconds = octets + more[0], microseconds + more[1]
     goodput = octets / microseconds

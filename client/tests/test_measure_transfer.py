@@ -10,7 +10,7 @@ import pytest
 
 from pdsuite.measure.link import LossModel
 from pdsuite.measure.paths import HEADER, NetworkPath, load_paths
-from pdsuite.measure.transfer import Delivery, Departure, Transfer, play_transfer
+from pdsuite.measure.transfer import TransferResult, SegmentDeparture, Transfer, play_transfer
 from pdsuite.measure.transfer_batch import TransferOutcome, UnfinishedTransferError, play_transfers
 from pdsuite.packetdrill.items import Packet
 from pdsuite.programs.recorder import TRACE, record_texts
@@ -28,14 +28,14 @@ IW_10: Settings = (("initial_window", "rfc6928"),)
 
 def delivered(
     folder: Path, path: NetworkPath, sizes: Sequence[int], settings: Settings = (), seeds: Sequence[str] = ("",)
-) -> list[Delivery]:
+) -> list[TransferResult]:
     """What comes of transfers of these sizes, by each of these seeds."""
     games = [play_transfer(path, size, seed, ROOM) for size in sizes for seed in seeds]
     with Stop(()) as stop:
         return [whole(it) for it in play_transfers(games, folder / "pdregress", settings, stop)]
 
 
-def whole(it: TransferOutcome) -> Delivery:
+def whole(it: TransferOutcome) -> TransferResult:
     if isinstance(it, UnfinishedTransferError):
         raise it
     return it
@@ -54,7 +54,7 @@ def lose(monkeypatch: pytest.MonkeyPatch) -> Callable[..., None]:
     return losing
 
 
-def rounds_of(it: Delivery) -> int:
+def rounds_of(it: TransferResult) -> int:
     """How many rounds a transfer took: the last one ends where the peer has all."""
     return round((it.time / DELAY + 1) / 2)
 
@@ -160,7 +160,7 @@ def odd_path(draw: Random) -> NetworkPath:
 ODD = [odd_path(Random(seed)) for seed in range(24)]
 
 
-def check(path: NetworkPath, size: int, it: Delivery) -> None:
+def check(path: NetworkPath, size: int, it: TransferResult) -> None:
     """The peer has exactly what was written, by segments that left, no faster than the link is."""
     total = path.octets_written(size)
     assert it.octets == total
@@ -184,10 +184,10 @@ def test_over_each_path_that_comes_along_so_too(programs: Path) -> None:
             check(path, found.octets, found)
 
 
-def sent(recording: str) -> list[Departure]:
+def sent(recording: str) -> list[SegmentDeparture]:
     """The segments with octets of a recording."""
     packets = [(it.moment, it.what) for it in traced_events_in(recording) if isinstance(it.what, Packet)]
-    return [Departure(at, it.start, it.end) for at, it in packets if not it.is_inbound and it.start < it.end]
+    return [SegmentDeparture(at, it.start, it.end) for at, it in packets if not it.is_inbound and it.start < it.end]
 
 
 def test_pdrecord_gives_the_same_packets(recording_programs: Path) -> None:
@@ -265,4 +265,4 @@ def test_a_transfer_whose_packets_fit_into_no_script_is_told(programs: Path) -> 
         games = [play_transfer(replace(WIDE, mss=64), 64 * 4_000, "", ROOM), play_transfer(WIDE, 1_000, "", ROOM)]
         long, short = play_transfers(games, programs / "pdregress", (), stop)
     assert isinstance(long, UnfinishedTransferError) and "don't fit into a script" in str(long)
-    assert isinstance(short, Delivery)
+    assert isinstance(short, TransferResult)

@@ -16,7 +16,7 @@ from pdsuite.page.view_model import NamedFact, PageEntry, RefusedText, ScriptVie
 from pdsuite.programs.protocol import Cause, UnexpectedAnswerError, parse_causes
 from pdsuite.programs.verdict import Row, Verdict
 from pdsuite.run.line_diff import DiffLine, LineDiff
-from pdsuite.run.outcomes import Outcome
+from pdsuite.run.outcomes import ScriptOutcome
 from pdsuite.scripts.text import make_text
 from pdsuite.signals import Stop
 from tests.helpers import FAILS, PASSES, Call, write
@@ -81,7 +81,9 @@ def sheet(verdict: Verdict, text: bytes, cause: Cause, number: int = 1, word: st
     """The page of a script."""
     row = Row(verdict, number, word)
     named = make_text(text).line(number) if row.line else None
-    return script_view_of(PageEntry(Outcome("a.pkt", (), row, named), make_text(text)), cause, undrawn_diagram(row))
+    return script_view_of(
+        PageEntry(ScriptOutcome("a.pkt", (), row, named), make_text(text)), cause, undrawn_diagram(row)
+    )
 
 
 def test_what_the_program_tells_of_a_missing_packet() -> None:
@@ -154,7 +156,7 @@ def test_what_each_line_was_met_by_stands_on_the_page_of_a_script_that_fails() -
             DiffLine(None, (), (PacketField("+1 > . 1:3(2) // 1.100000"),), True),
         )
     )
-    view = script_view_of(PageEntry(Outcome("a.pkt", (), row)), None, undrawn_diagram(row), met)
+    view = script_view_of(PageEntry(ScriptOutcome("a.pkt", (), row)), None, undrawn_diagram(row), met)
     page = render_script_page(view, False).decode()
     section = page[page.index("<h2>Line by line</h2>") :]
     assert '<a href="#L1">1</a></th><td><code>0 close(3) = 0</code>' in section
@@ -163,22 +165,22 @@ def test_what_each_line_was_met_by_stands_on_the_page_of_a_script_that_fails() -
     assert (
         "Line by line"
         not in render_script_page(
-            script_view_of(PageEntry(Outcome("a.pkt", (), row)), None, undrawn_diagram(row)), False
+            script_view_of(PageEntry(ScriptOutcome("a.pkt", (), row)), None, undrawn_diagram(row)), False
         ).decode()
     )
 
 
 def test_the_table_names_the_rule_and_the_reason_of_an_error() -> None:
     view = ("rule: a command", "limit: 7")
-    row = table_row_of(Outcome("a.pkt", (), Row(Verdict.LIMIT, 3), b"  x\t1", "a number is over its limit", view))
+    row = table_row_of(ScriptOutcome("a.pkt", (), Row(Verdict.LIMIT, 3), b"  x\t1", "a number is over its limit", view))
     assert (row.line, row.text, row.why) == (3, "x     1", "a number is over its limit: a command")
-    row = table_row_of(Outcome("a.pkt", (), Row(Verdict.ERROR, word="more than 4,096 lines")))
+    row = table_row_of(ScriptOutcome("a.pkt", (), Row(Verdict.ERROR, word="more than 4,096 lines")))
     assert (row.line, row.kind, row.why) == (None, "", "more than 4,096 lines")
 
 
 def test_settings_stand_on_the_page() -> None:
     entry = PageEntry(
-        Outcome("a", (("initial_window", "rfc6928"), ("sack", False)), Row(Verdict.PASS, 0)), make_text(b"")
+        ScriptOutcome("a", (("initial_window", "rfc6928"), ("sack", False)), Row(Verdict.PASS, 0)), make_text(b"")
     )
     assert script_view_of(entry, None, undrawn_diagram(entry.outcome.row)).settings == (
         NamedFact("initial_window", '"rfc6928"'),
@@ -290,7 +292,7 @@ def test_scripts_that_were_not_run_stand_in_the_table(programs: Path, tmp_path: 
 
 def test_the_page_of_a_script_that_went_and_came_back_is_drawn_again(tmp_path: Path) -> None:
     paths = ("a.pkt", "b.pkt")
-    one, other = (PageEntry(Outcome(it, (), Row(Verdict.PASS, 1))) for it in paths)
+    one, other = (PageEntry(ScriptOutcome(it, (), Row(Verdict.PASS, 1))) for it in paths)
     with Stop(()) as stop, PageUpdates(tmp_path / "page", DiagramChoice(), print) as drawing:
         for entries in ([one, other], [other], [one, other]):
             drawing.queue_entries(entries)

@@ -7,7 +7,7 @@ from collections.abc import Iterator, Mapping
 import pytest
 
 from pdsuite.scripts.settings import Settings
-from pdsuite.scripts.text import Text, make_text
+from pdsuite.scripts.text import ScriptText, make_text
 from pdsuite.scripts.text_edit import Edit
 from pdsuite.watch import plan_changes as module
 from pdsuite.watch.plan_changes import AddScript, EditScript, RemoveScript, RunChange, RunContents, SetKey, WantedScript
@@ -20,11 +20,11 @@ PLAIN: Settings = (("sack", False),)
 ONE, TWO = make_text(b"one\n"), make_text(b"two\n")
 
 
-def contents(settings: Settings, **texts: Text) -> RunContents:
+def contents(settings: Settings, **texts: ScriptText) -> RunContents:
     return RunContents(settings, texts)
 
 
-def wanted(settings: Settings, **texts: Text) -> dict[str, WantedScript]:
+def wanted(settings: Settings, **texts: ScriptText) -> dict[str, WantedScript]:
     return {path: WantedScript(settings, text) for path, text in texts.items()}
 
 
@@ -167,7 +167,7 @@ def carried_out(run: RunContents, change: RunChange, most: int) -> RunContents:
                 texts[path] = text.octets.split(b"\n")[: text.lines]
     if texts:
         assert settings == settings_words(change.after.settings)
-    made = {path: Text(b"".join(it + b"\n" for it in lines), len(lines)) for path, lines in texts.items()}
+    made = {path: ScriptText(b"".join(it + b"\n" for it in lines), len(lines)) for path, lines in texts.items()}
     assert made == change.after.texts and list(made) == list(change.after.texts)
     return change.after
 

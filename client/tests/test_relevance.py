@@ -3,7 +3,7 @@
 from itertools import islice
 
 from pdsuite.compare.divergence import played_events
-from pdsuite.search.candidates import Candidates
+from pdsuite.search.candidates import CandidateLists
 from pdsuite.search.generate import scenario_lists
 from pdsuite.search.relevance import emphasis_of_changes, suggest_suite_script
 from pdsuite.search.scenario import Emphasis, Theme
@@ -45,7 +45,7 @@ def test_settings_that_come_first_are_drawn_in_most_plans_and_fixed_ones_in_none
 
 def drawn(seed: int) -> list[object]:
     """What is tried in three lists, where all that was played is learnt from."""
-    drawing = Candidates(seed, [12, 12, 24])
+    drawing = CandidateLists(seed, [12, 12, 24])
     tried: list[object] = []
     for games in drawing.input_lists():
         played = play_side_by_side(games, Toy())

@@ -7,7 +7,7 @@ from pathlib import Path
 
 import pytest
 
-from pdsuite.lsp.positions import Lines
+from pdsuite.lsp.positions import DocumentLines
 from pdsuite.lsp.toml_positions import diagnostic_of_fault
 from pdsuite.scripts.defaults import KEYS, Word, refusal_help
 from pdsuite.scripts.renamed import KEYS as NAMES, WORDS, new_name_hint, rename_refusal
@@ -109,7 +109,7 @@ def test_while_scripts_are_watched_a_file_with_it_counts_for_nothing(
 
 @old
 def test_an_editor_marks_its_line(key: str, value: Value, reason: str, helps: str) -> None:
-    lines = Lines(f'mss = 1000\n["a.pkt"]\n{line_of(key, value)}\n')
+    lines = DocumentLines(f'mss = 1000\n["a.pkt"]\n{line_of(key, value)}\n')
     extent = diagnostic_of_fault(f'{key}: {reason} (["a.pkt"]): {helps}', lines).extent
     assert lines.text[extent.start : extent.end] == line_of(key, value)
 

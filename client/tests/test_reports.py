@@ -15,7 +15,7 @@ from junitparser import Error, Failure, JUnitXml, Skipped
 from pdsuite.programs.verdict import Row, Verdict
 from pdsuite.reports.junit import junit_xml
 from pdsuite.reports.last_run import leave_report
-from pdsuite.run.outcomes import Outcome
+from pdsuite.run.outcomes import ScriptOutcome
 from tests.helpers import TOP, Call, write
 
 EXAMPLES = TOP / "examples/scripts"
@@ -218,9 +218,9 @@ def test_junit_says_where_and_why_of_each_case(fake_program: Path, tmp_path: Pat
 
 def test_junit_is_escaped_as_xml_asks() -> None:
     outcomes = [
-        Outcome('a"<b>/c&d.pkt', (), Row(Verdict.FAIL, 2, "seq"), None, 'is "so" & <so>', ("reason: a\rb\t> c",)),
-        Outcome("e.pkt", (), Row(Verdict.PASS, 0)),
-        Outcome("f.pkt", (), Row(Verdict.PASS, 0), is_strict=True),
+        ScriptOutcome('a"<b>/c&d.pkt', (), Row(Verdict.FAIL, 2, "seq"), None, 'is "so" & <so>', ("reason: a\rb\t> c",)),
+        ScriptOutcome("e.pkt", (), Row(Verdict.PASS, 0)),
+        ScriptOutcome("f.pkt", (), Row(Verdict.PASS, 0), is_strict=True),
     ]
     root = ElementTree.fromstring(junit_xml(outcomes, 1.5, is_unproved=True))
     assert root.attrib == {"name": "pdsuite", **COUNTS, "tests": "3", "failures": "2", "time": "1.5"}
@@ -238,15 +238,17 @@ def test_junit_is_escaped_as_xml_asks() -> None:
 
 
 def test_junit_names_the_line_before_where_that_one_lacks_something() -> None:
-    broken = Outcome("a.pkt", (), Row(Verdict.SYNTAX, 3), explanation={"text_line": 2})
-    root = ElementTree.fromstring(junit_xml([broken, Outcome("b.pkt", (), Row(Verdict.PASS, 1))], 1.0))
+    broken = ScriptOutcome("a.pkt", (), Row(Verdict.SYNTAX, 3), explanation={"text_line": 2})
+    root = ElementTree.fromstring(junit_xml([broken, ScriptOutcome("b.pkt", (), Row(Verdict.PASS, 1))], 1.0))
     assert [it.get("line") for it in root.iter("testcase")] == ["2", "1"]
 
 
 def test_junit_of_many_scripts_costs_little_when_a_signal_ends_the_run() -> None:
     reported = ("script packet: x", "reason: y", "state: " + "z" * 200)
     rows = [(Row(Verdict.FAIL, 10, "missing"), reported), (Row(Verdict.PASS, 9), ()), (Row(Verdict.NOT_RUN), ())]
-    outcomes = [Outcome(f"d{number // 500}/s{number}.pkt", (), *_at(rows[number % 3])) for number in range(20_000)]
+    outcomes = [
+        ScriptOutcome(f"d{number // 500}/s{number}.pkt", (), *_at(rows[number % 3])) for number in range(20_000)
+    ]
     begin = time.process_time()
     octets = junit_xml(outcomes, 1.0)
     assert time.process_time() - begin < SLOW and octets.count(b"<testcase ") == 20_000
@@ -353,8 +355,8 @@ def test_what_a_signal_leaves_of_20000_scripts_is_written_soon(tmp_path: Path, m
     """The report of the run, which the next one reads, and JUnit's; in seconds of the processor."""
     monkeypatch.setenv("XDG_CACHE_HOME", str(tmp_path))
     paths = [f"suite/{number % 10}/script{number:05}.pkt" for number in range(20_000)]
-    leave_report([Path("suite")], [Outcome(it, (), Row(Verdict.PASS, 9)) for it in paths], False, pytest.fail)
-    left = [Outcome(it, (), Row(Verdict.NOT_RUN)) for it in paths]
+    leave_report([Path("suite")], [ScriptOutcome(it, (), Row(Verdict.PASS, 9)) for it in paths], False, pytest.fail)
+    left = [ScriptOutcome(it, (), Row(Verdict.NOT_RUN)) for it in paths]
     begin = time.process_time()
     leave_report([Path("suite")], left, False, pytest.fail)
     reported = junit_xml(left, 1.0)

@@ -4,7 +4,7 @@ import subprocess
 import sys
 from pathlib import Path
 
-from pdsuite.programs.batch_protocol import Answer, Case, batch_input, parse_batch_answers
+from pdsuite.programs.batch_protocol import ProgramAnswer, Case, batch_input, parse_batch_answers
 from pdsuite.programs.protocol import add_command, script_name, set_command
 from pdsuite.scripts.text import make_text
 from tests.helpers import TOP
@@ -32,8 +32,8 @@ def test_each_start_of_both_programs_has_its_own_words_input_and_answer(tmp_path
     assert (done.returncode, done.stdout, done.stderr) == (0, b"", b"")
     output, errors, status = ((answers / f"a.{end}").read_bytes() for end in ("output", "errors", "status"))
     recorded, reported, refused, other = parse_batch_answers(output, errors, status.decode(), len(cases))
-    assert recorded == Answer(LISTENS + SYN + SYN_ACK % 1_200, b"")
+    assert recorded == ProgramAnswer(LISTENS + SYN + SYN_ACK % 1_200, b"")
     assert reported.output.startswith(b"s0 fail 5 options\ntotal 1 pass 0 fail 1 ")
     assert reported.errors.startswith(b"s0:5: fail options: the packet has other options\n")
     assert refused.fault == "error: unexpected argument '--no-such-word' found"
-    assert other == Answer(LISTENS + SYN + SYN_ACK % 1_460, b"")
+    assert other == ProgramAnswer(LISTENS + SYN + SYN_ACK % 1_460, b"")

@@ -9,7 +9,7 @@ from pdsuite.faults import Fault
 from pdsuite.programs.verdict import Row, Verdict
 from pdsuite.reports.as_json import JsonFormatter, script_json
 from pdsuite.reports.saved_reports import SavedReport, SavedRow, join_reports, parse_reports, read_reports_as_one
-from pdsuite.run.outcomes import Outcome, Totals
+from pdsuite.run.outcomes import ScriptOutcome, OutcomeTotals
 from pdsuite.scripts.settings import Settings
 from pdsuite.scripts.shards import Shard
 
@@ -26,24 +26,24 @@ ROWS = [
 NAMES = ["a.pkt", "a b/c.pkt", "q\"uo'te.pkt", r"a\x0ab.pkt", r"\xff.pkt", r"a\\b.pkt", "grün.pkt"]
 
 
-def written(outcomes: list[Outcome], shard: Shard | None = None) -> bytes:
+def written(outcomes: list[ScriptOutcome], shard: Shard | None = None) -> bytes:
     """A report as `pdsuite run --json` prints it."""
     form = JsonFormatter(shard)
-    entries = [form.script_entry(number, it) for number, it in enumerate(outcomes, 1)]
-    parts = [form.opening(len(outcomes)), *entries, form.summary(Totals.of_outcomes(outcomes), 1.5)]
+    entries = [form.entry(number, it) for number, it in enumerate(outcomes, 1)]
+    parts = [form.opening(len(outcomes)), *entries, form.summary(OutcomeTotals.of_outcomes(outcomes), 1.5)]
     return "".join(it.plain for it in parts).encode()
 
 
 @pytest.mark.parametrize("row", ROWS, ids=str)
 def test_a_row_is_read_as_it_was_written(row: Row) -> None:
-    outcome = Outcome("a.pkt", (("mss", 1000),), row, b"a line", "what it is", ("below",))
+    outcome = ScriptOutcome("a.pkt", (("mss", 1000),), row, b"a line", "what it is", ("below",))
     (report,) = parse_reports("here", written([outcome]))
     assert report == SavedReport("here", {"a.pkt": SavedRow(row)})
 
 
 def test_paths_are_as_people_see_them() -> None:
     octets = [b"a.pkt", b"a b/c.pkt", b"q\"uo'te.pkt", b"a\nb.pkt", b"\xff.pkt", b"a\\b.pkt", "grün.pkt".encode()]
-    outcomes = [Outcome(it.decode("utf-8", "surrogateescape"), (), ROWS[0]) for it in octets]
+    outcomes = [ScriptOutcome(it.decode("utf-8", "surrogateescape"), (), ROWS[0]) for it in octets]
     assert list(parse_reports("here", written(outcomes))[0].rows) == NAMES
 
 
@@ -53,7 +53,7 @@ SETTINGS: list[Settings] = [(), (("mss", 1000),), (("initial_window", "rfc6928")
 @pytest.mark.parametrize("settings", SETTINGS, ids=str)
 @pytest.mark.parametrize("path", NAMES)
 def test_the_line_of_a_pass_is_the_one_of_its_values(settings: Settings, path: str) -> None:
-    line = script_json(Outcome("other.pkt", settings, Row(Verdict.PASS, 9)), path)
+    line = script_json(ScriptOutcome("other.pkt", settings, Row(Verdict.PASS, 9)), path)
     values = {"path": path, "verdict": "pass", "events": 9, "below": [], "settings": dict(settings)}
     assert line == json.dumps(values, ensure_ascii=False)
 
@@ -157,8 +157,8 @@ def test_reports_that_are_no_one_run_are_refused(reports: list[SavedReport], rea
     assert str(fault.value) == reason
 
 
-def outcomes(*paths: str) -> list[Outcome]:
-    return [Outcome(it, (), ROWS[0]) for it in paths]
+def outcomes(*paths: str) -> list[ScriptOutcome]:
+    return [ScriptOutcome(it, (), ROWS[0]) for it in paths]
 
 
 def test_a_file_holds_several_reports_and_a_folder_several_files(tmp_path: Path) -> None:

@@ -18,7 +18,7 @@ import pytest
 from pdsuite.compare.comparison import ComparedScript, ComparisonKind
 from pdsuite.compare.divergence import Divergence, PlayedEvent
 from pdsuite.programs.verdict import Row, Verdict
-from pdsuite.run.outcomes import Outcome
+from pdsuite.run.outcomes import ScriptOutcome
 from pdsuite.scripts.text import make_text
 from pdsuite.watch.folder_moves import folder_moves_between
 from pdsuite.watch.plan_changes import WantedScript
@@ -33,13 +33,13 @@ STATE = (
 PACKET = "actual packet: +0 > S. 0:0(0) ack 1 win 65535 <mss 1460,nop,nop,sackOK,nop,wscale 7> // 0.100000"
 PASS = Row(Verdict.PASS, 3)
 FAIL = Row(Verdict.FAIL, 2, "seq")
-Report = dict[str, Outcome]
+Report = dict[str, ScriptOutcome]
 
 
 def report(row: Row, *paths: str) -> Report:
     """A report with this row of each script."""
     reported = ("the packet has other octets", (PACKET, STATE)) if row is FAIL else ("", ())
-    return {path: Outcome(path, (), row, None, *reported) for path in paths}
+    return {path: ScriptOutcome(path, (), row, None, *reported) for path in paths}
 
 
 def texts(**texts: bytes) -> Mapping[str, WantedScript]:
@@ -79,7 +79,7 @@ def test_a_state_is_broken_at_blanks_and_a_packet_is_not_broken() -> None:
 def test_a_reason_is_broken_at_blanks_and_a_short_line_stays() -> None:
     words = "reason: all that is queued was sent, up to 1001, and only the timer sends the oldest again (RFC 6298)"
     reported = (words, "rule: a command", f"{'x' * 100} y")
-    outcome = Outcome("a.pkt", (), FAIL, None, "so it is", reported)
+    outcome = ScriptOutcome("a.pkt", (), FAIL, None, "so it is", reported)
     assert live().first_report({"a.pkt": outcome}, False, 0.01).plain.splitlines()[1:-1] == [
         "  reason: all that is queued was sent, up to 1001, and only the timer sends the",
         "    oldest again (RFC 6298)",
@@ -92,7 +92,7 @@ def test_the_states_of_two_senders_are_broken_at_blanks_and_packets_are_not() ->
     state = "ESTABLISHED una:1 next:6001 top:6001 end:20001 cwnd:4000 ssthresh:2000 DupAcks:2"
     event = PlayedEvent(f"+0 > . 1:1001(1000) ack 1 <nop,nop,{'sack 1:2,' * 6}eol>", "0.310000", state)
     parting = Divergence(event, None, state, f"{state} recovery:none")
-    outcome = Outcome("a.pkt", (), PASS, None, "", ())
+    outcome = ScriptOutcome("a.pkt", (), PASS, None, "", ())
     lines = (
         live()
         .turned_entries([ComparedScript(0, ComparisonKind.OTHERWISE, outcome, outcome, parting)])

@@ -6,21 +6,21 @@ from pathlib import Path
 
 import pytest
 
-from pdsuite.scripts.text import Text, UnfitTextError, make_text, read_text
+from pdsuite.scripts.text import ScriptText, UnfitTextError, make_text, read_text
 
 
 @pytest.mark.parametrize(
     ("octets", "text"),
     [
-        (b"", Text(b"", 0)),
-        (b"\n", Text(b"\n", 1)),
-        (b"a", Text(b"a\n", 1)),
-        (b"a\n", Text(b"a\n", 1)),
-        (b"a\nb", Text(b"a\nb\n", 2)),
-        (b"a\r\nb\r", Text(b"a\r\nb\r\n", 2)),
+        (b"", ScriptText(b"", 0)),
+        (b"\n", ScriptText(b"\n", 1)),
+        (b"a", ScriptText(b"a\n", 1)),
+        (b"a\n", ScriptText(b"a\n", 1)),
+        (b"a\nb", ScriptText(b"a\nb\n", 2)),
+        (b"a\r\nb\r", ScriptText(b"a\r\nb\r\n", 2)),
     ],
 )
-def test_a_last_line_counts_with_and_without_its_newline(octets: bytes, text: Text) -> None:
+def test_a_last_line_counts_with_and_without_its_newline(octets: bytes, text: ScriptText) -> None:
     assert make_text(octets) == text
 
 

@@ -7,7 +7,7 @@ import pytest
 
 from pdsuite.scripts.defaults import DEFAULTS, KEYS, can_switch_settings, changed_settings
 from pdsuite.scripts.settings import Value
-from pdsuite.scripts.text import Text, make_text
+from pdsuite.scripts.text import ScriptText, make_text
 from pdsuite.scripts.text_edit import Edit, edit_between
 from tests.helpers import TOP
 
@@ -15,21 +15,21 @@ from tests.helpers import TOP
 @pytest.mark.parametrize(
     ("old", "new", "edit"),
     [
-        (b"a\nb\nc\n", b"a\nX\nc\n", Edit(2, 1, Text(b"X\n", 1))),
-        (b"a\nc\n", b"a\nb\nc\n", Edit(2, 0, Text(b"b\n", 1))),
-        (b"a\nb\nc\n", b"a\nc\n", Edit(2, 1, Text(b"", 0))),
-        (b"", b"a\n", Edit(1, 0, Text(b"a\n", 1))),
-        (b"a\n", b"", Edit(1, 1, Text(b"", 0))),
-        (b"a\n", b"a\nb", Edit(2, 0, Text(b"b\n", 1))),
-        (b"a\na\n", b"a\na\na\n", Edit(3, 0, Text(b"a\n", 1))),
-        (b"a\na\na\n", b"a\n", Edit(2, 2, Text(b"", 0))),
-        (b"a\r\nb\n", b"a\nb\n", Edit(1, 1, Text(b"a\n", 1))),
+        (b"a\nb\nc\n", b"a\nX\nc\n", Edit(2, 1, ScriptText(b"X\n", 1))),
+        (b"a\nc\n", b"a\nb\nc\n", Edit(2, 0, ScriptText(b"b\n", 1))),
+        (b"a\nb\nc\n", b"a\nc\n", Edit(2, 1, ScriptText(b"", 0))),
+        (b"", b"a\n", Edit(1, 0, ScriptText(b"a\n", 1))),
+        (b"a\n", b"", Edit(1, 1, ScriptText(b"", 0))),
+        (b"a\n", b"a\nb", Edit(2, 0, ScriptText(b"b\n", 1))),
+        (b"a\na\n", b"a\na\na\n", Edit(3, 0, ScriptText(b"a\n", 1))),
+        (b"a\na\na\n", b"a\n", Edit(2, 2, ScriptText(b"", 0))),
+        (b"a\r\nb\n", b"a\nb\n", Edit(1, 1, ScriptText(b"a\n", 1))),
         (
             b"a\x0bb\x0cc\x1cd\xc2\x85e\ny\n",
             b"a\x0bb\x0cc\x1cd\xc2\x85f\ny\n",
-            Edit(1, 1, Text(b"a\x0bb\x0cc\x1cd\xc2\x85f\n", 1)),
+            Edit(1, 1, ScriptText(b"a\x0bb\x0cc\x1cd\xc2\x85f\n", 1)),
         ),
-        (b"a\rb\nc\n", b"a\rX\nc\n", Edit(1, 1, Text(b"a\rX\n", 1))),
+        (b"a\rb\nc\n", b"a\rX\nc\n", Edit(1, 1, ScriptText(b"a\rX\n", 1))),
     ],
     ids=range(11),
 )
@@ -49,8 +49,8 @@ def test_the_edit_of_two_texts_makes_one_of_the_other_and_touches_no_equal_line(
             assert put[0] != before[edit.first - 1] and put[-1] != before[edit.first - 2 + edit.removed]
 
 
-def _text(lines: list[bytes]) -> Text:
-    return Text(b"".join(it + b"\n" for it in lines), len(lines))
+def _text(lines: list[bytes]) -> ScriptText:
+    return ScriptText(b"".join(it + b"\n" for it in lines), len(lines))
 
 
 def test_the_defaults_are_those_of_the_page_on_settings() -> None:

@@ -9,7 +9,7 @@ from xml.etree import ElementTree
 import pytest
 
 from pdsuite.programs.batch_protocol import (
-    Answer,
+    ProgramAnswer,
     Case,
     answer_from_status,
     batch_input,
@@ -21,10 +21,10 @@ from pdsuite.programs.program import ProgramEndedError
 from pdsuite.programs.protocol import UnexpectedAnswerError
 from pdsuite.programs.refusals import distinct_key_values, refusals_in_answer
 from pdsuite.programs.verdict import Row, Verdict
-from pdsuite.run.batches import Script
-from pdsuite.run.unproved_run import StartBatch, explained_rows, rows_and_unanswered_batches, split_into_start_batches
+from pdsuite.run.batches import SuiteScript
+from pdsuite.run.unproved_run import StartBatch, explained_rows, read_answers, split_into_start_batches
 from pdsuite.scripts.config import Claim
-from pdsuite.scripts.text import Text, make_text
+from pdsuite.scripts.text import ScriptText, make_text
 from tests.helpers import TOP, ends, is_alive, wait_for, write
 from tests.tree_fixture import Tree
 
@@ -38,9 +38,9 @@ def tree(tmp_path: Path) -> Tree:
     return Tree(tmp_path)
 
 
-def loaded(*texts: bytes) -> list[tuple[Script, Text | str]]:
+def loaded(*texts: bytes) -> list[tuple[SuiteScript, ScriptText | str]]:
     """Scripts with these texts."""
-    return [(Script(index, f"{index}.pkt", ()), make_text(text)) for index, text in enumerate(texts)]
+    return [(SuiteScript(index, f"{index}.pkt", ()), make_text(text)) for index, text in enumerate(texts)]
 
 
 def batch(*texts: bytes) -> StartBatch:
@@ -50,13 +50,16 @@ def batch(*texts: bytes) -> StartBatch:
 
 
 def test_settings_are_commands_before_the_scripts() -> None:
-    script = Script(0, "a.pkt", (("mss", 1000), ("nagle", False), ("initial_window", "rfc6928")))
+    script = SuiteScript(0, "a.pkt", (("mss", 1000), ("nagle", False), ("initial_window", "rfc6928")))
     (only,) = split_into_start_batches([(script, make_text(b"one\ntwo\n"))])
     assert only.input_commands() == b"set mss 1000\nset nagle false\nset initial_window rfc6928\nadd s0 2\none\ntwo\n"
 
 
 def test_a_script_that_cannot_be_read_is_in_no_batch() -> None:
-    scripts: list[tuple[Script, Text | str]] = [(Script(0, "a.pkt", ()), "Is a directory"), *loaded(b"x\n")]
+    scripts: list[tuple[SuiteScript, ScriptText | str]] = [
+        (SuiteScript(0, "a.pkt", ()), "Is a directory"),
+        *loaded(b"x\n"),
+    ]
     assert [[script.path for script, _ in it.scripts] for it in split_into_start_batches(scripts)] == [["0.pkt"]]
     assert split_into_start_batches(scripts[:1]) == []
 
@@ -71,7 +74,7 @@ def test_scripts_of_which_much_may_be_told_are_in_several_batches() -> None:
 def test_rows_and_what_is_told_come_to_their_scripts() -> None:
     rows = b"s0 pass 3\ns1 fail 2 seq\n" + TOTAL % 2
     reported = b'{"name": "s1", "line": 2, "what": "other octets"}\n'
-    found = explained_rows(batch(b"one\n", b"one\ntwo\n"), Answer(rows, reported))
+    found = explained_rows(batch(b"one\n", b"one\ntwo\n"), ProgramAnswer(rows, reported))
     cause = {"name": "s1", "line": 2, "what": "other octets"}
     assert found == {0: (Row(Verdict.PASS, 3), None), 1: (Row(Verdict.FAIL, 2, "seq"), cause)}
 
@@ -80,19 +83,21 @@ def test_what_is_told_of_another_line_or_script_is_of_none() -> None:
     rows = b"s0 fail 2 seq\n" + TOTAL % 1
     for name, line in ((b"s0", 3), (b"s1", 2)):
         reported = b'{"name": "%b", "line": %d}\n' % (name, line)
-        assert explained_rows(batch(b"one\n"), Answer(rows, reported)) == {0: (Row(Verdict.FAIL, 2, "seq"), None)}
+        assert explained_rows(batch(b"one\n"), ProgramAnswer(rows, reported)) == {
+            0: (Row(Verdict.FAIL, 2, "seq"), None)
+        }
 
 
 @pytest.mark.parametrize("rows", [b"", b"s0 pass 1\n", b"s0 pending\n" + TOTAL % 1, b"s0 pass 1\n" + TOTAL % 2])
 def test_an_answer_that_is_not_the_report_of_the_batch_is_none(rows: bytes) -> None:
     with pytest.raises(UnexpectedAnswerError):
-        explained_rows(batch(b"x\n"), Answer(rows, b""))
-    assert rows_and_unanswered_batches([batch(b"x\n")], [Answer(rows, b"")])[0] == {}
+        explained_rows(batch(b"x\n"), ProgramAnswer(rows, b""))
+    assert read_answers([batch(b"x\n")], [ProgramAnswer(rows, b"")])[0] == {}
 
 
 def test_a_batch_without_an_answer_is_kept_with_the_reason() -> None:
     one = batch(b"x\n")
-    _, unheard = rows_and_unanswered_batches([one], [Answer(b"", b"", "TooSlow: it took long")])
+    _, unheard = read_answers([one], [ProgramAnswer(b"", b"", "TooSlow: it took long")])
     assert unheard == [(one, "pdregress: TooSlow: it took long")]
 
 
@@ -107,14 +112,16 @@ def test_each_setting_is_asked_once_and_each_claim_of_a_refused_one_is_told() ->
 
 
 def test_a_start_that_ends_by_a_fault_has_no_answer() -> None:
-    assert answer_from_status(b"rows", b"told", "1") == Answer(b"rows", b"told")
-    assert answer_from_status(b"rows", b"x\npdregress: 19 OutOfMemory\n", "2") == Answer(
+    assert answer_from_status(b"rows", b"told", "1") == ProgramAnswer(b"rows", b"told")
+    assert answer_from_status(b"rows", b"x\npdregress: 19 OutOfMemory\n", "2") == ProgramAnswer(
         b"", b"", "pdregress: 19 OutOfMemory"
     )
     refused = b"error: unexpected argument '-x' found\n\nFor more information, try '--help'.\n"
-    assert answer_from_status(b"", refused, "2") == Answer(b"", b"", "error: unexpected argument '-x' found")
-    assert answer_from_status(b"", b"", "2") == Answer(b"", b"", "ended with status 2")
-    assert answer_from_status(b"rows", b"told", "TooSlow: it took long") == Answer(b"", b"", "TooSlow: it took long")
+    assert answer_from_status(b"", refused, "2") == ProgramAnswer(b"", b"", "error: unexpected argument '-x' found")
+    assert answer_from_status(b"", b"", "2") == ProgramAnswer(b"", b"", "ended with status 2")
+    assert answer_from_status(b"rows", b"told", "TooSlow: it took long") == ProgramAnswer(
+        b"", b"", "TooSlow: it took long"
+    )
 
 
 def test_starts_share_a_run_as_far_as_its_room_goes_but_for_those_that_are_to_be_alone() -> None:
@@ -128,7 +135,7 @@ def test_a_run_gets_the_words_and_inputs_of_its_starts_and_answers_each() -> Non
     cases = [Case(("pdrecord", "--settings", "a = 1\nb = 2"), b"one\n"), Case(("pdregress",), b"")]
     assert batch_input(cases) == b"31\npdrecord\0--settings\0a = 1\nb = 24\none\n9\npdregress0\n"
     output = b"2\n+0" b"0\n" b"2\n0\n" b"0\n" b"9\na: 19 Out" b"2\n2\n"
-    assert parse_batch_answers(output, b"", "0", 2) == [Answer(b"+0", b""), Answer(b"", b"", "a: 19 Out")]
+    assert parse_batch_answers(output, b"", "0", 2) == [ProgramAnswer(b"+0", b""), ProgramAnswer(b"", b"", "a: 19 Out")]
 
 
 @pytest.mark.parametrize(
@@ -136,8 +143,8 @@ def test_a_run_gets_the_words_and_inputs_of_its_starts_and_answers_each() -> Non
     [(b"", "Faulted: a failed unwrap", "Faulted: a failed unwrap"), (b"2\n+0", "0", "ended with status 0")],
 )
 def test_a_run_without_an_answer_has_none_for_its_starts(output: bytes, status: str, why: str) -> None:
-    assert parse_batch_answers(output, b"", status, 1) == [Answer(b"", b"", why)]
-    assert parse_batch_answers(output, b"", status, 2) == [Answer(b"", b"", why, True)] * 2
+    assert parse_batch_answers(output, b"", status, 1) == [ProgramAnswer(b"", b"", why)]
+    assert parse_batch_answers(output, b"", status, 2) == [ProgramAnswer(b"", b"", why, True)] * 2
 
 
 def test_parts_are_taken_once_they_are_whole() -> None:

@@ -11,7 +11,7 @@ import pytest
 
 from pdsuite.file_stamps import StampedValue
 from pdsuite.scripts.discover import ScriptFile
-from pdsuite.scripts.text import Text, make_text
+from pdsuite.scripts.text import ScriptText, make_text
 from pdsuite.watch.watched_files import (
     GRACE,
     Update,
@@ -26,16 +26,16 @@ from pdsuite.watch.watched_files import read_watched_files
 ONE, TWO = make_text(b"one\n"), make_text(b"two\n")
 
 
-def file_of(path: str, text: Text | str, torn: bool = False, inode: int | None = None) -> WatchedFile:
+def file_of(path: str, text: ScriptText | str, torn: bool = False, inode: int | None = None) -> WatchedFile:
     stamp = (errno.ENOENT,) if text == "gone" else (1, ord(path[0]) if inode is None else inode, 3, 4, 5)
     return WatchedFile(ScriptFile(path, "/", path), StampedValue(text, stamp, torn, False))
 
 
-def files(**texts: Text | str) -> WatchedFiles:
+def files(**texts: ScriptText | str) -> WatchedFiles:
     return {path: file_of(path, text) for path, text in texts.items()}
 
 
-def texts(update: Update) -> dict[str, Text | str]:
+def texts(update: Update) -> dict[str, ScriptText | str]:
     return {path: it.file.value for path, it in update.files.items()}
 
 
@@ -171,7 +171,7 @@ def test_whatever_came_before_the_truth_is_taken_once_the_moment_is_over(seed: i
     state: WatchedFiles = {}
     gone: Mapping[str, float] = {}
     moment = 0.0
-    kinds: tuple[Text | str, ...] = (ONE, TWO, "gone")
+    kinds: tuple[ScriptText | str, ...] = (ONE, TWO, "gone")
     for _ in range(30):
         moment += chance.choice((0.01, 0.03, 0.2))
         now = {it: file_of(it, chance.choice(kinds), chance.random() < 0.2) for it in "abc" if chance.random() < 0.7}

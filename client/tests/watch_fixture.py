@@ -9,12 +9,12 @@ from pdsuite.output.octets import printable_path
 from pdsuite.output.screen import Screen
 from pdsuite.output.styled_text import StyledText
 from pdsuite.programs.program import Program
-from pdsuite.run.batches import Script
+from pdsuite.run.batches import SuiteScript
 from pdsuite.run.run_batches import load_script_text
 from pdsuite.scripts.config import Claim, SuiteConfig, layer_of_option
 from pdsuite.scripts.discover import find_scripts
 from pdsuite.scripts.settings import Settings, set_command_words
-from pdsuite.scripts.text import Text
+from pdsuite.scripts.text import ScriptText
 from pdsuite.signals import Stop
 from pdsuite.watch.change_report import ChangeReport
 from pdsuite.watch.folders import Folders, WatchChoice
@@ -95,9 +95,9 @@ class WatchFixture:
         rows = {}
         suite = SuiteConfig(layer_of_option(""))
         for found in find_scripts([self.top], (), self.stop):
-            text = load_script_text(Script(0, found.path, (), found.fault))
+            text = load_script_text(SuiteScript(0, found.path, (), found.fault))
             place = printable_path(found.path)
-            if isinstance(text, Text):
+            if isinstance(text, ScriptText):
                 settings = suite.settings_of_script(found)
                 row = row_of(text.octets, settings_words(settings))
                 row_text = f"{place}:{row.line}: {row}: {meaning_of(text.octets, settings)}"

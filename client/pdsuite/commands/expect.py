@@ -17,9 +17,9 @@ from pdsuite.programs.program import Program
 from pdsuite.programs.refusals import refusal_lines
 from pdsuite.programs.unproved_programs import proved_or_built_program
 from pdsuite.programs.verdict import Verdict
-from pdsuite.run.batches import Script, group_into_batches
+from pdsuite.run.batches import SuiteScript, group_into_batches
 from pdsuite.run.collect import find_selected_scripts, make_scripts
-from pdsuite.run.outcomes import Outcome
+from pdsuite.run.outcomes import ScriptOutcome
 from pdsuite.run.run_batches import SettledPiece, Start, run_batch, starter_without_explanations
 from pdsuite.scripts.config import CONFIG_FILE, LONGEST, SuiteConfig, layer_of_option, read_config_octets, shown_place
 from pdsuite.scripts.discover import SUFFIX, ScriptFile
@@ -79,9 +79,9 @@ def write_expectations(options: ExpectOptions, screen: Screen) -> int:
     return _write_changes(list(zip(found, outcomes)), lost, options.reason, screen)
 
 
-def _run_scripts(scripts: Sequence[Script], start: Start, screen: Screen) -> list[Outcome]:
+def _run_scripts(scripts: Sequence[SuiteScript], start: Start, screen: Screen) -> list[ScriptOutcome]:
     """What came of the scripts, in their order."""
-    outcomes: dict[int, Outcome] = {}
+    outcomes: dict[int, ScriptOutcome] = {}
     for run in group_into_batches(scripts):
         for step in run_batch(run, start):
             if not isinstance(step, SettledPiece):
@@ -110,7 +110,10 @@ def _remaining_unused_lines(suite: SuiteConfig, paths: Sequence[Path], lost: Seq
 
 
 def _write_changes(
-    settled: Sequence[tuple[ScriptFile, Outcome]], lost: Sequence[ExpectationChange], reason: str | None, screen: Screen
+    settled: Sequence[tuple[ScriptFile, ScriptOutcome]],
+    lost: Sequence[ExpectationChange],
+    reason: str | None,
+    screen: Screen,
 ) -> int:
     """Writes what is expected from now on, and says what changed."""
     changes = [*lost, *expectation_changes(settled, reason or "")]
@@ -134,7 +137,9 @@ def _write_changes(
     return _FAULT if left else 0
 
 
-def expectation_changes(settled: Iterable[tuple[ScriptFile, Outcome]], reason: str) -> Iterator[ExpectationChange]:
+def expectation_changes(
+    settled: Iterable[tuple[ScriptFile, ScriptOutcome]], reason: str
+) -> Iterator[ExpectationChange]:
     """What changes: a row is expected that isn't yet, or none any more of a script that passes."""
     for found, outcome in settled:
         path, row = printable_path(outcome.path), outcome.row.whole_text
@@ -149,7 +154,7 @@ def expectation_changes(settled: Iterable[tuple[ScriptFile, Outcome]], reason: s
             )
 
 
-def _why_unwritable(found: ScriptFile, outcome: Outcome) -> str:
+def _why_unwritable(found: ScriptFile, outcome: ScriptOutcome) -> str:
     """Why no row is expected of a script that isn't known not to pass, where that is so."""
     if outcome.row.verdict is Verdict.PASS or outcome.is_known_failure:
         return ""

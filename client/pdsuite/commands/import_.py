@@ -5,7 +5,7 @@ from collections.abc import Iterator, Sequence
 from pathlib import Path
 
 
-from pdsuite.faults import Fault, FileFault
+from pdsuite.faults import Fault, PlacedFault
 from pdsuite.files import require_new_or_empty_folder, write_folder_atomically
 from pdsuite.imports.as_json import as_json
 from pdsuite.imports.conversion import ImportSource, Imported, NotImported, convert_script
@@ -90,10 +90,10 @@ def _decode_losslessly(octets: bytes) -> str:
 def _refuse_bad_settings(suite: SuiteConfig, source: Path) -> None:
     """Refuses settings of a pdsuite.toml that no run could be given, or no script has."""
     for line in [*unused_table_lines_under(suite, [source]), *old_name_refusals(suite.all_claims())]:
-        raise FileFault(line)
+        raise PlacedFault(line)
     for claim in suite.all_claims():
         if _NO_WORD in set_command_words(claim.key, claim.value):
-            raise FileFault(claim.refusal_line("BadValue"))
+            raise PlacedFault(claim.refusal_line("BadValue"))
 
 
 def _files_to_write(source: Path, scripts: Sequence[Listed], stop: Stop) -> Iterator[tuple[str, bytes]]:

@@ -8,7 +8,7 @@ from pdsuite.output.octets import printable_path, printable_text
 from pdsuite.output.screen import Screen, print_error
 from pdsuite.output.styled_text import unstyled_text
 from pdsuite.reports.last_run import scripts_failed_last
-from pdsuite.run.batches import Script
+from pdsuite.run.batches import SuiteScript
 from pdsuite.run.collect import Selection, find_selected_scripts, make_scripts
 from pdsuite.scripts.config import SuiteConfig, layer_of_option, old_name_refusals
 from pdsuite.scripts.settings import Settings, value_as_toml
@@ -40,7 +40,7 @@ def list_scripts(
     return 2 if any(script.fault for script in scripts) else 0
 
 
-def _script_line(script: Script) -> str:
+def _script_line(script: SuiteScript) -> str:
     path = printable_path(script.path)
     if script.fault:
         return f"{path}: error: {script.fault}"

@@ -20,16 +20,16 @@ from pdsuite.programs.recorder import DROP_MISSING, MINIMAL, Recording, record_t
 from pdsuite.programs.refusals import refusal_lines
 from pdsuite.programs.unproved_programs import proved_or_built_program
 from pdsuite.programs.verdict import Verdict
-from pdsuite.run.batches import Script, group_into_batches
+from pdsuite.run.batches import SuiteScript, group_into_batches
 from pdsuite.run.collect import INPUT, find_selected_scripts, make_scripts, standard_input_script
 from pdsuite.run.explainer import EXPLAIN_OPTIONS
 from pdsuite.run.local_mapper import local_mapper
-from pdsuite.run.outcomes import Outcome
+from pdsuite.run.outcomes import ScriptOutcome
 from pdsuite.run.run_batches import SettledPiece
 from pdsuite.scripts.config import SuiteConfig, layer_of_option
 from pdsuite.scripts.file_diff import FileDiff, match_line_ends, unified_hunks
 from pdsuite.scripts.settings import Settings
-from pdsuite.scripts.text import LONGEST_FILE, Text, UnfitTextError, make_text, read_regular_file
+from pdsuite.scripts.text import LONGEST_FILE, ScriptText, UnfitTextError, make_text, read_regular_file
 from pdsuite.scripts.unused_tables import unused_table_lines_under
 from pdsuite.signals import Stop, StoppedError
 
@@ -64,10 +64,10 @@ class RecordOptions:
 
 
 @dataclass(frozen=True, slots=True)
-class RecordedScript:
+class RecordedFile:
     """What came of a script: what its file holds and would hold, or why it isn't recorded."""
 
-    script: Script
+    script: SuiteScript
     diff: FileDiff
     fault: str = ""
 
@@ -81,7 +81,7 @@ def record_scripts(options: RecordOptions, screen: Screen) -> int:
     """Records scripts, shows or writes what changes, and answers the exit status."""
     with Stop() as stop:
         suite = SuiteConfig(layer_of_option(options.settings))
-        scripts: list[Script] = []
+        scripts: list[SuiteScript] = []
         try:
             scripts = _find_scripts(options, suite, stop)
             steady = SenderGuard(client_programs_lookup(REGRESS, RECORD))
@@ -105,14 +105,14 @@ def record_scripts(options: RecordOptions, screen: Screen) -> int:
         return _show_or_write_changes(each, options.writes, screen, stop)
 
 
-def _find_scripts(options: RecordOptions, suite: SuiteConfig, stop: Stop) -> list[Script]:
+def _find_scripts(options: RecordOptions, suite: SuiteConfig, stop: Stop) -> list[SuiteScript]:
     """The scripts that are meant: standard input, or those that are found."""
     if (script := standard_input_script(options.paths, suite)) is not None:
         return [script]
     return make_scripts(find_selected_scripts(options.paths, options.only, suite, stop), suite)
 
 
-def _octets_or_fault(script: Script) -> bytes | str:
+def _octets_or_fault(script: SuiteScript) -> bytes | str:
     """The octets of a script's file, or why it can't be recorded."""
     if script.fault:
         return script.fault
@@ -125,7 +125,7 @@ def _octets_or_fault(script: Script) -> bytes | str:
 
 
 def _choose_modes(
-    scripts: Sequence[Script],
+    scripts: Sequence[SuiteScript],
     texts: dict[int, bytes | str],
     program: Path,
     options: RecordOptions,
@@ -135,7 +135,7 @@ def _choose_modes(
     """How each script is recorded, by its place."""
     modes: dict[int, RecordMode] = {}
 
-    def held_text(script: Script) -> Text | str:
+    def held_text(script: SuiteScript) -> ScriptText | str:
         held = texts[script.index]
         return held if isinstance(held, str) else make_text(held)
 
@@ -153,7 +153,9 @@ def _choose_modes(
     return modes
 
 
-def record_mode_of(script: Script, outcome: Outcome, leaving: Cause | None, requested: Sequence[str]) -> RecordMode:
+def record_mode_of(
+    script: SuiteScript, outcome: ScriptOutcome, leaving: Cause | None, requested: Sequence[str]
+) -> RecordMode:
     """How a script is recorded that came to this, and leaves this where it passes.
 
     One of inputs alone is recorded whole. One that passes stays as it is, unless it is strict and leaves packets, and
@@ -171,22 +173,22 @@ def record_mode_of(script: Script, outcome: Outcome, leaving: Cause | None, requ
 
 
 def _record_by_modes(
-    scripts: Sequence[Script],
+    scripts: Sequence[SuiteScript],
     texts: dict[int, bytes | str],
     modes: dict[int, RecordMode],
     recorder: Path,
     screen: Screen,
     stop: Stop,
-) -> list[RecordedScript]:
+) -> list[RecordedFile]:
     """What comes of each script, in their order; those that stay aren't recorded."""
-    groups: dict[tuple[Settings, Sequence[str]], list[tuple[Script, bytes]]] = {}
-    each: dict[int, RecordedScript] = {}
+    groups: dict[tuple[Settings, Sequence[str]], list[tuple[SuiteScript, bytes]]] = {}
+    each: dict[int, RecordedFile] = {}
     for script in scripts:
         held, mode = texts[script.index], modes[script.index]
         if isinstance(held, str):
-            each[script.index] = RecordedScript(script, FileDiff(script.path, b"", b""), held)
+            each[script.index] = RecordedFile(script, FileDiff(script.path, b"", b""), held)
         elif mode is None:
-            each[script.index] = RecordedScript(script, FileDiff(script.path, held, held))
+            each[script.index] = RecordedFile(script, FileDiff(script.path, held, held))
         else:
             groups.setdefault((script.settings, mode), []).append((script, held))
     for (settings, mode), group in groups.items():
@@ -197,11 +199,11 @@ def _record_by_modes(
     return [each[it.index] for it in scripts]
 
 
-def _apply_recording(script: Script, text: bytes, it: Recording) -> RecordedScript:
+def _apply_recording(script: SuiteScript, text: bytes, it: Recording) -> RecordedFile:
     if it.fault:
-        return RecordedScript(script, FileDiff(script.path, text, text), it.fault)
+        return RecordedFile(script, FileDiff(script.path, text, text), it.fault)
     recording = it.text.encode("utf-8", "surrogateescape")
-    return RecordedScript(script, FileDiff(script.path, text, match_line_ends(text, recording)))
+    return RecordedFile(script, FileDiff(script.path, text, match_line_ends(text, recording)))
 
 
 def _interrupted_line(written: int, count: int) -> str:
@@ -209,7 +211,7 @@ def _interrupted_line(written: int, count: int) -> str:
     return f"pdsuite: ended by a signal: {written:,} of {count:,} scripts were written"
 
 
-def _show_or_write_changes(each: Sequence[RecordedScript], writes: bool, screen: Screen, stop: Stop) -> int:
+def _show_or_write_changes(each: Sequence[RecordedFile], writes: bool, screen: Screen, stop: Stop) -> int:
     """Shows or writes what changes, and says what isn't recorded."""
     changed = [it for it in each if it.would_change_file]
     is_input = [it.script.path for it in each] == [str(INPUT)]
@@ -235,7 +237,7 @@ def _show_or_write_changes(each: Sequence[RecordedScript], writes: bool, screen:
     return 1 if changed and not writes else 0
 
 
-def _write_to_standard_output(it: RecordedScript) -> None:
+def _write_to_standard_output(it: RecordedFile) -> None:
     """Writes the recording of standard input on standard output."""
     if not it.fault:
         sys.stdout.flush()
@@ -257,9 +259,9 @@ def _printable_line(line: str) -> str:
     return line if line.replace("\t", " ").isprintable() else printable_text(line)
 
 
-def total_lines(each: Sequence[RecordedScript]) -> Iterator[str]:
+def total_lines(each: Sequence[RecordedFile]) -> Iterator[str]:
     """A line for each folder with a script that changes, and one for all."""
-    folders: dict[str, list[RecordedScript]] = {}
+    folders: dict[str, list[RecordedFile]] = {}
     for it in each:
         folders.setdefault(os.path.dirname(it.script.path) or os.curdir, []).append(it)
     if len(folders) > 1:
@@ -269,7 +271,7 @@ def total_lines(each: Sequence[RecordedScript]) -> Iterator[str]:
     yield f"total {_counts_in_words(each)}"
 
 
-def _counts_in_words(each: Iterable[RecordedScript]) -> str:
+def _counts_in_words(each: Iterable[RecordedFile]) -> str:
     scripts = list(each)
     changed = [it for it in scripts if it.would_change_file]
     counts = [it.diff.added_and_removed_counts for it in changed]

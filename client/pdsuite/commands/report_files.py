@@ -15,7 +15,7 @@ from pdsuite.output.octets import printable_path
 from pdsuite.reports.as_json import JsonFormatter
 from pdsuite.reports.formatter import Formatter, format_report
 from pdsuite.reports.tap import TapFormatter
-from pdsuite.run.outcomes import Outcome, Totals
+from pdsuite.run.outcomes import ScriptOutcome, OutcomeTotals
 from pdsuite.scripts.config import CONFIG_FILE as SETTINGS
 from pdsuite.scripts.discover import SUFFIX
 from pdsuite.scripts.shards import Shard
@@ -146,7 +146,7 @@ class ReportFiles:
         _refuse_overwriting([it for it in self.requested_files if it[1].is_file()], scripts)
 
     def write_reports(
-        self, outcomes: Sequence[Outcome], totals: Totals, seconds: float, shard: Shard | None
+        self, outcomes: Sequence[ScriptOutcome], totals: OutcomeTotals, seconds: float, shard: Shard | None
     ) -> list[Fault]:
         """Writes the reports, and answers why some couldn't be written."""
         faults: list[Fault] = []
@@ -159,7 +159,7 @@ class ReportFiles:
 
 
 def _report_octets(
-    word: str, outcomes: Sequence[Outcome], totals: Totals, seconds: float, shard: Shard | None
+    word: str, outcomes: Sequence[ScriptOutcome], totals: OutcomeTotals, seconds: float, shard: Shard | None
 ) -> bytes:
     if word == _JUNIT:
         # Only who requests this file pays for what writes it.

@@ -30,7 +30,7 @@ from pdsuite.reports.plain import PlainFormatter
 from pdsuite.reports.report import Report
 from pdsuite.reports.tap import TapFormatter
 from pdsuite.run.assertion_check import AssertionCheck
-from pdsuite.run.batches import Script, group_into_batches
+from pdsuite.run.batches import SuiteScript, group_into_batches
 from pdsuite.run.collect import INPUT, Selection, find_selected_scripts, make_scripts, standard_input_script
 from pdsuite.run.explainer import EXPLAIN_OPTIONS
 from pdsuite.run.import_check import with_dropped_features
@@ -38,7 +38,7 @@ from pdsuite.run.local_mapper import local_mapper
 from pdsuite.run.run_batches import Mapper, SettledPiece, Step
 from pdsuite.scripts.config import SuiteConfig, layer_of_option
 from pdsuite.scripts.shards import Shard
-from pdsuite.scripts.text import Text
+from pdsuite.scripts.text import ScriptText
 from pdsuite.scripts.unused_tables import unused_table_lines_under
 from pdsuite.signals import Stop, StoppedError
 
@@ -145,7 +145,7 @@ def run_scripts(options: RunOptions, screen: Screen) -> int:
             return stopped.status
 
 
-def _find_scripts(options: RunOptions, suite: SuiteConfig, part: Selection, stop: Stop) -> list[Script]:
+def _find_scripts(options: RunOptions, suite: SuiteConfig, part: Selection, stop: Stop) -> list[SuiteScript]:
     """The scripts that are meant: standard input, or those that are found."""
     if (script := standard_input_script(options.paths, suite, options.strict)) is not None:
         if options.may_leave_out_scripts:
@@ -193,7 +193,7 @@ def _use_built_program(count: int, stop: Stop, screen: Screen) -> Path | None:
 
 def _run_unproved(
     suite: SuiteConfig,
-    scripts: Sequence[Script],
+    scripts: Sequence[SuiteScript],
     options: RunOptions,
     form: Formatter,
     screen: Screen,
@@ -222,7 +222,9 @@ def _make_page_updates(options: RunOptions, screen: Screen, is_unproved: bool) -
     return PageUpdates(options.html, make_diagram_choice(options.plot, options.plots), screen.print_note, is_unproved)
 
 
-def _keep_texts_and_causes(steps: Iterable[Step], texts: dict[int, Text], causes: dict[int, Cause]) -> Iterator[Step]:
+def _keep_texts_and_causes(
+    steps: Iterable[Step], texts: dict[int, ScriptText], causes: dict[int, Cause]
+) -> Iterator[Step]:
     """The steps, whose texts are kept, and what is reported by keys of scripts that don't pass."""
     for step in steps:
         if isinstance(step, SettledPiece):
@@ -247,7 +249,7 @@ def _make_mapper(
 
 def _run_and_report(
     mapper: Mapper,
-    scripts: Sequence[Script],
+    scripts: Sequence[SuiteScript],
     options: RunOptions,
     form: Formatter,
     screen: Screen,
@@ -264,7 +266,7 @@ def _run_and_report(
         scripts, FittingFormatter(form, lambda: screen.width) if options.form is None else form, screen, is_unproved
     )
     checking = AssertionCheck(stop, screen.print_note)
-    texts: dict[int, Text] = {}
+    texts: dict[int, ScriptText] = {}
     causes: dict[int, Cause] = {}
     ended: StoppedError | CutShortError | None = None
     try:
@@ -366,7 +368,7 @@ def _write_report_files(options: RunOptions, report: Report, seconds: float) -> 
 def _draw_page(
     page: "PageUpdates",
     report: Report,
-    texts: Mapping[int, Text],
+    texts: Mapping[int, ScriptText],
     causes: Mapping[int, Cause],
     screen: Screen,
     stop: Stop,

@@ -20,7 +20,7 @@ from pdsuite.programs.verdict import Row
 from pdsuite.reports.search import find_text, offer_text, search_totals
 from pdsuite.scripts.config import Layer, claims_of_layers
 from pdsuite.scripts.settings import sorted_settings
-from pdsuite.search.candidates import Candidates
+from pdsuite.search.candidates import CandidateLists
 from pdsuite.search.coverage import parse_state_pattern
 from pdsuite.search.find import DiffersTest, FailsTest, Find, ReachesTest, configured_script_of
 from pdsuite.search.finished_script import least_script_of_find, prepend_comment_lines, with_head_comment
@@ -62,7 +62,7 @@ def search_state(text: str, word: str | None, options: SearchOptions, screen: Sc
                 screen.print_note(f"pdsuite: {sender}")
             (sender,) = build_missing_programs([sender], "optimised", stop, screen)
             with open_oracles([sender], stop) as (oracle,):
-                drawing = Candidates(
+                drawing = CandidateLists(
                     seed,
                     query_sizes(),
                     Emphasis(),
@@ -114,7 +114,7 @@ def search_difference(
         changed = changed_names(*trees)
         emphasis = emphasis_of_changes(changed, _fixed_keys(before.side, after.side, common))
         scripts = suite_scripts_of_tree(trees[0] or TOP, stop)
-        drawing = Candidates(seed, query_sizes(), emphasis, record_initial_inputs(scripts, before, emphasis.fixed))
+        drawing = CandidateLists(seed, query_sizes(), emphasis, record_initial_inputs(scripts, before, emphasis.fixed))
         searched = Search(before, FailsTest(after), DiffersTest(after), drawing, options.seconds).run(
             _progress_shower(screen)
         )

@@ -13,7 +13,7 @@ from typing import Any
 from pdsuite.compare.senders import Sender
 from pdsuite.faults import Fault
 from pdsuite.output.octets import printable_octets, printable_path
-from pdsuite.programs.batch_protocol import Answer, Case, ProcessOutput, take_length_prefixed, with_length_line
+from pdsuite.programs.batch_protocol import ProgramAnswer, Case, ProcessOutput, take_length_prefixed, with_length_line
 from pdsuite.programs.locate import RECORD, REGRESS, TOP
 from pdsuite.programs.program import Program, ProgramEndedError
 from pdsuite.programs.unproved_batch import ProgramCases, build_and_run_cases
@@ -134,7 +134,11 @@ def run_starts_on_programs(programs: dict[str, Path], row_starts: RowStarts, sto
 
 
 def collect_build_outputs(
-    row_starts: RowStarts, answers: Sequence[Sequence[Answer]], tree: Path, stop: Stop, note: Callable[[str], None]
+    row_starts: RowStarts,
+    answers: Sequence[Sequence[ProgramAnswer]],
+    tree: Path,
+    stop: Stop,
+    note: Callable[[str], None],
 ) -> list[ProcessOutput]:
     """What a tree's programs say, which were built for it. Those that another one may have ended are started alone."""
     answered = [list(it) for it in answers]

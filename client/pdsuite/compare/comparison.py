@@ -11,8 +11,8 @@ from pdsuite.output.octets import printable_octets
 from pdsuite.programs.batch_protocol import ProcessOutput
 from pdsuite.programs.protocol import Cause
 from pdsuite.programs.recorder import Recording
-from pdsuite.run.outcomes import Outcome
-from pdsuite.scripts.text import Text
+from pdsuite.run.outcomes import ScriptOutcome
+from pdsuite.scripts.text import ScriptText
 
 
 class ComparisonKind(StrEnum):
@@ -31,8 +31,8 @@ class SenderResults:
     Last come its outputs on rows, in their order.
     """
 
-    outcomes: Mapping[int, Outcome]
-    texts: Mapping[int, Text] = field(default_factory=dict)
+    outcomes: Mapping[int, ScriptOutcome]
+    texts: Mapping[int, ScriptText] = field(default_factory=dict)
     recordings: Mapping[int, Recording] = field(default_factory=dict)
     causes: Mapping[int, Cause] = field(default_factory=dict)
     outputs: Sequence[ProcessOutput] = ()
@@ -44,8 +44,8 @@ class ComparedScript:
 
     index: int
     kind: ComparisonKind
-    before: Outcome
-    after: Outcome
+    before: ScriptOutcome
+    after: ScriptOutcome
     divergence: Divergence | None = None
     unrecorded: tuple[str, str] = ("", "")  # why there is no recording before and after
     recordings: tuple[str, str] = ("", "")  # with their traces, before and after
@@ -81,7 +81,7 @@ def _compare_script(index: int, before: SenderResults, after: SenderResults) -> 
     )
 
 
-def _first_comment(text: Text | None) -> str:
+def _first_comment(text: ScriptText | None) -> str:
     """The first line of a text, if that is a comment."""
     line = b"" if text is None else text.octets.partition(b"\n")[0].strip()
     return printable_octets(line.removeprefix(_COMMENT).strip()) if line.startswith(_COMMENT) else ""

@@ -5,7 +5,7 @@ from dataclasses import dataclass, replace
 
 from pdsuite.compare.senders import Sender
 from pdsuite.programs.refusals import Refusal
-from pdsuite.run.batches import Script
+from pdsuite.run.batches import SuiteScript
 from pdsuite.scripts.config import Claim, Layer, claims_of_layers, layer_of_option
 from pdsuite.scripts.renamed import KEYS, OLD_KEYS, UNKNOWN_KEY, old_name_in_words, old_word
 from pdsuite.scripts.settings import Settings, Value, settings_as_toml, sorted_settings
@@ -47,7 +47,7 @@ class Side:
         named = {self._key_name_here(key): self._value_word_here(key, value) for key, value in here.items()}
         return sorted_settings({**named, **self.option.keys})
 
-    def scripts_with_effective_settings(self, scripts: Iterable[Script]) -> list[Script]:
+    def with_effective_settings(self, scripts: Iterable[SuiteScript]) -> list[SuiteScript]:
         """Scripts under the settings that hold here."""
         return [it if it.fault else replace(it, settings=self.effective_settings(it.settings)) for it in scripts]
 

@@ -10,21 +10,21 @@ from pathlib import Path
 from pdsuite.compare.affected import RowStarts, collect_build_outputs, run_starts_on_programs
 from pdsuite.compare.comparison import SenderResults
 from pdsuite.compare.sides import Side, refuse_commonly_lacked_keys, report_lacking_keys
-from pdsuite.programs.batch_protocol import Answer, ProcessOutput
+from pdsuite.programs.batch_protocol import ProgramAnswer, ProcessOutput
 from pdsuite.programs.locate import RECORD, REGRESS
 from pdsuite.programs.program import Program
 from pdsuite.programs.protocol import Cause
 from pdsuite.programs.recorder import Recorder, Recording
 from pdsuite.programs.refusals import find_refusals
 from pdsuite.programs.unproved_batch import ProgramCases, build_and_run_cases
-from pdsuite.run.batches import Script, group_into_batches
+from pdsuite.run.batches import SuiteScript, group_into_batches
 from pdsuite.run.explainer import EXPLAIN_FAILURES
 from pdsuite.run.local_mapper import local_mapper
-from pdsuite.run.outcomes import Outcome
+from pdsuite.run.outcomes import ScriptOutcome
 from pdsuite.run.run_batches import SettledPiece
 from pdsuite.run.unproved_run import UnprovedPlan, UnprovedResults, make_plan, results_from_answers
 from pdsuite.scripts.config import Claim
-from pdsuite.scripts.text import Text
+from pdsuite.scripts.text import ScriptText
 from pdsuite.signals import Stop
 
 # So many of the builds of a sender are of scripts.
@@ -38,7 +38,7 @@ class ComparisonTask:
     The claims are those of both sides.
     """
 
-    scripts: Sequence[Script]
+    scripts: Sequence[SuiteScript]
     claims: Sequence[Claim]
     records: bool
     row_starts: RowStarts | None = None
@@ -99,7 +99,7 @@ class _UnprovedSides:
         return [self._collect_result(*it) for it in zip(self.sides, self._tried, self._answers)]
 
     def _collect_result(
-        self, side: Side, results: UnprovedResults, answers: Sequence[Sequence[Answer]]
+        self, side: Side, results: UnprovedResults, answers: Sequence[Sequence[ProgramAnswer]]
     ) -> SenderResults:
         row_starts, tree = self._task.row_starts, side.sender.tree_to_build
         if results.refused:
@@ -116,7 +116,7 @@ class _UnprovedSides:
         return [*plan.program_cases(tree), *(row_starts.program_cases(tree) if row_starts else [])]
 
     def _read_script_answers(
-        self, side: Side, plan: UnprovedPlan, answers: Sequence[Sequence[Answer]]
+        self, side: Side, plan: UnprovedPlan, answers: Sequence[Sequence[ProgramAnswer]]
     ) -> UnprovedResults:
         return results_from_answers(plan, answers[:_OF_SCRIPTS], side.sender.tree_to_build, self._stop, self._note)
 
@@ -134,8 +134,8 @@ def _side_programs(side: Side) -> dict[str, Path]:
 def _gather_results(
     settled: Iterable[SettledPiece], recordings: Mapping[int, Recording], outputs: Sequence[ProcessOutput]
 ) -> SenderResults:
-    outcomes: dict[int, Outcome] = {}
-    texts: dict[int, Text] = {}
+    outcomes: dict[int, ScriptOutcome] = {}
+    texts: dict[int, ScriptText] = {}
     causes: dict[int, Cause] = {}
     for it in settled:
         outcomes |= {script.index: outcome for script, outcome in it.outcomes}
@@ -171,7 +171,7 @@ def _record_scripts(
         (script, it.texts[script.index]) for it in settled for script, _ in it.outcomes if script.index in it.texts
     ]
 
-    def record_one(each: tuple[Script, Text]) -> tuple[int, Recording]:
+    def record_one(each: tuple[SuiteScript, ScriptText]) -> tuple[int, Recording]:
         script, text = each
         return script.index, recorder.record_script(script.path, text.octets, script.settings)
 

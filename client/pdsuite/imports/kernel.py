@@ -15,7 +15,7 @@ class Use(Enum):
 
 
 @dataclass(frozen=True, slots=True)
-class Meaning:
+class SwitchMeaning:
     """What a switch with its value comes to, and in which words."""
 
     use: Use
@@ -137,29 +137,29 @@ _LOSSY = "netem"
 _RESTORING = "sysctl_restore_"
 
 
-def meaning_of_switch(name: str, value: str) -> Meaning:
+def meaning_of_switch(name: str, value: str) -> SwitchMeaning:
     """What a switch with its value comes to."""
     if name in SETTINGS:
-        return Meaning(Use.SETTING, SETTINGS[name])
+        return SwitchMeaning(Use.SETTING, SETTINGS[name])
     for feature in FEATURES:
         if name in feature.names:
-            return Meaning(Use.FEATURE, feature.words)
+            return SwitchMeaning(Use.FEATURE, feature.words)
     alike = ALIKE.get(name)
     if alike is None:
-        return Meaning(Use.REFUSED, f"the switch {name}")
+        return SwitchMeaning(Use.REFUSED, f"the switch {name}")
     is_alike = value in alike.values
-    return Meaning(Use.ALIKE, alike.words) if is_alike else Meaning(Use.REFUSED, alike.otherwise)
+    return SwitchMeaning(Use.ALIKE, alike.words) if is_alike else SwitchMeaning(Use.REFUSED, alike.otherwise)
 
 
-def meaning_of_command(words: tuple[str, ...]) -> Meaning | None:
+def meaning_of_command(words: tuple[str, ...]) -> SwitchMeaning | None:
     """What a command comes to that is no switch, where it is known."""
     first = tuple(" ".join(words).split()[:3])
     if first[:2] == ("tc", "qdisc") and _LOSSY in " ".join(words):
-        return Meaning(Use.REFUSED, "filters")
+        return SwitchMeaning(Use.REFUSED, "filters")
     if first and _RESTORING in first[0]:
-        return Meaning(Use.FEATURE, "putting the host back")
+        return SwitchMeaning(Use.FEATURE, "putting the host back")
     for table, use in ((DROPPED_COMMANDS, Use.FEATURE), (REFUSED_COMMANDS, Use.REFUSED)):
         for begin, about in table.items():
             if first[: len(begin)] == begin:
-                return Meaning(use, about)
+                return SwitchMeaning(use, about)
     return None

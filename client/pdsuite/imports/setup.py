@@ -6,7 +6,7 @@ from dataclasses import dataclass
 from enum import Enum, auto
 
 from pdsuite.imports.findings import Reason
-from pdsuite.imports.kernel import Meaning, Use, meaning_of_command, meaning_of_switch
+from pdsuite.imports.kernel import SwitchMeaning, Use, meaning_of_command, meaning_of_switch
 from pdsuite.imports.shell import Defaults, Metric, Other, SetupCommand, Switch, setup_commands_in
 from pdsuite.scripts.defaults import KEYS
 from pdsuite.scripts.settings import Value
@@ -106,7 +106,7 @@ def parse_command_text(text: str, line: int, place: CommandPlace, load: LoadSetu
     return ParsedCommand(lines, _words_of_meanings(own), _words_of_meanings(shared), tuple(reasons))
 
 
-def _words_of_meanings(meanings: Sequence[Meaning]) -> SetupWords:
+def _words_of_meanings(meanings: Sequence[SwitchMeaning]) -> SetupWords:
     """What meanings say in words."""
     words = {use: tuple(dict.fromkeys(it.words for it in meanings if it.use is use)) for use in Use}
     return SetupWords(words[Use.SETTING], words[Use.FEATURE], words[Use.ALIKE])
@@ -122,18 +122,18 @@ def join_setup_words(each: Iterable[SetupWords]) -> SetupWords:
     )
 
 
-def _meaning_of_setup_command(command: SetupCommand, place: CommandPlace) -> Meaning:
+def _meaning_of_setup_command(command: SetupCommand, place: CommandPlace) -> SwitchMeaning:
     """What a command comes to. Of the switches of set-up the last one counts, so they are refused later."""
     match command:
         case Switch(name, value):
             return meaning_of_switch(name, value)
         case Metric(name):
-            return Meaning(Use.SETTING, "initial_window" if name == "initcwnd" else "min_rto_us")
+            return SwitchMeaning(Use.SETTING, "initial_window" if name == "initcwnd" else "min_rto_us")
         case Other(words) if known := meaning_of_command(words):
             return known
     if place is CommandPlace.MIDST:
-        return Meaning(Use.FEATURE, RUN)
-    return Meaning(Use.REFUSED, "a command of set-up")
+        return SwitchMeaning(Use.FEATURE, RUN)
+    return SwitchMeaning(Use.REFUSED, "a command of set-up")
 
 
 def _shown_command(command: SetupCommand) -> str:

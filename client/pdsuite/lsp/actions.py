@@ -14,7 +14,7 @@ from pdsuite.lsp.packets_sent import (
     parse_sent_packets,
     replace_by_sent_packet,
 )
-from pdsuite.lsp.positions import Lines
+from pdsuite.lsp.positions import DocumentLines
 from pdsuite.packetdrill.items import SECOND
 from pdsuite.packetdrill.layout import Event, Layout
 from pdsuite.packetdrill.lines import Extent
@@ -30,7 +30,7 @@ _PACKET_KINDS = ("time", "flags", "seq", "ack", "win", "options")
 
 
 @dataclass(frozen=True, slots=True)
-class Action:
+class CodeAction:
     """A new text for a script, how many lines come before the line that failed, and what people read."""
 
     title: str
@@ -43,7 +43,7 @@ class Action:
 class FailingScript:
     """A script that doesn't pass: its text, its row, and what the program tells of it."""
 
-    lines: Lines
+    lines: DocumentLines
     layout: Layout
     row: Row
     cause: Cause
@@ -59,7 +59,7 @@ class FailingScript:
         return "\r\n" if "\r\n" in self.lines.text else "\n"
 
 
-def leads_past_failing_line(action: Action, before: Row, after: Row) -> bool:
+def leads_past_failing_line(action: CodeAction, before: Row, after: Row) -> bool:
     """Whether a script's new row is past the line that failed. A text that was a script stays one."""
     if after.verdict is Verdict.PASS:
         return True
@@ -68,7 +68,7 @@ def leads_past_failing_line(action: Action, before: Row, after: Row) -> bool:
     return after.line is not None and before.line is not None and after.line > before.line + action.shift
 
 
-def actual_taking_actions(failing: FailingScript) -> Iterator[Action]:
+def actual_taking_actions(failing: FailingScript) -> Iterator[CodeAction]:
     """What takes over what was sent or answered, in place of what the line says, or before it; best first."""
     event = failing.event
     if event is None:
@@ -84,20 +84,20 @@ def actual_taking_actions(failing: FailingScript) -> Iterator[Action]:
     result = failing.cause.get("actual_result")
     if isinstance(result, str) and "result" in event.field_extents:
         place = event.field_extents["result"]
-        yield Action(f"Take the result {result}", QUICK, _replace_extent(failing.lines.text, place, result))
+        yield CodeAction(f"Take the result {result}", QUICK, _replace_extent(failing.lines.text, place, result))
 
 
-def _action_taking_packet(failing: FailingScript, event: Event, sent: SentPacket) -> Action:
+def _action_taking_packet(failing: FailingScript, event: Event, sent: SentPacket) -> CodeAction:
     text = failing.lines.text
     with_time = failing.row.word == "time"
     packet = replace_by_sent_packet(text, event, sent, with_time)
     time = event.field_extents["time"]
     is_time_alone = _replace_extent(text, time, sent.time)[event.item.start :].startswith(packet)
     title = "Take the time at which it was sent" if with_time and is_time_alone else "Take the packet that was sent"
-    return Action(title, QUICK, _replace_extent(text, event.extent, packet))
+    return CodeAction(title, QUICK, _replace_extent(text, event.extent, packet))
 
 
-def _action_inserting_packets(failing: FailingScript, event: Event, packets: Sequence[SentPacket]) -> Action:
+def _action_inserting_packets(failing: FailingScript, event: Event, packets: Sequence[SentPacket]) -> CodeAction:
     """Before the line come packets that no line takes."""
     text = failing.lines.text
     start = event.item.start
@@ -105,10 +105,10 @@ def _action_inserting_packets(failing: FailingScript, event: Event, packets: Seq
     between = failing.newline + (indent if not indent.strip() else "")
     put = "".join(line + between for line in event_lines_for_packets(packets))
     what = "a packet that was sent" if len(packets) == 1 else f"{len(packets)} packets that were sent"
-    return Action(f"Insert {what} before it", QUICK, text[:start] + put + text[start:], len(packets))
+    return CodeAction(f"Insert {what} before it", QUICK, text[:start] + put + text[start:], len(packets))
 
 
-def commenting_out_actions(failing: FailingScript) -> Iterator[Action]:
+def commenting_out_actions(failing: FailingScript) -> Iterator[CodeAction]:
     """The event as a comment, with all that stands in its lines; one between other events in a comment of its own."""
     line = failing.row.line
     if line is None:
@@ -122,18 +122,20 @@ def commenting_out_actions(failing: FailingScript) -> Iterator[Action]:
     last = first if event is None else max(first, lines.line_of(event.item.end))
     if event is not None and _needs_inline_comment(failing, event, first, last):
         inside = lines.text[event.item.start : event.item.end]
-        yield Action("Switch it off as a comment", QUICK, _replace_extent(lines.text, event.extent, f"/* {inside} */"))
+        yield CodeAction(
+            "Switch it off as a comment", QUICK, _replace_extent(lines.text, event.extent, f"/* {inside} */")
+        )
         return
     yield _action_commenting_lines(lines, first, last)
 
 
-def _action_commenting_lines(lines: Lines, first: int, last: int, shift: int = 0) -> Action:
+def _action_commenting_lines(lines: DocumentLines, first: int, last: int, shift: int = 0) -> CodeAction:
     text = lines.text
     for number in range(min(last, lines.line_count - 1), first - 1, -1):
         start = lines.line_start(number)
         text = f"{text[:start]}// {text[start:]}"
     title = "Switch the line off as a comment" if first == last else "Switch the lines off as comments"
-    return Action(title, QUICK, text, shift)
+    return CodeAction(title, QUICK, text, shift)
 
 
 def _broken_event_line(failing: FailingScript) -> int:
@@ -164,19 +166,19 @@ def _needs_inline_comment(failing: FailingScript, event: Event, first: int, last
     return is_shared and not has_comment
 
 
-def mend_all_actions(failing: FailingScript, mended: str) -> Iterator[Action]:
+def mend_all_actions(failing: FailingScript, mended: str) -> Iterator[CodeAction]:
     """The script with as little changed as makes it pass."""
     if mended:
-        yield Action("Mend each line that fails", REWRITE, _with_script_newlines(failing, mended))
+        yield CodeAction("Mend each line that fails", REWRITE, _with_script_newlines(failing, mended))
 
 
-def record_all_actions(failing: FailingScript, recording: str) -> Iterator[Action]:
+def record_all_actions(failing: FailingScript, recording: str) -> Iterator[CodeAction]:
     """The whole script as it is recorded."""
     if recording:
-        yield Action("Record the whole script", REWRITE, _with_script_newlines(failing, strip_trace(recording)))
+        yield CodeAction("Record the whole script", REWRITE, _with_script_newlines(failing, strip_trace(recording)))
 
 
-def record_outputs_actions(failing: FailingScript, mended: str, recording: str) -> Iterator[Action]:
+def record_outputs_actions(failing: FailingScript, mended: str, recording: str) -> Iterator[CodeAction]:
     """A script that passes, with a line for each packet that it leaves: as it stands but for these, or recorded."""
     outputs = sum(not it.is_input for it in recorded_events_in(recording))
     if outputs <= sum(it.is_expected for it in failing.layout.events):
@@ -184,11 +186,11 @@ def record_outputs_actions(failing: FailingScript, mended: str, recording: str) 
     added = _with_script_newlines(failing, mended)
     if added in ("", failing.lines.text):
         added = _with_script_newlines(failing, strip_trace(recording))
-    yield Action("Record what leaves", QUICK, added)
+    yield CodeAction("Record what leaves", QUICK, added)
     yield from record_all_actions(failing, recording)
 
 
-def record_from_here_actions(failing: FailingScript, recording: str) -> Iterator[Action]:
+def record_from_here_actions(failing: FailingScript, recording: str) -> Iterator[CodeAction]:
     """What stands before the event, and from it on the recording: by its times, or by moments where those don't fit."""
     event, events = failing.event, failing.layout.events
     recorded = recorded_events_in(recording)
@@ -212,7 +214,7 @@ def record_from_here_actions(failing: FailingScript, recording: str) -> Iterator
         rests += [f"{recording[begin : it.start]}{time} {recording[it.action :]}" for time in times]
     for rest in rests[1:] if unmatched and len(rests) > 1 else rests:
         text = front + _with_script_newlines(failing, "".join(stars) + strip_trace(rest))
-        yield Action("Record from here to the end", QUICK, text)
+        yield CodeAction("Record from here to the end", QUICK, text)
 
 
 def _place_after_counts(recorded: Sequence[RecordedEvent], inputs: int, outputs: int) -> int:
@@ -247,7 +249,7 @@ def _replace_extent(text: str, place: Extent, put: str) -> str:
     return text[: place.start] + put + text[place.end :]
 
 
-def edits_to_text(lines: Lines, text: str) -> list[Json]:
+def edits_to_text(lines: DocumentLines, text: str) -> list[Json]:
     """The edit that makes another text: what lies between equal first and equal last characters, in whole lines."""
     old = lines.text
     most = min(len(old), len(text))

@@ -5,7 +5,7 @@ from collections.abc import Iterator
 from dataclasses import dataclass
 
 from pdsuite.lsp.json_values import Json
-from pdsuite.lsp.positions import Lines
+from pdsuite.lsp.positions import DocumentLines
 from pdsuite.packetdrill.lines import Extent
 from pdsuite.packetdrill.tokens import ScriptSyntaxError, tokens_of
 
@@ -40,7 +40,7 @@ def _comments_between(text: str, start: int, end: int) -> Iterator[Extent]:
     return (Extent(it.start(), it.end()) for it in _COMMENT.finditer(text, start, end))
 
 
-def comment_blocks_of(lines: Lines) -> list[CommentBlock]:
+def comment_blocks_of(lines: DocumentLines) -> list[CommentBlock]:
     """The blocks of comments that have lines of their own."""
     blocks: list[CommentBlock] = []
     for comment in comments_of(lines.text):
@@ -54,14 +54,14 @@ def comment_blocks_of(lines: Lines) -> list[CommentBlock]:
     return blocks
 
 
-def _is_alone_in_lines(lines: Lines, comment: Extent) -> bool:
+def _is_alone_in_lines(lines: DocumentLines, comment: Extent) -> bool:
     """Whether nothing else stands in a comment's lines."""
     before = lines.text[lines.line_start(lines.line_of(comment.start)) : comment.start]
     after = lines.text[comment.end : lines.line_end(lines.line_of(comment.end))]
     return not before.strip() and not after.strip()
 
 
-def section_symbols_of(lines: Lines) -> list[Json]:
+def section_symbols_of(lines: DocumentLines) -> list[Json]:
     """The sections of a script: each begins with a block of comments, and is named by its first line with words."""
     blocks = comment_blocks_of(lines)
     ends = [lines.line_end(it.first - 1) for it in blocks[1:]] + [len(lines.text)]
@@ -77,12 +77,12 @@ def section_symbols_of(lines: Lines) -> list[Json]:
     ]
 
 
-def _section_name(lines: Lines, block: CommentBlock) -> str:
+def _section_name(lines: DocumentLines, block: CommentBlock) -> str:
     names = (_MARKS.sub("", lines.line_content(line).strip()) for line in range(block.first, block.last + 1))
     return next((it for it in names if it), "")[:_LONGEST_NAME]
 
 
-def comment_foldings_of(lines: Lines) -> list[Json]:
+def comment_foldings_of(lines: DocumentLines) -> list[Json]:
     """The blocks of comments that have more than one line."""
     return [
         {"startLine": _protocol_line(lines, it.first), "endLine": _protocol_line(lines, it.last), "kind": "comment"}
@@ -91,6 +91,6 @@ def comment_foldings_of(lines: Lines) -> list[Json]:
     ]
 
 
-def _protocol_line(lines: Lines, line: int) -> int:
+def _protocol_line(lines: DocumentLines, line: int) -> int:
     """The line of the protocol in which a line of a script begins."""
     return lines.position_of(lines.line_start(line)).line

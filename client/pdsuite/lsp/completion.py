@@ -6,7 +6,7 @@ from dataclasses import dataclass
 
 from pdsuite.lsp.documents import text_edit_json
 from pdsuite.lsp.json_values import Json
-from pdsuite.lsp.positions import Lines
+from pdsuite.lsp.positions import DocumentLines
 from pdsuite.scripts.defaults import KEYS, Number
 from pdsuite.scripts.settings import value_as_toml
 
@@ -91,7 +91,7 @@ def proposals_for_expected(expected: Sequence[str]) -> Iterator[Proposal]:
 
 
 def completion_items(
-    each: Sequence[Proposal], lines: Lines, offset: int, takes_snippets: bool, newline: str = "\n"
+    each: Sequence[Proposal], lines: DocumentLines, offset: int, takes_snippets: bool, newline: str = "\n"
 ) -> list[Json]:
     """Proposals as the protocol has them, in place of the word that is typed; those that put nothing are left out."""
     start = typed_word_start(lines.text, offset)

@@ -5,7 +5,7 @@ from collections.abc import Iterator, Mapping
 from dataclasses import dataclass, replace
 
 from pdsuite.lsp.json_values import Json
-from pdsuite.lsp.positions import Lines
+from pdsuite.lsp.positions import DocumentLines
 from pdsuite.packetdrill.layout import Event, Layout
 from pdsuite.packetdrill.lines import Extent
 from pdsuite.packetdrill.recorded import last_input_before
@@ -14,7 +14,7 @@ from pdsuite.programs.protocol import Cause
 from pdsuite.programs.verdict import Verdict
 from pdsuite.reports.outcome_text import row_text, warning_texts
 from pdsuite.run.locate_row import locate_row
-from pdsuite.run.outcomes import Outcome
+from pdsuite.run.outcomes import ScriptOutcome
 
 SOURCE = "pdsuite"
 ERROR, WARNING, HINT = 1, 2, 4
@@ -49,7 +49,7 @@ class Diagnostic:
     message: str
     related: tuple[Related, ...] = ()
 
-    def as_json(self, uri: str, lines: Lines, has_related: bool) -> Json:
+    def as_json(self, uri: str, lines: DocumentLines, has_related: bool) -> Json:
         """The diagnostic as the protocol has it."""
         found: Json = {
             "range": lines.range_json(self.extent),
@@ -66,7 +66,9 @@ class Diagnostic:
         return found
 
 
-def diagnostics_of(outcome: Outcome, cause: Cause | None, layout: Layout, lines: Lines) -> Iterator[Diagnostic]:
+def diagnostics_of(
+    outcome: ScriptOutcome, cause: Cause | None, layout: Layout, lines: DocumentLines
+) -> Iterator[Diagnostic]:
     """One diagnostic where a script's row isn't `pass` or isn't the one that is expected, and one for each warning."""
     row = outcome.row
     if row.verdict is Verdict.NOT_RUN:
@@ -99,11 +101,11 @@ def _sending_event(origin: object, layout: Layout) -> Event | None:
     return None
 
 
-def _severity(outcome: Outcome) -> int:
+def _severity(outcome: ScriptOutcome) -> int:
     return HINT if outcome.is_known_failure else _SEVERITY.get(outcome.row.verdict, ERROR)
 
 
-def _diagnostic_message(outcome: Outcome, cause: Cause | None) -> str:
+def _diagnostic_message(outcome: ScriptOutcome, cause: Cause | None) -> str:
     words = row_text(outcome)
     if outcome.row.verdict is Verdict.ERROR:
         words = outcome.row.word if outcome.expected is None else words

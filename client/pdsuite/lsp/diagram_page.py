@@ -8,7 +8,7 @@ from pdsuite.packages import missing_module_message
 from pdsuite.page.diagram_choice import Plot
 from pdsuite.page.draw_process import FAULT
 from pdsuite.page.folder import prepare_page_folder
-from pdsuite.page.jobs import Job
+from pdsuite.page.jobs import PageJob
 from pdsuite.page.links import FOLDER, page_file_of, plot_file_names
 from pdsuite.page.view_model import PageEntry, table_row_of
 from pdsuite.programs.child_process import ChildProcess
@@ -32,7 +32,7 @@ class DiagramPage:
         entry = PageEntry(result.outcome, result.text, Plot.NONE if self.fault else Plot.FILES, result.cause)
         regress, record = sender.program_paths
         rows = (table_row_of(result.outcome),)
-        job = Job(folder, rows, plot_file_names(path), (entry,), not sender.is_proved, regress, record)
+        job = PageJob(folder, rows, plot_file_names(path), (entry,), not sender.is_proved, regress, record)
         self._worker = ChildProcess(_DRAWER, job)
 
     def fileno(self) -> int:

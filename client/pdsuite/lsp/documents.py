@@ -13,8 +13,8 @@ from pdsuite.lsp.json_values import (
     require_number,
     require_text,
 )
-from pdsuite.lsp.positions import Lines, Position
-from pdsuite.scripts.text import Text, UnfitTextError, make_text
+from pdsuite.lsp.positions import DocumentLines, Position
+from pdsuite.scripts.text import ScriptText, UnfitTextError, make_text
 
 _FILE = "file"
 _SAFE = "/-._~!$&'()*+,;=:@"
@@ -27,17 +27,17 @@ class Document:
     uri: str
     version: int
     text: str
-    lines: Lines = field(init=False, repr=False, compare=False)
+    lines: DocumentLines = field(init=False, repr=False, compare=False)
 
     def __post_init__(self) -> None:
-        object.__setattr__(self, "lines", Lines(self.text))
+        object.__setattr__(self, "lines", DocumentLines(self.text))
 
     @property
     def octets(self) -> bytes:
         """The text as a file would hold it."""
         return self.text.encode("utf-8", "surrogatepass")
 
-    def script_or_reason(self) -> Text | str:
+    def script_or_reason(self) -> ScriptText | str:
         """The text as a script, or why it can't be run."""
         try:
             return make_text(self.octets)
@@ -48,7 +48,7 @@ class Document:
         """The text after changes, each of which counts from what those before it left."""
         lines = self.lines
         for change in changes:
-            lines = Lines(_apply_change(lines, change))
+            lines = DocumentLines(_apply_change(lines, change))
         return Document(self.uri, version, lines.text)
 
 
@@ -63,7 +63,7 @@ def parse_position(value: object) -> Position:
     return Position(require_number(value, "line"), require_number(value, "character"))
 
 
-def _apply_change(lines: Lines, change: object) -> str:
+def _apply_change(lines: DocumentLines, change: object) -> str:
     put = require_text(change, "text")
     span = nested_member_or_none(change, "range")
     if span is None:
@@ -91,7 +91,7 @@ def uri_of_path(path: str) -> str:
     return f"{_FILE}://{quote(os.fsencode(os.path.abspath(path)), safe=_SAFE)}"
 
 
-def text_edit_json(lines: Lines, start: int, end: int, put: str) -> Json:
+def text_edit_json(lines: DocumentLines, start: int, end: int, put: str) -> Json:
     """An edit of a text as the protocol has it."""
     return {
         "range": {"start": lines.position_of(start).as_json(), "end": lines.position_of(end).as_json()},

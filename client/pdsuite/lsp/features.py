@@ -5,7 +5,7 @@ from dataclasses import dataclass
 
 from pdsuite.compare.comparison import ComparedScript
 from pdsuite.lsp import doc_lookup
-from pdsuite.lsp.actions import Action, FailingScript, edits_to_text, leads_past_failing_line
+from pdsuite.lsp.actions import CodeAction, FailingScript, edits_to_text, leads_past_failing_line
 from pdsuite.lsp.actions import (
     commenting_out_actions,
     mend_all_actions,
@@ -48,7 +48,7 @@ _NO_CAUSE: Cause = {}
 class Offer:
     """An action that leads past the line that failed, and the edits that it takes."""
 
-    action: Action
+    action: CodeAction
     edits: list[Json]
 
 
@@ -133,7 +133,7 @@ class LanguageFeatures:
         first = {it.title: it for it in reversed(good)}
         return [Offer(it, edits_to_text(document.lines, it.text)) for it in good if first[it.title] is it]
 
-    def _candidate_actions(self, failing: FailingScript, result: Result) -> Iterator[Action]:
+    def _candidate_actions(self, failing: FailingScript, result: Result) -> Iterator[CodeAction]:
         settings = result.outcome.settings
         if failing.row.verdict is Verdict.PASS:
             recording = self.queries.recording_of_script(failing.lines.text, settings).text

@@ -25,7 +25,7 @@ class Position:
         return {"line": self.line, "character": self.character}
 
 
-class Lines(TextLines):
+class DocumentLines(TextLines):
     """The lines of a script's text, and positions in it, of which the lines are those of the protocol."""
 
     def __init__(self, text: str) -> None:

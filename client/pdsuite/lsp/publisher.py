@@ -7,7 +7,7 @@ from pdsuite.lsp.diagnostics import ERROR, Diagnostic, diagnostics_of
 from pdsuite.lsp.documents import Document, path_of_uri, uri_of_path
 from pdsuite.lsp.features import SenderSession
 from pdsuite.lsp.json_values import Json
-from pdsuite.lsp.positions import Lines
+from pdsuite.lsp.positions import DocumentLines
 from pdsuite.lsp.toml_positions import diagnostic_of_fault
 from pdsuite.lsp.workspace import Result, settings_path_of_uri
 from pdsuite.packetdrill.layout import layout_of
@@ -94,7 +94,7 @@ class Publisher:
     def _publish_script_file(self, uri: str, result: Result) -> None:
         octets = b"" if result.text is None else result.text.octets
         text = octets.decode("utf-8", "surrogateescape")
-        lines = Lines(text)
+        lines = DocumentLines(text)
         found = diagnostics_of(result.outcome, result.cause, layout_of(text), lines) if result.has_diagnostics else ()
         self._send_if_changed(uri, [self._mark_diagnostic(self._diagnostic_json(uri, lines, it)) for it in found], None)
 
@@ -110,14 +110,18 @@ class Publisher:
         for uri in [*by_uri, *(self._faulty - by_uri.keys())]:
             path, fault_lines = by_uri.get(uri, (Path(), ()))
             document = self._documents.get(uri)
-            lines = document.lines if document is not None else Lines(_read_settings_text(path) if fault_lines else "")
+            lines = (
+                document.lines
+                if document is not None
+                else DocumentLines(_read_settings_text(path) if fault_lines else "")
+            )
             version = None if document is None else document.version
             self._send_if_changed(
                 uri, [self._diagnostic_json(uri, lines, diagnostic_of_fault(it, lines)) for it in fault_lines], version
             )
         self._faulty = set(by_uri)
 
-    def _diagnostic_json(self, uri: str, lines: Lines, it: Diagnostic) -> Json:
+    def _diagnostic_json(self, uri: str, lines: DocumentLines, it: Diagnostic) -> Json:
         return it.as_json(uri, lines, self.has_related)
 
     def _send_if_changed(self, uri: str, found: list[Json], version: int | None) -> None:

@@ -14,7 +14,7 @@ from pdsuite.run.batches import BATCH_SIZE
 from pdsuite.run.explainer import EXPLAIN, JSON, LEFTOVERS
 from pdsuite.scripts.config import Claim
 from pdsuite.scripts.settings import Settings, settings_as_toml
-from pdsuite.scripts.text import Text, UnfitTextError, make_text
+from pdsuite.scripts.text import ScriptText, UnfitTextError, make_text
 from pdsuite.signals import Stop
 from pdsuite.watch.sender import LiveSender
 
@@ -107,7 +107,7 @@ def _shown_length(text: str) -> int:
     return sum(1 if 0x20 <= it <= 0x7E else 4 for it in octets)
 
 
-def _text_or_none(text: str) -> Text | None:
+def _text_or_none(text: str) -> ScriptText | None:
     try:
         return make_text(text.encode("utf-8", "surrogatepass"))
     except UnfitTextError:

@@ -3,7 +3,7 @@
 import re
 
 from pdsuite.lsp.diagnostics import ERROR, Diagnostic
-from pdsuite.lsp.positions import Lines
+from pdsuite.lsp.positions import DocumentLines
 from pdsuite.packetdrill.lines import Extent
 from pdsuite.scripts.toml_places import find_toml_places, key_on_line
 
@@ -13,17 +13,17 @@ _NAMED = re.compile(r'(?P<key>[^:\[\]]+): .*?(?:\(\["(?P<table>.*?)"\]\)|$)', re
 _TABLE_NAMED = re.compile(r'\["?(?P<table>.*?)"?\]: ')
 
 
-def diagnostic_of_fault(fault: str, lines: Lines) -> Diagnostic:
+def diagnostic_of_fault(fault: str, lines: DocumentLines) -> Diagnostic:
     """The diagnostic of a fault, whose words are those of a run without the file's name."""
     return Diagnostic(_extent_of_fault(fault, lines), ERROR, "settings", fault)
 
 
-def key_at_line(lines: Lines, line: int) -> str | None:
+def key_at_line(lines: DocumentLines, line: int) -> str | None:
     """The key that a line gives a value."""
     return key_on_line(lines.line_content(line))
 
 
-def _extent_of_fault(fault: str, lines: Lines) -> Extent:
+def _extent_of_fault(fault: str, lines: DocumentLines) -> Extent:
     if found := _AT.search(fault):
         line = min(int(found[1]), lines.line_count) - 1
         start = min(lines.line_start(line) + int(found[2]) - 1, lines.line_end(line))
@@ -35,6 +35,6 @@ def _extent_of_fault(fault: str, lines: Lines) -> Extent:
     return lines.trimmed_line_extent(0)
 
 
-def _line_of_table_or_key(table: str, key: str, lines: Lines) -> Extent:
+def _line_of_table_or_key(table: str, key: str, lines: DocumentLines) -> Extent:
     """The line that begins a table or gives its key a value; the first where none does."""
     return lines.trimmed_line_extent((find_toml_places("", lines.text).line_of(table, key) or 1) - 1)

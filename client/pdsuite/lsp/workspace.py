@@ -9,10 +9,10 @@ from pdsuite.lsp.documents import Document, path_of_uri
 from pdsuite.lsp.open_settings import OpenSettings
 from pdsuite.programs.protocol import Cause
 from pdsuite.programs.verdict import Row, Verdict
-from pdsuite.run.outcomes import Outcome, warning_at_end
+from pdsuite.run.outcomes import ScriptOutcome, warning_at_end
 from pdsuite.scripts.config import CONFIG_FILE, ScriptRules
 from pdsuite.scripts.discover import ScriptFile
-from pdsuite.scripts.text import Text
+from pdsuite.scripts.text import ScriptText
 from pdsuite.watch.folders import Folders
 from pdsuite.watch.live_pool import LivePool
 from pdsuite.watch.plan_changes import WantedScript
@@ -29,8 +29,8 @@ class Result:
     """What came of a script, its explanation, and of which text that is; `version` is that of an open text."""
 
     file: ScriptFile
-    outcome: Outcome
-    text: Text | None
+    outcome: ScriptOutcome
+    text: ScriptText | None
     cause: Cause | None = None
     version: int | None = None
     steps: int | None = None
@@ -47,7 +47,7 @@ class OpenScript:
 
     document: Document
     file: ScriptFile
-    text: Text | str
+    text: ScriptText | str
 
 
 class Workspace:
@@ -226,7 +226,7 @@ class Workspace:
         text = None if wanted is None else wanted.text
         line = None if text is None or row.line is None else text.line(row.line)
         settings = () if wanted is None else wanted.settings
-        outcome = Outcome(file.path, settings, row, line, is_strict=rules.is_strict, expected=rules.expected)
+        outcome = ScriptOutcome(file.path, settings, row, line, is_strict=rules.is_strict, expected=rules.expected)
         if row.line is None:
             outcome.at_end = warning_at_end(row, cause)
         return Result(file, outcome, text, cause if row.line is not None else None)

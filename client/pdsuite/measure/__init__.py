@@ -1,13 +1,13 @@
 """Measuring: what a sender makes of transfers over modelled paths, and how much a change of it is worth.
 
 A `NetworkPath` (paths.toml) has a rate, a queue, delays, losses and a peer. A `Transfer` plays one over it: `Link`
-carries the segments, `Receiver` acknowledges them, `Writer` writes at the near end. `Measurement` plays the same
-transfers on both sides of a comparison, and `statistics` says what the differences show.
+carries the segments, `Receiver` acknowledges them, `TransferWriter` writes at the near end. `Measurement` plays the
+same transfers on both sides of a comparison, and `statistics` says what the differences show.
 
     Measurement --> TransferCase --play_transfers--> Transfer <--inputs, SenderReply--> pdregress
                                         |
                                         v
-                     Delivery, Delivery by equal seeds --figure_tables_of--> FigureRow with its ChangeVerdict
+          two TransferResults by equal seeds --figure_tables_of--> FigureRow with its ChangeVerdict
 
     a transfer:  handshake --> inputs --> reply --> inputs .. --> delivered
                                                        '--> UnfinishedTransferError, StalledTransferError

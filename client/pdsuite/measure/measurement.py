@@ -8,7 +8,7 @@ from pathlib import Path
 
 from pdsuite.compare.sides import Side
 from pdsuite.measure.paths import NetworkPath
-from pdsuite.measure.transfer import Delivery, play_transfer
+from pdsuite.measure.transfer import TransferResult, play_transfer
 from pdsuite.measure.transfer_batch import TransferOutcome, UnfinishedTransferError, play_transfers
 from pdsuite.programs.locate import REGRESS
 from pdsuite.scripts.defaults import DEFAULTS
@@ -38,11 +38,11 @@ class Pair:
     """What came of the same transfer under both senders."""
 
     run: int
-    before: Delivery
-    after: Delivery
+    before: TransferResult
+    after: TransferResult
 
     @property
-    def sides(self) -> tuple[Delivery, Delivery]:
+    def sides(self) -> tuple[TransferResult, TransferResult]:
         return self.before, self.after
 
 
@@ -143,7 +143,7 @@ class Measurement:
         unplayed = []
         for run in sorted(before.keys() & after.keys()):
             one, other = before[run], after[run]
-            if isinstance(one, Delivery) and isinstance(other, Delivery):
+            if isinstance(one, TransferResult) and isinstance(other, TransferResult):
                 pairs.append(Pair(run, one, other))
             unplayed += [
                 f"run {run}, {name}: {it}"

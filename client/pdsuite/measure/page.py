@@ -9,7 +9,7 @@ from pdsuite.files import write_file_atomically
 from pdsuite.measure.measurement import Pair, TransferCase, program_of, settings_for_path
 from pdsuite.measure.report import MeasureReport, cells_of_row, title_of_case, unplayed_words
 from pdsuite.measure.statistics import ChangeVerdict, FigureTable
-from pdsuite.measure.transfer import Delivery
+from pdsuite.measure.transfer import TransferResult
 from pdsuite.packages import missing_module_message
 from pdsuite.page.folder import TABLE, prepare_page_folder, remove_stale_pages
 from pdsuite.page.measure_view import MeasurePicture, MeasureRow, MeasureSection
@@ -73,7 +73,7 @@ class MeasurePage:
             yield self._make_diagram(case, self._sides[side], delivery, title, stop)
 
     def _make_diagram(
-        self, case: TransferCase, side: Side, delivery: Delivery, title: str, stop: Stop
+        self, case: TransferCase, side: Side, delivery: TransferResult, title: str, stop: Stop
     ) -> MeasurePicture:
         """The time-sequence diagram of a transfer, as the side's own program records it."""
         if not side.sender.can_record:

@@ -9,7 +9,7 @@ from typing import Any
 import numpy
 
 from pdsuite.measure.measurement import MeasuredCase
-from pdsuite.measure.transfer import Delivery
+from pdsuite.measure.transfer import TransferResult
 
 # Samples of a bootstrap, and how many are looked at at once.
 _SAMPLES = 9_999
@@ -48,7 +48,7 @@ class Figure:
     key: str
     words: str
     unit: Unit
-    of: Callable[[Delivery, int], float]  # with the rate of the path
+    of: Callable[[TransferResult, int], float]  # with the rate of the path
     share: float | None = None
     is_more_better: bool = False
 
@@ -99,7 +99,7 @@ FIGURES = (
 )
 
 
-def goodput(it: Delivery, rate: int) -> float:
+def goodput(it: TransferResult, rate: int) -> float:
     """What the peer got, as a share of what the path could have brought in that time."""
     return it.octets * 8_000_000 / it.time / rate
 

@@ -12,7 +12,7 @@ from random import Random
 from pdsuite.measure.link import Link, PacketFate
 from pdsuite.measure.paths import HEADER, NetworkPath
 from pdsuite.measure.receiver import Ack, OctetRange, Receiver
-from pdsuite.measure.writer import Writer
+from pdsuite.measure.writer import TransferWriter
 from pdsuite.packetdrill.items import SECOND
 from pdsuite.search.inputs import EXACT
 
@@ -30,7 +30,7 @@ _TICK = "fcntl(4, F_SETFL, O_RDWR) = 0"
 
 
 @dataclass(frozen=True, slots=True)
-class Departure:
+class SegmentDeparture:
     """A segment with octets that left at a moment, and whether the timer sent it."""
 
     at: int
@@ -43,12 +43,12 @@ class Departure:
 class SenderReply:
     """What a sender reports after inputs: what left since the last reply, and when its timer expires, if it runs."""
 
-    departures: tuple[Departure, ...]
+    departures: tuple[SegmentDeparture, ...]
     expiry: int | None
 
 
 @dataclass(frozen=True)
-class Delivery:
+class TransferResult:
     """What came of a transfer. Times are in microseconds, that in the queue a mean.
 
     The time is that from the first write until the peer has all, without an idle time in between.
@@ -64,16 +64,16 @@ class Delivery:
     overflows: int
     losses: int
     lines: tuple[str, ...] = field(repr=False)  # of its inputs
-    departures: tuple[Departure, ...] = field(repr=False)
+    departures: tuple[SegmentDeparture, ...] = field(repr=False)
 
     def script_octets(self) -> bytes:
         """The script of its inputs alone."""
         return "".join(f"{it}\n" for it in self.lines).encode()
 
     @property
-    def departures_without_cause(self) -> tuple[Departure, ...]:
+    def departures_without_cause(self) -> tuple[SegmentDeparture, ...]:
         """The segments that left, whatever sent them."""
-        return tuple(Departure(it.at, it.start, it.end) for it in self.departures)
+        return tuple(SegmentDeparture(it.at, it.start, it.end) for it in self.departures)
 
 
 class StalledTransferError(Exception):
@@ -81,7 +81,7 @@ class StalledTransferError(Exception):
 
 
 # Hands out inputs as lines, and gets what the sender tells.
-TransferSteps = Generator[Sequence[str], SenderReply, Delivery]
+TransferSteps = Generator[Sequence[str], SenderReply, TransferResult]
 
 
 def play_transfer(path: NetworkPath, size: int, seed: str, room: int) -> TransferSteps:
@@ -97,7 +97,7 @@ class Transfer:
         self._link = Link(path, seed)
         self._lost_acks = Random(f"{seed} acks")
         self._receiver = Receiver(path.ack_every, path.sack)
-        self._writer = Writer(path, size, room)
+        self._writer = TransferWriter(path, size, room)
         # What reaches the peer and the sender: segments and ACKs in their order, and of a moment last a timer, as None.
         self._at_peer: list[tuple[int, int, OctetRange | None]] = []
         self._at_sender: list[tuple[int, int, Ack | None]] = []
@@ -108,7 +108,7 @@ class Transfer:
         self._gather_due: int | None = None
         self._lines: list[str] = []
         self._now = 0
-        self._departures: list[Departure] = []
+        self._departures: list[SegmentDeparture] = []
         self._waits: list[int] = []
         self._fates = {it: 0 for it in PacketFate}
 
@@ -245,14 +245,14 @@ class Transfer:
 
     # ---- what came of it
 
-    def _make_delivery(self) -> Delivery:
+    def _make_delivery(self) -> TransferResult:
         top = 1
         segments = octets = 0
         for it in self._departures:
             segments += it.start < top
             octets += max(0, min(it.end, top) - it.start)
             top = max(top, it.end)
-        return Delivery(
+        return TransferResult(
             octets=self._receiver.taken,
             time=self._writer.time,
             segments=len(self._departures),

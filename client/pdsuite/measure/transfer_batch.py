@@ -9,7 +9,7 @@ from collections.abc import Iterator, Mapping, Sequence
 from dataclasses import dataclass, field
 from pathlib import Path
 
-from pdsuite.measure.transfer import Delivery, Departure, SenderReply, StalledTransferError, TransferSteps
+from pdsuite.measure.transfer import TransferResult, SegmentDeparture, SenderReply, StalledTransferError, TransferSteps
 from pdsuite.output.octets import printable_text
 from pdsuite.packetdrill.items import SECOND
 from pdsuite.programs.program import Program, ProgramEndedError
@@ -29,7 +29,7 @@ class UnfinishedTransferError(Exception):
     """That a transfer came to no end; the text says why."""
 
 
-TransferOutcome = Delivery | UnfinishedTransferError
+TransferOutcome = TransferResult | UnfinishedTransferError
 
 
 @dataclass
@@ -41,7 +41,7 @@ class _GrowingScript:
     lines: int = 0
     octets: int = 0
     taking: list[str] = field(default_factory=list)
-    departures: list[Departure] = field(default_factory=list)
+    departures: list[SegmentDeparture] = field(default_factory=list)
 
     def command_adding_inputs(self, inputs: Sequence[str]) -> bytes:
         """What puts inputs at the end, below what takes the packets before them."""
@@ -78,7 +78,7 @@ class _GrowingScript:
         self.taking.append(f"* > {found[1]} {start}:{end}({end - start}){options}")
         if start < end:
             is_by_timer = isinstance(by, Mapping) and "line" not in by
-            self.departures.append(Departure(int(found[5]) * SECOND + int(found[6]), start, end, is_by_timer))
+            self.departures.append(SegmentDeparture(int(found[5]) * SECOND + int(found[6]), start, end, is_by_timer))
 
     def make_reply(self, cause: Cause) -> SenderReply:
         """What the sender reports of all inputs since the last reply."""

@@ -7,7 +7,7 @@ from pdsuite.compare.sides import Side
 from pdsuite.faults import Fault
 from pdsuite.files import require_new_or_empty_folder, write_folder_atomically
 from pdsuite.measure.measurement import MeasuredCase, TransferCase, program_of, settings_for_path
-from pdsuite.measure.transfer import Delivery, Departure
+from pdsuite.measure.transfer import TransferResult, SegmentDeparture
 from pdsuite.output.octets import printable_path
 from pdsuite.packetdrill.items import Packet
 from pdsuite.programs.locate import RECORD
@@ -49,7 +49,9 @@ class TransferFolder:
                     name = f"{folder}/{pair.run:04}.pkt"
                     yield name, self._script_if_as_played(name, case, delivery, recording)
 
-    def _script_if_as_played(self, name: str, case: TransferCase, delivery: Delivery, recording: Recording) -> bytes:
+    def _script_if_as_played(
+        self, name: str, case: TransferCase, delivery: TransferResult, recording: Recording
+    ) -> bytes:
         """A recording as a script; a fault where it has other packets than were played."""
         if sent_segments_in(recording) != list(delivery.departures_without_cause):
             why = recording.fault or "pdrecord sends other packets than were played"
@@ -59,7 +61,7 @@ class TransferFolder:
         return (head + "\n".join(lines)).encode()
 
 
-def sent_segments_in(recording: Recording) -> list[Departure]:
+def sent_segments_in(recording: Recording) -> list[SegmentDeparture]:
     """The segments with octets of a recording with its trace."""
     packets = [(it.moment, it.what) for it in traced_events_in(recording.text) if isinstance(it.what, Packet)]
-    return [Departure(at, it.start, it.end) for at, it in packets if not it.is_inbound and it.start < it.end]
+    return [SegmentDeparture(at, it.start, it.end) for at, it in packets if not it.is_inbound and it.start < it.end]

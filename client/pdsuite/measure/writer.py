@@ -8,7 +8,7 @@ from pdsuite.measure.paths import NetworkPath
 _MOST = 262_144
 
 
-class Writer:
+class TransferWriter:
     """Writes a transfer, or two with an idle time between, as far as the sender's buffer has room.
 
     A program that waits for room goes on once half of the buffer is free.

@@ -4,7 +4,7 @@
 templates, and `diagrams` draws the diagram of a script. `PageUpdates` keeps a page up: it hands jobs to processes
 beside this one (`draw_process`) and reads which pages stand.
 
-    PageUpdates --Job--> draw_process --carry_out_job--> files in the folder
+    PageUpdates --PageJob--> draw_process --carry_out_job--> files in the folder
          ^                    |
          +--- place of each page that stands, or a fault
 

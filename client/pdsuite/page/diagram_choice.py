@@ -5,7 +5,7 @@ from dataclasses import dataclass
 from enum import Enum
 
 from pdsuite.programs.verdict import Verdict
-from pdsuite.run.outcomes import Outcome
+from pdsuite.run.outcomes import ScriptOutcome
 from pdsuite.scripts.discover import fits_pattern
 
 # So many failing scripts are drawn if no number is given.
@@ -33,7 +33,7 @@ def make_diagram_choice(pattern: str | None, most: int | None) -> DiagramChoice:
     return DiagramChoice(pattern, MOST if most is None else most)
 
 
-def choose_plots(outcomes: Iterable[Outcome], wanted: DiagramChoice) -> Iterator[Plot]:
+def choose_plots(outcomes: Iterable[ScriptOutcome], wanted: DiagramChoice) -> Iterator[Plot]:
     """Of each script, in the order of paths, whether it is drawn."""
     left = wanted.most
     for outcome in outcomes:

@@ -16,8 +16,8 @@ from pdsuite.programs.protocol import Cause
 from pdsuite.programs.recorder import Recorder
 from pdsuite.programs.trace import traced_events_in
 from pdsuite.programs.verdict import Row, Verdict
-from pdsuite.run.outcomes import Outcome
-from pdsuite.scripts.text import Text
+from pdsuite.run.outcomes import ScriptOutcome
+from pdsuite.scripts.text import ScriptText
 
 
 @dataclass(frozen=True, slots=True)
@@ -50,7 +50,7 @@ def undrawn_diagram(row: Row) -> Diagram:
 
 
 def make_script_diagram(
-    outcome: Outcome, text: Text | None, plot: Plot, cause: Cause | None, recorder: Recorder, folder: Path
+    outcome: ScriptOutcome, text: ScriptText | None, plot: Plot, cause: Cause | None, recorder: Recorder, folder: Path
 ) -> Diagram:
     """The diagram of a script, where one is to be drawn; its files are written into the folder of the page."""
     row = outcome.row
@@ -71,7 +71,7 @@ def make_script_diagram(
     return Diagram(svg_for_page(timeline), tuple(_diagram_words(timeline)), files)
 
 
-def _failing_line(text: Text, row: Row, cause: Cause | None) -> FailingLine | None:
+def _failing_line(text: ScriptText, row: Row, cause: Cause | None) -> FailingLine | None:
     if row.verdict is not Verdict.FAIL or row.line is None:
         return None
     return failing_line_of(text.octets.decode("utf-8", "surrogateescape"), row.line, cause or {})

@@ -5,7 +5,7 @@ import pickle
 import sys
 
 from pdsuite.faults import Fault
-from pdsuite.page.jobs import Job, carry_out_job
+from pdsuite.page.jobs import PageJob, carry_out_job
 from pdsuite.signals import Stop, StoppedError
 
 # Begins the line that says why it has to end; the status then.
@@ -17,7 +17,7 @@ def main() -> int:
     """Does one job, and answers the exit status."""
     logging.disable()  # what counts is printed here
     with Stop() as stop:
-        job: Job = pickle.load(sys.stdin.buffer)
+        job: PageJob = pickle.load(sys.stdin.buffer)
         try:
             carry_out_job(job, stop, _print_line)
         except StoppedError as stopped:

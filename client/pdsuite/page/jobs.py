@@ -19,7 +19,7 @@ from pdsuite.signals import Stop
 
 
 @dataclass(frozen=True)
-class Job:
+class PageJob:
     """The folder, the rows of the table if that is to be written, and the scripts whose pages are.
 
     With the table come what it says of the sender, and the names that files of diagrams may have, since all others are
@@ -36,7 +36,7 @@ class Job:
     notes: SenderNotes = SenderNotes()
 
 
-def carry_out_job(job: Job, stop: Stop, done: Callable[[int], None]) -> None:
+def carry_out_job(job: PageJob, stop: Stop, done: Callable[[int], None]) -> None:
     """Does a job. `done` gets the place of each script whose page stands."""
     if job.rows is not None:
         write_file_atomically(job.folder / TABLE, render_table_page(job.rows, job.is_unproved, job.notes))
@@ -48,12 +48,12 @@ def carry_out_job(job: Job, stop: Stop, done: Callable[[int], None]) -> None:
         done(place)
 
 
-def _has_programs(job: Job) -> bool:
+def _has_programs(job: PageJob) -> bool:
     """Whether there are programs to start: proved ones, or a build that is kept."""
     return not job.is_unproved or job.regress is not None or is_programs_folder_set()
 
 
-def _write_script_page(job: Job, entry: PageEntry, recorder: Recorder) -> None:
+def _write_script_page(job: PageJob, entry: PageEntry, recorder: Recorder) -> None:
     diagram = make_script_diagram(entry.outcome, entry.text, entry.plot, entry.cause, recorder, job.folder)
     sheet = script_view_of(
         entry, entry.cause, diagram, _line_diff_of_entry(entry, recorder if _has_programs(job) else None)

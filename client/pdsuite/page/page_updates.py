@@ -12,7 +12,7 @@ from pdsuite.packages import require_module
 from pdsuite.page.diagram_choice import DiagramChoice, Plot, choose_plots
 from pdsuite.page.draw_process import FAILED, FAULT
 from pdsuite.page.folder import prepare_page_folder
-from pdsuite.page.jobs import Job
+from pdsuite.page.jobs import PageJob
 from pdsuite.page.links import plot_file_names
 from pdsuite.page.notes import SenderNotes, turned_scripts_for_table
 from pdsuite.page.render import SENDER, sender_style
@@ -137,7 +137,7 @@ class PageUpdates:
         for number in range(count):
             share = tuple(changed[number::count])
             table = rows if number == 0 else None
-            job = Job(self._folder, table, plots, share, self._is_unproved, *self._programs, self._notes)
+            job = PageJob(self._folder, table, plots, share, self._is_unproved, *self._programs, self._notes)
             self._workers[ChildProcess(_DRAWER, job)] = share
 
     def _read_worker(self, worker: ChildProcess, entries: Sequence[PageEntry]) -> None:

@@ -22,9 +22,9 @@ from pdsuite.programs.protocol import Cause
 from pdsuite.programs.verdict import Verdict
 from pdsuite.reports.outcome_text import lines_below_row, reason_for_row, warning_texts
 from pdsuite.run.line_diff import DiffLine, LineDiff
-from pdsuite.run.outcomes import CountedAs, Outcome
+from pdsuite.run.outcomes import CountedAs, ScriptOutcome
 from pdsuite.scripts.settings import value_as_toml
-from pdsuite.scripts.text import Text
+from pdsuite.scripts.text import ScriptText
 
 _LONGEST_LINE = 160
 
@@ -58,8 +58,8 @@ class PageEntry:
     And its explanation by keys, where that is known already.
     """
 
-    outcome: Outcome
-    text: Text | None = None
+    outcome: ScriptOutcome
+    text: ScriptText | None = None
     plot: Plot = Plot.NONE
     cause: Cause | None = None
 
@@ -132,7 +132,7 @@ class ScriptView:
         return [it for it in Mark if it in used and it is not Mark.NONE]
 
 
-def table_row_of(outcome: Outcome) -> TableRow:
+def table_row_of(outcome: ScriptOutcome) -> TableRow:
     """The row of a script in the table."""
     row = outcome.row
     return TableRow(
@@ -148,7 +148,7 @@ def table_row_of(outcome: Outcome) -> TableRow:
     )
 
 
-def _shown_row_text(outcome: Outcome) -> str:
+def _shown_row_text(outcome: ScriptOutcome) -> str:
     """The line of its text that the row is about, as it is shown."""
     if outcome.line != outcome.row.line and outcome.block_lines:
         return outcome.block_lines[0].strip()  # the program marks another one than the row has
@@ -190,7 +190,7 @@ def _unmatched_packets(explanation: Cause) -> Iterator[str]:
     return (make_printable(packet_with_sender(packet, origin)) for packet, origin in unmatched_packets(explanation))
 
 
-def _expectation_words(outcome: Outcome) -> str:
+def _expectation_words(outcome: ScriptOutcome) -> str:
     """Which row is expected, and why, where one is."""
     expected = outcome.expected
     if expected is None or outcome.row.verdict is Verdict.NOT_RUN:
@@ -198,14 +198,14 @@ def _expectation_words(outcome: Outcome) -> str:
     return expected.reason if outcome.is_known_failure else f'"{expected.row}" is expected ({expected.reason})'
 
 
-def _reason_or_warnings(outcome: Outcome) -> str:
+def _reason_or_warnings(outcome: ScriptOutcome) -> str:
     """Why a row is so, as far as that is explained, or what is warned of."""
     if outcome.row.verdict is Verdict.ERROR:
         return outcome.row.word
     return "; ".join(warning_texts(outcome)) or reason_for_row(outcome)
 
 
-def _script_lines(text: Text, named: int | None) -> Iterator[ScriptLine]:
+def _script_lines(text: ScriptText, named: int | None) -> Iterator[ScriptLine]:
     for number, line in enumerate(text.octets.split(b"\n")[: text.lines], 1):
         yield ScriptLine(number, printable_octets(line.removesuffix(b"\r").expandtabs()), number == named)
 

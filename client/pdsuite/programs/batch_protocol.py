@@ -38,7 +38,7 @@ class ProcessOutput:
 
 
 @dataclass(frozen=True, slots=True)
-class Answer:
+class ProgramAnswer:
     """What a program wrote on its two outputs, or why there is no answer: what ended it may be a start beside it.
 
     In `errors` all of it stands, also of a program that refused its input.
@@ -70,7 +70,7 @@ def batch_input(cases: Iterable[Case]) -> bytes:
     return b"".join(with_length_line("\0".join(it.words).encode()) + with_length_line(it.given) for it in cases)
 
 
-def parse_batch_answers(output: bytes, errors: bytes, status: str, count: int) -> list[Answer]:
+def parse_batch_answers(output: bytes, errors: bytes, status: str, count: int) -> list[ProgramAnswer]:
     """The answers to the cases of a run, which has ended with this status, a number or why there is none."""
     each = list(take_length_prefixed(bytearray(output))) if status == "0" else []
     if len(each) == 3 * count:
@@ -79,20 +79,20 @@ def parse_batch_answers(output: bytes, errors: bytes, status: str, count: int) -
             for written, errors, ended in zip(*[iter(each)] * 3)
         ]
     why = answer_from_status(output, errors, status).fault or f"ended with status {status}"
-    return [Answer(b"", b"", why, count > 1)] * count
+    return [ProgramAnswer(b"", b"", why, count > 1)] * count
 
 
-def answer_from_status(output: bytes, errors: bytes, status: str) -> Answer:
+def answer_from_status(output: bytes, errors: bytes, status: str) -> ProgramAnswer:
     """What came of a start, whose status is a number or why there is none."""
     if status in _REGULAR:
-        return Answer(output, errors, raw=ProcessOutput(output, errors, status))
+        return ProgramAnswer(output, errors, raw=ProcessOutput(output, errors, status))
     if not status.isdecimal():
-        return Answer(b"", b"", status)
+        return ProgramAnswer(b"", b"", status)
     lines = [line for line in errors.split(b"\n") if line.strip()]
     why = f"ended with status {status}"
     if lines:
         why = printable_octets(lines[0] if lines[0].startswith(_REFUSES) else lines[-1])
-    return Answer(b"", b"", why, raw=ProcessOutput(output, errors, status))
+    return ProgramAnswer(b"", b"", why, raw=ProcessOutput(output, errors, status))
 
 
 def with_length_line(octets: bytes) -> bytes:

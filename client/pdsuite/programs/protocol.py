@@ -6,7 +6,7 @@ from collections.abc import Mapping, Sequence
 
 from pdsuite.output.octets import printable_octets
 from pdsuite.programs.verdict import Row, Verdict
-from pdsuite.scripts.text import Text
+from pdsuite.scripts.text import ScriptText
 from pdsuite.scripts.text_edit import Edit
 
 SETTLE = b"settle\n"
@@ -41,7 +41,7 @@ def script_name(number: int) -> bytes:
     return b"s%d" % number
 
 
-def add_command(name: bytes, text: Text) -> bytes:
+def add_command(name: bytes, text: ScriptText) -> bytes:
     """The command that adds a script."""
     return b"add %s %d\n%s" % (name, text.lines, text.octets)
 

@@ -7,7 +7,7 @@ from pathlib import Path
 
 from pdsuite.faults import Fault
 from pdsuite.output.octets import printable_octets, printable_path
-from pdsuite.programs.batch_protocol import Answer, Case
+from pdsuite.programs.batch_protocol import ProgramAnswer, Case
 from pdsuite.programs.locate import RECORD, locate_program
 from pdsuite.programs.program import Program, ProgramEndedError
 from pdsuite.programs.unproved_batch import ProgramCases
@@ -109,7 +109,7 @@ def recording_cases(tree: Path, scripts: Iterable[tuple[Settings, bytes]], is_al
     return ProgramCases(tree, RECORD, (TRACE,), tuple(cases))
 
 
-def recording_from_answer(answer: Answer) -> Recording:
+def recording_from_answer(answer: ProgramAnswer) -> Recording:
     """What such a start came to."""
     lines = [line for line in answer.errors.split(b"\n") if line.strip()]
     fault = answer.fault or (printable_octets(lines[0]) if lines else "")

@@ -15,7 +15,7 @@ from pathlib import Path
 
 from pdsuite.output.octets import printable_octets
 from pdsuite.programs.batch_protocol import (
-    Answer,
+    ProgramAnswer,
     Case,
     batch_input,
     parse_batch_answers,
@@ -41,7 +41,7 @@ class ProgramCases:
     cases: tuple[Case, ...]
 
 
-def build_and_run_cases(groups: Sequence[ProgramCases], stop: Stop) -> list[list[Answer]]:
+def build_and_run_cases(groups: Sequence[ProgramCases], stop: Stop) -> list[list[ProgramAnswer]]:
     """The answers to the cases of each program; both programs of a tree are built as one, and trees side by side."""
     cases: dict[Path, list[Case]] = {it.tree: [] for it in groups}
     for it in groups:
@@ -54,7 +54,7 @@ def build_and_run_cases(groups: Sequence[ProgramCases], stop: Stop) -> list[list
     return [list(islice(answers[it.tree], len(it.cases))) for it in groups]
 
 
-def _build_and_run_batches(tree: Path, batches: Sequence[Sequence[Case]], stop: Stop) -> list[Answer]:
+def _build_and_run_batches(tree: Path, batches: Sequence[Sequence[Case]], stop: Stop) -> list[ProgramAnswer]:
     """The answers of a tree's programs, which are built for them."""
     stop.raise_if_stopped()
     with tempfile.TemporaryDirectory(prefix="pdsuite-") as folder:
@@ -67,7 +67,7 @@ def _build_and_run_batches(tree: Path, batches: Sequence[Sequence[Case]], stop: 
         return [it for number, run in enumerate(batches) for it in _read_batch_answers(tool, number, len(run))]
 
 
-def _read_batch_answers(tool: "BatchTool", number: int, count: int) -> list[Answer]:
+def _read_batch_answers(tool: "BatchTool", number: int, count: int) -> list[ProgramAnswer]:
     output, errors, status = (tool.read_result_file(number, end) for end in ("output", "errors", "status"))
     return parse_batch_answers(output, errors, status.decode(), count)
 

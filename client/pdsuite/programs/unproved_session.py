@@ -7,7 +7,7 @@ from collections.abc import Iterator, Sequence
 from pathlib import Path
 
 from pdsuite.programs.batch_protocol import (
-    Answer,
+    ProgramAnswer,
     Case,
     answer_from_status,
     batch_input,
@@ -52,16 +52,16 @@ class UnprovedSession:
         """Waits until the programs are built."""
         self._run_until_programs_end([Case((RECORD,), b"")])
 
-    def run_cases(self, cases: ProgramCases) -> list[Answer]:
+    def run_cases(self, cases: ProgramCases) -> list[ProgramAnswer]:
         """The answers to the cases of a build of this tree."""
         left = list(prepend_program_and_words(cases.program, cases.words, cases.cases))
-        answers: list[Answer] = []
+        answers: list[ProgramAnswer] = []
         while left:
             answered = self._run_until_programs_end(left)
             answers += answered
             left = left[len(answered) :]
             if left:
-                answers.append(Answer(b"", b"", _ENDED))
+                answers.append(ProgramAnswer(b"", b"", _ENDED))
                 del left[0]
                 self._close_pipes()
                 self._open_next_pipes()
@@ -80,7 +80,7 @@ class UnprovedSession:
         for each in (self._requests, self._answers):
             os.close(each)
 
-    def _run_until_programs_end(self, cases: Sequence[Case]) -> list[Answer]:
+    def _run_until_programs_end(self, cases: Sequence[Case]) -> list[ProgramAnswer]:
         """The answers to the cases, up to one on which the programs end."""
         unsent = memoryview(batch_input(cases))
         got = bytearray()
@@ -117,6 +117,6 @@ def _make_pipes(folder: Path) -> list[tuple[Path, Path]]:
     return pipes
 
 
-def _answers_from_parts(parts: Sequence[bytes]) -> Iterator[Answer]:
+def _answers_from_parts(parts: Sequence[bytes]) -> Iterator[ProgramAnswer]:
     for written, errors, status in zip(*[iter(parts)] * _PARTS):
         yield answer_from_status(written, errors, status.decode().strip())

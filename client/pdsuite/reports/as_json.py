@@ -9,7 +9,7 @@ from pdsuite.output.octets import printable_path
 from pdsuite.output.styled_text import StyledText, unstyled_text
 from pdsuite.programs.verdict import Verdict
 from pdsuite.reports.outcome_text import lines_below_row
-from pdsuite.run.outcomes import UNPROVED, CountedAs, Outcome, Totals
+from pdsuite.run.outcomes import UNPROVED, CountedAs, ScriptOutcome, OutcomeTotals
 from pdsuite.scripts.settings import Settings
 from pdsuite.scripts.shards import Shard
 
@@ -28,11 +28,11 @@ class JsonFormatter:
     def opening(self, count: int) -> StyledText:
         return unstyled_text(f'{{"version": {VERSION}, "scripts": [')
 
-    def script_entry(self, number: int, outcome: Outcome) -> StyledText:
+    def entry(self, number: int, outcome: ScriptOutcome) -> StyledText:
         begin = "\n" if number == 1 else ",\n"
         return unstyled_text(begin + script_json(outcome, printable_path(outcome.path), outcome.explanation))
 
-    def summary(self, totals: Totals, seconds: float) -> StyledText:
+    def summary(self, totals: OutcomeTotals, seconds: float) -> StyledText:
         counts = {it.value: totals.counts[it] for it in Verdict}
         counts |= {it.value: totals.counts[it] for it in CountedAs if totals.counts[it]}
         if totals.warnings:
@@ -43,7 +43,7 @@ class JsonFormatter:
         return unstyled_text(f'\n], "total": {total}, "seconds": {seconds:.2f}{shard}{unproved}}}\n')
 
 
-def script_json(outcome: Outcome, path: str, explanation: Mapping[str, object] | None = None) -> str:
+def script_json(outcome: ScriptOutcome, path: str, explanation: Mapping[str, object] | None = None) -> str:
     """A script on one line, under this path, which is safe to print; beside its lines the explanation."""
     row = outcome.row
     if row.verdict is not _PASS or outcome.warnings or outcome.expected is not None:
@@ -60,7 +60,7 @@ def _settings_json(settings: Settings) -> str:
     return _encoded(dict(settings))
 
 
-def _script_by_keys(outcome: Outcome, path: str) -> dict[str, object]:
+def _script_by_keys(outcome: ScriptOutcome, path: str) -> dict[str, object]:
     row = outcome.row
     script: dict[str, object] = {"path": path, "verdict": row.verdict.value}
     match row.verdict:

@@ -14,7 +14,7 @@ from pdsuite.output.styled_text import StyledText, unstyled_text
 from pdsuite.reports.affected import affected_lines
 from pdsuite.reports.outcome_text import lines_below_row, meaning_suffix
 from pdsuite.reports.quantities import quantities_by_keys, quantity_lines
-from pdsuite.run.outcomes import UNPROVED, Outcome
+from pdsuite.run.outcomes import UNPROVED, ScriptOutcome
 
 _STYLES = {ComparisonKind.TURNED: "bold red", ComparisonKind.OTHERWISE: "yellow"}
 _SIDES = ("before", "after")
@@ -37,7 +37,7 @@ def compared_script_lines(it: ComparedScript) -> list[str]:
     return lines
 
 
-def _outcome_lines(side: str, outcome: Outcome) -> Iterator[str]:
+def _outcome_lines(side: str, outcome: ScriptOutcome) -> Iterator[str]:
     line = "" if outcome.line is None else f"line {outcome.line}: "
     yield f"{side}: {line}{outcome.row}{meaning_suffix(outcome)}"
     yield from (f"  {it}" for it in lines_below_row(outcome))

@@ -7,7 +7,7 @@ from dataclasses import dataclass
 from pdsuite.output.fitting import fit_to_columns, usable_columns
 from pdsuite.output.styled_text import StyledText
 from pdsuite.reports.formatter import Formatter
-from pdsuite.run.outcomes import Outcome, Totals
+from pdsuite.run.outcomes import ScriptOutcome, OutcomeTotals
 
 
 @dataclass(frozen=True)
@@ -20,11 +20,11 @@ class FittingFormatter:
     def opening(self, count: int) -> StyledText:
         return self.form.opening(count)
 
-    def script_entry(self, number: int, outcome: Outcome) -> StyledText | None:
-        entry, width = self.form.script_entry(number, outcome), self.width()
+    def entry(self, number: int, outcome: ScriptOutcome) -> StyledText | None:
+        entry, width = self.form.entry(number, outcome), self.width()
         return entry if entry is None or width is None else fit_to_columns(entry, usable_columns(width))
 
-    def summary(self, totals: Totals, seconds: float) -> StyledText:
+    def summary(self, totals: OutcomeTotals, seconds: float) -> StyledText:
         foot, width = self.form.summary(totals, seconds), self.width()
         if width is None or len(foot.plain) <= usable_columns(width):
             return foot

@@ -4,7 +4,7 @@ from collections.abc import Sequence
 from typing import Protocol
 
 from pdsuite.output.styled_text import StyledText
-from pdsuite.run.outcomes import Outcome, Totals
+from pdsuite.run.outcomes import ScriptOutcome, OutcomeTotals
 
 
 class Formatter(Protocol):
@@ -13,14 +13,14 @@ class Formatter(Protocol):
     def opening(self, count: int) -> StyledText:
         """What stands before so many scripts."""
 
-    def script_entry(self, number: int, outcome: Outcome) -> StyledText | None:
+    def entry(self, number: int, outcome: ScriptOutcome) -> StyledText | None:
         """What stands for a script, if anything does; the first has the number 1."""
 
-    def summary(self, totals: Totals, seconds: float) -> StyledText:
+    def summary(self, totals: OutcomeTotals, seconds: float) -> StyledText:
         """What stands at the end."""
 
 
-def format_report(form: Formatter, outcomes: Sequence[Outcome], totals: Totals, seconds: float) -> str:
+def format_report(form: Formatter, outcomes: Sequence[ScriptOutcome], totals: OutcomeTotals, seconds: float) -> str:
     """A report of outcomes that are all there."""
     entries = (form.script_entry(number, it) for number, it in enumerate(outcomes, 1))
     parts = [form.opening(len(outcomes)), *entries, form.summary(totals, seconds)]

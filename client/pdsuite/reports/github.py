@@ -17,7 +17,7 @@ from pdsuite.reports.outcome_text import (
     warning_lines_of,
     warning_texts,
 )
-from pdsuite.run.outcomes import CountedAs, Outcome, Totals
+from pdsuite.run.outcomes import CountedAs, ScriptOutcome, OutcomeTotals
 
 SUMMARY = "GITHUB_STEP_SUMMARY"
 _WORKSPACE = "GITHUB_WORKSPACE"
@@ -44,7 +44,7 @@ class GithubFormatter:
     def opening(self, count: int) -> StyledText:
         return StyledText()
 
-    def script_entry(self, number: int, outcome: Outcome) -> StyledText | None:
+    def entry(self, number: int, outcome: ScriptOutcome) -> StyledText | None:
         if outcome.row.verdict is Verdict.NOT_RUN:
             return None
         lines: list[str] = []
@@ -60,12 +60,12 @@ class GithubFormatter:
         lines += [self._annotation_or_row(level, outcome, title, [line]) for title, line in each]
         return unstyled_text("".join(lines)) if lines else None
 
-    def summary(self, totals: Totals, seconds: float) -> StyledText:
+    def summary(self, totals: OutcomeTotals, seconds: float) -> StyledText:
         left = {level: count - _MOST for level, count in self._counts.items() if count > _MOST}
         more = [f"and {count:,} more {level}{'s' if count > 1 else ''}\n" for level, count in sorted(left.items())]
         return unstyled_text("".join(more) + f"{totals} in {seconds:.2f} s{totals.unproved_mark}\n")
 
-    def _annotation_or_row(self, level: str, outcome: Outcome, title: str, text_lines: Sequence[str]) -> str:
+    def _annotation_or_row(self, level: str, outcome: ScriptOutcome, title: str, text_lines: Sequence[str]) -> str:
         """The command that puts lines beside a script, while GitHub shows it; else the first of them alone."""
         self._counts[level] += 1
         if self._counts[level] > _MOST:
@@ -85,7 +85,7 @@ class GithubFormatter:
         return os.path.relpath(whole, root) if root else path
 
 
-def step_summary(outcomes: Sequence[Outcome], totals: Totals) -> str:
+def step_summary(outcomes: Sequence[ScriptOutcome], totals: OutcomeTotals) -> str:
     """The summary of a step in Markdown: the totals, and a row for each script that fails the run or is warned of."""
     verdicts = ", ".join(f"{count:,} {it.value}" for it, count in totals.counts.items() if count)
     warnings = f"; warnings: {totals.warnings:,}" if totals.warnings else ""
@@ -103,14 +103,14 @@ def step_summary(outcomes: Sequence[Outcome], totals: Totals) -> str:
     return "".join(parts)
 
 
-def _annotation_title(outcome: Outcome) -> str:
+def _annotation_title(outcome: ScriptOutcome) -> str:
     """What an annotation is called by: the row, in the fewest words."""
     if outcome.is_known_failure:
         return f"known: {outcome.row}"
     return "passes, though it is expected not to" if outcome.row.verdict is Verdict.PASS else str(outcome.row)
 
 
-def _summary_rows(outcome: Outcome) -> Iterator[str]:
+def _summary_rows(outcome: ScriptOutcome) -> Iterator[str]:
     path, row = printable_path(outcome.path), outcome.row
     if outcome.counted_as is Verdict.ERROR:
         yield _table_row(path, "", row.verdict.value, row.word)

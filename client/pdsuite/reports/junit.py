@@ -8,7 +8,7 @@ from datetime import UTC, datetime, timedelta
 from pdsuite.output.octets import printable_path
 from pdsuite.programs.verdict import Verdict
 from pdsuite.reports.outcome_text import heading_line, lines_below_row, one_line_summary, warning_lines_of
-from pdsuite.run.outcomes import UNPROVED, Outcome
+from pdsuite.run.outcomes import UNPROVED, ScriptOutcome
 
 # The line of a script that none is named of.
 _FIRST = 1
@@ -33,14 +33,14 @@ class _Suite:
     """The scripts of a folder, each with its results."""
 
     folder: str
-    cases: Sequence[tuple[Outcome, Sequence[_Result]]]
+    cases: Sequence[tuple[ScriptOutcome, Sequence[_Result]]]
 
     def count_results(self, kind: str) -> int:
         """How many results of a kind its cases have."""
         return sum(it.kind == kind for _, results in self.cases for it in results)
 
 
-def junit_xml(outcomes: Sequence[Outcome], seconds: float, is_unproved: bool = False) -> bytes:
+def junit_xml(outcomes: Sequence[ScriptOutcome], seconds: float, is_unproved: bool = False) -> bytes:
     """A suite for each folder, with a case for each script: a `fail` is a failure, all else that doesn't pass an error.
 
     One that is known not to pass is skipped, and one that passes though another row is expected is a failure.
@@ -48,7 +48,7 @@ def junit_xml(outcomes: Sequence[Outcome], seconds: float, is_unproved: bool = F
     It is put together by hand, since a run that a signal ends has little time.
     """
     begin = (datetime.now(UTC) - timedelta(seconds=seconds)).strftime("%Y-%m-%dT%H:%M:%S")
-    folders: dict[str, list[tuple[Outcome, Sequence[_Result]]]] = {}
+    folders: dict[str, list[tuple[ScriptOutcome, Sequence[_Result]]]] = {}
     for outcome in outcomes:
         folders.setdefault(printable_path(os.path.dirname(outcome.path)), []).append(
             (outcome, _results_of_case(outcome))
@@ -81,7 +81,7 @@ def _suite_element(suite: _Suite, begin: str, seconds: float, is_unproved: bool)
     )
 
 
-def _case_element(folder: str, outcome: Outcome, results: Iterable[_Result]) -> str:
+def _case_element(folder: str, outcome: ScriptOutcome, results: Iterable[_Result]) -> str:
     """The case of a script in a folder, whose name is quoted already."""
     path = _escape_attribute(printable_path(outcome.path))
     below = "".join(
@@ -95,7 +95,7 @@ def _case_element(folder: str, outcome: Outcome, results: Iterable[_Result]) -> 
     return f"{begin}>{below}</testcase>" if below else f"{begin}/>"
 
 
-def _results_of_case(outcome: Outcome) -> Sequence[_Result]:
+def _results_of_case(outcome: ScriptOutcome) -> Sequence[_Result]:
     """Why a script's case doesn't count as passed, if it doesn't."""
     if outcome.counted_as is Verdict.PASS:
         return () if outcome.lets_run_pass else [_Result(_FAILURE, it, "warning") for it in warning_lines_of(outcome)]

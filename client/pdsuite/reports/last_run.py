@@ -8,7 +8,7 @@ from pdsuite.output.octets import absolute_path_function, printable_path
 from pdsuite.reports.formatter import Formatter
 from pdsuite.reports.new_rows import NewRowsFormatter
 from pdsuite.reports.report_cache import LastReport
-from pdsuite.run.outcomes import Outcome
+from pdsuite.run.outcomes import ScriptOutcome
 
 # What a run may do with each line that no report holds.
 PrintNote = Callable[[str], None]
@@ -30,7 +30,7 @@ def with_new_rows_only(form: Formatter, turned: Formatter, paths: Sequence[Path]
     return NewRowsFormatter(form, turned, {} if report is None else report.rows, absolute_path_function())
 
 
-def leave_report(paths: Sequence[Path], outcomes: Sequence[Outcome], is_part: bool, note: PrintNote) -> None:
+def leave_report(paths: Sequence[Path], outcomes: Sequence[ScriptOutcome], is_part: bool, note: PrintNote) -> None:
     """Leaves the report of a run for the next one. Where it can't be written, that is reported, and is no fault."""
     try:
         LastReport(paths).save_run(outcomes, is_part)

@@ -7,7 +7,7 @@ from pdsuite.output.styled_text import StyledText
 from pdsuite.programs.verdict import Verdict
 from pdsuite.reports.formatter import Formatter
 from pdsuite.reports.saved_reports import SavedRows
-from pdsuite.run.outcomes import Outcome, Totals
+from pdsuite.run.outcomes import ScriptOutcome, OutcomeTotals
 
 
 @dataclass(frozen=True)
@@ -22,7 +22,7 @@ class NewRowsFormatter:
     def opening(self, count: int) -> StyledText:
         return self.form.opening(count)
 
-    def script_entry(self, number: int, outcome: Outcome) -> StyledText | None:
+    def entry(self, number: int, outcome: ScriptOutcome) -> StyledText | None:
         saved = self.before.get(self.absolute(outcome.path))
         if saved is None:
             return self.form.script_entry(number, outcome)
@@ -30,5 +30,5 @@ class NewRowsFormatter:
             return None
         return self.turned.script_entry(number, outcome)
 
-    def summary(self, totals: Totals, seconds: float) -> StyledText:
+    def summary(self, totals: OutcomeTotals, seconds: float) -> StyledText:
         return self.form.summary(totals, seconds)

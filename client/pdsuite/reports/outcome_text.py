@@ -2,7 +2,7 @@
 
 from pdsuite.output.octets import printable_octets, printable_path
 from pdsuite.programs.verdict import Verdict
-from pdsuite.run.outcomes import Outcome
+from pdsuite.run.outcomes import ScriptOutcome
 
 _MOST = 200
 _REASON = "reason: "
@@ -11,19 +11,19 @@ _EXPECTED = "expected: "
 _END = "at the end of the text"
 
 
-def path_and_line(outcome: Outcome) -> str:
+def path_and_line(outcome: ScriptOutcome) -> str:
     """The path, with the line that the row is about."""
     path = printable_path(outcome.path)
     return path if outcome.line is None else f"{path}:{outcome.line}"
 
 
-def meaning_suffix(outcome: Outcome) -> str:
+def meaning_suffix(outcome: ScriptOutcome) -> str:
     """What comes after the row: what it means, where that is explained."""
     why = _syntax_lack(outcome) if outcome.row.verdict is Verdict.SYNTAX else outcome.why
     return f": {why}" if why else ""
 
 
-def row_text(outcome: Outcome) -> str:
+def row_text(outcome: ScriptOutcome) -> str:
     """The row of an outcome, with the one that is expected of it, where one is."""
     if outcome.expected is None or not (outcome.is_known_failure or outcome.has_unexpected_row):
         return str(outcome.row)
@@ -33,12 +33,12 @@ def row_text(outcome: Outcome) -> str:
     return f'{row}, though "{outcome.expected.row}" is expected ({outcome.expected.reason})'
 
 
-def heading_line(outcome: Outcome) -> str:
+def heading_line(outcome: ScriptOutcome) -> str:
     """The line of an outcome: its place, its row and what that means."""
     return f"{path_and_line(outcome)}: {row_text(outcome)}{meaning_suffix(outcome)}"
 
 
-def reason_for_row(outcome: Outcome) -> str:
+def reason_for_row(outcome: ScriptOutcome) -> str:
     """Why a row is so, where that is explained: the reason, or what the row means, with the rule that stops it."""
     if outcome.row.verdict is Verdict.FAIL:
         found = (it.removeprefix(_REASON) for it in outcome.block_lines if it.startswith(_REASON))
@@ -49,7 +49,7 @@ def reason_for_row(outcome: Outcome) -> str:
     return f"{outcome.why}: {rule}" if rule else outcome.why
 
 
-def _syntax_lack(outcome: Outcome) -> str:
+def _syntax_lack(outcome: ScriptOutcome) -> str:
     """What a text that is no script lacks where it breaks off, as far as that is explained."""
     below = outcome.block_lines[1:]  # the first is the line of the text
     expected = next((it for it in below if it.startswith(_EXPECTED)), "")
@@ -58,24 +58,24 @@ def _syntax_lack(outcome: Outcome) -> str:
     return f"expected {expected.removeprefix(_EXPECTED)}" + (f" {_END}" if _END in below else "")
 
 
-def one_line_summary(outcome: Outcome) -> str:
+def one_line_summary(outcome: ScriptOutcome) -> str:
     """An outcome in one line: its place, its row and the reason."""
     why = reason_for_row(outcome)
     return f"{path_and_line(outcome)}: {row_text(outcome)}" + (f": {why}" if why else "")
 
 
-def warning_texts(outcome: Outcome) -> list[str]:
+def warning_texts(outcome: ScriptOutcome) -> list[str]:
     """What is warned of."""
     end = " (strict)" if outcome.is_strict else ""
     return [f"passes, but {it}{end}" for it in outcome.warnings]
 
 
-def warning_lines_of(outcome: Outcome) -> list[str]:
+def warning_lines_of(outcome: ScriptOutcome) -> list[str]:
     """A line for each warning: its place, and what it is."""
     return [f"{path_and_line(outcome)}: {it}" for it in warning_texts(outcome)]
 
 
-def lines_below_row(outcome: Outcome) -> list[str]:
+def lines_below_row(outcome: ScriptOutcome) -> list[str]:
     """The lines below an outcome's row: its explanation, else the line of the script that it names."""
     if outcome.block_lines:
         return list(outcome.block_lines)

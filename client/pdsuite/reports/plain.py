@@ -6,7 +6,7 @@ from dataclasses import dataclass
 from pdsuite.output.styled_text import StyledText, unstyled_text
 from pdsuite.programs.verdict import Verdict
 from pdsuite.reports.outcome_text import lines_below_row, meaning_suffix, path_and_line, row_text, warning_lines_of
-from pdsuite.run.outcomes import CountedAs, Outcome, Totals
+from pdsuite.run.outcomes import CountedAs, ScriptOutcome, OutcomeTotals
 
 _STYLES: dict[Verdict | CountedAs, str] = {
     Verdict.PASS: "green",
@@ -34,7 +34,7 @@ class PlainFormatter:
     def opening(self, count: int) -> StyledText:
         return StyledText()
 
-    def script_entry(self, number: int, outcome: Outcome) -> StyledText | None:
+    def entry(self, number: int, outcome: ScriptOutcome) -> StyledText | None:
         if not self.every and outcome.counted_as in _UNSHOWN:
             return self.styled_warnings(outcome) if outcome.warnings else None
         if outcome.warnings or outcome.is_known_failure:
@@ -43,20 +43,20 @@ class PlainFormatter:
         below = "".join(f"  {it}\n" for it in [*lines_below_row(outcome), *_met_lines(outcome)])
         return line.append("\n").append(below, "dim")
 
-    def row_alone(self, outcome: Outcome) -> StyledText:
+    def row_alone(self, outcome: ScriptOutcome) -> StyledText:
         """A script's row alone."""
         return unstyled_text(f"{path_and_line(outcome)}: ").append(row_text(outcome), _STYLES[outcome.counted_as])
 
-    def styled_warnings(self, outcome: Outcome) -> StyledText:
+    def styled_warnings(self, outcome: ScriptOutcome) -> StyledText:
         """What is warned of, a line each."""
         style = _STRICT if outcome.is_strict else _WARNED
         return StyledText([(f"{line}\n", style) for line in warning_lines_of(outcome)])
 
-    def row_and_warnings(self, outcome: Outcome) -> StyledText:
+    def row_and_warnings(self, outcome: ScriptOutcome) -> StyledText:
         """A script's row alone, with what is warned of."""
         return self.row_alone(outcome).append("\n").append_text(self.styled_warnings(outcome))
 
-    def summary(self, totals: Totals, seconds: float) -> StyledText:
+    def summary(self, totals: OutcomeTotals, seconds: float) -> StyledText:
         return (
             StyledText()
             .append(str(totals), totals_style(totals))
@@ -64,12 +64,12 @@ class PlainFormatter:
         )
 
 
-def totals_style(totals: Totals) -> str:
+def totals_style(totals: OutcomeTotals) -> str:
     """The style of the totals."""
     return "green" if totals.exit_status() == 0 else "bold red"
 
 
-def _met_lines(outcome: Outcome) -> list[str]:
+def _met_lines(outcome: ScriptOutcome) -> list[str]:
     """What each line was met by, where that is requested."""
     if outcome.line_diff is None:
         return []

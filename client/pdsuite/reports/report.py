@@ -8,27 +8,29 @@ from pdsuite.output.screen import Screen
 from pdsuite.output.styled_text import StyledText
 from pdsuite.programs.verdict import Row, Verdict
 from pdsuite.reports.formatter import Formatter
-from pdsuite.run.batches import Script, make_outcome
-from pdsuite.run.outcomes import Outcome, Totals
+from pdsuite.run.batches import SuiteScript, outcome_of
+from pdsuite.run.outcomes import ScriptOutcome, OutcomeTotals
 
 
 class Report:
     """The outcomes that were shown, and those that wait for earlier ones."""
 
-    def __init__(self, scripts: Sequence[Script], form: Formatter, screen: Screen, is_unproved: bool = False) -> None:
-        self.outcomes: list[Outcome] = []
+    def __init__(
+        self, scripts: Sequence[SuiteScript], form: Formatter, screen: Screen, is_unproved: bool = False
+    ) -> None:
+        self.outcomes: list[ScriptOutcome] = []
         self.is_unproved = is_unproved
         self._scripts = scripts
         self._form = form
         self._screen = screen
-        self._waiting: dict[int, Outcome] = {}
+        self._waiting: dict[int, ScriptOutcome] = {}
 
     def show_opening(self) -> None:
         """Shows what stands before all scripts."""
         self._screen.show(self._form.opening(len(self._scripts)))
         self._screen.show_progress(0, len(self._scripts))
 
-    def show_outcomes_in_order(self, outcomes: Iterable[tuple[Script, Outcome]]) -> None:
+    def take_outcomes(self, outcomes: Iterable[tuple[SuiteScript, ScriptOutcome]]) -> None:
         """Shows outcomes, as soon as all before them were shown."""
         for script, outcome in outcomes:
             self._waiting[script.index] = outcome
@@ -36,11 +38,11 @@ class Report:
         done = len(self.outcomes) + len(self._waiting)
         self._screen.show_progress(done, len(self._scripts))
 
-    def unshown_outcomes(self) -> list[Outcome]:
+    def unshown_outcomes(self) -> list[ScriptOutcome]:
         """What wasn't shown: outcomes that still wait, and scripts that weren't run."""
         return [self._waiting.get(it.index, _not_run_outcome(it)) for it in self._scripts[len(self.outcomes) :]]
 
-    def show_rest_and_totals(self, seconds: float) -> Totals:
+    def show_rest_and_totals(self, seconds: float) -> OutcomeTotals:
         """Shows what is left, and the totals."""
         self._screen.clear_live_lines()
         self._show_outcomes(self.unshown_outcomes())
@@ -48,18 +50,18 @@ class Report:
         self._screen.show(self._form.summary(totals, seconds))
         return totals
 
-    def totals_of(self, outcomes: Iterable[Outcome]) -> Totals:
+    def totals_of(self, outcomes: Iterable[ScriptOutcome]) -> OutcomeTotals:
         """The totals of outcomes of this report."""
-        return replace(Totals.of_outcomes(outcomes), is_unproved=self.is_unproved)
+        return replace(OutcomeTotals.of_outcomes(outcomes), is_unproved=self.is_unproved)
 
-    def _take_ready(self) -> Iterator[Outcome]:
+    def _take_ready(self) -> Iterator[ScriptOutcome]:
         """The outcomes that wait for none before them."""
         index = len(self.outcomes)
         while (outcome := self._waiting.pop(index, None)) is not None:
             yield outcome
             index += 1
 
-    def _show_outcomes(self, outcomes: Sequence[Outcome]) -> None:
+    def _show_outcomes(self, outcomes: Sequence[ScriptOutcome]) -> None:
         text = StyledText()
         for number, outcome in enumerate(outcomes, len(self.outcomes) + 1):
             if (entry := self._form.script_entry(number, outcome)) is not None:
@@ -68,5 +70,5 @@ class Report:
         self._screen.show(text)
 
 
-def _not_run_outcome(script: Script) -> Outcome:
-    return make_outcome(script, Row(Verdict.NOT_RUN))
+def _not_run_outcome(script: SuiteScript) -> ScriptOutcome:
+    return outcome_of(script, Row(Verdict.NOT_RUN))

@@ -16,7 +16,7 @@ from pdsuite.output.octets import absolute_path_function, printable_path
 from pdsuite.programs.verdict import Verdict
 from pdsuite.reports.as_json import script_json
 from pdsuite.reports.saved_reports import SavedReport, join_reports, parse_reports
-from pdsuite.run.outcomes import Outcome
+from pdsuite.run.outcomes import ScriptOutcome
 
 # Of so many groups of paths the last reports are kept.
 MOST = 64
@@ -59,7 +59,7 @@ class LastReport:
         octets = self._kept_octets()
         return None if octets is None else _parse_report(self._file, octets)
 
-    def save_run(self, outcomes: Sequence[Outcome], is_part: bool) -> None:
+    def save_run(self, outcomes: Sequence[ScriptOutcome], is_part: bool) -> None:
         """Keeps the rows of a run. What was known of scripts that it had no row of stays, if they are there still."""
         absolute = absolute_path_function()
         with _folder_lock(self._folder):
@@ -70,7 +70,7 @@ class LastReport:
             self._write_report(lines)
             _remove_oldest_reports(self._folder)
 
-    def _merge_lines(self, outcomes: Mapping[str, Outcome], is_part: bool) -> Iterator[str]:
+    def _merge_lines(self, outcomes: Mapping[str, ScriptOutcome], is_part: bool) -> Iterator[str]:
         lines = self._kept_lines()
         for path, it in outcomes.items():
             if it.row.verdict is not _NOT_RUN:

@@ -5,7 +5,7 @@ from pdsuite.output.octets import printable_path
 from pdsuite.output.styled_text import StyledText, unstyled_text
 from pdsuite.programs.verdict import Verdict
 from pdsuite.reports.outcome_text import heading_line, lines_below_row, warning_lines_of
-from pdsuite.run.outcomes import Outcome, Totals
+from pdsuite.run.outcomes import ScriptOutcome, OutcomeTotals
 
 # Begins a directive, and so stands in no name.
 _DIRECTIVE = "#"
@@ -17,7 +17,7 @@ class TapFormatter:
     def opening(self, count: int) -> StyledText:
         return unstyled_text(f"TAP version 13\n1..{count}\n")
 
-    def script_entry(self, number: int, outcome: Outcome) -> StyledText:
+    def entry(self, number: int, outcome: ScriptOutcome) -> StyledText:
         name = printable_path(outcome.path, also=_DIRECTIVE)
         if outcome.counted_as is Verdict.PASS:
             warning_lines = warning_lines_of(outcome)
@@ -32,5 +32,5 @@ class TapFormatter:
         lines = [*(f"# {it}" for it in warning_lines), f"{'ok' if is_ok else 'not ok'} {number} {name}{todo}"]
         return unstyled_text("".join(f"{line}\n" for line in lines))
 
-    def summary(self, totals: Totals, seconds: float) -> StyledText:
+    def summary(self, totals: OutcomeTotals, seconds: float) -> StyledText:
         return unstyled_text(f"# {totals} in {seconds:.2f} s{totals.unproved_mark}\n")

@@ -1,11 +1,11 @@
 """A run of scripts: which are meant, how they are spread over programs, what comes of each, and why it doesn't pass.
 
-`collect` finds the scripts that are meant (`Script`); `batches` groups those with equal settings (`Batch`), cut into
-pieces; a `Mapper` has them settled, by the processors of this machine (`local_mapper`), a Dask cluster (`cluster`) or
-`rt try` (`unproved_run`). What comes is a stream of `Step`: a `SettledPiece` with its outcomes, or a note that a
-program ended. `Outcome` has a script's row and what explains it, `Totals` the counts.
+`collect` finds the scripts that are meant (`SuiteScript`); `batches` groups those with equal settings (`Batch`), cut
+into pieces; a `Mapper` has them settled, by the processors of this machine (`local_mapper`), a Dask cluster (`cluster`)
+or `rt try` (`unproved_run`). What comes is a stream of `Step`: a `SettledPiece` with its outcomes, or a note that a
+program ended. `ScriptOutcome` has a script's row and what explains it, `OutcomeTotals` the counts.
 
-    Script .. --group_into_batches--> Batch --Mapper--> Step, Step, ..  --> reports
+    SuiteScript .. --group_into_batches--> Batch --Mapper--> Step, Step, ..  --> reports
                                          |
     a batch:  piece by piece --> settled
                  | the program ends: Restart

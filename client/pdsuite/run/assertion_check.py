@@ -6,10 +6,10 @@ from typing import TYPE_CHECKING
 
 from pdsuite.output.octets import printable_path
 from pdsuite.programs.recorder import Recorder
-from pdsuite.run.outcomes import Outcome
+from pdsuite.run.outcomes import ScriptOutcome
 from pdsuite.run.run_batches import SettledPiece
 from pdsuite.scripts.defaults import DEFAULTS
-from pdsuite.scripts.text import Text
+from pdsuite.scripts.text import ScriptText
 from pdsuite.signals import Stop
 
 if TYPE_CHECKING:
@@ -23,7 +23,7 @@ class AssertionCheck:
 
     def __init__(self, stop: Stop, note: Callable[[str], None]) -> None:
         self._recorder = Recorder(stop, note)
-        self._asserting: dict[int, tuple[Outcome, Text]] = {}
+        self._asserting: dict[int, tuple[ScriptOutcome, ScriptText]] = {}
 
     def keep_asserting_scripts(self, step: SettledPiece) -> None:
         """Keeps the scripts of a piece that have assertions."""
@@ -45,7 +45,7 @@ class AssertionCheck:
                 f" not compared {counts[None]}"
             )
 
-    def _compare_with_recording(self, outcome: Outcome, text: Text) -> list["CheckedAssertion"]:
+    def _compare_with_recording(self, outcome: ScriptOutcome, text: ScriptText) -> list["CheckedAssertion"]:
         # Only who has assertions pays for what reads scripts.
         from pdsuite.imports.assertion_checks import check_assertions
 

@@ -6,7 +6,7 @@ from itertools import islice
 from typing import TypeVar
 
 from pdsuite.programs.verdict import Row
-from pdsuite.run.outcomes import Outcome
+from pdsuite.run.outcomes import ScriptOutcome
 from pdsuite.scripts.expectation import Expectation
 from pdsuite.scripts.settings import Settings
 
@@ -17,7 +17,7 @@ T = TypeVar("T")
 
 
 @dataclass(slots=True)
-class Script:
+class SuiteScript:
     """A script to run: its place in the order of paths, its file, its settings, and why it can't be run.
 
     Of one without a file `held` has the octets.
@@ -32,12 +32,12 @@ class Script:
     held: bytes | None = None
 
 
-def make_outcome(script: Script, row: Row, line: bytes | None = None) -> Outcome:
+def outcome_of(script: SuiteScript, row: Row, line: bytes | None = None) -> ScriptOutcome:
     """What came of a script, whose text has this line where the row names one."""
-    return Outcome(script.path, script.settings, row, line, is_strict=script.is_strict, expected=script.expected)
+    return ScriptOutcome(script.path, script.settings, row, line, is_strict=script.is_strict, expected=script.expected)
 
 
-Piece = tuple[Script, ...]
+Piece = tuple[SuiteScript, ...]
 
 
 @dataclass(frozen=True)
@@ -48,9 +48,9 @@ class Batch:
     pieces: tuple[Piece, ...]
 
 
-def group_into_batches(scripts: Iterable[Script]) -> list[Batch]:
+def group_into_batches(scripts: Iterable[SuiteScript]) -> list[Batch]:
     """The batches of all scripts: groups of equal settings in the order of their first scripts."""
-    groups: dict[Settings, list[Script]] = {}
+    groups: dict[Settings, list[SuiteScript]] = {}
     for script in scripts:
         groups.setdefault(script.settings, []).append(script)
     return [

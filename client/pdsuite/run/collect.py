@@ -8,7 +8,7 @@ from pathlib import Path
 
 from pdsuite.faults import Fault, error_reason
 from pdsuite.output.octets import absolute_path_function
-from pdsuite.run.batches import Script
+from pdsuite.run.batches import SuiteScript
 from pdsuite.scripts.config import SuiteConfig
 from pdsuite.scripts.discover import ScriptFile, find_scripts_and_folders
 from pdsuite.scripts.shards import Shard, scripts_of_shard
@@ -44,7 +44,7 @@ def find_selected_scripts(
     return _select_scripts(finding.scripts, part)
 
 
-def standard_input_script(paths: Sequence[Path], suite: SuiteConfig, is_strict: bool = False) -> Script | None:
+def standard_input_script(paths: Sequence[Path], suite: SuiteConfig, is_strict: bool = False) -> SuiteScript | None:
     """The script that standard input is, where `-` is meant; it has the settings of the working folder."""
     if INPUT not in paths:
         return None
@@ -64,7 +64,7 @@ def _read_standard_input() -> bytes:
         raise Fault(f"standard input: {error_reason(error)}") from error
 
 
-def make_scripts(found: Iterable[ScriptFile], suite: SuiteConfig, is_strict: bool = False) -> list[Script]:
+def make_scripts(found: Iterable[ScriptFile], suite: SuiteConfig, is_strict: bool = False) -> list[SuiteScript]:
     """The scripts with what holds for them; all of them are strict, or those that the files name."""
     return [_make_script(index, it, suite, is_strict) for index, it in enumerate(found)]
 
@@ -79,8 +79,8 @@ def _select_scripts(found: list[ScriptFile], part: Selection) -> list[ScriptFile
     return [it for it in found if absolute(it.path) in part.paths]
 
 
-def _make_script(index: int, it: ScriptFile, suite: SuiteConfig, is_strict: bool) -> Script:
+def _make_script(index: int, it: ScriptFile, suite: SuiteConfig, is_strict: bool) -> SuiteScript:
     if it.fault:
-        return Script(index, it.path, (), it.fault)
+        return SuiteScript(index, it.path, (), it.fault)
     rules = suite.rules_of_script(it)
-    return Script(index, it.path, rules.settings, "", is_strict or rules.is_strict, rules.expected)
+    return SuiteScript(index, it.path, rules.settings, "", is_strict or rules.is_strict, rules.expected)

@@ -5,9 +5,9 @@ from dataclasses import replace
 from pdsuite.programs.cause_text import block_lines_of, make_printable
 from pdsuite.programs.protocol import Cause
 from pdsuite.programs.verdict import Verdict
-from pdsuite.run.outcomes import Outcome, warning_at_end
+from pdsuite.run.outcomes import ScriptOutcome, warning_at_end
 from pdsuite.run.script_style import inserts_in_script_style
-from pdsuite.scripts.text import Text
+from pdsuite.scripts.text import ScriptText
 
 # What has it explain why scripts don't pass, that as JSON, and what those that pass leave at their ends.
 EXPLAIN = "--explain"
@@ -19,7 +19,7 @@ EXPLAIN_OPTIONS = (EXPLAIN, LEFTOVERS, JSON)
 EXPLAIN_FAILURES = (EXPLAIN, JSON)
 
 
-def with_explanation(outcome: Outcome, cause: Cause | None, text: Text) -> Outcome:
+def with_explanation(outcome: ScriptOutcome, cause: Cause | None, text: ScriptText) -> ScriptOutcome:
     """The outcome of a text with its explanation: why it doesn't pass, or what is to be warned of at its end.
 
     Of a text that is no script it says where that breaks off.

@@ -12,9 +12,9 @@ from pdsuite.programs.cause_text import make_printable
 from pdsuite.programs.protocol import Cause
 from pdsuite.programs.verdict import Row
 from pdsuite.run.locate_row import RowLocation, failing_event, locate_row
-from pdsuite.run.outcomes import Outcome
+from pdsuite.run.outcomes import ScriptOutcome
 from pdsuite.run.run_batches import SettledPiece, Step
-from pdsuite.scripts.text import Text
+from pdsuite.scripts.text import ScriptText
 
 # The name of a script in a run, which nobody else knows.
 _NAME = "name"
@@ -34,13 +34,13 @@ def with_whole_explanations(steps: Iterable[Step]) -> Iterator[Step]:
         yield step
 
 
-def _with_whole_explanation(outcome: Outcome, cause: Cause | None, text: Text | None) -> Outcome:
+def _with_whole_explanation(outcome: ScriptOutcome, cause: Cause | None, text: ScriptText | None) -> ScriptOutcome:
     if cause is None or text is None or outcome.row.line is None:
         return outcome
     return replace(outcome, explanation=explanation_of(outcome.row, cause, text))
 
 
-def explanation_of(row: Row, cause: Cause, text: Text) -> Mapping[str, object]:
+def explanation_of(row: Row, cause: Cause, text: ScriptText) -> Mapping[str, object]:
     """What the program says of a row, safe to print, with the place in the text and the packets by field."""
     script = text.octets.decode("utf-8", "surrogateescape")
     layout, lines = layout_of(script), TextLines(script)

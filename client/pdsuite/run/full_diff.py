@@ -5,14 +5,14 @@ from dataclasses import replace
 
 from pdsuite.programs.recorder import Recording
 from pdsuite.programs.verdict import Verdict
-from pdsuite.run.batches import Script
+from pdsuite.run.batches import SuiteScript
 from pdsuite.run.line_diff import line_diff
-from pdsuite.run.outcomes import Outcome
+from pdsuite.run.outcomes import ScriptOutcome
 from pdsuite.run.run_batches import SettledPiece, Step
-from pdsuite.scripts.text import Text
+from pdsuite.scripts.text import ScriptText
 
 # Records a script.
-Record = Callable[[Script, Text], Recording]
+Record = Callable[[SuiteScript, ScriptText], Recording]
 
 
 def with_line_diffs(steps: Iterable[Step], record: Record) -> Iterator[Step]:
@@ -26,7 +26,9 @@ def with_line_diffs(steps: Iterable[Step], record: Record) -> Iterator[Step]:
         yield step
 
 
-def _with_line_diff(script: Script, outcome: Outcome, text: Text | None, record: Record) -> Outcome:
+def _with_line_diff(
+    script: SuiteScript, outcome: ScriptOutcome, text: ScriptText | None, record: Record
+) -> ScriptOutcome:
     if outcome.row.verdict is not Verdict.FAIL or outcome.is_known_failure or text is None:
         return outcome
     written = text.octets.decode("utf-8", "surrogateescape")

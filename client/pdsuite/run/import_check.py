@@ -4,9 +4,9 @@ from collections.abc import Iterable, Iterator
 from dataclasses import replace
 
 from pdsuite.programs.verdict import Verdict
-from pdsuite.run.outcomes import Outcome
+from pdsuite.run.outcomes import ScriptOutcome
 from pdsuite.run.run_batches import SettledPiece, Step
-from pdsuite.scripts.text import Text
+from pdsuite.scripts.text import ScriptText
 
 # Stands in each script whose set-up an import dropped.
 MARK = b"// why: set-up, which is read and never run"
@@ -22,7 +22,7 @@ def with_dropped_features(steps: Iterable[Step]) -> Iterator[Step]:
         yield step
 
 
-def _with_dropped_feature(outcome: Outcome, text: Text | None) -> Outcome:
+def _with_dropped_feature(outcome: ScriptOutcome, text: ScriptText | None) -> ScriptOutcome:
     if outcome.row.verdict is not Verdict.FAIL or text is None or text.octets.find(MARK) < 0:
         return outcome
     # Only who has imported scripts pays for what reads them.

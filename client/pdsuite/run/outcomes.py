@@ -35,7 +35,7 @@ class PassWarning(StrEnum):
 
 
 @dataclass(slots=True)
-class Outcome:
+class ScriptOutcome:
     """A script's path and settings, its row, the line of its text that the row names, and why it is so.
 
     That is what the row means and the lines below it, as the program prints them that explains, and the same as an
@@ -105,7 +105,7 @@ def warning_at_end(row: Row, cause: Mapping[str, object] | None) -> str:
 
 
 @dataclass(frozen=True)
-class Totals:
+class OutcomeTotals:
     """How many scripts are counted how, how many warnings there are, and how many of those that pass fail by one.
 
     And whether the sender isn't proved, which the last line of a report says.
@@ -117,10 +117,10 @@ class Totals:
     is_unproved: bool = False
 
     @classmethod
-    def of_outcomes(cls, outcomes: Iterable[Outcome]) -> "Totals":
+    def of_outcomes(cls, outcomes: Iterable[ScriptOutcome]) -> "OutcomeTotals":
         """The totals of outcomes."""
         counts: dict[Verdict | CountedAs, int] = dict.fromkeys((*Verdict, *CountedAs), 0)
-        warned: list[Outcome] = []
+        warned: list[ScriptOutcome] = []
         for outcome in outcomes:
             tally = outcome.row.verdict if outcome.expected is None else outcome.counted_as
             counts[tally] += 1

@@ -11,24 +11,24 @@ from pdsuite.programs.program import Program, ProgramEndedError
 from pdsuite.programs.protocol import LONGEST_CAUSE, LONGEST_LINE, SETTLE, Cause, UnexpectedAnswerError
 from pdsuite.programs.protocol import add_command, parse_causes, parse_new_rows, rows_before_total, script_name
 from pdsuite.programs.verdict import Row, Verdict
-from pdsuite.run.batches import Batch, Piece, Script, make_outcome
+from pdsuite.run.batches import Batch, Piece, SuiteScript, outcome_of
 from pdsuite.run.explainer import with_explanation
-from pdsuite.run.outcomes import Outcome
+from pdsuite.run.outcomes import ScriptOutcome
 from pdsuite.scripts.settings import Settings, settings_as_toml
-from pdsuite.scripts.text import Text, UnfitTextError, make_text, read_text
+from pdsuite.scripts.text import ScriptText, UnfitTextError, make_text, read_text
 from pdsuite.signals import Stop
 
 Start = Callable[[Settings], Program]
 # Answers a script's text, or why it can't be run.
-LoadText = Callable[[Script], Text | str]
+LoadText = Callable[[SuiteScript], ScriptText | str]
 
 
 @dataclass(frozen=True)
 class SettledPiece:
     """A piece that has been settled; by the places of its scripts, the texts that were run and explanations by keys."""
 
-    outcomes: list[tuple[Script, Outcome]]
-    texts: dict[int, Text] = field(default_factory=dict)
+    outcomes: list[tuple[SuiteScript, ScriptOutcome]]
+    texts: dict[int, ScriptText] = field(default_factory=dict)
     causes: Mapping[int, Cause] = field(default_factory=dict)
 
 
@@ -36,7 +36,7 @@ class SettledPiece:
 class Restart:
     """A program ended before it had answered for this script; a new one begins there."""
 
-    script: Script
+    script: SuiteScript
     reason: str
 
     def __str__(self) -> str:
@@ -48,7 +48,7 @@ class Restart:
 class UnexplainedScript:
     """A program ended where it was to explain this script, which has a row all the same."""
 
-    script: Script
+    script: SuiteScript
     reason: str
 
     def __str__(self) -> str:
@@ -77,7 +77,7 @@ def starter_with_options(program: Path, options: Sequence[str], cache: int, stop
     return start
 
 
-def load_script_text(script: Script) -> Text | str:
+def load_script_text(script: SuiteScript) -> ScriptText | str:
     """The text that is in the script's file, or why it can't be run."""
     if script.fault:
         return script.fault
@@ -151,7 +151,7 @@ def _settle_pieces(program: Program, left: deque[Piece], load_text: LoadText) ->
     count = 0
     while left:
         loaded = [(script, load_text(script)) for script in left[0]]
-        texts = {script.index: it for script, it in loaded if isinstance(it, Text)}
+        texts = {script.index: it for script, it in loaded if isinstance(it, ScriptText)}
         rows: list[Row] = []
         causes: dict[int, Cause] = {}
         if texts:
@@ -189,11 +189,11 @@ def read_rows_and_causes(
 
 
 def make_settled_piece(
-    loaded: Sequence[tuple[Script, Text | str]], rows: Iterable[Row], causes: Mapping[int, Cause]
+    loaded: Sequence[tuple[SuiteScript, ScriptText | str]], rows: Iterable[Row], causes: Mapping[int, Cause]
 ) -> SettledPiece:
     """A piece of scripts with their texts, or why they couldn't be run; those that could have these rows."""
     left = iter(rows)
-    texts = {script.index: text for script, text in loaded if isinstance(text, Text)}
+    texts = {script.index: text for script, text in loaded if isinstance(text, ScriptText)}
     outcomes = [
         _error_outcome(script, text)
         if isinstance(text, str)
@@ -203,7 +203,9 @@ def make_settled_piece(
     return SettledPiece(outcomes, texts, causes)
 
 
-def _explained_outcome(script: Script, text: Text, row: Row, cause: Cause | None) -> tuple[Script, Outcome]:
+def _explained_outcome(
+    script: SuiteScript, text: ScriptText, row: Row, cause: Cause | None
+) -> tuple[SuiteScript, ScriptOutcome]:
     line = None if row.line is None else text.line(row.line)
     return script, with_explanation(make_outcome(script, row, line), cause, text)
 
@@ -213,5 +215,5 @@ def error_piece(piece: Piece, reason: str) -> SettledPiece:
     return SettledPiece([_error_outcome(script, reason) for script in piece])
 
 
-def _error_outcome(script: Script, reason: str) -> tuple[Script, Outcome]:
-    return script, make_outcome(script, Row(Verdict.ERROR, word=reason))
+def _error_outcome(script: SuiteScript, reason: str) -> tuple[SuiteScript, ScriptOutcome]:
+    return script, outcome_of(script, Row(Verdict.ERROR, word=reason))

@@ -10,7 +10,7 @@ from pdsuite.output.octets import printable_path
 from pdsuite.programs.locate import PROGRAMS_VARIABLE, REGRESS, sha256_of
 from pdsuite.programs.protocol import Cause
 from pdsuite.programs.verdict import Row, Verdict
-from pdsuite.run.batches import Batch, Piece, Script
+from pdsuite.run.batches import Batch, Piece, SuiteScript
 from pdsuite.run.explainer import EXPLAIN_OPTIONS
 from pdsuite.run.run_batches import (
     SettledPiece,
@@ -22,7 +22,7 @@ from pdsuite.run.run_batches import (
     starter_without_explanations,
 )
 from pdsuite.scripts.settings import Settings
-from pdsuite.scripts.text import Text, make_text
+from pdsuite.scripts.text import ScriptText, make_text
 from pdsuite.signals import Stop
 
 # The settings, and pieces of scripts: of each its path and its text, or why it can't be run.
@@ -78,28 +78,28 @@ def steps_from_answer(
             note(it)
             continue
         piece = [(script, _text_from_plain(text)) for script, text in islice(sent, len(it))]
-        answered = [(script, row) for (script, text), row in zip(piece, it) if isinstance(text, Text)]
+        answered = [(script, row) for (script, text), row in zip(piece, it) if isinstance(text, ScriptText)]
         rows = (Row(Verdict(verdict), number, word) for _, (verdict, number, word, _) in answered)
         yield make_settled_piece(piece, rows, {script.index: row[3] for script, row in answered if row[3] is not None})
 
 
-def _load_plain_text(script: Script) -> bytes | str:
+def _load_plain_text(script: SuiteScript) -> bytes | str:
     text = load_script_text(script)
-    return text.octets if isinstance(text, Text) else text
+    return text.octets if isinstance(text, ScriptText) else text
 
 
-def _unpack_batch(packed_batch: PackedBatch) -> tuple[Batch, dict[int, Text | str]]:
+def _unpack_batch(packed_batch: PackedBatch) -> tuple[Batch, dict[int, ScriptText | str]]:
     settings, plain = packed_batch
     pieces: list[Piece] = []
-    texts: dict[int, Text | str] = {}
+    texts: dict[int, ScriptText | str] = {}
     for each in plain:
         first = len(texts)
-        pieces.append(tuple(Script(index, path, settings) for index, (path, _) in enumerate(each, first)))
+        pieces.append(tuple(SuiteScript(index, path, settings) for index, (path, _) in enumerate(each, first)))
         texts.update((index, _text_from_plain(it)) for index, (_, it) in enumerate(each, first))
     return Batch(settings, tuple(pieces)), texts
 
 
-def _text_from_plain(plain: bytes | str) -> Text | str:
+def _text_from_plain(plain: bytes | str) -> ScriptText | str:
     return make_text(plain) if isinstance(plain, bytes) else plain
 
 

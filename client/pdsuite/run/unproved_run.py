@@ -5,7 +5,7 @@ from dataclasses import dataclass, field, replace
 from pathlib import Path
 
 from pdsuite.faults import Fault
-from pdsuite.programs.batch_protocol import ROOM, Answer, Case
+from pdsuite.programs.batch_protocol import ROOM, ProgramAnswer, Case
 from pdsuite.programs.locate import RECORD, REGRESS
 from pdsuite.programs.program import ProgramEndedError
 from pdsuite.programs.protocol import (
@@ -20,11 +20,11 @@ from pdsuite.programs.recorder import Recording, recording_cases, recording_from
 from pdsuite.programs.refusals import Refusal, distinct_key_values, refusals_in_answer
 from pdsuite.programs.unproved_batch import ProgramCases, build_and_run_cases
 from pdsuite.programs.verdict import Row, Verdict
-from pdsuite.run.batches import Batch, Script
+from pdsuite.run.batches import Batch, SuiteScript
 from pdsuite.run.run_batches import SettledPiece, Step, load_script_text, make_settled_piece, read_rows_and_causes
 from pdsuite.scripts.config import Claim
 from pdsuite.scripts.settings import Settings, set_command_words
-from pdsuite.scripts.text import Text
+from pdsuite.scripts.text import ScriptText
 from pdsuite.signals import Stop
 
 # Of a script the program is expected to print so much at most, beside as many octets as its text has.
@@ -39,7 +39,7 @@ class StartBatch:
     """Scripts with equal settings for one start of the program."""
 
     settings: Settings
-    scripts: tuple[tuple[Script, Text], ...]
+    scripts: tuple[tuple[SuiteScript, ScriptText], ...]
 
     @property
     def most_output_octets(self) -> int:
@@ -77,7 +77,7 @@ class UnprovedPlan:
     """
 
     claims: Sequence[Claim]
-    pieces: Sequence[Sequence[tuple[Script, Text | str]]]
+    pieces: Sequence[Sequence[tuple[SuiteScript, ScriptText | str]]]
     explain_options: tuple[str, ...]
     records: bool = False
 
@@ -86,7 +86,7 @@ class UnprovedPlan:
         return [it for piece in self.pieces for it in split_into_start_batches(piece)]
 
     @property
-    def scripts_to_record(self) -> list[tuple[Script, Text]]:
+    def scripts_to_record(self) -> list[tuple[SuiteScript, ScriptText]]:
         """The scripts that are recorded."""
         return [one for it in self.all_start_batches for one in it.scripts] if self.records else []
 
@@ -120,7 +120,7 @@ def run_plan(plan: UnprovedPlan, tree: Path, stop: Stop, note: Callable[[str], N
 
 
 def results_from_answers(
-    plan: UnprovedPlan, answers: Sequence[Sequence[Answer]], tree: Path, stop: Stop, note: Callable[[str], None]
+    plan: UnprovedPlan, answers: Sequence[Sequence[ProgramAnswer]], tree: Path, stop: Stop, note: Callable[[str], None]
 ) -> UnprovedResults:
     """What the answers say. Where a start ends early, a second build starts its scripts one by one."""
     (settings_answers, *explained), recorded = answers
@@ -134,7 +134,9 @@ def results_from_answers(
 class _BatchResults:
     """The answers about a plan's scripts, by their places."""
 
-    def __init__(self, plan: UnprovedPlan, explained: Sequence[Answer], recorded: Sequence[Answer]) -> None:
+    def __init__(
+        self, plan: UnprovedPlan, explained: Sequence[ProgramAnswer], recorded: Sequence[ProgramAnswer]
+    ) -> None:
         self._plan = plan
         self._rows, self._unanswered = rows_and_unanswered_batches(plan.all_start_batches, explained)
         self.recordings = {
@@ -165,21 +167,21 @@ class _BatchResults:
             script.index: recording_from_answer(answer) for (script, _), answer in zip(scripts, recorded)
         }
 
-    def settle_piece(self, piece: Sequence[tuple[Script, Text | str]]) -> SettledPiece:
+    def settle_piece(self, piece: Sequence[tuple[SuiteScript, ScriptText | str]]) -> SettledPiece:
         """What came of a piece."""
-        rows = {script.index: self._rows[script.index] for script, text in piece if isinstance(text, Text)}
+        rows = {script.index: self._rows[script.index] for script, text in piece if isinstance(text, ScriptText)}
         causes = {index: cause for index, (_, cause) in rows.items() if cause is not None}
         return make_settled_piece(piece, [row for row, _ in rows.values()], causes)
 
 
-def _settings_and_octets(each: tuple[Script, Text]) -> tuple[Settings, bytes]:
+def _settings_and_octets(each: tuple[SuiteScript, ScriptText]) -> tuple[Settings, bytes]:
     script, text = each
     return script.settings, text.octets
 
 
-def split_into_start_batches(piece: Iterable[tuple[Script, Text | str]]) -> list[StartBatch]:
+def split_into_start_batches(piece: Iterable[tuple[SuiteScript, ScriptText | str]]) -> list[StartBatch]:
     """The scripts of a piece that can be run, in batches of which no great output is expected."""
-    batches: list[list[tuple[Script, Text]]] = []
+    batches: list[list[tuple[SuiteScript, ScriptText]]] = []
     room = 0
     for script, text in piece:
         if isinstance(text, str):
@@ -192,7 +194,7 @@ def split_into_start_batches(piece: Iterable[tuple[Script, Text | str]]) -> list
     return [StartBatch(it[0][0].settings, tuple(it)) for it in batches]
 
 
-def _most_output_octets(text: Text) -> int:
+def _expected_octets(text: ScriptText) -> int:
     return _LONGEST_EXPLANATION + len(text.octets)
 
 
@@ -201,8 +203,8 @@ def cases_of_batches(batches: Iterable[StartBatch]) -> list[Case]:
     return [Case((), it.input_commands(), it.most_output_octets) for it in batches]
 
 
-def rows_and_unanswered_batches(
-    batches: Iterable[StartBatch], answers: Iterable[Answer]
+def read_answers(
+    batches: Iterable[StartBatch], answers: Iterable[ProgramAnswer]
 ) -> tuple[ExplainedRows, list[tuple[StartBatch, str]]]:
     """Rows and explanations of scripts, by their places; and the batches without an answer, each with the reason."""
     explained: ExplainedRows = {}
@@ -215,20 +217,20 @@ def rows_and_unanswered_batches(
     return explained, unanswered
 
 
-def explained_rows(batch: StartBatch, answer: Answer) -> ExplainedRows:
+def explained_rows(batch: StartBatch, answer: ProgramAnswer) -> ExplainedRows:
     """The rows of the scripts of a batch, by their places, each with its explanation by keys."""
     places = {name: script.index for name, (script, _) in zip(batch.script_names(), batch.scripts)}
     rows, causes = read_rows_and_causes(_require_answered(answer).output, answer.errors, b"", places, len(places))
     return {index: (row, causes.get(index)) for index, row in zip(places.values(), rows)}
 
 
-def _require_answered(answer: Answer) -> Answer:
+def _require_answered(answer: ProgramAnswer) -> ProgramAnswer:
     if answer.fault:
         raise UnexpectedAnswerError(answer.fault)
     return answer
 
 
-def _refusals_or_fault(claims: Iterable[Claim], answer: Answer) -> list[Refusal]:
+def _refusals_or_fault(claims: Iterable[Claim], answer: ProgramAnswer) -> list[Refusal]:
     try:
         return refusals_in_answer(claims, _require_answered(answer).output)
     except (ProgramEndedError, UnexpectedAnswerError) as end:

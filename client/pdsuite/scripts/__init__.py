@@ -1,10 +1,10 @@
 """Scripts before they run: their files, their texts, and what pdsuite.toml says of them.
 
-`discover` finds the files (`ScriptFile`), `text` reads one as a `Text` within the limits of the program, and `config`
-reads the files pdsuite.toml above it, each of them a `Layer`. `SuiteConfig` says what holds for a script
+`discover` finds the files (`ScriptFile`), `text` reads one as a `ScriptText` within the limits of the program, and
+`config` reads the files pdsuite.toml above it, each of them a `Layer`. `SuiteConfig` says what holds for a script
 (`ScriptRules`): its `Settings`, whether warnings make it fail, and the row that it is known to have (`Expectation`).
 
-    paths --discover--> ScriptFile --text--> Text
+    paths --discover--> ScriptFile --text--> ScriptText
                             |
     pdsuite.toml --config--> Layer .. Layer --SuiteConfig--> ScriptRules
                             '--> Claim, which the program takes or refuses

@@ -7,7 +7,7 @@ from collections.abc import Callable, Iterable, Iterator, Mapping
 from dataclasses import dataclass
 from pathlib import Path
 
-from pdsuite.faults import Fault, FileFault
+from pdsuite.faults import Fault, PlacedFault
 from pdsuite.output.octets import printable_path, printable_text
 from pdsuite.scripts.defaults import refusal_help
 from pdsuite.scripts.discover import SUFFIX, ScriptFile
@@ -187,8 +187,8 @@ def _take_truth_value(table: dict[str, Value], key: str, places: TomlPlaces, nam
     value = table.pop(key, None)
     if value is None or isinstance(value, bool):
         return value
-    beside = f' (["{_printable(name)}"])' if name else ""
-    raise FileFault(f"{places.file_and_line(name, key)}: {key}: BadValue{beside}: it takes true or false")
+    beside = f' (["{_shown(name)}"])' if name else ""
+    raise PlacedFault(f"{places.file_and_line(name, key)}: {key}: BadValue{beside}: it takes true or false")
 
 
 def _take_expectation(places: TomlPlaces, name: str, table: dict[str, Value]) -> Expectation | None:
@@ -198,14 +198,14 @@ def _take_expectation(places: TomlPlaces, name: str, table: dict[str, Value]) ->
     if row is None and reason is None:
         return None
     if reason is None:
-        raise FileFault(f"{places.file_and_line(name, EXPECT)}: {EXPECT}: needs a {REASON} beside it {beside}")
+        raise PlacedFault(f"{places.file_and_line(name, EXPECT)}: {EXPECT}: needs a {REASON} beside it {beside}")
     if row is None:
-        raise FileFault(f"{places.file_and_line(name, REASON)}: {REASON}: needs {EXPECT} beside it {beside}")
+        raise PlacedFault(f"{places.file_and_line(name, REASON)}: {REASON}: needs {EXPECT} beside it {beside}")
     if not isinstance(row, str) or not can_begin_failing_row(row):
         takes = 'it takes a row that doesn\'t pass, as "fail 12 seq", or its first words'
-        raise FileFault(f"{places.file_and_line(name, EXPECT)}: {EXPECT}: BadValue {beside}: {takes}")
+        raise PlacedFault(f"{places.file_and_line(name, EXPECT)}: {EXPECT}: BadValue {beside}: {takes}")
     if not isinstance(reason, str) or not reason.strip():
-        raise FileFault(
+        raise PlacedFault(
             f"{places.file_and_line(name, REASON)}: {REASON}: BadValue {beside}: it takes a text that isn't empty"
         )
     return Expectation(row, _printable(reason))
@@ -215,7 +215,7 @@ def _refuse_expectation_outside_tables(places: TomlPlaces, keys: Table) -> None:
     """Raises a fault where a row is expected of no script."""
     for key in (EXPECT, REASON):
         if key in keys:
-            raise FileFault(
+            raise PlacedFault(
                 f'{places.file_and_line("", key)}: {key}: stands in no script\'s table, as ["NAME{SUFFIX}"] is'
             )
 
@@ -223,8 +223,9 @@ def _refuse_expectation_outside_tables(places: TomlPlaces, keys: Table) -> None:
 def _refuse_unquoted_names(places: TomlPlaces, table: Table) -> None:
     """Raises a fault where a script's name stands without quotes: its parts are then tables in tables."""
     for name in _unquoted_script_names(table):
-        shown = _printable(name)
-        raise FileFault(f'{places.file_and_line(name)}: [{shown}]: a script\'s name stands in quotes: ["{shown}"]')
+        raise PlacedFault(
+            f'{places.file_and_line(name)}: [{_shown(name)}]: a script\'s name stands in quotes: ["{_shown(name)}"]'
+        )
 
 
 def _unquoted_script_names(table: Table, before: str = "", deepest: int = _DEEPEST) -> Iterator[str]:
@@ -250,7 +251,7 @@ def _parse_toml(place: str, octets: bytes) -> dict[str, Value]:
         words = f"no TOML: {_toml_error_reason(error, octets)}"
         if place in _OPTIONS:
             raise Fault(f"{place}: {words}") from error
-        raise FileFault(f"{place}:{_line_of_toml_error(error, octets)}: {words}") from error
+        raise PlacedFault(f"{place}:{_line_of_toml_error(error, octets)}: {words}") from error
 
 
 def _line_of_toml_error(error: ValueError | RecursionError, octets: bytes) -> int:

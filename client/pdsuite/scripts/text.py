@@ -19,7 +19,7 @@ class UnfitTextError(Exception):
 
 
 @dataclass(slots=True)
-class Text:
+class ScriptText:
     """A script's text as it is given to the program: each line has its newline."""
 
     octets: bytes
@@ -32,7 +32,7 @@ class Text:
         return self.octets.split(b"\n", number)[number - 1].removesuffix(b"\r")
 
 
-def make_text(octets: bytes) -> Text:
+def make_text(octets: bytes) -> ScriptText:
     """The text of a file with these octets, where the program takes it."""
     if octets[-1:] not in (b"", b"\n"):
         octets += b"\n"
@@ -41,10 +41,10 @@ def make_text(octets: bytes) -> Text:
         raise UnfitTextError(f"more than {LINES:,} lines")
     if len(octets) > OCTETS and len(octets) - octets.count(b"\r\n") > OCTETS:
         raise UnfitTextError(f"more than {OCTETS:,} octets")
-    return Text(octets, lines)
+    return ScriptText(octets, lines)
 
 
-def read_text(path: str) -> Text:
+def read_text(path: str) -> ScriptText:
     """The text of a script's file."""
     return make_text(read_regular_file(path, LONGEST_FILE + 1))
 

@@ -3,7 +3,7 @@
 from collections.abc import Iterable
 from dataclasses import dataclass
 
-from pdsuite.scripts.text import Text
+from pdsuite.scripts.text import ScriptText
 
 
 @dataclass(frozen=True, slots=True)
@@ -12,21 +12,21 @@ class Edit:
 
     first: int
     removed: int
-    put: Text
+    put: ScriptText
 
 
-def edit_between(old: Text, new: Text) -> Edit:
+def edit_between(old: ScriptText, new: ScriptText) -> Edit:
     """The edit that makes the new text of the old one."""
     before, after = _split_lines(old), _split_lines(new)
     front = _count_equal_front(zip(before, after))
     most = min(len(before), len(after)) - front
     back = min(most, _count_equal_front(zip(reversed(before), reversed(after))))
     between = after[front : len(after) - back]
-    put = Text(b"".join(line + b"\n" for line in between), len(between))
+    put = ScriptText(b"".join(line + b"\n" for line in between), len(between))
     return Edit(front + 1, len(before) - front - back, put)
 
 
-def _split_lines(text: Text) -> list[bytes]:
+def _split_lines(text: ScriptText) -> list[bytes]:
     """The lines, which end at the octet 10 alone."""
     return text.octets.split(b"\n")[: text.lines]
 

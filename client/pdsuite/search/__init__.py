@@ -1,11 +1,11 @@
 """Searching: a model of a peer and a network makes inputs under which two senders differ, or a state is reached.
 
 A `Scenario` says what a connection meets; a simulation (`simulate`) plays it against recordings of the sender, and
-gives `Inputs`: calls and packets, each at its moment. `Candidates` makes the lists that are tried, from new scenarios
-(`generate`) and variations of inputs that reached something new (`mutate`). A `FindTest` decides what is a `Find`;
-`shrink` makes it small, and `finished_script` a script that ends with the line that fails.
+gives `Inputs`: calls and packets, each at its moment. `CandidateLists` makes the lists that are tried, from new
+scenarios (`generate`) and variations of inputs that reached something new (`mutate`). A `FindTest` decides what is a
+`Find`; `shrink` makes it small, and `finished_script` a script that ends with the line that fails.
 
-    Candidates --lists--> play_side_by_side --> PlayedInputs --FindTest--> Find --shrink--> finished_script
+    CandidateLists --lists--> play_side_by_side --> PlayedInputs --FindTest--> Find --shrink--> finished_script
         ^                       ^                    |
         +---- keep: what reached a new step ---------+
                                 |

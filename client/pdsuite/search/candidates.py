@@ -16,7 +16,7 @@ _LATEST = 32
 
 
 @dataclass
-class Candidates:
+class CandidateLists:
     """What a search tries, by a seed: the same lists for the same recordings.
 
     The sizes are those of the lists. The first lists are the initial inputs themselves; each later one has as many new

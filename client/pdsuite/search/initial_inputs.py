@@ -4,7 +4,7 @@ from collections.abc import Iterator
 from pathlib import Path
 
 from pdsuite.programs.trace import traced_events_in
-from pdsuite.run.batches import Script
+from pdsuite.run.batches import SuiteScript
 from pdsuite.run.collect import find_selected_scripts, make_scripts
 from pdsuite.run.run_batches import load_script_text
 from pdsuite.scripts.config import SuiteConfig, layer_of_option
@@ -29,7 +29,7 @@ def suite_scripts_of_tree(tree: Path | None, stop: Stop) -> list[ConfiguredScrip
     ]
 
 
-def _load_configured(script: Script) -> Iterator[ConfiguredScript]:
+def _load_configured(script: SuiteScript) -> Iterator[ConfiguredScript]:
     text = load_script_text(script)
     if not isinstance(text, str):
         yield ConfiguredScript(script.settings, text.octets)

@@ -14,7 +14,7 @@ from pdsuite.compare.senders import Sender
 from pdsuite.compare.sides import Side
 from pdsuite.faults import Fault
 from pdsuite.output.octets import printable_octets
-from pdsuite.programs.batch_protocol import Answer, Case
+from pdsuite.programs.batch_protocol import ProgramAnswer, Case
 from pdsuite.programs.locate import RECORD, REGRESS
 from pdsuite.programs.program import Program, ProgramEndedError
 from pdsuite.programs.protocol import LONGEST_BLOCK, LONGEST_LINE, SETTLE, UnexpectedAnswerError
@@ -35,7 +35,7 @@ from pdsuite.run.batches import split_by_size
 from pdsuite.run.explainer import EXPLAIN
 from pdsuite.scripts.config import Claim
 from pdsuite.scripts.settings import Settings, set_command_words, settings_as_toml, sorted_settings
-from pdsuite.scripts.text import Text, UnfitTextError, make_text
+from pdsuite.scripts.text import ScriptText, UnfitTextError, make_text
 from pdsuite.search.inputs import Inputs
 from pdsuite.signals import Stop
 
@@ -223,13 +223,13 @@ class UnprovedOracle:
         (answer,) = self._run_each_alone([script], EXPLAIN)
         return [answer.fault] if answer.fault else _explanation_lines(answer.errors)
 
-    def _run_each_alone(self, scripts: Sequence[ConfiguredScript], *words: str) -> list[Answer]:
+    def _run_each_alone(self, scripts: Sequence[ConfiguredScript], *words: str) -> list[ProgramAnswer]:
         """What comes of each script in a start of its own, which costs little."""
         cases = tuple(Case((), _set_commands(it.settings) + _add_commands([it])) for it in scripts)
         return self._session.run_cases(ProgramCases(self._tree, REGRESS, words, cases))
 
 
-def _row_of_only_script(answer: Answer) -> Row:
+def _row_of_only_script(answer: ProgramAnswer) -> Row:
     """The row of the only script."""
     if answer.fault:
         return Row(Verdict.ERROR, 0, answer.fault)
@@ -262,7 +262,7 @@ def _add_commands(scripts: Sequence[ConfiguredScript]) -> bytes:
     )
 
 
-def _text_or_failing_text(octets: bytes) -> Text:
+def _text_or_failing_text(octets: bytes) -> ScriptText:
     """The text of a recording, or one that fails where it is over the limits."""
     try:
         return make_text(octets)

@@ -6,7 +6,7 @@ from dataclasses import dataclass, replace
 
 from pdsuite.packetdrill.items import Packet
 from pdsuite.programs.recorder import Recording
-from pdsuite.search.candidates import Candidates
+from pdsuite.search.candidates import CandidateLists
 from pdsuite.search.continuations import continued_inputs_of_find
 from pdsuite.search.coverage import Coverage
 from pdsuite.search.find import DiffersTest, Find, FindTest, SenderDifference
@@ -42,7 +42,7 @@ class Search:
     before: SenderOracle
     test: FindTest
     hidden: DiffersTest | None
-    candidates: Candidates
+    candidates: CandidateLists
     seconds: float
     count: int | None = None
 

@@ -9,7 +9,7 @@ from pdsuite.output.styled_text import StyledText
 from pdsuite.programs.verdict import Verdict
 from pdsuite.reports.comparison import compared_script_entry
 from pdsuite.reports.plain import PlainFormatter
-from pdsuite.run.outcomes import CountedAs, Outcome, Totals
+from pdsuite.run.outcomes import CountedAs, ScriptOutcome, OutcomeTotals
 from pdsuite.watch.folder_moves import Move, Outcomes
 from pdsuite.watch.plan_changes import WantedScript
 
@@ -77,9 +77,9 @@ class ChangeReport:
         return StyledText([(f"{first}\n", "bold red"), ("".join(f"  {line}\n" for line in below), "")])
 
 
-def totals_of(outcomes: Outcomes, is_unproved: bool = False) -> Totals:
+def totals_of(outcomes: Outcomes, is_unproved: bool = False) -> OutcomeTotals:
     """The totals of a report."""
-    return replace(Totals.of_outcomes(outcomes.values()), is_unproved=is_unproved)
+    return replace(OutcomeTotals.of_outcomes(outcomes.values()), is_unproved=is_unproved)
 
 
 def mark_as_of_sender_before(text: StyledText) -> StyledText:
@@ -89,7 +89,7 @@ def mark_as_of_sender_before(text: StyledText) -> StyledText:
     return StyledText([("".join(f"{line}\n" for line in marked), "dim")])
 
 
-def changed_outcomes(before: Outcomes, after: Outcomes) -> list[Outcome]:
+def changed_outcomes(before: Outcomes, after: Outcomes) -> list[ScriptOutcome]:
     """The outcomes whose rows changed, last those that pass or are known not to."""
     found = [it for path, it in after.items() if path not in before or _is_shown_otherwise(before[path], it)]
     return sorted(found, key=lambda it: it.counted_as in (Verdict.PASS, CountedAs.KNOWN))
@@ -105,12 +105,12 @@ def gone_row(path: str) -> StyledText:
     return StyledText([(f"{printable_path(path)}: ", "")]).append("gone\n", "dim")
 
 
-def newly_explained_outcomes(before: Outcomes, after: Outcomes) -> list[Outcome]:
+def newly_explained_outcomes(before: Outcomes, after: Outcomes) -> list[ScriptOutcome]:
     """The outcomes of which something is to be shown: their rows changed, or their explanations did."""
     return [it for path, it in after.items() if _is_newly_explained(before.get(path), it)]
 
 
-def entries_of(outcomes: Iterable[Outcome], every: bool) -> StyledText:
+def entries_of(outcomes: Iterable[ScriptOutcome], every: bool) -> StyledText:
     form = PlainFormatter(every)
     text = StyledText()
     for number, outcome in enumerate(outcomes, 1):
@@ -119,7 +119,7 @@ def entries_of(outcomes: Iterable[Outcome], every: bool) -> StyledText:
     return text
 
 
-def _is_shown_otherwise(old: Outcome, new: Outcome) -> bool:
+def _is_shown_otherwise(old: ScriptOutcome, new: ScriptOutcome) -> bool:
     """Whether the row changed, the line that it names, what is warned of, or whether it makes the run fail."""
     if old is new:
         return False
@@ -133,7 +133,7 @@ def _is_shown_otherwise(old: Outcome, new: Outcome) -> bool:
     )
 
 
-def _is_newly_explained(old: Outcome | None, new: Outcome) -> bool:
+def _is_newly_explained(old: ScriptOutcome | None, new: ScriptOutcome) -> bool:
     if new.row.line is None:
         return False
     if old is None or _is_shown_otherwise(old, new):

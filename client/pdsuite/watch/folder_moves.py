@@ -5,11 +5,11 @@ from collections import defaultdict
 from collections.abc import Callable, Iterable, Iterator, Mapping, Set
 from dataclasses import dataclass
 
-from pdsuite.run.outcomes import Outcome
+from pdsuite.run.outcomes import ScriptOutcome
 from pdsuite.watch.plan_changes import WantedScript
 
 # By their paths, in the order of these.
-Outcomes = Mapping[str, Outcome]
+Outcomes = Mapping[str, ScriptOutcome]
 # Folders, each with the names of its scripts.
 _Folders = Mapping[str, frozenset[str]]
 

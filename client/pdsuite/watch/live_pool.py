@@ -7,9 +7,9 @@ from pdsuite.output.octets import printable_path
 from pdsuite.programs.program import ProgramEndedError
 from pdsuite.programs.protocol import Cause
 from pdsuite.programs.verdict import Row, Verdict
-from pdsuite.run.batches import PIECE_SIZE, Batch, Script, split_by_size
+from pdsuite.run.batches import PIECE_SIZE, Batch, SuiteScript, split_by_size
 from pdsuite.run.explainer import with_explanation
-from pdsuite.run.outcomes import Outcome
+from pdsuite.run.outcomes import ScriptOutcome
 from pdsuite.run.run_batches import SettledPiece, Start, UnexplainedScript, run_batch
 from pdsuite.scripts.settings import Settings
 from pdsuite.watch.live_run import LiveRun
@@ -102,7 +102,7 @@ class LivePool:
         """The explanations of scripts by keys, by their paths."""
         return {path: it for run in self._runs for path, it in run.causes.items()}
 
-    def explain(self, outcome: Outcome, wanted: WantedScript) -> Outcome:
+    def explain(self, outcome: ScriptOutcome, wanted: WantedScript) -> ScriptOutcome:
         """An outcome with its explanation."""
         causes = (run.causes[outcome.path] for run in self._runs if outcome.path in run.causes)
         return with_explanation(outcome, next(causes, None), wanted.text)
@@ -178,7 +178,7 @@ class LivePool:
 
     def _find_fatal_scripts(self, contents: RunContents) -> dict[str, Row]:
         """The scripts on which a run ends twice, as `pdsuite run` finds them, each with its row."""
-        scripts = [Script(index, path, contents.settings) for index, path in enumerate(contents.texts)]
+        scripts = [SuiteScript(index, path, contents.settings) for index, path in enumerate(contents.texts)]
         batch = Batch(contents.settings, tuple(split_by_size(scripts, PIECE_SIZE)))
         unexplained: set[str] = set()
         rows: dict[str, Row] = {}

@@ -7,7 +7,7 @@ from dataclasses import dataclass
 from pdsuite.run.batches import BATCH_SIZE
 from pdsuite.scripts.defaults import can_switch_settings, changed_settings
 from pdsuite.scripts.settings import Settings, set_command_words
-from pdsuite.scripts.text import Text
+from pdsuite.scripts.text import ScriptText
 from pdsuite.scripts.text_edit import Edit, edit_between
 
 
@@ -16,7 +16,7 @@ class WantedScript:
     """What a script's file holds, and under which settings it is to run."""
 
     settings: Settings
-    text: Text
+    text: ScriptText
 
 
 @dataclass(frozen=True)
@@ -24,7 +24,7 @@ class RunContents:
     """What a run holds: its settings, and the texts of its scripts by their paths, in the order of adding."""
 
     settings: Settings
-    texts: Mapping[str, Text]
+    texts: Mapping[str, ScriptText]
 
 
 @dataclass(frozen=True, slots=True)
@@ -47,7 +47,7 @@ class EditScript:
 @dataclass(frozen=True, slots=True)
 class AddScript:
     path: str
-    text: Text
+    text: ScriptText
 
 
 Act = RemoveScript | SetKey | EditScript | AddScript
@@ -93,7 +93,7 @@ def _has_settings(it: WantedScript | None, settings: Settings | None) -> bool:
 
 def _place_in_runs(scripts: Mapping[str, WantedScript], runs: list[RunContents]) -> None:
     """Puts each script into the first run that has its settings and room, or else into a new one."""
-    rooms: dict[Settings, list[dict[str, Text]]] = {}
+    rooms: dict[Settings, list[dict[str, ScriptText]]] = {}
     for number, run in enumerate(runs):
         texts = dict(run.texts)
         runs[number] = RunContents(run.settings, texts)

@@ -15,11 +15,11 @@ from pdsuite.programs.refusals import refusal_lines
 from pdsuite.programs.verdict import Row, Verdict
 from pdsuite.run.batches import BATCH_SIZE
 from pdsuite.run.explainer import EXPLAIN_OPTIONS
-from pdsuite.run.outcomes import Outcome
+from pdsuite.run.outcomes import ScriptOutcome
 from pdsuite.run.run_batches import starter_with_options, starter_without_explanations
 from pdsuite.scripts.config import Claim, Layer, claims_of_layers
 from pdsuite.scripts.settings import Settings
-from pdsuite.scripts.text import Text
+from pdsuite.scripts.text import ScriptText
 from pdsuite.signals import Stop
 from pdsuite.watch.folder_moves import Outcomes
 from pdsuite.watch.folders import Folders, WatchChoice
@@ -266,9 +266,9 @@ def _make_outcomes(folders: Folders, pool: LivePool, unfit: Mapping[str, str]) -
     return {path: _make_outcome(path, it.file.value, rows[path], folders) for path, it in folders.files.items()}
 
 
-def _make_outcome(path: str, text: Text | str, row: Row, folders: Folders) -> Outcome:
-    line = text.line(row.line) if isinstance(text, Text) and row.line is not None else None
-    outcome = Outcome(path, (), row, line, expected=folders.expected_row(path))
+def _make_outcome(path: str, text: ScriptText | str, row: Row, folders: Folders) -> ScriptOutcome:
+    line = text.line(row.line) if isinstance(text, ScriptText) and row.line is not None else None
+    outcome = ScriptOutcome(path, (), row, line, expected=folders.expected_row(path))
     if outcome.warnings:
         outcome.is_strict = folders.is_strict(path)
     return outcome

@@ -8,12 +8,12 @@ from typing import Protocol
 from pdsuite.compare.comparison import ComparedScript, ComparisonKind
 from pdsuite.compare.divergence import Divergence, first_divergence
 from pdsuite.programs.recorder import Recorder
-from pdsuite.run.batches import Script, group_into_batches
+from pdsuite.run.batches import SuiteScript, group_into_batches
 from pdsuite.run.explainer import EXPLAIN_FAILURES
 from pdsuite.run.local_mapper import local_mapper
-from pdsuite.run.outcomes import Outcome
+from pdsuite.run.outcomes import ScriptOutcome
 from pdsuite.run.run_batches import SettledPiece, UnexplainedScript
-from pdsuite.scripts.text import Text
+from pdsuite.scripts.text import ScriptText
 from pdsuite.signals import Stop
 from pdsuite.watch.folder_moves import Outcomes
 from pdsuite.watch.plan_changes import WantedScript
@@ -62,7 +62,7 @@ class BaseSender:
         self._workers = workers
         self._stop = stop
         self._note = note
-        self._known: dict[str, tuple[WantedScript, Outcome]] = {}
+        self._known: dict[str, tuple[WantedScript, ScriptOutcome]] = {}
 
     def outcomes_now(self, shown: ShownScripts, now: ShownScripts) -> Outcomes:
         self._known = {path: it for path, it in self._known.items() if now.wanted.get(path) == it[0]}
@@ -73,10 +73,10 @@ class BaseSender:
     def programs(self) -> Programs | None:
         return self._programs
 
-    def _run_scripts(self, wanted: Wanted) -> Iterator[Outcome]:
-        scripts = [Script(index, path, it.settings) for index, (path, it) in enumerate(wanted.items())]
+    def _run_scripts(self, wanted: Wanted) -> Iterator[ScriptOutcome]:
+        scripts = [SuiteScript(index, path, it.settings) for index, (path, it) in enumerate(wanted.items())]
 
-        def load(script: Script) -> Text:
+        def load(script: SuiteScript) -> ScriptText:
             return wanted[script.path].text
 
         for step in local_mapper(self._programs[0], EXPLAIN_FAILURES, self._workers, self._stop, load)(
@@ -112,7 +112,11 @@ def _make_recorder(programs: Programs | None, stop: Stop, note: Callable[[str], 
 
 
 def _compared_script(
-    index: int, one: Outcome, other: Outcome, wanted: WantedScript | None, recorders: Sequence[Recorder | None]
+    index: int,
+    one: ScriptOutcome,
+    other: ScriptOutcome,
+    wanted: WantedScript | None,
+    recorders: Sequence[Recorder | None],
 ) -> ComparedScript:
     parting = None if wanted is None else _divergence_of_recordings(other.path, wanted, recorders)
     return ComparedScript(index, ComparisonKind.TURNED, one, other, parting)

@@ -10,7 +10,7 @@ from pdsuite.output.screen import Screen
 from pdsuite.output.styled_text import StyledText
 from pdsuite.programs.lookup import SenderChangedError
 from pdsuite.programs.verdict import Row, Verdict
-from pdsuite.run.outcomes import Outcome
+from pdsuite.run.outcomes import ScriptOutcome
 from pdsuite.watch.change_report import ChangeReport, changed_outcomes, mark_as_of_sender_before, totals_of
 from pdsuite.watch.folder_moves import Move, Outcomes
 from pdsuite.watch.plan_changes import WantedScript
@@ -26,7 +26,7 @@ Wanted = Mapping[str, WantedScript]
 class Explainer(Protocol):
     """Who knows the explanations of scripts."""
 
-    def explain(self, outcome: Outcome, wanted: WantedScript) -> Outcome:
+    def explain(self, outcome: ScriptOutcome, wanted: WantedScript) -> ScriptOutcome:
         """An outcome with its explanation."""
 
 
@@ -228,7 +228,7 @@ class View:
         """A part of a report, which says of which sender it is where that doesn't stand."""
         return text if self._is_current else mark_as_of_sender_before(text)
 
-    def _is_explanation_current(self, outcome: Outcome, wanted: Wanted) -> bool:
+    def _is_explanation_current(self, outcome: ScriptOutcome, wanted: Wanted) -> bool:
         """Whether the explanation of a script is of this outcome."""
         path = outcome.path
         old = self.outcomes.get(path)
@@ -238,7 +238,7 @@ class View:
             return False
         return self._wanted.get(path) == wanted.get(path)
 
-    def _needs_explanation(self, outcome: Outcome) -> bool:
+    def _needs_explanation(self, outcome: ScriptOutcome) -> bool:
         """Whether an outcome needs an explanation; of a known one nothing is shown but on the page."""
         return (
             outcome.row.line is not None
@@ -246,7 +246,7 @@ class View:
             and (self._of_known or not outcome.is_known_failure)
         )
 
-    def _explain_outcomes(self, outcomes: Iterable[Outcome], wanted: Wanted) -> Iterator[Outcome]:
+    def _explain_outcomes(self, outcomes: Iterable[ScriptOutcome], wanted: Wanted) -> Iterator[ScriptOutcome]:
         """Outcomes with explanations."""
         if self._explainer is not None:
             yield from (self._explainer.explain(it, wanted[it.path]) for it in outcomes)

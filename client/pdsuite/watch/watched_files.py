@@ -5,10 +5,10 @@ from collections.abc import Iterable, Mapping, Set
 from dataclasses import dataclass, replace
 
 from pdsuite.file_stamps import Stamp, StampedValue, is_unchanged_since_read, read_stamped
-from pdsuite.run.batches import Script
+from pdsuite.run.batches import SuiteScript
 from pdsuite.run.run_batches import load_script_text
 from pdsuite.scripts.discover import ScriptFile
-from pdsuite.scripts.text import Text
+from pdsuite.scripts.text import ScriptText
 
 # So many seconds after it went, a path that is there again was only saved.
 GRACE = 0.05
@@ -19,7 +19,7 @@ class WatchedFile:
     """A script's file, and what was read of it: its text, or why it can't be run."""
 
     found: ScriptFile
-    file: StampedValue[Text | str]
+    file: StampedValue[ScriptText | str]
 
     @property
     def inode(self) -> Stamp:
@@ -47,7 +47,7 @@ class Update:
 
 def read_watched_file(found: ScriptFile, before: WatchedFile | None, is_closed: bool) -> WatchedFile:
     """Reads a script's file. If nobody says that it was closed, who wrote it a moment ago may still be writing."""
-    script = Script(0, found.path, (), found.fault)
+    script = SuiteScript(0, found.path, (), found.fault)
     file = read_stamped(found.path, lambda: load_script_text(script))
     if file.is_fresh and not is_closed and (before is None or before.file.value != file.value):
         file = replace(file, is_torn=True)
