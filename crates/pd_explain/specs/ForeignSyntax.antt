@@ -1,16 +1,16 @@
 -- Syntax that people write in scripts and the grammar doesn't have.
 use Rattle.std.specs.Prelude.{ℕ, ◌==◌, Bool, false, ◌&&◌, ◌||◌, List, [], ◌∷◌, Option, Some, None, if◌then◌else◌}
-use Rattle.pd_script.specs.Values.{role}
+use Rattle.pd_script.specs.Values.{sign}
 use Rattle.pd_explain.specs.declared.refusals.foreign_syntax.ForeignSyntax.{ForeignSyntax}
 use Rattle.pd_explain.specs.declared.refusals.foreign_syntax.ForeignSyntax.TheVariants.{ByteOrderMark, Hash, Semicolon, AnyResult, EcnBits}
 
 -- by the first octet, after a symbol of this octet
 abbrev pub foreign_syntax_of : ℕ → ℕ → Option ForeignSyntax
 foreign_syntax_of after octet =
-    if octet == role "#" then Some Hash
-    else (if octet == role ";" then Some Semicolon
-    else (if (octet == role "?") && (after == role "=") then Some AnyResult
-    else (if (octet == role "[") && ((after == role "<") || (after == role ">")) then Some EcnBits
+    if octet == sign "#" then Some Hash
+    else (if octet == sign ";" then Some Semicolon
+    else (if (octet == sign "?") && (after == sign "=") then Some AnyResult
+    else (if (octet == sign "[") && ((after == sign "<") || (after == sign ">")) then Some EcnBits
     else None)))
 
 -- the octets EF BB BF are the byte order mark of UTF-8 (RFC 3629, section 6)

@@ -11,7 +11,7 @@ use Rattle.pd_lex.specs.declared.token.Place.{Place}
 use Rattle.pd_lex.specs.declared.token.TokenKind.{TokenKind}
 use Rattle.pd_lex.specs.declared.token.TokenKind.TheVariants as kinds
 use Rattle.pd_script.specs.Header.{option_kind}
-use Rattle.pd_script.specs.Values.{role}
+use Rattle.pd_script.specs.Values.{sign}
 use Rattle.pd_script.specs.declared.script_events.Event.{Event}
 use Rattle.pd_script.specs.declared.script_header.HeaderKind.{HeaderKind}
 use Rattle.pd_script.specs.declared.script_header.HeaderKind.TheVariants as header
@@ -51,13 +51,13 @@ word_role text =
 -- the symbol of an octet
 abbrev pub octet_role : ℕ → TokenRole
 octet_role octet =
-    if octet == role ":" then sign_is.Colon
-    else (if octet == role "," then sign_is.Comma
-    else (if octet == role "<" then sign_is.Arrow
-    else (if (octet == role ".") || (octet == role "-") then sign_is.Point
-    else (if octet == role "(" then sign_is.Parenthesis
-    else (if (octet == role "[") || (octet == role "{") then sign_is.Bracket
-    else (if (octet == role ")") || ((octet == role "]") || (octet == role "}")) then sign_is.Closing
+    if octet == sign ":" then sign_is.Colon
+    else (if octet == sign "," then sign_is.Comma
+    else (if octet == sign "<" then sign_is.Arrow
+    else (if (octet == sign ".") || (octet == sign "-") then sign_is.Point
+    else (if octet == sign "(" then sign_is.Parenthesis
+    else (if (octet == sign "[") || (octet == sign "{") then sign_is.Bracket
+    else (if (octet == sign ")") || ((octet == sign "]") || (octet == sign "}")) then sign_is.Closing
     else sign_is.Other))))))
 
 -- a symbol is of one octet

@@ -30,7 +30,7 @@ use Rattle.pd_script.specs.Items.{is_word as is_word_item, text_of}
 use Rattle.pd_script.specs.Values.{error_name, error_named}
 use Rattle.pd_script.specs.Spelling.{Spelling, IsSymbol}
 use Rattle.pd_script.specs.PacketGrammar.{IsOctets, IsPacket}
-use Rattle.pd_script.specs.Grammar.{IsTime, IsMaybeUntil, IsErrorName, IsExpectedResult, IsAction, IsEvent}
+use Rattle.pd_script.specs.Grammar.{IsTime, IsMaybeBlockingEnd, IsErrorName, IsExpectedResult, IsAction, IsEvent}
 use Rattle.pd_seg.specs.declared.call_results.Answer.{Answer}
 use Rattle.pd_seg.specs.declared.call_results.Answer.TheVariants.{Number, Error}
 use Rattle.pd_seg.specs.declared.call_results.Errno.{Errno}
@@ -135,7 +135,7 @@ module _ (lines : List (List ℕ)) (plain : list_all is_line lines ≡ true) whe
   arrow_ends Outbound s = refl
 
   event_read : (time : Time) (d : Direction) (x : Packet) (p : Place) (rest : List ℕ) → FitsTime time → FitsPacket d x → ends_number rest ≡ true → IsLeftAt lines p (event_text time d x ++ rest) → ReadTo lines Event IsEvent (event_of time (action_of d x) p.line) p rest
-  unfolding IsEvent IsMaybeUntil
+  unfolding IsEvent IsMaybeBlockingEnd
   event_read time d x p rest short fits ends h =
       let after = arrow d ++ (packet_text x ++ rest) in
       let whole : event_text time d x ++ rest ≡ time_text time ++ after =

@@ -8,7 +8,7 @@ use Rattle.pd_script.specs.declared.event_reader.NextEvent.TheVariants.{Got, End
 use Rattle.pd_script.specs.Items.{is_end, starts_event, starts_event_or_end, next_is}
 use Rattle.pd_script.specs.EventReading.{next_line, event_at}
 use Rattle.pd_script.specs.Script.{followed, at_end, in_front}
-use Rattle.pd_script.specs.declared.parsed.Found.{Found}
+use Rattle.pd_script.specs.declared.parsed.EventsAndFault.{EventsAndFault}
 use Rattle.pd_script.specs.Next.{next_place, lookahead_line_of, next_in}
 use Rattle.pd_script.proofs.Finding.{in_front-append, in_front-none}
 

@@ -5,7 +5,7 @@ use Rattle.pd_seg.specs.declared.call_results.Answer.TheVariants.{Number, Error}
 use Rattle.pd_seg.specs.declared.call_results.Errno.TheVariants.{Ebadf, Einval, Eagain, Epipe}
 use Rattle.pd_seg.specs.declared.segments.Sent.{Sent}
 use Rattle.pd_script.specs.declared.calls.Call.{Call}
-use Rattle.pd_host.specs.Calls.{Descriptor, Listening, Connected, RecordedAnswer, answered, with_listener, with_stored, with_answer, socket_reply, bind_reply, listen_reply, accept_reply, handed_out, no_delay_reply, free_of, with_queued, write_settings, queued, written_on, write_reply, closed_stream, closed_on, close_reply, operated, on_open, open_descriptor, reply_to, requested, called, has_unaccepted_connection, is_unaccepted, stream_of, with_stream, with_nagle}
+use Rattle.pd_host.specs.Calls.{Descriptor, Listening, Connected, Reply, answered, with_listener, with_stored, with_answer, socket_reply, bind_reply, listen_reply, accept_reply, handed_out, no_delay_reply, free_of, with_queued, write_settings, queued, written_on, write_reply, closed_stream, closed_on, close_reply, operated, on_open, open_descriptor, reply_to, requested, called, has_unaccepted_connection, is_unaccepted, stream_of, with_stream, with_nagle}
 use Rattle.pd_host.specs.Connection.{ConnectionView}
 use Rattle.pd_host.specs.Syscalls.{syscall_of}
 use Rattle.pd_host.specs.Sending.{ordinary, ordinary_outside_recovery, is_recovering}
@@ -26,7 +26,7 @@ abbrev pub beside_answer : List Sent → SenderState × Answer → SenderState �
 beside_answer w x = (in_front w x.0, x.1)
 
 -- the answer of a call, without the packets in front
-abbrev Freed : List Sent → RecordedAnswer → RecordedAnswer → Type 0
+abbrev Freed : List Sent → Reply → Reply → Type 0
 Freed w r q = CameBy (beside_answer w) r q
 
 answer_freed : (w : List Sent) (answer : Answer) (r q : Result SenderState Halt) → CameBy (in_front w) r q → Freed w (with_answer answer r) (with_answer answer q)
