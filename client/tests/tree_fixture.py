@@ -122,7 +122,7 @@ class Tree:
         """Gives it a constant of the sender."""
         folder = self.top / "crates/pd_board/src"
         folder.mkdir(parents=True, exist_ok=True)
-        (folder / "counts.rt").write_text(f"/// A rule (RFC 6675, section 4).\npub const RULE: u32 = {value};\n")
+        (folder / "queries.rt").write_text(f"/// A rule (RFC 6675, section 4).\npub const RULE: u32 = {value};\n")
 
     def put_program(self, name: str, octets: bytes) -> Path:
         """Puts a program where a proved one lies; its path. Its times are older than those of all else."""
