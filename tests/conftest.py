@@ -73,7 +73,7 @@ class RowTest(pytest.Item):
         return self.path, self.case.row.line - 1, self.name
 
 
-class RowRunner:
+class SessionRows:
     """Runs the rows of a session, and keeps the results."""
 
     def __init__(self, programs: Programs) -> None:
@@ -103,7 +103,7 @@ class RowRunner:
             self.keep_results(items, results)
 
 
-ROW_RUNNER = pytest.StashKey[RowRunner]()
+ROW_RUNNER = pytest.StashKey[SessionRows]()
 STATUS = pytest.StashKey[int]()
 
 
@@ -157,14 +157,14 @@ def draw_options_of(config: pytest.Config) -> DrawOptions:
     return DrawOptions(config.getoption("--seed"), config.getoption("--rows"))
 
 
-def row_runner_of(config: pytest.Config) -> RowRunner:
+def row_runner_of(config: pytest.Config) -> SessionRows:
     """The runner of the rows of a session, by the programs that were chosen."""
     if ROW_RUNNER not in config.stash:
         if folder := config.getoption("--programs"):
             programs = programs_in(folder.absolute())
         else:
             programs = Programs() if config.getoption("--unproved") else proved_programs()
-        config.stash[ROW_RUNNER] = RowRunner(programs)
+        config.stash[ROW_RUNNER] = SessionRows(programs)
     return config.stash[ROW_RUNNER]
 
 

@@ -341,7 +341,7 @@ def test_tests_are_run_as_often_and_as_long_as_the_options_say(tmp_path: Path, m
         return 0
 
     monkeypatch.setattr(mutants_tool, "check_kit_on_path", lambda: None)
-    monkeypatch.setattr(mutants_tool, "try_tests", try_tests)
+    monkeypatch.setattr(mutants_tool, "try_test_mutants", try_test_mutants)
     for arguments in (["tests", "-j", "3", "--times", "7", "--seconds", "9"], ["tests", "-j", "1"]):
         assert mutants_tool.try_chosen_mutants(mutants_tool.make_parser().parse_args(arguments)) == 0
     assert calls == [(3, 7, 9), (1, 10, 40)]

@@ -37,7 +37,7 @@ from kit_tools import optimised_compiler_command, plain_compiler_command
 # The program whose main file takes the place of both, and the mark for the modules of its crate.
 PROGRAM = "pdrecord"
 MODULE = "mod program;"
-# What the reader's status says of sources that don't compile.
+# The reader's status for sources that don't compile.
 REFUSED = 1
 GRACE = 10.0
 # How often the current phase is noted, in seconds.

@@ -29,7 +29,7 @@ COMMENTS = {".rt": r"//(.*)", ".antt": r"(?:^|\s)--(.*)", ".sh": r"(?:^|\s)#(.*)
 
 
 @dataclass(frozen=True)
-class SourceText:
+class ScannedText:
     """A file of the tree: its path below the top, and its text."""
 
     path: str
@@ -41,15 +41,15 @@ class SourceText:
         return ".sh" if self.text.startswith("#!/bin/sh") else Path(self.path).suffix
 
 
-def git_text_files() -> Iterator[SourceText]:
+def git_text_files() -> Iterator[ScannedText]:
     """The files that git has and that are text."""
     listed = subprocess.run(["git", "ls-files", "-z"], cwd=TOP, capture_output=True, check=True).stdout
     for path in map(TOP.joinpath, filter(None, listed.decode().split("\0"))):
         if not path.is_symlink() and path.is_file():
-            yield SourceText(str(path.relative_to(TOP)), path.read_text(encoding="utf-8", errors="replace"))
+            yield ScannedText(str(path.relative_to(TOP)), path.read_text(encoding="utf-8", errors="replace"))
 
 
-def types_in(text: SourceText) -> Iterator[tuple[int, str]]:
+def types_in(text: ScannedText) -> Iterator[tuple[int, str]]:
     """The types of a file by their lines, but for a type that is local to another one, as an associated type is."""
     if text.suffix == ".rt" and "/src/" in text.path:
         for found in RATTLE_TYPE.finditer(text.text):
@@ -71,7 +71,7 @@ def python_prose(source: str) -> Iterator[tuple[int, str]]:
             yield from enumerate(text.split("\n"), node.body[0].lineno)
 
 
-def prose_in(text: SourceText) -> Iterator[tuple[int, str]]:
+def prose_in(text: ScannedText) -> Iterator[tuple[int, str]]:
     """The prose of a file, by its lines."""
     if text.suffix == ".py":
         yield from python_prose(text.text)
@@ -82,7 +82,7 @@ def prose_in(text: SourceText) -> Iterator[tuple[int, str]]:
 
 
 def repeated_nouns(
-    files: list[SourceText], explained: dict[str, str], second: dict[str, str]
+    files: list[ScannedText], explained: dict[str, str], second: dict[str, str]
 ) -> Iterator[tuple[str, str]]:
     """The places of each noun that names more than one type; second readings have the nouns of the first ones."""
     places: defaultdict[str, list[str]] = defaultdict(list)
@@ -95,7 +95,7 @@ def repeated_nouns(
 
 
 def words_to_avoid_in(
-    files: list[SourceText], words: dict[str, str], explained: dict[str, str]
+    files: list[ScannedText], words: dict[str, str], explained: dict[str, str]
 ) -> Iterator[tuple[str, str]]:
     """The places of the words that prose is to avoid, each with what to write instead."""
     patterns = [(re.compile(rf"\b(?:{it})\b", re.IGNORECASE), instead) for it, instead in words.items()]

@@ -125,7 +125,7 @@ def test_known_rows_are_counted_apart_and_make_no_run_fail() -> None:
     assert (
         str(OutcomeTotals.of_outcomes([known, other, mended])) == f"total 3 pass 0 fail 0 {zeros} known 1 unexpected 2"
     )
-    assert OutcomeTotals.of_outcomes([known, other]).nonzero_counts() == "total 2 known 1 unexpected 1"
+    assert OutcomeTotals.of_outcomes([known, other]).nonzero_counts_text() == "total 2 known 1 unexpected 1"
     assert str(OutcomeTotals.of_outcomes([passing])) == f"total 1 pass 1 fail 0 {zeros}"
 
 

@@ -29,7 +29,7 @@ NAMES = ["a.pkt", "a b/c.pkt", "q\"uo'te.pkt", r"a\x0ab.pkt", r"\xff.pkt", r"a\\
 def written(outcomes: list[ScriptOutcome], shard: Shard | None = None) -> bytes:
     """A report as `pdsuite run --json` prints it."""
     form = JsonFormatter(shard)
-    entries = [form.entry(number, it) for number, it in enumerate(outcomes, 1)]
+    entries = [form.script_entry(number, it) for number, it in enumerate(outcomes, 1)]
     parts = [form.opening(len(outcomes)), *entries, form.summary(OutcomeTotals.of_outcomes(outcomes), 1.5)]
     return "".join(it.plain for it in parts).encode()
 

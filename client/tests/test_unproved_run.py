@@ -22,7 +22,7 @@ from pdsuite.programs.protocol import UnexpectedAnswerError
 from pdsuite.programs.refusals import distinct_key_values, refusals_in_answer
 from pdsuite.programs.verdict import Row, Verdict
 from pdsuite.run.batches import SuiteScript
-from pdsuite.run.unproved_run import StartBatch, explained_rows, read_answers, split_into_start_batches
+from pdsuite.run.unproved_run import StartBatch, explained_rows, rows_and_unanswered_batches, split_into_start_batches
 from pdsuite.scripts.config import Claim
 from pdsuite.scripts.text import ScriptText, make_text
 from tests.helpers import TOP, ends, is_alive, wait_for, write
@@ -92,12 +92,12 @@ def test_what_is_told_of_another_line_or_script_is_of_none() -> None:
 def test_an_answer_that_is_not_the_report_of_the_batch_is_none(rows: bytes) -> None:
     with pytest.raises(UnexpectedAnswerError):
         explained_rows(batch(b"x\n"), ProgramAnswer(rows, b""))
-    assert read_answers([batch(b"x\n")], [ProgramAnswer(rows, b"")])[0] == {}
+    assert rows_and_unanswered_batches([batch(b"x\n")], [ProgramAnswer(rows, b"")])[0] == {}
 
 
 def test_a_batch_without_an_answer_is_kept_with_the_reason() -> None:
     one = batch(b"x\n")
-    _, unheard = read_answers([one], [ProgramAnswer(b"", b"", "TooSlow: it took long")])
+    _, unheard = rows_and_unanswered_batches([one], [ProgramAnswer(b"", b"", "TooSlow: it took long")])
     assert unheard == [(one, "pdregress: TooSlow: it took long")]
 
 

@@ -47,7 +47,7 @@ class Side:
         named = {self._key_name_here(key): self._value_word_here(key, value) for key, value in here.items()}
         return sorted_settings({**named, **self.option.keys})
 
-    def with_effective_settings(self, scripts: Iterable[SuiteScript]) -> list[SuiteScript]:
+    def scripts_with_effective_settings(self, scripts: Iterable[SuiteScript]) -> list[SuiteScript]:
         """Scripts under the settings that hold here."""
         return [it if it.fault else replace(it, settings=self.effective_settings(it.settings)) for it in scripts]
 

@@ -28,7 +28,7 @@ class JsonFormatter:
     def opening(self, count: int) -> StyledText:
         return unstyled_text(f'{{"version": {VERSION}, "scripts": [')
 
-    def entry(self, number: int, outcome: ScriptOutcome) -> StyledText:
+    def script_entry(self, number: int, outcome: ScriptOutcome) -> StyledText:
         begin = "\n" if number == 1 else ",\n"
         return unstyled_text(begin + script_json(outcome, printable_path(outcome.path), outcome.explanation))
 

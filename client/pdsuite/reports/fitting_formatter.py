@@ -20,8 +20,8 @@ class FittingFormatter:
     def opening(self, count: int) -> StyledText:
         return self.form.opening(count)
 
-    def entry(self, number: int, outcome: ScriptOutcome) -> StyledText | None:
-        entry, width = self.form.entry(number, outcome), self.width()
+    def script_entry(self, number: int, outcome: ScriptOutcome) -> StyledText | None:
+        entry, width = self.form.script_entry(number, outcome), self.width()
         return entry if entry is None or width is None else fit_to_columns(entry, usable_columns(width))
 
     def summary(self, totals: OutcomeTotals, seconds: float) -> StyledText:

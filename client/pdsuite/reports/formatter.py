@@ -13,7 +13,7 @@ class Formatter(Protocol):
     def opening(self, count: int) -> StyledText:
         """What stands before so many scripts."""
 
-    def entry(self, number: int, outcome: ScriptOutcome) -> StyledText | None:
+    def script_entry(self, number: int, outcome: ScriptOutcome) -> StyledText | None:
         """What stands for a script, if anything does; the first has the number 1."""
 
     def summary(self, totals: OutcomeTotals, seconds: float) -> StyledText:

@@ -44,7 +44,7 @@ class GithubFormatter:
     def opening(self, count: int) -> StyledText:
         return StyledText()
 
-    def entry(self, number: int, outcome: ScriptOutcome) -> StyledText | None:
+    def script_entry(self, number: int, outcome: ScriptOutcome) -> StyledText | None:
         if outcome.row.verdict is Verdict.NOT_RUN:
             return None
         lines: list[str] = []

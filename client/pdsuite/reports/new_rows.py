@@ -22,7 +22,7 @@ class NewRowsFormatter:
     def opening(self, count: int) -> StyledText:
         return self.form.opening(count)
 
-    def entry(self, number: int, outcome: ScriptOutcome) -> StyledText | None:
+    def script_entry(self, number: int, outcome: ScriptOutcome) -> StyledText | None:
         saved = self.before.get(self.absolute(outcome.path))
         if saved is None:
             return self.form.script_entry(number, outcome)

@@ -34,7 +34,7 @@ class PlainFormatter:
     def opening(self, count: int) -> StyledText:
         return StyledText()
 
-    def entry(self, number: int, outcome: ScriptOutcome) -> StyledText | None:
+    def script_entry(self, number: int, outcome: ScriptOutcome) -> StyledText | None:
         if not self.every and outcome.counted_as in _UNSHOWN:
             return self.styled_warnings(outcome) if outcome.warnings else None
         if outcome.warnings or outcome.is_known_failure:

@@ -8,7 +8,7 @@ from pdsuite.output.screen import Screen
 from pdsuite.output.styled_text import StyledText
 from pdsuite.programs.verdict import Row, Verdict
 from pdsuite.reports.formatter import Formatter
-from pdsuite.run.batches import SuiteScript, outcome_of
+from pdsuite.run.batches import SuiteScript, make_outcome
 from pdsuite.run.outcomes import ScriptOutcome, OutcomeTotals
 
 
@@ -30,7 +30,7 @@ class Report:
         self._screen.show(self._form.opening(len(self._scripts)))
         self._screen.show_progress(0, len(self._scripts))
 
-    def take_outcomes(self, outcomes: Iterable[tuple[SuiteScript, ScriptOutcome]]) -> None:
+    def show_outcomes_in_order(self, outcomes: Iterable[tuple[SuiteScript, ScriptOutcome]]) -> None:
         """Shows outcomes, as soon as all before them were shown."""
         for script, outcome in outcomes:
             self._waiting[script.index] = outcome
@@ -71,4 +71,4 @@ class Report:
 
 
 def _not_run_outcome(script: SuiteScript) -> ScriptOutcome:
-    return outcome_of(script, Row(Verdict.NOT_RUN))
+    return make_outcome(script, Row(Verdict.NOT_RUN))

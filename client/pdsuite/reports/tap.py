@@ -17,7 +17,7 @@ class TapFormatter:
     def opening(self, count: int) -> StyledText:
         return unstyled_text(f"TAP version 13\n1..{count}\n")
 
-    def entry(self, number: int, outcome: ScriptOutcome) -> StyledText:
+    def script_entry(self, number: int, outcome: ScriptOutcome) -> StyledText:
         name = printable_path(outcome.path, also=_DIRECTIVE)
         if outcome.counted_as is Verdict.PASS:
             warning_lines = warning_lines_of(outcome)

@@ -32,7 +32,7 @@ class SuiteScript:
     held: bytes | None = None
 
 
-def outcome_of(script: SuiteScript, row: Row, line: bytes | None = None) -> ScriptOutcome:
+def make_outcome(script: SuiteScript, row: Row, line: bytes | None = None) -> ScriptOutcome:
     """What came of a script, whose text has this line where the row names one."""
     return ScriptOutcome(script.path, script.settings, row, line, is_strict=script.is_strict, expected=script.expected)
 

@@ -11,7 +11,7 @@ from pdsuite.programs.program import Program, ProgramEndedError
 from pdsuite.programs.protocol import LONGEST_CAUSE, LONGEST_LINE, SETTLE, Cause, UnexpectedAnswerError
 from pdsuite.programs.protocol import add_command, parse_causes, parse_new_rows, rows_before_total, script_name
 from pdsuite.programs.verdict import Row, Verdict
-from pdsuite.run.batches import Batch, Piece, SuiteScript, outcome_of
+from pdsuite.run.batches import Batch, Piece, SuiteScript, make_outcome
 from pdsuite.run.explainer import with_explanation
 from pdsuite.run.outcomes import ScriptOutcome
 from pdsuite.scripts.settings import Settings, settings_as_toml
@@ -216,4 +216,4 @@ def error_piece(piece: Piece, reason: str) -> SettledPiece:
 
 
 def _error_outcome(script: SuiteScript, reason: str) -> tuple[SuiteScript, ScriptOutcome]:
-    return script, outcome_of(script, Row(Verdict.ERROR, word=reason))
+    return script, make_outcome(script, Row(Verdict.ERROR, word=reason))

@@ -194,7 +194,7 @@ def split_into_start_batches(piece: Iterable[tuple[SuiteScript, ScriptText | str
     return [StartBatch(it[0][0].settings, tuple(it)) for it in batches]
 
 
-def _expected_octets(text: ScriptText) -> int:
+def _most_output_octets(text: ScriptText) -> int:
     return _LONGEST_EXPLANATION + len(text.octets)
 
 
@@ -203,7 +203,7 @@ def cases_of_batches(batches: Iterable[StartBatch]) -> list[Case]:
     return [Case((), it.input_commands(), it.most_output_octets) for it in batches]
 
 
-def read_answers(
+def rows_and_unanswered_batches(
     batches: Iterable[StartBatch], answers: Iterable[ProgramAnswer]
 ) -> tuple[ExplainedRows, list[tuple[StartBatch, str]]]:
     """Rows and explanations of scripts, by their places; and the batches without an answer, each with the reason."""

@@ -187,7 +187,7 @@ def _take_truth_value(table: dict[str, Value], key: str, places: TomlPlaces, nam
     value = table.pop(key, None)
     if value is None or isinstance(value, bool):
         return value
-    beside = f' (["{_shown(name)}"])' if name else ""
+    beside = f' (["{_printable(name)}"])' if name else ""
     raise PlacedFault(f"{places.file_and_line(name, key)}: {key}: BadValue{beside}: it takes true or false")
 
 
@@ -223,9 +223,8 @@ def _refuse_expectation_outside_tables(places: TomlPlaces, keys: Table) -> None:
 def _refuse_unquoted_names(places: TomlPlaces, table: Table) -> None:
     """Raises a fault where a script's name stands without quotes: its parts are then tables in tables."""
     for name in _unquoted_script_names(table):
-        raise PlacedFault(
-            f'{places.file_and_line(name)}: [{_shown(name)}]: a script\'s name stands in quotes: ["{_shown(name)}"]'
-        )
+        shown = _printable(name)
+        raise PlacedFault(f'{places.file_and_line(name)}: [{shown}]: a script\'s name stands in quotes: ["{shown}"]')
 
 
 def _unquoted_script_names(table: Table, before: str = "", deepest: int = _DEEPEST) -> Iterator[str]:
