@@ -38,14 +38,14 @@ is_reached t at sound h =
 -- the next expiry lies at most an hour ahead
 pub deadline_near : (n at : ℕ) (r : RunStateView) → IsUnderway n r → deadline_of r.host.state ≡ Some at → at ≤ r.clock + 3600000000
 deadline_near n at r underway is =
-    let most : underway.up_to.recorder_at_start.max_rto_us ≤ 3600000000 = underway.up_to.recorder_at_start.max_rto_us_in_range.1 in
+    let most : underway.up_to.begun.max_rto_us ≤ 3600000000 = underway.up_to.begun.max_rto_us_in_range.1 in
     go (deadline_of r.host.state) underway.up_to.up_to.deadline is
   where
-    go : (due : Option ℕ) → IfSome due (λ d. (r.clock < d) × (d ≤ r.clock + underway.up_to.recorder_at_start.max_rto_us)) → due ≡ Some at
+    go : (due : Option ℕ) → IfSome due (λ d. (r.clock < d) × (d ≤ r.clock + underway.up_to.begun.max_rto_us)) → due ≡ Some at
         → at ≤ r.clock + 3600000000
     go None h is = absurd cc
     go (Some d) h is =
-        let most : underway.up_to.recorder_at_start.max_rto_us ≤ 3600000000 = underway.up_to.recorder_at_start.max_rto_us_in_range.1 in
+        let most : underway.up_to.begun.max_rto_us ≤ 3600000000 = underway.up_to.begun.max_rto_us_in_range.1 in
         let same : d ≡ at = cc in
         omega (arith, h.1, most, same)
 

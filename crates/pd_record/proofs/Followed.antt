@@ -479,7 +479,7 @@ module _ (laws : Bases) where
       by_test d true is h = (let late : d ≤ r.clock = leb-true d r.clock is in absurd (omega (arith, late, h)))
       by_test d false is h = ap (λ (b : Bool). if b then Some d else None) is
 
-      go : (o : Option ℕ) → IfSome o (λ d. (r.clock < d) × (d ≤ r.clock + underway.up_to.recorder_at_start.max_rto_us)) → due_by r.clock o ≡ None
+      go : (o : Option ℕ) → IfSome o (λ d. (r.clock < d) × (d ≤ r.clock + underway.up_to.begun.max_rto_us)) → due_by r.clock o ≡ None
       go None h = refl
       go (Some d) h = by_test d (nat_le d r.clock) refl h.0
 
@@ -539,5 +539,5 @@ module _ (laws : Bases) where
   pub recordings_follow : RecordingsFollowRuns
   recordings_follow text settings n recorded_script passes h =
       let read = unrefused settings (script_of text) recorded_script h in
-      let recorder_at_start = starts_so (script_of text).header.items (script_of text).events settings recorded_script read.1 in
-      tracks_follow text settings recorder_at_start.0 n recorded_script read.0 recorder_at_start.1 (sym (verdict_begun settings (script_of text) recorder_at_start.0 read.0 recorder_at_start.1) ∙ passes) recorder_at_start.2
+      let begun = starts_so (script_of text).header.items (script_of text).events settings recorded_script read.1 in
+      tracks_follow text settings begun.0 n recorded_script read.0 begun.1 (sym (verdict_begun settings (script_of text) begun.0 read.0 begun.1) ∙ passes) begun.2

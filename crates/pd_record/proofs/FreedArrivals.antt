@@ -52,9 +52,9 @@ finished_freed w now segment r s =
 on_connection_freed : (w : List Sent) (o : Option ConnectionView) (segment : Segment) (now : ℕ) (s : SenderState)
     → CameBy (in_front w) (arrived_on now segment (in_front w s) o) (arrived_on now segment s o)
 on_connection_freed w None segment now s =
-    let recorder_at_start : ConnectionView = connection_begun now s.settings segment in
-    either_by (in_front w) (can_begin_connection s.endpoint.listener segment) (answered_syn now recorder_at_start (in_front w s)) (Err Unsupported) (answered_syn now recorder_at_start s) (Err Unsupported)
-    (answered_freed w now (syn_ack_of recorder_at_start) (record s { consulted_settings = syn_settings s.consulted_settings }) (record s.endpoint { connection = Some recorder_at_start })) tt
+    let begun : ConnectionView = connection_begun now s.settings segment in
+    either_by (in_front w) (can_begin_connection s.endpoint.listener segment) (answered_syn now begun (in_front w s)) (Err Unsupported) (answered_syn now begun s) (Err Unsupported)
+    (answered_freed w now (syn_ack_of begun) (record s { consulted_settings = syn_settings s.consulted_settings }) (record s.endpoint { connection = Some begun })) tt
 on_connection_freed w (Some c) segment now s =
     let r : Option SegmentCheck = failed_check_of c segment in
     then_by (in_front w) (in_front w) (finished_by now segment r) (check_outcome now segment c (in_front w s) r) (check_outcome now segment c s r)

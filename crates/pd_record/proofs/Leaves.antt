@@ -253,7 +253,7 @@ came puts_after may r s q e sent other single up h wait base clock =
     let due : wait.1 ≡ h.1 = (let both_due : Some wait.1 ≡ Some h.1 = sym wait.3 ∙ h.3 in cc) in
     let its : s.clock ≡ wait.1 = clock ∙ ap (λ (x : RunStateView). x.clock) wait.5 in
     let at : sent.at ≡ h.1 = sent_at_expiry puts_after r.host.state h.2 h.1 sent wait.0 h.3 h.5 h.6 in
-    let later : r.clock < h.1 = ahead r.clock up.recorder_at_start.max_rto_us (deadline_of r.host.state) h.1 up.up_to.deadline h.3 in
+    let later : r.clock < h.1 = ahead r.clock up.begun.max_rto_us (deadline_of r.host.state) h.1 up.up_to.deadline h.3 in
     record {
       left = omega (arith, its, at, due);
       clock = omega (arith, its, later, due);
